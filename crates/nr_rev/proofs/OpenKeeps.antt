@@ -1,0 +1,468 @@
+-- A descriptor is taken from the free ones, or goes to them.
+use Rattle.std.proofs.Common.{◌≡◌, ◌≢◌, ℕ, ◌+◌, ◌^◌, ◌<◌, ◌≤◌, pos, Bool, true, false, ◌||◌, List, [], ◌∷◌, ◌++◌, Option, Some, None, Ok, ◌⊎◌, inl, inr, refl, sym, ap, ap₂, subst, ◌∙◌, set, length, length-set, length-append, arith, true≢false, All}
+use Rattle.std.proofs.lemmas.Option.{same_Some, none-some, slice_get_within}
+use Rattle.std.specs.Prelude.{slice_get, if◌then◌else◌, ◌==◌, count_by, sum_by, option_map}
+use Rattle.std.specs.Option.{option_and_then}
+use Rattle.nr_rev.specs.declared.sides.Side.{Side}
+use Rattle.nr_rev.specs.declared.sides.Side.TheVariants.{Read, Write}
+use Rattle.nr_rev.specs.declared.descriptor.Word.{Word}
+use Rattle.nr_rev.specs.declared.descriptor.Word.TheVariants.{Nil, Ready, Held}
+use Rattle.nr_rev.specs.declared.answer.Answer.{Answer}
+use Rattle.nr_rev.specs.declared.sides.Sides.{Sides}
+use Rattle.nr_rev.specs.Sides.{of_side, with_side, twice}
+use Rattle.nr_rev.specs.Refusing.{raised_sequence}
+use Rattle.nr_rev.specs.declared.descriptor.DescriptorRow.{DescriptorRow}
+use Rattle.nr_rev.specs.World.{World, with_row, with_descriptor, is_free_number, is_waited}
+use Rattle.nr_rev.specs.WellFormed.{WellFormed, TimersFit, RowFits, EntryFits, IsInside, HasWord, held_count}
+use Rattle.nr_rev.proofs.Lists.{slice_get-set_unseen, slice_get-set_cases, slice_get-set_here, slice_get-push_cases, slice_get-push_kept, slice_get-push_unseen}
+use Rattle.nr_rev.proofs.Reasons.{bound_then, then_ok, unless_ok, if_ok, same_ok, next_is, below_of}
+use Rattle.nr_rev.proofs.Found.{row_ok, open_row_ok, nobody_inside, neither_of}
+use Rattle.nr_rev.specs.declared.timer.Timer.{Timer}
+use Rattle.nr_rev.specs.declared.timer.Entry.{Entry}
+use Rattle.nr_rev.specs.declared.descriptor.Descriptor.{Descriptor}
+use Rattle.nr_rev.specs.Descriptor.{both_raised}
+use Rattle.nr_rev.specs.Step.{idle, open_row_of, row_of}
+use Rattle.nr_rev.proofs.Retimed.{Retimed}
+use Rattle.nr_rev.proofs.RetimedKeeps.{retimed_keeps}
+use Rattle.nr_rev.proofs.SideAfter.{none_current}
+use Rattle.nr_rev.proofs.Changes.{retimed_still}
+use Rattle.std.proofs.lemmas.List.Sums.{sum_by-append}
+use Rattle.std.proofs.lemmas.List.Elements.{All-cons, All-tail, All-nil}
+use Rattle.nr_rev.specs.Lock.{bit}
+use Rattle.nr_rev.specs.Descriptor.{opened_for, closed}
+use Rattle.nr_rev.specs.WellFormed.{Stand, ArmedAt, FiringAt, standing, armed_at, IsCurrent}
+use Rattle.nr_rev.specs.Step.{pollopen, pollclose, taken, new_row, socket_of}
+use Rattle.nr_rev.proofs.Reworded.{reworded}
+use Rattle.nr_rev.proofs.Retimed.{TimersFit-retimed, armed_names}
+use Rattle.nr_rev.proofs.RetimedKeeps.{WordsFit-rows}
+use Rattle.nr_rev.proofs.EventKeeps.{marked, RowFits-marked, FiringFits-marked}
+use Rattle.nr_rev.proofs.EvictKeeps.{raised_range, both_range, none_at_rest}
+use Rattle.nr_rev.proofs.Worded.{word_at_rest, word_has, cleared}
+use Rattle.nr_rev.proofs.QueueKeeps.{count_front, number_same, number_apart}
+use Rattle.nr_rev.proofs.SockopenKeeps.{same_number}
+use Rattle.nr_rev.proofs.Restood.{TimersFit-restood}
+use Rattle.nr_rev.proofs.Changes.{set_set}
+
+swap_equal : (a b : ℕ) → (a == b) ≡ (b == a)
+swap_equal a b = go (a == b) refl
+  where
+    go : (c : Bool) → (a == b) ≡ c → (a == b) ≡ (b == a)
+    go true is = is ∙ sym (ap (λ n. b == n) (same_number a b is) ∙ number_same b)
+    go false is = is ∙ sym (number_apart b a (λ e. true≢false (sym (ap (λ n. a == n) e ∙ number_same a) ∙ is)))
+
+-- a number that isn't among the free ones stands there no time
+uncounted : (d : ℕ) (free : List ℕ) → is_free_number d free ≡ false → count_by (λ f. f == d) free ≡ 0
+uncounted d [] e = refl
+uncounted d (f ∷ free) e =
+    let n = neither_of (d == f) (is_free_number d free) e in
+    let a = count_front f d free in
+    let b : count_by (λ f. f == d) free ≡ 0 = uncounted d free n.1 in
+    let c : bit (f == d) ≡ 0 = ap bit (swap_equal f d ∙ n.0) in
+    omega arith
+
+unfree : (d : ℕ) (free : List ℕ) → count_by (λ f. f == d) free ≡ 0 → is_free_number d free ≡ false
+unfree d [] e = refl
+unfree d (f ∷ free) e =
+    let a = count_front f d free in
+    let b : is_free_number d free ≡ false = unfree d free (omega arith) in
+    let c : (d == f) ≡ false = swap_equal d f ∙ no_bit (f == d) (omega arith) in
+    ap₂ (λ x y. x || y) c b
+  where
+    no_bit : (x : Bool) → bit x ≡ 0 → x ≡ false
+    no_bit true e = absurd (omega arith)
+    no_bit false e = refl
+
+free_cases : (k d : ℕ) (free : List ℕ) → is_free_number k (d ∷ free) ≡ true → (k ≡ d) ⊎ ((k ≢ d) × (is_free_number k free ≡ true))
+free_cases k d free e = go (k == d) refl e
+  where
+    go : (b : Bool) → (k == d) ≡ b → (b || is_free_number k free) ≡ true → (k ≡ d) ⊎ ((k ≢ d) × (is_free_number k free ≡ true))
+    go true is e = inl (same_number k d is)
+    go false is e = inr ((λ same. true≢false (sym (ap (λ n. k == n) (sym same) ∙ number_same k) ∙ is)), e)
+
+free_more : (k d : ℕ) (free : List ℕ) → is_free_number k free ≡ true → is_free_number k (d ∷ free) ≡ true
+free_more k d free e = go (k == d) e
+  where
+    go : (b : Bool) → is_free_number k free ≡ true → (b || is_free_number k free) ≡ true
+    go true e = refl
+    go false e = e
+
+-- 17: an open descriptor on which nobody waits goes to the free ones
+freed : (w : World) (d : ℕ) (row : DescriptorRow) (fdseq : ℕ) → WellFormed w → slice_get w.descriptors d ≡ Some row → is_free_number d w.free ≡ false → row.descriptor.closing ≡ true → ((side : Side) → is_waited d side w.goroutines ≡ false) → fdseq < 2 ^ 64 → WellFormed (record (with_row d (marked row row.descriptor.event_error fdseq) w) { free = d ∷ w.free })
+freed w d row fdseq h at is_open closing nobody small =
+    record {
+      goroutines =
+          record {
+            one_inside = h.goroutines.one_inside;
+            inside_open = λ g k side inside.
+                let o = h.goroutines.inside_open g k side inside in
+                (rw length-set o.0, ap₂ (λ x y. x || y) (number_apart k d (λ same. nobody_inside w.goroutines d side g (nobody side) (subst (λ n. IsInside w.goroutines g n side) same inside))) o.1);
+            sockets_named = h.goroutines.sockets_named;
+            owed = h.goroutines.owed;
+          };
+      words = WordsFit-rows w.goroutines w.descriptors w.waiters d row after at refl h.words;
+      queues = h.queues;
+      timers =
+          TimersFit-retimed w.descriptors w.firings w.next_arming w.next_arming d row after at
+          (retimed_still w d row after h at refl refl (RowFits-marked row row.descriptor.event_error fdseq small (h.timers.entries_fit d row at)) (λ i f _ _ x. FiringFits-marked row row.descriptor.event_error fdseq f x)) h.timers;
+      free =
+          record {
+            made = made;
+            once = once;
+            closing = λ k other k_free is.
+                elim (slice_get-set_cases w.descriptors d row after k at) [
+                  | inl here ↦ subst (λ (r : DescriptorRow). r.descriptor.closing ≡ true) (same_Some after other (sym here.1 ∙ is)) closing
+                  | inr there ↦ h.free.closing k other (old_free k there.0 k_free) (sym there.1 ∙ is)
+                ];
+            words = λ k side word k_free has.
+                let same = slice_get-set_unseen (option_map (λ (r : DescriptorRow). of_side side r.descriptor.words)) w.descriptors d row after k at refl in
+                let had : HasWord w.descriptors k side word = sym same ∙ has in
+                elim (free_cases k d w.free k_free) [
+                  | inl here ↦ word_at_rest w d side word h (nobody side) (subst (λ n. HasWord w.descriptors n side word) here had)
+                  | inr there ↦ h.free.words k side word there.1 had
+                ];
+          };
+      sockets = h.sockets;
+      goroutines_limited = h.goroutines_limited;
+      sockets_limited = h.sockets_limited;
+      descriptors_limited = rw length-set h.descriptors_limited;
+      firings_limited = h.firings_limited;
+      clock = h.clock;
+    }
+  where
+    after : DescriptorRow
+    after = marked row row.descriptor.event_error fdseq
+
+    old_free : (k : ℕ) → k ≢ d → is_free_number k (d ∷ w.free) ≡ true → is_free_number k w.free ≡ true
+    old_free k apart e = elim (free_cases k d w.free e) [ inl here ↦ absurd (apart here) | inr there ↦ there.1 ]
+
+    made : All (λ k. k < length (set w.descriptors d after)) (d ∷ w.free)
+    made = All-cons (λ k. k < length (set w.descriptors d after)) d w.free (rw length-set (slice_get_within _ _ _ at)) (rw length-set h.free.made)
+
+    once : (k : ℕ) → count_by (λ f. f == k) (d ∷ w.free) ≤ 1
+    once k =
+        let a = count_front d k w.free in
+        let b : count_by (λ f. f == k) w.free ≤ 1 = h.free.once k in
+        go (d == k) refl a b
+      where
+        go : (x : Bool) → (d == k) ≡ x → count_by (λ f. f == k) (d ∷ w.free) ≡ bit (d == k) + count_by (λ f. f == k) w.free → count_by (λ f. f == k) w.free ≤ 1 → count_by (λ f. f == k) (d ∷ w.free) ≤ 1
+        go true is a b =
+            let c : count_by (λ f. f == k) w.free ≡ 0 = ap (λ n. count_by (λ f. f == n) w.free) (sym (same_number d k is)) ∙ uncounted d w.free is_open in
+            let e : bit (d == k) ≡ 1 = ap bit is in
+            omega arith
+        go false is a b = let e : bit (d == k) ≡ 0 = ap bit is in omega arith
+
+pub pollclose_keeps : (w next : World) (answer : Answer) (g d : ℕ) → WellFormed w → pollclose g d w ≡ Ok (answer, next) → WellFormed next
+pollclose_keeps w next answer g d h e =
+    let i = then_ok (idle g w) _ _ e in
+    bound_then _ (open_row_of d w) _ _ i.1 λ row found e.
+    let a = then_ok _ _ _ e in
+    let b = then_ok _ _ _ a.1 in
+    bound_then _ (closed row.descriptor) _ _ b.1 λ descriptor closes e.
+    bound_then _ (raised_sequence row.descriptor.fdseq) _ _ closes λ fdseq raised is.
+    let f = open_row_ok d w row found in
+    let n = neither_of (is_waited d Read w.goroutines) (is_waited d Write w.goroutines) (if_ok _ _ b.0) in
+    subst WellFormed (ap (λ (x : Descriptor). record (with_descriptor d row x w) { free = d ∷ w.free }) (same_ok _ _ is) ∙ next_is Answer.Done answer _ _ e)
+    (freed w d row fdseq h f.0 f.1 (unless_ok _ _ a.0) (nobody n.0 n.1) (raised_range _ _ raised).1)
+  where
+    nobody : is_waited d Read w.goroutines ≡ false → is_waited d Write w.goroutines ≡ false → (side : Side) → is_waited d side w.goroutines ≡ false
+    nobody r c Read = r
+    nobody r c Write = c
+
+-- the world with a descriptor taken, and its row
+pub record Taken (next : World) (d : ℕ) : Type 0 where
+  pub fits : WellFormed next
+  pub is_open : is_free_number d next.free ≡ false
+  pub words : (side : Side) (word : Word) → HasWord next.descriptors d side word → (word ≡ Nil) ⊎ (word ≡ Ready)
+  pub rests : (row : DescriptorRow) → slice_get next.descriptors d ≡ Some row → row.descriptor.running ≡ twice false
+
+popped : (w : World) (d : ℕ) (free : List ℕ) → WellFormed w → w.free ≡ d ∷ free → Taken (record w { free = free }) d
+popped w d free h is =
+    record {
+      fits =
+          record {
+            goroutines =
+                record {
+                  one_inside = h.goroutines.one_inside;
+                  inside_open = λ g k side inside. let o = h.goroutines.inside_open g k side inside in (o.0, (neither_of _ _ (sym (ap (is_free_number k) is) ∙ o.1)).1);
+                  sockets_named = h.goroutines.sockets_named;
+                  owed = h.goroutines.owed;
+                };
+            words = h.words;
+            queues = h.queues;
+            timers = h.timers;
+            free =
+                record {
+                  made = All-tail (λ k. k < length w.descriptors) d free (subst (All (λ k. k < length w.descriptors)) is h.free.made);
+                  once = λ k.
+                      let a = count_front d k free in
+                      let b : count_by (λ f. f == k) w.free ≤ 1 = h.free.once k in
+                      let c = ap (count_by (λ f. f == k)) is in
+                      omega arith;
+                  closing = λ k row k_free at. h.free.closing k row (was_free k k_free) at;
+                  words = λ k side word k_free has. h.free.words k side word (was_free k k_free) has;
+                };
+            sockets = h.sockets;
+            goroutines_limited = h.goroutines_limited;
+            sockets_limited = h.sockets_limited;
+            descriptors_limited = h.descriptors_limited;
+            firings_limited = h.firings_limited;
+            clock = h.clock;
+          };
+      is_open =
+          unfree d free
+          (let a = count_front d d free in
+          let b : count_by (λ f. f == d) w.free ≤ 1 = h.free.once d in
+          let c = ap (count_by (λ f. f == d)) is in
+          let e : bit (d == d) ≡ 1 = ap bit (number_same d) in
+          omega arith);
+      words = λ side word has. h.free.words d side word free_d has;
+      rests = λ row at. (h.timers.entries_fit d row at).closing (h.free.closing d row free_d at);
+    }
+  where
+    was_free : (k : ℕ) → is_free_number k free ≡ true → is_free_number k w.free ≡ true
+    was_free k e = ap (is_free_number k) is ∙ free_more k d free e
+
+    free_d : is_free_number d w.free ≡ true
+    free_d = ap (is_free_number d) is ∙ ap (λ b. b || is_free_number d free) (number_same d)
+
+-- the pushed row says nothing
+new_unarmed : (k : ℕ) (side : Side) → armed_at k side new_row ≡ None
+new_unarmed k Read = refl
+new_unarmed k Write = refl
+
+new_word : (side : Side) → of_side side new_row.descriptor.words ≡ Nil
+new_word Read = refl
+new_word Write = refl
+
+new_fits : RowFits new_row
+new_fits =
+    record {
+      entries = entries;
+      combo = λ e. refl;
+      closing = λ e. refl;
+      sequences = sequences;
+      fdseq = omega arith;
+    }
+  where
+    entries : (side : Side) (timer : Timer) → of_side side new_row.timers ≡ Some timer → EntryFits new_row.descriptor side timer
+    entries Read timer e = cc
+    entries Write timer e = cc
+
+    sequences : (side : Side) → of_side side new_row.descriptor.sequences < 2 ^ 64
+    sequences Read = omega arith
+    sequences Write = omega arith
+
+pushed_word : (rows : List DescriptorRow) (k : ℕ) (side : Side) (word : Word) → HasWord (rows ++ new_row ∷ []) k side word → HasWord rows k side word ⊎ ((k ≡ length rows) × (word ≡ Nil))
+pushed_word rows k side word has = go (slice_get (rows ++ new_row ∷ []) k) refl has
+  where
+    view : DescriptorRow → Word
+    view r = of_side side r.descriptor.words
+
+    go : (o : Option DescriptorRow) → slice_get (rows ++ new_row ∷ []) k ≡ o → option_map view o ≡ Some word → HasWord rows k side word ⊎ ((k ≡ length rows) × (word ≡ Nil))
+    go None at e = cc
+    go (Some row) at e =
+        elim (slice_get-push_cases rows new_row row k at) [
+          | inl old ↦ inl (ap (option_map view) old ∙ e)
+          | inr new ↦ inr (new.0, sym (same_Some _ _ e) ∙ ap view (sym new.1) ∙ new_word side)
+        ]
+
+kept_word : (rows : List DescriptorRow) (k : ℕ) (side : Side) (word : Word) → HasWord rows k side word → HasWord (rows ++ new_row ∷ []) k side word
+kept_word rows k side word has = go (slice_get rows k) refl has
+  where
+    view : DescriptorRow → Word
+    view r = of_side side r.descriptor.words
+
+    go : (o : Option DescriptorRow) → slice_get rows k ≡ o → option_map view o ≡ Some word → HasWord (rows ++ new_row ∷ []) k side word
+    go None at e = cc
+    go (Some row) at e = ap (option_map view) (slice_get-push_kept rows new_row row k at) ∙ e
+
+pushed_timers : (rows : List DescriptorRow) (firings : List Entry) (n : ℕ) → TimersFit rows firings n → TimersFit (rows ++ new_row ∷ []) firings n
+pushed_timers rows firings n h =
+    TimersFit-restood rows (rows ++ new_row ∷ []) firings firings n (λ p q. q ≡ p) (λ p e is. (p, refl, stood p e is)) (λ p p' q q' a b e. sym a ∙ e ∙ b) now
+    (λ d row is. elim (slice_get-push_cases rows new_row row d is) [ inl old ↦ h.entries_fit d row old | inr new ↦ subst RowFits new.1 new_fits ])
+    (λ i f is. let o = h.firings_fit i f is in (o.0, slice_get-push_kept rows new_row o.0 f.descriptor o.1, o.2)) h
+  where
+    stood : (p : Stand) (e : Entry) → standing (rows ++ new_row ∷ []) firings p ≡ Some e → standing rows firings p ≡ Some e
+    stood (ArmedAt k side) e is = sym (slice_get-push_unseen (option_and_then (armed_at k side)) rows new_row k (sym (new_unarmed k side))) ∙ is
+    stood (FiringAt i) e is = is
+
+    view : Side → DescriptorRow → ℕ
+    view side r = of_side side r.descriptor.sequences
+
+    back : (e : Entry) (row : DescriptorRow) → slice_get rows e.descriptor ≡ Some row → IsCurrent (rows ++ new_row ∷ []) e → IsCurrent rows e
+    back e row at current =
+        ap (option_map (view e.side)) at ∙ sym (ap (option_map (view e.side)) (slice_get-push_kept rows new_row row e.descriptor at)) ∙ current
+
+    now : (p : Stand) (e : Entry) → standing (rows ++ new_row ∷ []) firings p ≡ Some e → IsCurrent (rows ++ new_row ∷ []) e → IsCurrent rows e
+    now (ArmedAt k side) e is current =
+        let a = armed_names rows firings k side e (stood (ArmedAt k side) e is) in
+        back e a.0 (ap (slice_get rows) a.3 ∙ a.1) current
+    now (FiringAt i) e is current = let o = h.firings_fit i e is in back e o.0 o.1 current
+
+pushed : (w : World) → WellFormed w → w.free ≡ [] → length w.descriptors < w.limits.descriptors → Taken (record w { descriptors = w.descriptors ++ new_row ∷ [] }) (length w.descriptors)
+pushed w h none room =
+    record {
+      fits =
+          record {
+            goroutines =
+                record {
+                  one_inside = h.goroutines.one_inside;
+                  inside_open = λ g k side inside. let o = h.goroutines.inside_open g k side inside in (longer o.0, o.1);
+                  sockets_named = h.goroutines.sockets_named;
+                  owed = h.goroutines.owed;
+                };
+            words =
+                record {
+                  held = λ g k side. (
+                    λ has. elim (pushed_word w.descriptors k side (Held g) has) [ inl old ↦ (h.words.held g k side).0 old | inr new ↦ let e : Held g ≡ Nil = new.1 in cc ],
+                    λ shows. kept_word w.descriptors k side (Held g) ((h.words.held g k side).1 shows),
+                  );
+                  waited = λ k side has. elim (pushed_word w.descriptors k side Word.Wait has) [ inl old ↦ h.words.waited k side old | inr new ↦ let e : Word.Wait ≡ Nil = new.1 in cc ];
+                  counted =
+                      let a : sum_by held_count (w.descriptors ++ new_row ∷ []) ≡ sum_by held_count w.descriptors + sum_by held_count (new_row ∷ []) = sum_by-append held_count w.descriptors (new_row ∷ []) in
+                      let c : w.waiters ≡ sum_by held_count w.descriptors = h.words.counted in
+                      omega arith;
+                };
+            queues = h.queues;
+            timers = pushed_timers w.descriptors w.firings w.next_arming h.timers;
+            free =
+                record {
+                  made = subst (All (λ k. k < length (w.descriptors ++ new_row ∷ []))) (sym none) (All-nil _);
+                  once = h.free.once;
+                  closing = λ k row k_free at. absurd (true≢false (sym k_free ∙ ap (is_free_number k) none));
+                  words = λ k side word k_free has. absurd (true≢false (sym k_free ∙ ap (is_free_number k) none));
+                };
+            sockets = h.sockets;
+            goroutines_limited = h.goroutines_limited;
+            sockets_limited = h.sockets_limited;
+            descriptors_limited = rw length-append (omega arith);
+            firings_limited = h.firings_limited;
+            clock = h.clock;
+          };
+      is_open = ap (is_free_number (length w.descriptors)) none;
+      words = λ side word has.
+          elim (pushed_word w.descriptors (length w.descriptors) side word has) [
+            | inl old ↦ absurd (past_end w.descriptors side word old)
+            | inr new ↦ inl new.1
+          ];
+      rests = λ row at.
+          elim (slice_get-push_cases w.descriptors new_row row (length w.descriptors) at) [
+            | inl old ↦ let b : length w.descriptors < length w.descriptors = slice_get_within _ _ _ old in absurd (omega arith)
+            | inr new ↦ ap (λ (r : DescriptorRow). r.descriptor.running) (sym new.1)
+          ];
+    }
+  where
+    longer : {k : ℕ} → k < length w.descriptors → k < length (w.descriptors ++ new_row ∷ [])
+    longer b = rw length-append (omega arith)
+
+    past_end : (rows : List DescriptorRow) (side : Side) (word : Word) → HasWord rows (length rows) side word → ⊥
+    past_end [] side word e = cc
+    past_end (row ∷ rows) side word e = past_end rows side word e
+
+takes : (w next : World) (d : ℕ) (free : List ℕ) → WellFormed w → w.free ≡ free → taken free w ≡ Ok (d, next) → Taken next d
+takes w next d (k ∷ free) h is e =
+    let p = same_ok {A = ℕ × World} (k, record w { free = free }) (d, next) e in
+    subst (λ (x : ℕ × World). Taken x.1 x.0) p (popped w k free h is)
+takes w next d [] h is e =
+    let t = then_ok _ _ _ e in
+    let p = same_ok {A = ℕ × World} (length w.descriptors, record w { descriptors = w.descriptors ++ new_row ∷ [] }) (d, next) t.1 in
+    subst (λ (x : ℕ × World). Taken x.1 x.0) p (pushed w h is (below_of _ _ (unless_ok _ _ t.0)))
+
+-- a descriptor at rest begins anew
+abbrev begun_row : DescriptorRow → ℕ → Sides ℕ → DescriptorRow
+begun_row row s sequences =
+    record row {
+      descriptor =
+          record row.descriptor {
+            words = twice Nil;
+            closing = false;
+            event_error = false;
+            deadlines = twice (pos 0);
+            sequences = sequences;
+            fdseq = if row.descriptor.fdseq == 0 then 1 else row.descriptor.fdseq;
+            socket = s;
+          };
+    }
+
+begun_retimed : (w : World) (d s : ℕ) (row : DescriptorRow) (sequences : Sides ℕ) → WellFormed w → slice_get w.descriptors d ≡ Some row → row.descriptor.running ≡ twice false → ((side : Side) → (of_side side sequences ≡ of_side side row.descriptor.sequences + 1) × (of_side side sequences < 2 ^ 64)) → Retimed w.firings d row (begun_row row s sequences) w.next_arming w.next_arming
+begun_retimed w d s row sequences h at rests raised =
+    record {
+      fits =
+          record {
+            entries = λ side timer is. absurd (none-some _ (sym (none side) ∙ is));
+            combo = λ e. cc;
+            closing = λ e. cc;
+            sequences = λ side. (raised side).1;
+            fdseq = fdseq (row.descriptor.fdseq == 0);
+          };
+      firing = λ i e _ _ f.
+          let most = f.sequence in
+          let up = (raised e.side).0 in
+          record { side = f.side; sequence = omega arith; current = λ now. absurd (omega arith) };
+      sides = λ side.
+          inr (record {
+            stale = λ e same f now. none_current e row.descriptor (begun_row row s sequences).descriptor (inr (raised e.side).0) f (now ∙ ap (λ s. of_side s sequences) (sym same));
+            number = λ timer is. absurd (none-some _ (sym (none side) ∙ is));
+          });
+      apart = λ a b x y is_x is_y new_number same. absurd (none-some _ (sym (none a) ∙ is_x));
+      rises = omega arith;
+      in_range = h.timers.in_range;
+    }
+  where
+    off : (side : Side) → of_side side (twice false) ≡ false
+    off Read = refl
+    off Write = refl
+
+    none : (side : Side) → of_side side row.timers ≡ None
+    none side = none_at_rest row side (h.timers.entries_fit d row at) (ap (of_side side) rests ∙ off side)
+
+    fdseq : (b : Bool) → (if b then 1 else row.descriptor.fdseq) < 2 ^ 64
+    fdseq true = omega arith
+    fdseq false = (h.timers.entries_fit d row at).fdseq
+
+begins : (w : World) (d s : ℕ) (row : DescriptorRow) (sequences : Sides ℕ) → Taken w d → slice_get w.descriptors d ≡ Some row → ((side : Side) → (of_side side sequences ≡ of_side side row.descriptor.sequences + 1) × (of_side side sequences < 2 ^ 64)) → WellFormed (with_row d (begun_row row s sequences) w)
+begins w d s row sequences t at raised =
+    subst WellFormed same
+    (retimed_keeps second d w.next_arming row2 _ h2 at2 t.is_open refl
+    (begun_retimed second d s row2 sequences h2 at2 (t.rests row at) raised))
+  where
+    row1 : DescriptorRow
+    row1 = reworded row (with_side Read Nil row.descriptor.words)
+
+    row2 : DescriptorRow
+    row2 = reworded row1 (with_side Write Nil row1.descriptor.words)
+
+    first : World
+    first = with_row d row1 w
+
+    second : World
+    second = with_row d row2 first
+
+    h1 : WellFormed first
+    h1 = cleared w d Read row t.fits at t.is_open (t.words Read _ (word_has w d Read row _ at refl))
+
+    at1 : slice_get first.descriptors d ≡ Some row1
+    at1 = slice_get-set_here w.descriptors d row row1 at
+
+    h2 : WellFormed second
+    h2 = cleared first d Write row1 h1 at1 t.is_open (t.words Write _ (word_has w d Write row _ at refl))
+
+    at2 : slice_get second.descriptors d ≡ Some row2
+    at2 = slice_get-set_here first.descriptors d row1 row2 at1
+
+    same : with_row d (begun_row row2 s sequences) second ≡ with_row d (begun_row row s sequences) w
+    same =
+        ap (λ rows. record w { descriptors = rows })
+        (set_set (set w.descriptors d row1) d row2 (begun_row row2 s sequences) ∙ set_set w.descriptors d row1 (begun_row row2 s sequences))
+
+pub pollopen_keeps : (w next : World) (answer : Answer) (g s : ℕ) → WellFormed w → pollopen g s w ≡ Ok (answer, next) → WellFormed next
+pollopen_keeps w next answer g s h e =
+    let i = then_ok (idle g w) _ _ e in
+    bound_then _ (socket_of s w) _ _ i.1 λ socket socket_found e.
+    bound_then _ (taken w.free w) _ _ e λ took takes_it e.
+    bound_then _ (row_of took.0 took.1) _ _ e λ row found e.
+    bound_then _ (opened_for s row.descriptor) _ _ e λ descriptor opens e.
+    bound_then _ (both_raised row.descriptor.sequences) _ _ opens λ sequences raised is.
+    subst WellFormed (ap (λ (x : Descriptor). with_descriptor took.0 row x took.1) (same_ok _ _ is) ∙ next_is (Answer.Number took.0) answer _ _ e)
+    (begins took.1 took.0 s row sequences (takes w took.1 took.0 w.free h refl takes_it) (row_ok took.0 took.1 row found)
+    (both_range row.descriptor.sequences sequences raised))

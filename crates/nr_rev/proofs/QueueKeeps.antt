@@ -1,0 +1,334 @@
+-- A socket's queue changes together with a goroutine's status.
+use Rattle.std.proofs.Common.{◌≡◌, ◌≢◌, ℕ, ◌+◌, ◌-◌, ◌^◌, ◌<◌, Bool, true, false, ◌&&◌, cond, List, [], ◌∷◌, ◌++◌, Option, Some, None, Result, Ok, inl, inr, refl, sym, ap, subst, ◌∙◌, set, length, length-set, arith, drop}
+use Rattle.std.proofs.lemmas.Option.{same_Some, none-some, slice_get_within}
+use Rattle.std.specs.Prelude.{slice_get, if◌then◌else◌, ◌==◌, nat_lt, count_by}
+use Rattle.std.specs.Option.{option_and_then}
+use Rattle.nr_rev.specs.declared.sides.Side.{Side}
+use Rattle.nr_rev.specs.declared.sides.Side.TheVariants.{Read, Write}
+use Rattle.nr_rev.specs.declared.status.Status.{Status}
+use Rattle.nr_rev.specs.declared.status.Status.TheVariants.{Acquiring, Queued, Relock, Owing}
+use Rattle.nr_rev.specs.declared.answer.Answer.{Answer}
+use Rattle.nr_rev.specs.declared.refusal.Refusal.{Refusal}
+use Rattle.nr_rev.specs.declared.sides.Sides.{Sides}
+use Rattle.nr_rev.specs.Sides.{of_side, with_side, same_side}
+use Rattle.nr_rev.specs.World.{World, wait_of, with_status, with_socket}
+use Rattle.nr_rev.specs.Socket.{Socket}
+use Rattle.nr_rev.specs.WellFormed.{WellFormed, GoroutinesFit, SocketFits, IsField, socket_named, owed_of, parked_of, awaiting_of, is_queued}
+use Rattle.nr_rev.proofs.Lists.{slice_get-set_unseen, slice_get-set_cases}
+use Rattle.nr_rev.proofs.Reasons.{bound_then, then_ok, unless_ok, found_ok, same_ok, next_is, below_of}
+use Rattle.nr_rev.proofs.Found.{status_ok}
+use Rattle.nr_rev.proofs.SameViews.{WordsFit-same}
+use Rattle.nr_rev.proofs.Moved.{MayMove, GoroutinesFit-moved}
+use Rattle.std.proofs.lemmas.List.Sums.{sum_by-append}
+use Rattle.nr_rev.specs.Lock.{bit}
+use Rattle.nr_rev.specs.Semaphore.{Semaphore, is_free, acquired, front_of, released}
+use Rattle.nr_rev.specs.Step.{acquire, release, status_of, socket_of, acquiring_of, owing_of, with_semaphore, tries_again}
+use Rattle.nr_rev.proofs.RwlockKeeps.{resocketed}
+use Rattle.nr_rev.proofs.Outside.{IsOutside, moved_outside}
+use Rattle.nr_rev.proofs.Moving.{acquiring_ok, owing_ok}
+use Rattle.nr_rev.proofs.SocketKeeps.{comes_to_owe}
+use Rattle.nr_rev.proofs.SockopenKeeps.{same_number}
+use Rattle.nr_rev.proofs.Follows.{both_true}
+
+-- a socket's semaphores and a goroutine's status change, and the queues say the new status
+pub requeued : (w : World) (g s : ℕ) (old new : Status) (socket socket' : Socket) → WellFormed w → slice_get w.goroutines g ≡ Some old → slice_get w.sockets s ≡ Some socket → MayMove w.goroutines w.sockets w.descriptors w.free g new → parked_of new ≡ parked_of old → awaiting_of new ≡ awaiting_of old → ((k : ℕ) (side : Side) → k ≢ s → is_queued k side (Some new) ≡ is_queued k side (Some old)) → ((k : ℕ) (side : Side) → count_by (λ h. h == k) (of_side side socket'.semaphores).queue ≡ bit (is_queued s side (slice_get (set w.goroutines g new) k))) → SocketFits w.limits.buffer socket' → WellFormed (with_status g new (with_socket s socket' w))
+requeued w g s old new socket socket' h at there may parked awaits elsewhere counts fits =
+    record {
+      goroutines = sockets_set (GoroutinesFit-moved _ w.sockets w.descriptors w.free g old new at may h.goroutines);
+      words =
+          WordsFit-same w.goroutines _ w.descriptors w.waiters
+          (λ k. slice_get-set_unseen (option_and_then parked_of) w.goroutines g old new k at parked)
+          (λ k. slice_get-set_unseen (option_and_then awaiting_of) w.goroutines g old new k at awaits)
+          h.words;
+      queues =
+          record {
+            queued = λ k t side other is.
+                elim (slice_get-set_cases w.sockets s socket socket' t there) [
+                  | inl here ↦
+                      let other_is : socket' ≡ other = same_Some _ _ (sym here.1 ∙ is) in
+                      ap (λ (x : Socket). count_by (λ h. h == k) (of_side side x.semaphores).queue) (sym other_is)
+                      ∙ counts k side
+                      ∙ ap (λ n. bit (is_queued n side (slice_get (set w.goroutines g new) k))) (sym here.0)
+                  | inr apart ↦
+                      h.queues.queued k t side other (sym apart.1 ∙ is)
+                      ∙ sym (ap bit (slice_get-set_unseen (is_queued t side) w.goroutines g old new k at (elsewhere t side apart.0)))
+                ];
+          };
+      timers = h.timers;
+      free = h.free;
+      sockets = λ k other is.
+          elim (slice_get-set_cases w.sockets s socket socket' k there) [
+            | inl here ↦ subst (SocketFits w.limits.buffer) (same_Some _ _ (sym here.1 ∙ is)) fits
+            | inr apart ↦ h.sockets k other (sym apart.1 ∙ is)
+          ];
+      goroutines_limited = rw length-set h.goroutines_limited;
+      sockets_limited = rw length-set h.sockets_limited;
+      descriptors_limited = h.descriptors_limited;
+      firings_limited = h.firings_limited;
+      clock = h.clock;
+    }
+  where
+    sockets_set : {gs : List Status} → GoroutinesFit gs w.sockets w.descriptors w.free → GoroutinesFit gs (set w.sockets s socket') w.descriptors w.free
+    sockets_set f =
+        record {
+          one_inside = f.one_inside;
+          inside_open = f.inside_open;
+          sockets_named = λ g k p. rw length-set (f.sockets_named g k p);
+          owed = f.owed;
+        }
+
+may_name : (w : World) (g s : ℕ) (new : Status) → s < length w.sockets → wait_of new ≡ None → socket_named new ≡ Some s → owed_of new ≡ None → MayMove w.goroutines w.sockets w.descriptors w.free g new
+may_name w g s new within none named owes_none =
+    record {
+      is_open = λ d side e. absurd (none-some _ (sym none ∙ e));
+      alone = λ d side k e apart inside. absurd (none-some _ (sym none ∙ e));
+      named = λ k e. subst (λ (n : ℕ). n < length w.sockets) (same_Some _ _ (sym named ∙ e)) within;
+      owes = λ reads writes e. absurd (none-some _ (sym owes_none ∙ e));
+    }
+
+cond_bit : (b : Bool) → cond b 1 0 ≡ bit b
+cond_bit true = refl
+cond_bit false = refl
+
+count_push : (g k : ℕ) (q : List ℕ) → count_by (λ h. h == k) (q ++ g ∷ []) ≡ count_by (λ h. h == k) q + bit (g == k)
+count_push g k q = let a = sum_by-append (λ h. cond (h == k) 1 0) q (g ∷ []) in let b = cond_bit (g == k) in omega arith
+
+pub count_front : (g k : ℕ) (q : List ℕ) → count_by (λ h. h == k) (g ∷ q) ≡ bit (g == k) + count_by (λ h. h == k) q
+count_front g k q = let a = sum_by-append (λ h. cond (h == k) 1 0) (g ∷ []) q in let b = cond_bit (g == k) in omega arith
+
+pub number_same : (a : ℕ) → (a == a) ≡ true
+number_same a = grind arith
+
+pub number_apart : (a b : ℕ) → a ≢ b → (a == b) ≡ false
+number_apart a b apart = grind arith
+
+-- the fields of the socket with a semaphore of a side new
+abbrev resemaphored : Side → Socket → Semaphore → Socket
+resemaphored side socket semaphore = record socket { semaphores = with_side side semaphore socket.semaphores }
+
+semaphore_fits : (limit : ℕ) (side : Side) (socket : Socket) (semaphore : Semaphore) → semaphore.count < 2 ^ 32 → SocketFits limit socket → SocketFits limit (resemaphored side socket semaphore)
+semaphore_fits limit side socket semaphore small h =
+    record { lock = h.lock; counts = counts side; bytes = h.bytes; capacities = h.capacities }
+  where
+    counts : (side s : Side) → (of_side s (resemaphored side socket semaphore).semaphores).count < 2 ^ 32
+    counts Read Read = small
+    counts Read Write = h.counts Write
+    counts Write Read = h.counts Read
+    counts Write Write = small
+
+queue_kept : (side s : Side) (socket : Socket) (semaphore : Semaphore) → semaphore.queue ≡ (of_side side socket.semaphores).queue → (of_side s (resemaphored side socket semaphore).semaphores).queue ≡ (of_side s socket.semaphores).queue
+queue_kept Read Read socket semaphore e = e
+queue_kept Read Write socket semaphore e = refl
+queue_kept Write Read socket semaphore e = refl
+queue_kept Write Write socket semaphore e = e
+
+outside_acquiring : (s : ℕ) (side : Side) → IsOutside (Acquiring s side)
+outside_acquiring s side = record { waits = refl; parked = refl; awaits = refl; queued = λ _ _. refl }
+
+queue_pushed : (side s : Side) (g k : ℕ) (socket : Socket) → count_by (λ h. h == k) (of_side s (resemaphored side socket (record (of_side side socket.semaphores) { queue = (of_side side socket.semaphores).queue ++ g ∷ [] })).semaphores).queue ≡ count_by (λ h. h == k) (of_side s socket.semaphores).queue + bit (same_side s side && (g == k))
+queue_pushed Read Read g k socket = count_push g k socket.semaphores.read.queue
+queue_pushed Read Write g k socket = omega arith
+queue_pushed Write Read g k socket = omega arith
+queue_pushed Write Write g k socket = count_push g k socket.semaphores.write.queue
+
+queue_popped : (side s : Side) (f k count : ℕ) (q : List ℕ) (socket : Socket) → (of_side side socket.semaphores).queue ≡ f ∷ q → count_by (λ h. h == k) (of_side s socket.semaphores).queue ≡ count_by (λ h. h == k) (of_side s (resemaphored side socket (record { count = count; queue = q })).semaphores).queue + bit (same_side s side && (f == k))
+queue_popped Read Read f k count q socket e = let a = ap (count_by (λ h. h == k)) e in let b = count_front f k q in omega arith
+queue_popped Read Write f k count q socket e = omega arith
+queue_popped Write Read f k count q socket e = omega arith
+queue_popped Write Write f k count q socket e = let a = ap (count_by (λ h. h == k)) e in let b = count_front f k q in omega arith
+
+and_false : (a : Bool) → (a && false) ≡ false
+and_false true = refl
+and_false false = refl
+
+and_true : (a : Bool) → (a && true) ≡ a
+and_true true = refl
+and_true false = refl
+
+same_side_swap : (a b : Side) → same_side a b ≡ same_side b a
+same_side_swap Read Read = refl
+same_side_swap Read Write = refl
+same_side_swap Write Read = refl
+same_side_swap Write Write = refl
+
+-- the bits of queued goroutines after one began, or from the list before it ended, to be queued there
+bits_more : (gs : List Status) (g s k : ℕ) (side other : Side) (from to : Status) → slice_get gs g ≡ Some from → is_queued s other (Some from) ≡ false → is_queued s other (Some to) ≡ same_side other side → bit (is_queued s other (slice_get (set gs g to) k)) ≡ bit (is_queued s other (slice_get gs k)) + bit (same_side other side && (g == k))
+bits_more gs g s k side other from to at before_is after_is =
+    elim (slice_get-set_cases gs g from to k at) [
+      | inl here ↦
+          let a : bit (is_queued s other (slice_get (set gs g to) k)) ≡ bit (same_side other side) = ap bit (ap (is_queued s other) here.1 ∙ after_is) in
+          let b : bit (is_queued s other (slice_get gs k)) ≡ 0 = ap bit (ap (is_queued s other) (ap (slice_get gs) here.0 ∙ at) ∙ before_is) in
+          let c : bit (same_side other side && (g == k)) ≡ bit (same_side other side) =
+          ap bit (ap (λ n. same_side other side && (g == n)) here.0 ∙ ap (λ b. same_side other side && b) (number_same g) ∙ and_true _)
+          in
+          omega arith
+      | inr there ↦
+          let a : bit (is_queued s other (slice_get (set gs g to) k)) ≡ bit (is_queued s other (slice_get gs k)) = ap (λ o. bit (is_queued s other o)) there.1 in
+          let c : bit (same_side other side && (g == k)) ≡ 0 = ap bit (ap (λ b. same_side other side && b) (number_apart g k (λ e. there.0 (sym e))) ∙ and_false _) in
+          omega arith
+    ]
+
+bits_less : (gs : List Status) (g s k : ℕ) (side other : Side) (from to : Status) → slice_get gs g ≡ Some from → is_queued s other (Some from) ≡ same_side other side → is_queued s other (Some to) ≡ false → bit (is_queued s other (slice_get gs k)) ≡ bit (is_queued s other (slice_get (set gs g to) k)) + bit (same_side other side && (g == k))
+bits_less gs g s k side other from to at before_is after_is =
+    elim (slice_get-set_cases gs g from to k at) [
+      | inl here ↦
+          let a : bit (is_queued s other (slice_get (set gs g to) k)) ≡ 0 = ap bit (ap (is_queued s other) here.1 ∙ after_is) in
+          let b : bit (is_queued s other (slice_get gs k)) ≡ bit (same_side other side) = ap bit (ap (is_queued s other) (ap (slice_get gs) here.0 ∙ at) ∙ before_is) in
+          let c : bit (same_side other side && (g == k)) ≡ bit (same_side other side) =
+          ap bit (ap (λ n. same_side other side && (g == n)) here.0 ∙ ap (λ b. same_side other side && b) (number_same g) ∙ and_true _)
+          in
+          omega arith
+      | inr there ↦
+          let a : bit (is_queued s other (slice_get (set gs g to) k)) ≡ bit (is_queued s other (slice_get gs k)) = ap (λ o. bit (is_queued s other o)) there.1 in
+          let c : bit (same_side other side && (g == k)) ≡ 0 = ap bit (ap (λ b. same_side other side && b) (number_apart g k (λ e. there.0 (sym e))) ∙ and_false _) in
+          omega arith
+    ]
+
+queued_here : (s : ℕ) (side other : Side) → is_queued s other (Some (Queued s side)) ≡ same_side other side
+queued_here s side other = ap (λ b. b && same_side other side) (number_same s)
+
+queued_there : (s k : ℕ) (side other : Side) → k ≢ s → is_queued k other (Some (Queued s side)) ≡ false
+queued_there s k side other apart = ap (λ b. b && same_side other side) (number_apart k s apart)
+
+queues : (w : World) (g s : ℕ) (side : Side) (socket : Socket) → WellFormed w → slice_get w.goroutines g ≡ Some (Acquiring s side) → slice_get w.sockets s ≡ Some socket → WellFormed (with_status g (Queued s side) (with_socket s (resemaphored side socket (record (of_side side socket.semaphores) { queue = (of_side side socket.semaphores).queue ++ g ∷ [] })) w))
+queues w g s side socket h at there =
+    requeued w g s (Acquiring s side) (Queued s side) socket _ h at there (may_name w g s (Queued s side) (slice_get_within _ _ _ there) refl refl refl) refl refl
+    (λ k other apart. queued_there s k side other apart)
+    (λ k other.
+    let a = queue_pushed side other g k socket in
+    let b : count_by (λ h. h == k) (of_side other socket.semaphores).queue ≡ bit (is_queued s other (slice_get w.goroutines k)) = h.queues.queued k s other socket there in
+    let c = bits_more w.goroutines g s k side other (Acquiring s side) (Queued s side) at refl (queued_here s side other) in
+    omega arith)
+    (semaphore_fits _ side socket _ ((h.sockets s socket there).counts side) (h.sockets s socket there))
+
+goes_on : (w : World) (g s : ℕ) (side : Side) (socket : Socket) → WellFormed w → slice_get w.goroutines g ≡ Some (Acquiring s side) → slice_get w.sockets s ≡ Some socket → WellFormed (with_status g (Relock s side) (with_socket s (resemaphored side socket (record (of_side side socket.semaphores) { count = (of_side side socket.semaphores).count - 1 })) w))
+goes_on w g s side socket h at there =
+    let small : (of_side side socket.semaphores).count < 2 ^ 32 = (h.sockets s socket there).counts side in
+    let less : (of_side side socket.semaphores).count - 1 < 2 ^ 32 = omega arith in
+    moved_outside _ g (Acquiring s side) (Relock s side)
+    (resocketed w s socket _ h there (λ other. queue_kept side other socket _ refl) (semaphore_fits _ side socket _ less (h.sockets s socket there)))
+    at (outside_acquiring s side) (record { waits = refl; parked = refl; awaits = refl; queued = λ _ _. refl })
+    (λ k e. rw length-set (subst (λ (n : ℕ). n < length w.sockets) (same_Some _ _ e) (slice_get_within _ _ _ there)))
+    (λ reads writes e. cc)
+
+acquires : (w : World) (g s : ℕ) (side : Side) (socket : Socket) (free : Bool) → WellFormed w → slice_get w.goroutines g ≡ Some (Acquiring s side) → slice_get w.sockets s ≡ Some socket → is_free (of_side side socket.semaphores) ≡ free → WellFormed (if free then with_status g (Relock s side) (with_semaphore s side socket (acquired g (of_side side socket.semaphores)) w) else with_status g (Queued s side) (with_semaphore s side socket (acquired g (of_side side socket.semaphores)) w))
+acquires w g s side socket true h at there is =
+    subst (λ (x : Semaphore). WellFormed (with_status g (Relock s side) (with_semaphore s side socket x w)))
+    (sym (ap (λ b. if b then record (of_side side socket.semaphores) { count = (of_side side socket.semaphores).count - 1 } else record (of_side side socket.semaphores) { queue = (of_side side socket.semaphores).queue ++ g ∷ [] }) is))
+    (goes_on w g s side socket h at there)
+acquires w g s side socket false h at there is =
+    subst (λ (x : Semaphore). WellFormed (with_status g (Queued s side) (with_semaphore s side socket x w)))
+    (sym (ap (λ b. if b then record (of_side side socket.semaphores) { count = (of_side side socket.semaphores).count - 1 } else record (of_side side socket.semaphores) { queue = (of_side side socket.semaphores).queue ++ g ∷ [] }) is))
+    (queues w g s side socket h at there)
+
+pick : (w1 w2 next : World) (a b answer : Answer) (c : Bool) → ◌≡◌ {A = Result (Answer × World) Refusal} (Ok (if c then (a, w1) else (b, w2))) (Ok (answer, next)) → (if c then w1 else w2) ≡ next
+pick w1 w2 next a b answer true e = next_is _ _ _ _ e
+pick w1 w2 next a b answer false e = next_is _ _ _ _ e
+
+pub acquire_keeps : (w next : World) (answer : Answer) (g : ℕ) → WellFormed w → acquire g w ≡ Ok (answer, next) → WellFormed next
+acquire_keeps w next answer g h e =
+    bound_then _ (status_of g w) _ _ e λ status has e.
+    bound_then _ (acquiring_of status) _ _ e λ place is e.
+    bound_then _ (socket_of place.0 w) _ _ e λ socket found e.
+    subst WellFormed (pick _ _ _ _ _ _ (is_free (of_side place.1 socket.semaphores)) e)
+    (acquires w g place.0 place.1 socket _ h (status_ok g w status has ∙ ap Some (acquiring_ok status place is)) (found_ok _ _ _ found) refl)
+
+-- the front of a queue is queued
+front_queued : (w : World) (s f : ℕ) (side : Side) (socket : Socket) (q : List ℕ) → WellFormed w → slice_get w.sockets s ≡ Some socket → (of_side side socket.semaphores).queue ≡ f ∷ q → slice_get w.goroutines f ≡ Some (Queued s side)
+front_queued w s f side socket q h there is = go (slice_get w.goroutines f) refl
+  where
+    same_sides : (a b : Side) → same_side a b ≡ true → b ≡ a
+    same_sides Read Read e = refl
+    same_sides Read Write e = cc
+    same_sides Write Read e = cc
+    same_sides Write Write e = refl
+
+    shows : bit (is_queued s side (slice_get w.goroutines f)) ≡ 1 + count_by (λ h. h == f) q
+    shows =
+        let a : count_by (λ h. h == f) (of_side side socket.semaphores).queue ≡ bit (is_queued s side (slice_get w.goroutines f)) = h.queues.queued f s side socket there in
+        let b = ap (count_by (λ h. h == f)) is in
+        let c = count_front f f q in
+        let d : bit (f == f) ≡ 1 = ap bit (number_same f) in
+        omega arith
+
+    is_it : (status : Status) → bit (is_queued s side (Some status)) ≡ 1 + count_by (λ h. h == f) q → status ≡ Queued s side
+    is_it (Queued k other) e = both ((s == k) && same_side side other) refl e
+      where
+        both : (b : Bool) → ((s == k) && same_side side other) ≡ b → bit b ≡ 1 + count_by (λ h. h == f) q → Queued k other ≡ Queued s side
+        both true t n = let p = both_true _ _ t in ap (λ x. Queued x other) (sym (same_number s k p.0)) ∙ ap (Queued s) (same_sides side other p.1)
+        both false t n = absurd (omega arith)
+    is_it _ e = absurd (omega arith)
+
+    go : (o : Option Status) → slice_get w.goroutines f ≡ o → slice_get w.goroutines f ≡ Some (Queued s side)
+    go None at = let a : bit (is_queued s side (slice_get w.goroutines f)) ≡ 0 = ap (λ o. bit (is_queued s side o)) at in let b = shows in absurd (omega arith)
+    go (Some status) at = at ∙ ap Some (is_it status (sym (ap (λ o. bit (is_queued s side o)) at) ∙ shows))
+
+-- the world after a semaphore was released, and what it leaves of a goroutine that owed
+pub record Released (w next : World) : Type 0 where
+  pub fits : WellFormed next
+  pub sockets : length next.sockets ≡ length w.sockets
+  pub owes : (g s reads writes : ℕ) → slice_get w.goroutines g ≡ Some (Owing s reads writes) → slice_get next.goroutines g ≡ Some (Owing s reads writes)
+
+releases : (w : World) (s : ℕ) (side : Side) (socket : Socket) (left : Semaphore) → WellFormed w → slice_get w.sockets s ≡ Some socket → released (of_side side socket.semaphores) ≡ Ok left → Released w (tries_again s side (front_of (of_side side socket.semaphores)) (with_semaphore s side socket left w))
+releases w s side socket left h there e =
+    let t = then_ok _ _ _ e in
+    let below : (of_side side socket.semaphores).count < 2 ^ 32 - 1 = below_of _ _ (unless_ok _ _ t.0) in
+    let small : (of_side side socket.semaphores).count + 1 < 2 ^ 32 = omega arith in
+    subst (λ (x : Semaphore). Released w (tries_again s side (front_of (of_side side socket.semaphores)) (with_semaphore s side socket x w))) (same_ok _ _ t.1)
+    (go (of_side side socket.semaphores).queue refl small)
+  where
+    raised : Semaphore → List ℕ → Semaphore
+    raised semaphore q = record { count = semaphore.count + 1; queue = q }
+
+    go : (q : List ℕ) → (of_side side socket.semaphores).queue ≡ q → (of_side side socket.semaphores).count + 1 < 2 ^ 32 → Released w (tries_again s side (slice_get (of_side side socket.semaphores).queue 0) (with_semaphore s side socket (record { count = (of_side side socket.semaphores).count + 1; queue = drop 1 (of_side side socket.semaphores).queue }) w))
+    go [] is small =
+        subst (λ (q : List ℕ). Released w (tries_again s side (slice_get q 0) (with_semaphore s side socket (record { count = (of_side side socket.semaphores).count + 1; queue = drop 1 q }) w))) (sym is)
+        (record {
+          fits = resocketed w s socket _ h there (λ other. queue_kept side other socket _ (sym is)) (semaphore_fits _ side socket _ small (h.sockets s socket there));
+          sockets = length-set _ s _;
+          owes = λ g k reads writes at. at;
+        })
+    go (f ∷ q) is small =
+        let at : slice_get w.goroutines f ≡ Some (Queued s side) = front_queued w s f side socket q h there is in
+        subst (λ (q : List ℕ). Released w (tries_again s side (slice_get q 0) (with_semaphore s side socket (record { count = (of_side side socket.semaphores).count + 1; queue = drop 1 q }) w))) (sym is)
+        (record {
+          fits =
+              requeued w f s (Queued s side) (Acquiring s side) socket _ h at there (may_name w f s (Acquiring s side) (slice_get_within _ _ _ there) refl refl refl) refl refl
+              (λ k other apart. sym (queued_there s k side other apart))
+              (λ k other.
+              let a = queue_popped side other f k ((of_side side socket.semaphores).count + 1) q socket is in
+              let b : count_by (λ h. h == k) (of_side other socket.semaphores).queue ≡ bit (is_queued s other (slice_get w.goroutines k)) = h.queues.queued k s other socket there in
+              let c = bits_less w.goroutines f s k side other (Queued s side) (Acquiring s side) at (queued_here s side other) refl in
+              omega arith)
+              (semaphore_fits _ side socket _ small (h.sockets s socket there));
+          sockets = length-set _ s _;
+          owes = λ g k reads writes owing_at.
+              elim (slice_get-set_cases w.goroutines f (Queued s side) (Acquiring s side) g at) [
+                | inl here ↦ let was : slice_get w.goroutines g ≡ Some (Queued s side) = ap (slice_get w.goroutines) here.0 ∙ at in cc
+                | inr apart ↦ apart.1 ∙ owing_at
+              ];
+        })
+
+pub release_keeps : (w next : World) (answer : Answer) (g : ℕ) → WellFormed w → release g w ≡ Ok (answer, next) → WellFormed next
+release_keeps w next answer g h e =
+    bound_then _ (status_of g w) _ _ e λ status has e.
+    bound_then _ (owing_of status) _ _ e λ debt is e.
+    bound_then _ (socket_of debt.0 w) _ _ e λ socket found e.
+    bound_then _ (released (of_side (if nat_lt 0 debt.1.read then Read else Write) socket.semaphores)) _ _ e λ left raised e.
+    let at : slice_get w.goroutines g ≡ Some (Owing debt.0 debt.1.read debt.1.write) = status_ok g w status has ∙ ap Some (owing_ok status debt is) in
+    let there : slice_get w.sockets debt.0 ≡ Some socket = found_ok _ _ _ found in
+    let r = releases w debt.0 (if nat_lt 0 debt.1.read then Read else Write) socket left h there raised in
+    let small = h.goroutines.owed g debt.1.read debt.1.write (ap (option_and_then owed_of) at) in
+    subst WellFormed (next_is _ _ _ _ e)
+    (comes_to_owe _ g debt.0 (Owing debt.0 debt.1.read debt.1.write) _ r.fits (r.owes g debt.0 debt.1.read debt.1.write at)
+    (record { waits = refl; parked = refl; awaits = refl; queued = λ _ _. refl }) (rw r.sockets (slice_get_within _ _ _ there))
+    (lowered (if nat_lt 0 debt.1.read then Read else Write) debt.1 small.0 small.1))
+  where
+    less : (n : ℕ) → IsField n → IsField (n - 1)
+    less n e = omega arith
+
+    lowered : (side : Side) (owed : Sides ℕ) → IsField owed.read → IsField owed.write → (s : Side) → IsField (of_side s (with_side side (of_side side owed - 1) owed))
+    lowered Read owed r c Read = less owed.read r
+    lowered Read owed r c Write = c
+    lowered Write owed r c Read = r
+    lowered Write owed r c Write = less owed.write c

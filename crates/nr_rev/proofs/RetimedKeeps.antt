@@ -1,0 +1,72 @@
+-- A row retimed, its words as they were, leaves a world well formed.
+use Rattle.std.proofs.Common.{◌≡◌, ℕ, ◌+◌, false, List, Some, inl, inr, sym, ap, ◌∙◌, set, length-set, arith, true≢false, get_or}
+use Rattle.std.proofs.lemmas.Option.{slice_get_within, get_or_from_slice_get}
+use Rattle.std.proofs.lemmas.List.Sums.{sum_by-set}
+use Rattle.std.specs.Prelude.{slice_get, sum_by, option_map}
+use Rattle.nr_rev.specs.declared.sides.Side.{Side}
+use Rattle.nr_rev.specs.declared.status.Status.{Status}
+use Rattle.nr_rev.specs.declared.descriptor.Word.{Word}
+use Rattle.nr_rev.specs.Lock.{bit}
+use Rattle.nr_rev.specs.declared.sides.Sides.{Sides}
+use Rattle.nr_rev.specs.Sides.{of_side}
+use Rattle.nr_rev.specs.declared.descriptor.DescriptorRow.{DescriptorRow}
+use Rattle.nr_rev.specs.World.{World, with_row, is_free_number}
+use Rattle.nr_rev.specs.WellFormed.{WellFormed, WordsFit, FreeFits, held_count, is_held}
+use Rattle.nr_rev.proofs.Lists.{slice_get-set_cases, slice_get-set_unseen}
+use Rattle.nr_rev.proofs.Reworded.{GoroutinesFit-rows}
+use Rattle.nr_rev.proofs.Retimed.{Retimed, TimersFit-retimed}
+
+-- an open descriptor's row says nothing of the free ones
+pub FreeFits-open : (rows : List DescriptorRow) (free : List ℕ) (d : ℕ) (old new : DescriptorRow) → slice_get rows d ≡ Some old → is_free_number d free ≡ false → FreeFits rows free → FreeFits (set rows d new) free
+FreeFits-open rows free d old new at is_open h =
+    record {
+      made = rw length-set h.made;
+      once = h.once;
+      closing = λ k other k_free is.
+          elim (slice_get-set_cases rows d old new k at) [
+            | inl here ↦ absurd (true≢false (sym k_free ∙ ap (λ x. is_free_number x free) here.0 ∙ is_open))
+            | inr there ↦ h.closing k other k_free (sym there.1 ∙ is)
+          ];
+      words = λ k side word k_free has.
+          elim (slice_get-set_cases rows d old new k at) [
+            | inl here ↦ absurd (true≢false (sym k_free ∙ ap (λ x. is_free_number x free) here.0 ∙ is_open))
+            | inr there ↦ h.words k side word k_free (sym (ap (option_map (λ (r : DescriptorRow). of_side side r.descriptor.words)) there.1) ∙ has)
+          ];
+    }
+
+pub WordsFit-rows : (gs : List Status) (rows : List DescriptorRow) (waiters d : ℕ) (old new : DescriptorRow) → slice_get rows d ≡ Some old → new.descriptor.words ≡ old.descriptor.words → WordsFit gs rows waiters → WordsFit gs (set rows d new) waiters
+WordsFit-rows gs rows waiters d old new at same h =
+    record {
+      held = λ g k side. (
+        λ has. (h.held g k side).0 (sym (word k side) ∙ has),
+        λ shows. word k side ∙ (h.held g k side).1 shows,
+      );
+      waited = λ k side has. h.waited k side (sym (word k side) ∙ has);
+      counted =
+          let changed : sum_by held_count (set rows d new) + held_count (get_or rows d old) ≡ sum_by held_count rows + held_count new =
+          sum_by-set held_count rows d new old (slice_get_within _ _ _ at)
+          in
+          let was : held_count (get_or rows d old) ≡ held_count old = ap held_count (get_or_from_slice_get rows d old old at) in
+          let held_same : held_count new ≡ held_count old = ap (λ (words : Sides Word). bit (is_held words.read) + bit (is_held words.write)) same in
+          let c : waiters ≡ sum_by held_count rows = h.counted in
+          omega arith;
+    }
+  where
+    word : (k : ℕ) (side : Side) → option_map (λ (r : DescriptorRow). of_side side r.descriptor.words) (slice_get (set rows d new) k) ≡ option_map (λ (r : DescriptorRow). of_side side r.descriptor.words) (slice_get rows k)
+    word k side = slice_get-set_unseen (option_map (λ (r : DescriptorRow). of_side side r.descriptor.words)) rows d old new k at (ap (λ (w : Sides Word). Some (of_side side w)) same)
+
+pub retimed_keeps : (w : World) (d m : ℕ) (old new : DescriptorRow) → WellFormed w → slice_get w.descriptors d ≡ Some old → is_free_number d w.free ≡ false → new.descriptor.words ≡ old.descriptor.words → Retimed w.firings d old new w.next_arming m → WellFormed (record (with_row d new w) { next_arming = m })
+retimed_keeps w d m old new h at is_open same change =
+    record {
+      goroutines = GoroutinesFit-rows _ w.sockets w.descriptors _ w.free (length-set _ d _) h.goroutines;
+      words = WordsFit-rows w.goroutines w.descriptors w.waiters d old new at same h.words;
+      queues = h.queues;
+      timers = TimersFit-retimed w.descriptors w.firings w.next_arming m d old new at change h.timers;
+      free = FreeFits-open w.descriptors w.free d old new at is_open h.free;
+      sockets = h.sockets;
+      goroutines_limited = h.goroutines_limited;
+      sockets_limited = h.sockets_limited;
+      descriptors_limited = rw length-set h.descriptors_limited;
+      firings_limited = h.firings_limited;
+      clock = h.clock;
+    }

@@ -1,0 +1,52 @@
+-- A spawn leaves a world well formed.
+use Rattle.std.proofs.Common.{◌≡◌, ℕ, ◌<◌, List, [], ◌∷◌, ◌++◌, length, refl, sym, subst, ◌∙◌, arith, length-append, Ok}
+use Rattle.std.specs.Option.{option_and_then}
+use Rattle.nr_rev.specs.declared.status.Status.{Status}
+use Rattle.nr_rev.specs.declared.status.Status.TheVariants.{Idle}
+use Rattle.nr_rev.specs.declared.answer.Answer.{Answer}
+use Rattle.nr_rev.specs.Socket.{Socket}
+use Rattle.nr_rev.specs.declared.descriptor.DescriptorRow.{DescriptorRow}
+use Rattle.nr_rev.specs.World.{World, wait_of}
+use Rattle.nr_rev.specs.Step.{spawn}
+use Rattle.nr_rev.specs.WellFormed.{WellFormed, GoroutinesFit, socket_named, owed_of, parked_of, awaiting_of, is_queued}
+use Rattle.nr_rev.proofs.Lists.{slice_get-push_unseen}
+use Rattle.nr_rev.proofs.Reasons.{then_ok, unless_ok, next_is, below_of}
+use Rattle.nr_rev.proofs.SameViews.{SameView, WordsFit-same, QueuesFit-same}
+
+idle_goroutines : (gs : List Status) (sockets : List Socket) (rows : List DescriptorRow) (free : List ℕ) → GoroutinesFit gs sockets rows free → GoroutinesFit (gs ++ Idle ∷ []) sockets rows free
+idle_goroutines gs sockets rows free h =
+    record {
+      one_inside = λ g k d side p q. h.one_inside g k d side (sym (waits g) ∙ p) (sym (waits k) ∙ q);
+      inside_open = λ g d side p. h.inside_open g d side (sym (waits g) ∙ p);
+      sockets_named = λ g s p. h.sockets_named g s (sym (slice_get-push_unseen (option_and_then socket_named) gs Idle g refl) ∙ p);
+      owed = λ g reads writes p. h.owed g reads writes (sym (slice_get-push_unseen (option_and_then owed_of) gs Idle g refl) ∙ p);
+    }
+  where
+    waits : SameView (option_and_then wait_of) gs (gs ++ Idle ∷ [])
+    waits g = slice_get-push_unseen (option_and_then wait_of) gs Idle g refl
+
+spawned : (w : World) → WellFormed w → length w.goroutines < w.limits.goroutines → WellFormed (record w { goroutines = w.goroutines ++ Idle ∷ [] })
+spawned w h room =
+    record {
+      goroutines = idle_goroutines w.goroutines w.sockets w.descriptors w.free h.goroutines;
+      words =
+          WordsFit-same w.goroutines _ w.descriptors w.waiters
+          (λ g. slice_get-push_unseen (option_and_then parked_of) w.goroutines Idle g refl)
+          (λ g. slice_get-push_unseen (option_and_then awaiting_of) w.goroutines Idle g refl)
+          h.words;
+      queues =
+          QueuesFit-same w.goroutines _ w.sockets (λ s side g. slice_get-push_unseen (is_queued s side) w.goroutines Idle g refl) h.queues;
+      timers = h.timers;
+      free = h.free;
+      sockets = h.sockets;
+      goroutines_limited = rw length-append (omega arith);
+      sockets_limited = h.sockets_limited;
+      descriptors_limited = h.descriptors_limited;
+      firings_limited = h.firings_limited;
+      clock = h.clock;
+    }
+
+pub spawn_keeps : (w next : World) (answer : Answer) → WellFormed w → spawn w ≡ Ok (answer, next) → WellFormed next
+spawn_keeps w next answer h e =
+    let t = then_ok _ _ _ e in
+    subst WellFormed (next_is _ _ _ _ t.1) (spawned w h (below_of _ _ (unless_ok _ _ t.0)))

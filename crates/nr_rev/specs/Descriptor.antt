@@ -1,0 +1,212 @@
+-- The poll descriptor: its record, its check and summary, and its operations.
+use Rattle.std.specs.Prelude.{ℕ, ◌+◌, ◌*◌, ◌-◌, ◌^◌, Bool, true, false, ◌&&◌, not, ◌==◌, ℤ, pos, negsuc, int_lt, ◌+ℤ◌, if◌then◌else◌, List, [], ◌∷◌, ◌++◌, Option, Some, None, Result, Ok}
+use Rattle.std.specs.Ordering.{int_eq}
+use Rattle.std.specs.Int.{int_min}
+use Rattle.nr_rev.specs.declared.sides.Side.{Side}
+use Rattle.nr_rev.specs.declared.sides.Side.TheVariants.{Read, Write}
+use Rattle.nr_rev.specs.declared.sides.Mode.{Mode}
+use Rattle.nr_rev.specs.declared.timer.TimerFunction.{TimerFunction}
+use Rattle.nr_rev.specs.declared.descriptor.Word.{Word}
+use Rattle.nr_rev.specs.declared.descriptor.Word.TheVariants.{Nil, Ready, Wait, Held}
+use Rattle.nr_rev.specs.declared.refusal.Refusal.{Refusal}
+use Rattle.nr_rev.specs.declared.sides.Sides.{Sides}
+use Rattle.nr_rev.specs.Sides.{of_side, with_side, twice, is_read, names_side, covers_side, side_of_function}
+use Rattle.nr_rev.specs.Refusing.{◌>>=◌, ◌>>◌, refused_if, refused_unless, raised_sequence}
+use Rattle.nr_rev.specs.Lock.{bit}
+use Rattle.nr_rev.specs.declared.timer.TimerOrder.{TimerOrder}
+use Rattle.nr_rev.specs.declared.timer.TimerOrder.TheVariants.{Arm, Stop}
+use Rattle.nr_rev.specs.declared.descriptor.Descriptor.{Descriptor}
+
+abbrev pub never_opened : Descriptor
+never_opened =
+    record {
+      words = twice Nil;
+      closing = false;
+      event_error = false;
+      deadlines = twice (pos 0);
+      running = twice false;
+      sequences = twice 0;
+      fdseq = 0;
+      socket = 0;
+    }
+
+abbrev pub is_positive : ℤ → Bool
+is_positive t = int_lt (pos 0) t
+
+abbrev pub is_negative : ℤ → Bool
+is_negative t = int_lt t (pos 0)
+
+abbrev pub is_expired : Side → Descriptor → Bool
+is_expired side d = is_negative (of_side side d.deadlines)
+
+-- the first that holds of: closing, 1; the side's deadline expired, 2; an event error, for reading only, 3; else 0
+abbrev pub check : Side → Descriptor → ℕ
+check side d =
+    if d.closing then 1 else (if is_expired side d then 2 else (if is_read side && d.event_error then 3 else 0))
+
+abbrev pub summary : Descriptor → ℕ
+summary d = bit d.closing + 2 * bit d.event_error + 4 * bit (is_expired Read d) + 8 * bit (is_expired Write d)
+
+-- one deadline for both sides, and it is to come
+abbrev pub is_combo : Descriptor → Bool
+is_combo d = is_positive d.deadlines.read && int_eq d.deadlines.read d.deadlines.write
+
+abbrev pub with_word : Side → Word → Descriptor → Descriptor
+with_word side word d = record d { words = with_side side word d.words }
+
+-- Unblock: the new word, and the goroutine that is woken
+abbrev pub unblock : Word → Bool → Word × List ℕ
+unblock Ready ioready = (Ready, [])
+unblock Nil ioready = (if ioready then Ready else Nil, [])
+unblock Wait ioready = (if ioready then Ready else Nil, [])
+unblock (Held g) ioready = (if ioready then Ready else Nil, g ∷ [])
+
+-- what an operation leaves: the descriptor, the orders to its timers, and the goroutines woken
+pub record Change : Type 0 where
+  pub descriptor : Descriptor
+  pub orders : List TimerOrder
+  pub woken : List ℕ
+
+abbrev pub quiet : Descriptor → Change
+quiet d = record { descriptor = d; orders = []; woken = [] }
+
+-- one change after another
+abbrev pub and_then : Change → (Descriptor → Change) → Change
+and_then first next =
+    let second : Change = next first.descriptor in
+    record {
+      descriptor = second.descriptor;
+      orders = first.orders ++ second.orders;
+      woken = first.woken ++ second.woken;
+    }
+
+abbrev pub and_if : Bool → (Descriptor → Change) → Change → Change
+and_if test next change = if test then and_then change next else change
+
+-- a side's word is unblocked
+abbrev pub unblocked : Bool → Side → Descriptor → Change
+unblocked ioready side d =
+    let new : Word × List ℕ = unblock (of_side side d.words) ioready in
+    record { descriptor = with_word side new.0 d; orders = []; woken = new.1 }
+
+abbrev pub both_raised : Sides ℕ → Result (Sides ℕ) Refusal
+both_raised sequences = do
+  read ← raised_sequence sequences.read
+  write ← raised_sequence sequences.write
+  Ok (record { read = read; write = write })
+
+abbrev pub opened_for : ℕ → Descriptor → Result Descriptor Refusal
+opened_for socket d = do
+  sequences ← both_raised d.sequences
+  Ok (record d {
+    words = twice Nil;
+    closing = false;
+    event_error = false;
+    deadlines = twice (pos 0);
+    sequences = sequences;
+    fdseq = if d.fdseq == 0 then 1 else d.fdseq;
+    socket = socket;
+  })
+
+abbrev pub closed : Descriptor → Result Descriptor Refusal
+closed d = do
+  fdseq ← raised_sequence d.fdseq
+  Ok (record d { fdseq = fdseq })
+
+-- a deadline that is to come is told from now; the greatest time stands for a later one
+abbrev pub deadline_from : ℤ → ℤ → ℤ
+deadline_from clock t = if is_positive t then int_min (clock +ℤ t) (pos (2 ^ 63 - 1)) else t
+
+abbrev pub with_deadlines : Mode → ℤ → Descriptor → Descriptor
+with_deadlines mode t d =
+    record d {
+      deadlines =
+          record {
+            read = if names_side mode Read then t else d.deadlines.read;
+            write = if names_side mode Write then t else d.deadlines.write;
+          };
+    }
+
+abbrev pub timer_function : Side → Descriptor → TimerFunction
+timer_function Read d = if is_combo d then TimerFunction.Both else TimerFunction.Read
+timer_function Write d = TimerFunction.Write
+
+-- whether a side's deadline wants a timer of its own: one for writing isn't armed under combo
+abbrev pub wants_timer : Side → Descriptor → Bool
+wants_timer Read d = is_positive d.deadlines.read
+wants_timer Write d = is_positive d.deadlines.write && not (is_combo d)
+
+-- armed at the deadline with the sequence, or stopped
+abbrev pub timer_reset : Side → Descriptor → Change
+timer_reset side d =
+    record {
+      descriptor = record d { running = with_side side (wants_timer side d) d.running };
+      orders =
+          (if wants_timer side d then Arm side (of_side side d.deadlines) (timer_function side d) (of_side side d.sequences)
+          else Stop side)
+          ∷ [];
+      woken = [];
+    }
+
+-- a side's timer after the deadlines of `old` became those of d
+abbrev pub timer_follows : Side → Descriptor → Descriptor → Result Change Refusal
+timer_follows side old d =
+    if not (of_side side d.running) then Ok (if wants_timer side d then timer_reset side d else quiet d)
+    else (if int_eq (of_side side old.deadlines) (of_side side d.deadlines) && (bit (is_combo old) == bit (is_combo d))
+    then Ok (quiet d)
+    else (do
+      sequence ← raised_sequence (of_side side d.sequences)
+      Ok (timer_reset side (record d { sequences = with_side side sequence d.sequences }))))
+
+-- the sides whose deadline is past are unblocked, reading first
+abbrev pub expired_unblocked : Change → Change
+expired_unblocked change =
+    and_if (is_expired Write change.descriptor) (unblocked false Write)
+    (and_if (is_expired Read change.descriptor) (unblocked false Read) change)
+
+abbrev pub deadline_set : ℤ → Mode → ℤ → Descriptor → Result Change Refusal
+deadline_set clock mode t old =
+    if old.closing then Ok (quiet old) else (do
+      read ← timer_follows Read old (with_deadlines mode (deadline_from clock t) old)
+      write ← timer_follows Write old read.descriptor
+      Ok (expired_unblocked (and_then read (λ _. write))))
+
+abbrev pub stop_if : Bool → Side → List TimerOrder
+stop_if true side = Stop side ∷ []
+stop_if false side = []
+
+abbrev pub evicted : Descriptor → Result Change Refusal
+evicted d = do
+  refused_if d.closing Refusal.AlreadyClosing
+  sequences ← both_raised d.sequences
+  let stopped : Change = record {
+    descriptor = record d { closing = true; sequences = sequences; running = twice false };
+    orders = stop_if d.running.read Read ++ stop_if d.running.write Write;
+    woken = [];
+  }
+  Ok (and_then (and_then stopped (unblocked false Read)) (unblocked false Write))
+
+abbrev pub expire : Side → Descriptor → Change
+expire side d = unblocked false side (record d { deadlines = with_side side (negsuc 0) d.deadlines })
+
+-- whether a firing is the one that the descriptor waits for
+abbrev pub is_current : TimerFunction → ℕ → Descriptor → Bool
+is_current function sequence d = sequence == of_side (side_of_function function) d.sequences
+
+-- a side that fires has a deadline to come and a running timer, under `both` the read timer's
+abbrev pub is_timed : TimerFunction → Descriptor → Bool
+is_timed TimerFunction.Read d = is_positive d.deadlines.read && d.running.read
+is_timed TimerFunction.Write d = is_positive d.deadlines.write && d.running.write
+is_timed TimerFunction.Both d = is_positive d.deadlines.read && d.running.read && is_positive d.deadlines.write
+
+-- a current firing, None for a stale one
+abbrev pub fired : TimerFunction → ℕ → Descriptor → Result (Option Change) Refusal
+fired function sequence d =
+    if not (is_current function sequence d) then Ok None else (do
+      refused_unless (is_timed function d) Refusal.CorruptedDescriptor
+      Ok (Some (and_if (covers_side function Write) (expire Write) (and_if (covers_side function Read) (expire Read) (quiet d)))))
+
+abbrev pub event_seen : Mode → Bool → Descriptor → Change
+event_seen mode error d =
+    and_if (names_side mode Write) (unblocked true Write)
+    (and_if (names_side mode Read) (unblocked true Read) (quiet (record d { event_error = error })))

@@ -1,0 +1,16 @@
+pub mod Sides
+pub mod Refusing
+pub mod Lock
+pub mod Semaphore
+pub mod Timer
+pub mod Descriptor
+pub mod Socket
+pub mod World
+pub mod Step
+pub mod Cell
+pub mod Run
+pub mod WellFormed
+pub mod Reversible
+pub mod Transaction
+pub mod Worlds
+pub mod Worked

@@ -1,0 +1,82 @@
+-- The lock word of a socket, as a record; its number; and its operations.
+use Rattle.std.specs.Prelude.{ℕ, ◌+◌, ◌-◌, ◌*◌, ◌^◌, Bool, true, false, ◌&&◌, ◌||◌, not, nat_lt, ◌==◌, min, if◌then◌else◌, Result, Ok}
+use Rattle.nr_rev.specs.declared.sides.Side.{Side}
+use Rattle.nr_rev.specs.declared.answer.Answer.{Answer}
+use Rattle.nr_rev.specs.declared.refusal.Refusal.{Refusal}
+use Rattle.nr_rev.specs.Sides.{of_side, with_side, twice}
+use Rattle.nr_rev.specs.Refusing.{◌>>=◌, ◌>>◌, refused_if, refused_unless}
+use Rattle.nr_rev.specs.declared.lock.Lock.{Lock}
+use Rattle.nr_rev.specs.declared.lock.LockOutcome.{LockOutcome}
+
+abbrev pub open_lock : Lock
+open_lock = record { closed = false; locked = twice false; references = 0; waiters = twice 0 }
+
+abbrev pub bit : Bool → ℕ
+bit true = 1
+bit false = 0
+
+-- the word: bit 0 closed, 1 read lock, 2 write lock, from 3 references, from 23 read waiters, from 43 write waiters
+abbrev pub lock_number : Lock → ℕ
+lock_number lock =
+    bit lock.closed + 2 * bit lock.locked.read + 4 * bit lock.locked.write + 8 * lock.references
+    + 2 ^ 23 * lock.waiters.read
+    + 2 ^ 43 * lock.waiters.write
+
+-- the answer, with nothing owed
+abbrev pub answered : Answer → Lock → LockOutcome
+answered answer lock = record { answer = answer; owed = twice 0; lock = lock }
+
+-- a field of 20 bits raised by one: reason 6 where it is full
+abbrev pub raised_field : ℕ → Result ℕ Refusal
+raised_field n = do
+  refused_unless (nat_lt n (2 ^ 20 - 1)) Refusal.FieldOverflow
+  Ok (n + 1)
+
+-- the answer where a reference was given up
+abbrev pub last_of : Lock → Answer
+last_of lock = if lock.closed && (lock.references == 0) then Answer.Last else Answer.NotLast
+
+abbrev pub incref : Lock → Result LockOutcome Refusal
+incref lock =
+    if lock.closed then Ok (answered Answer.No lock) else (do
+      references ← raised_field lock.references
+      Ok (answered Answer.Yes (record lock { references = references })))
+
+-- one release is owed to each waiter of either side
+abbrev pub incref_close : Lock → Result LockOutcome Refusal
+incref_close lock =
+    if lock.closed then Ok (answered Answer.No lock) else (do
+      references ← raised_field lock.references
+      Ok (record {
+        answer = Answer.Yes;
+        owed = lock.waiters;
+        lock = record lock { closed = true; references = references; waiters = twice 0 };
+      }))
+
+abbrev pub decref : Lock → Result LockOutcome Refusal
+decref lock = do
+  refused_if (lock.references == 0) Refusal.InconsistentLock
+  let left : Lock = record lock { references = lock.references - 1 }
+  Ok (answered (last_of left) left)
+
+abbrev pub rw_lock : Side → Lock → Result LockOutcome Refusal
+rw_lock side lock =
+    if lock.closed then Ok (answered Answer.No lock)
+    else (if of_side side lock.locked then (do
+      waiters ← raised_field (of_side side lock.waiters)
+      Ok (answered Answer.Wait (record lock { waiters = with_side side waiters lock.waiters })))
+    else (do
+      references ← raised_field lock.references
+      Ok (answered Answer.Yes (record lock { locked = with_side side true lock.locked; references = references }))))
+
+-- one release of the side is owed where it had a waiter
+abbrev pub rw_unlock : Side → Lock → Result LockOutcome Refusal
+rw_unlock side lock = do
+  refused_if (not (of_side side lock.locked) || (lock.references == 0)) Refusal.InconsistentLock
+  let waiters : ℕ = of_side side lock.waiters
+  let left : Lock = record lock {
+    locked = with_side side false lock.locked;
+    references = lock.references - 1;
+    waiters = with_side side (waiters - 1) lock.waiters;
+  }
+  Ok (record { answer = last_of left; owed = with_side side (min waiters 1) (twice 0); lock = left })

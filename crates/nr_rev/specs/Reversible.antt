@@ -1,0 +1,13 @@
+-- What is said of a single operation that can be undone.
+use Rattle.std.specs.Prelude.{◌≡◌, ◌⊎◌, ℕ, ◌+◌, ◌/◌, ◌≤◌, Option, Some}
+use Rattle.nr_rev.specs.declared.refusal.Refusal.{Refusal}
+use Rattle.nr_rev.specs.declared.refusal.Refusal.TheVariants.{Memory}
+
+-- the refusal is the reason of the state, or want of memory at an operation that may take some
+abbrev pub Refuses : {State Op : Type 0} → (State → Op → Option Refusal) → (Op → Type 0) → State → Op → Refusal → Type 0
+Refuses reason takes_memory old op refusal = (reason old op ≡ Some refusal) ⊎ ((refusal ≡ Memory) × takes_memory op)
+
+-- a delta weighs at most what its operation is allowed, and one word more for each eight bytes, begun ones
+-- included, that left a buffer
+abbrev pub IsLight : {Op Answer Delta : Type 0} → (Delta → ℕ) → (Op → ℕ) → (Op → Answer → ℕ) → Op → Answer → Delta → Type 0
+IsLight weight allowance bytes_out op answer delta = weight delta ≤ allowance op + (bytes_out op answer + 7) / 8

@@ -1,0 +1,30 @@
+-- A socket: its lock, its semaphores and its buffers.
+use Rattle.std.specs.Prelude.{ℕ, ◌-◌, Bool, false, List, [], length}
+use Rattle.nr_rev.specs.declared.sides.Sides.{Sides}
+use Rattle.nr_rev.specs.Sides.{twice}
+use Rattle.nr_rev.specs.declared.lock.Lock.{Lock}
+use Rattle.nr_rev.specs.Lock.{open_lock}
+use Rattle.nr_rev.specs.Semaphore.{Semaphore, new_semaphore}
+
+pub record Buffer : Type 0 where
+  pub bytes : List ℕ
+  pub capacity : ℕ
+
+abbrev pub room_of : Buffer → ℕ
+room_of buffer = buffer.capacity - length buffer.bytes
+
+pub record Socket : Type 0 where
+  pub lock : Lock
+  pub semaphores : Sides Semaphore
+  -- the input is read, the output written
+  pub buffers : Sides Buffer
+  pub peer_closed : Bool
+
+abbrev pub new_socket : ℕ → ℕ → Socket
+new_socket read_capacity write_capacity =
+    record {
+      lock = open_lock;
+      semaphores = twice new_semaphore;
+      buffers = record { read = record { bytes = []; capacity = read_capacity }; write = record { bytes = []; capacity = write_capacity } };
+      peer_closed = false;
+    }

@@ -1,0 +1,494 @@
+-- The thirty steps. Each row tests its reasons in order, and then says the answer and the next world.
+use Rattle.std.specs.Prelude.{◌≡◌, ℕ, ◌+◌, ◌-◌, ◌*◌, Bool, true, false, ◌&&◌, ◌||◌, not, ◌==◌, nat_lt, nat_le, min, ℤ, int_lt, int_le, if◌then◌else◌, List, [], ◌∷◌, ◌++◌, length, take, drop, remove, slice_get, slice_set, slice_index_or, Option, Some, None, Result, Ok, Err}
+use Rattle.nr_rev.specs.declared.sides.Side.{Side}
+use Rattle.nr_rev.specs.declared.sides.Side.TheVariants.{Read, Write}
+use Rattle.nr_rev.specs.declared.sides.Mode.{Mode}
+use Rattle.nr_rev.specs.declared.descriptor.Word.{Word}
+use Rattle.nr_rev.specs.declared.status.Status.{Status}
+use Rattle.nr_rev.specs.declared.status.Status.TheVariants.{Idle, Acquiring, Queued, Relock, Owing, Entering, Armed, Parking, Parked, Swapping, Checking, Gone}
+use Rattle.nr_rev.specs.declared.answer.Answer.{Answer}
+use Rattle.nr_rev.specs.declared.answer.Answer.TheVariants.{Number, Code, Got, Put, Done, Yes, No, Wait, Eof, Again, Stale}
+use Rattle.nr_rev.specs.declared.refusal.Refusal.{Refusal}
+use Rattle.nr_rev.specs.declared.refusal.Refusal.TheVariants.{NoSuchGoroutine, NotThere, TableFull, NoSuchSocket, NoSuchDescriptor, DoubleWait, CloseWithoutUnblock, WaiterInside, ClockGoesBack, NoTimerDue, FiringsFull, NoSuchFiring, NoRoom, TooFewBytes, SizeOutOfRange, PeerClosed}
+use Rattle.nr_rev.specs.declared.step.Step.{Step}
+use Rattle.nr_rev.specs.declared.sides.Sides.{Sides}
+use Rattle.nr_rev.specs.Sides.{of_side, with_side, twice, same_side}
+use Rattle.nr_rev.specs.Refusing.{◌>>=◌, ◌>>◌, refused_if, refused_unless, found_or, raised_sequence}
+use Rattle.nr_rev.specs.Lock
+use Rattle.nr_rev.specs.declared.lock.LockOutcome.{LockOutcome}
+use Rattle.nr_rev.specs.Semaphore.{Semaphore, is_free, acquired, front_of, released}
+use Rattle.nr_rev.specs.declared.timer.Timer.{Timer}
+use Rattle.nr_rev.specs.declared.timer.TimerOrder.{TimerOrder}
+use Rattle.nr_rev.specs.declared.timer.TimerOrder.TheVariants.{Arm, Stop}
+use Rattle.nr_rev.specs.Descriptor.{never_opened, check, opened_for, closed, with_word, Change, deadline_set, evicted, event_seen, fired}
+use Rattle.nr_rev.specs.Socket.{Socket, new_socket, room_of}
+use Rattle.nr_rev.specs.declared.descriptor.DescriptorRow.{DescriptorRow}
+use Rattle.nr_rev.specs.World.{World, is_free_number, least_entry, is_waited, with_status, with_socket, with_row, with_descriptor}
+
+abbrev pub Outcome : Type 0
+Outcome = Result (Answer × World) Refusal
+
+-- reason 1: no such goroutine, or gone
+abbrev pub alive : Option Status → Result Status Refusal
+alive None = Err NoSuchGoroutine
+alive (Some Gone) = Err NoSuchGoroutine
+alive (Some status) = Ok status
+
+abbrev pub status_of : ℕ → World → Result Status Refusal
+status_of g w = alive (slice_get w.goroutines g)
+
+abbrev pub is_idle : Status → Bool
+is_idle Idle = true
+is_idle _ = false
+
+-- reasons 1 and 2
+abbrev pub idle : ℕ → World → Result (Unit {0}) Refusal
+idle g w = do
+  status ← status_of g w
+  refused_unless (is_idle status) NotThere
+
+-- reason 4: not opened
+abbrev pub socket_of : ℕ → World → Result Socket Refusal
+socket_of s w = found_or (slice_get w.sockets s) NoSuchSocket
+
+-- reason 5, where d was never opened
+abbrev pub row_of : ℕ → World → Result DescriptorRow Refusal
+row_of d w = found_or (slice_get w.descriptors d) NoSuchDescriptor
+
+-- reason 5, where d isn't open
+abbrev pub open_row_of : ℕ → World → Result DescriptorRow Refusal
+open_row_of d w = do
+  refused_if (is_free_number d w.free) NoSuchDescriptor
+  row_of d w
+
+-- reason 19: a size is from 1 to the recording's buffer limit
+abbrev pub sized : ℕ → World → Result (Unit {0}) Refusal
+sized n w = refused_unless (nat_lt 0 n && nat_le n w.limits.buffer) SizeOutOfRange
+
+-- spawn: a go statement
+abbrev pub spawn : World → Outcome
+spawn w = do
+  refused_unless (nat_lt (length w.goroutines) w.limits.goroutines) TableFull
+  Ok (Number (length w.goroutines), record w { goroutines = w.goroutines ++ Idle ∷ [] })
+
+-- exit: the goroutine ends
+abbrev pub exit : ℕ → World → Outcome
+exit g w = do
+  idle g w
+  Ok (Done, with_status g Gone w)
+
+-- sockopen: a socket with room to read and to write
+abbrev pub sockopen : ℕ → ℕ → World → Outcome
+sockopen rc wc w = do
+  refused_unless (nat_lt (length w.sockets) w.limits.sockets) TableFull
+  sized rc w
+  sized wc w
+  Ok (Number (length w.sockets), record w { sockets = w.sockets ++ new_socket rc wc ∷ [] })
+
+abbrev pub with_buffer : Side → List ℕ → Socket → Socket
+with_buffer side bytes socket =
+    record socket { buffers = with_side side (record (of_side side socket.buffers) { bytes = bytes }) socket.buffers }
+
+-- arrive: bytes come in
+abbrev pub arrive : ℕ → List ℕ → World → Outcome
+arrive s bytes w = do
+  socket ← socket_of s w
+  refused_if (length bytes == 0) SizeOutOfRange
+  refused_if socket.peer_closed PeerClosed
+  refused_unless (nat_le (length bytes) (room_of socket.buffers.read)) NoRoom
+  Ok (Done, with_socket s (with_buffer Read (socket.buffers.read.bytes ++ bytes) socket) w)
+
+-- peerclose: the peer closes
+abbrev pub peerclose : ℕ → World → Outcome
+peerclose s w = do
+  socket ← socket_of s w
+  refused_if socket.peer_closed PeerClosed
+  Ok (Done, with_socket s (record socket { peer_closed = true }) w)
+
+abbrev pub read_answer : ℕ → Bool → Answer
+read_answer k peer_closed = if nat_lt 0 k then Got k else (if peer_closed then Eof else Again)
+
+-- sysread: the system call of a read
+abbrev pub sysread : ℕ → ℕ → ℕ → World → Outcome
+sysread g s n w = do
+  idle g w
+  socket ← socket_of s w
+  sized n w
+  let input : List ℕ = socket.buffers.read.bytes
+  Ok (read_answer (min n (length input)) socket.peer_closed, with_socket s (with_buffer Read (drop n input) socket) w)
+
+-- syswrite: the system call of a write
+abbrev pub syswrite : ℕ → ℕ → List ℕ → World → Outcome
+syswrite g s bytes w = do
+  idle g w
+  socket ← socket_of s w
+  refused_if (length bytes == 0) SizeOutOfRange
+  let k : ℕ = min (room_of socket.buffers.write) (length bytes)
+  Ok (
+    if nat_lt 0 k then Put k else Again,
+    with_socket s (with_buffer Write (socket.buffers.write.bytes ++ take k bytes) socket) w,
+  )
+
+-- drain: bytes go out
+abbrev pub drain : ℕ → ℕ → World → Outcome
+drain s n w = do
+  socket ← socket_of s w
+  refused_if (n == 0) SizeOutOfRange
+  refused_if (nat_lt (length socket.buffers.write.bytes) n) TooFewBytes
+  Ok (Done, with_socket s (with_buffer Write (drop n socket.buffers.write.bytes) socket) w)
+
+-- a goroutine that owes these releases, or nothing
+abbrev pub owing : ℕ → Sides ℕ → Status
+owing s owed = if owed.read + owed.write == 0 then Idle else Owing s owed.read owed.write
+
+abbrev pub lock_left : ℕ → Status → ℕ → Socket → LockOutcome → World → Answer × World
+lock_left g status s socket left w =
+    (left.answer, with_status g status (with_socket s (record socket { lock = left.lock }) w))
+
+-- incref: fdMutex.incref
+abbrev pub incref : ℕ → ℕ → World → Outcome
+incref g s w = do
+  idle g w
+  socket ← socket_of s w
+  left ← Lock.incref socket.lock
+  Ok (lock_left g Idle s socket left w)
+
+-- increfclose: fdMutex.increfAndClose
+abbrev pub increfclose : ℕ → ℕ → World → Outcome
+increfclose g s w = do
+  idle g w
+  socket ← socket_of s w
+  left ← Lock.incref_close socket.lock
+  Ok (lock_left g (owing s left.owed) s socket left w)
+
+-- decref: fdMutex.decref
+abbrev pub decref : ℕ → ℕ → World → Outcome
+decref g s w = do
+  idle g w
+  socket ← socket_of s w
+  left ← Lock.decref socket.lock
+  Ok (lock_left g Idle s socket left w)
+
+abbrev pub may_lock : ℕ → Side → Status → Bool
+may_lock s side Idle = true
+may_lock s side (Relock s' side') = (s == s') && same_side side side'
+may_lock s side _ = false
+
+abbrev pub locker : ℕ → Side → Answer → Status
+locker s side Answer.Wait = Acquiring s side
+locker s side _ = Idle
+
+-- rwlock: fdMutex.rwlock, from its top
+abbrev pub rwlock : ℕ → ℕ → Side → World → Outcome
+rwlock g s side w = do
+  status ← status_of g w
+  refused_unless (may_lock s side status) NotThere
+  socket ← socket_of s w
+  left ← Lock.rw_lock side socket.lock
+  Ok (lock_left g (locker s side left.answer) s socket left w)
+
+-- rwunlock: fdMutex.rwunlock
+abbrev pub rwunlock : ℕ → ℕ → Side → World → Outcome
+rwunlock g s side w = do
+  idle g w
+  socket ← socket_of s w
+  left ← Lock.rw_unlock side socket.lock
+  Ok (lock_left g (owing s left.owed) s socket left w)
+
+abbrev pub with_semaphore : ℕ → Side → Socket → Semaphore → World → World
+with_semaphore s side socket semaphore w =
+    with_socket s (record socket { semaphores = with_side side semaphore socket.semaphores }) w
+
+-- reason 2, unless acquiring
+abbrev pub acquiring_of : Status → Result (ℕ × Side) Refusal
+acquiring_of (Acquiring s side) = Ok (s, side)
+acquiring_of _ = Err NotThere
+
+-- acquire: the semaphore is had, or the goroutine is queued
+abbrev pub acquire : ℕ → World → Outcome
+acquire g w = do
+  status ← status_of g w
+  (s, side) ← acquiring_of status
+  socket ← socket_of s w
+  let semaphore : Semaphore = of_side side socket.semaphores
+  let next : World = with_semaphore s side socket (acquired g semaphore) w
+  Ok (if is_free semaphore then (Yes, with_status g (Relock s side) next) else (Wait, with_status g (Queued s side) next))
+
+-- reason 2, unless owing
+abbrev pub owing_of : Status → Result (ℕ × Sides ℕ) Refusal
+owing_of (Owing s reads writes) = Ok (s, record { read = reads; write = writes })
+owing_of _ = Err NotThere
+
+-- the front of a queue that leaves it must try again
+abbrev pub tries_again : ℕ → Side → Option ℕ → World → World
+tries_again s side None w = w
+tries_again s side (Some g) w = with_status g (Acquiring s side) w
+
+-- release: one release, of reading first
+abbrev pub release : ℕ → World → Outcome
+release g w = do
+  status ← status_of g w
+  (s, owed) ← owing_of status
+  socket ← socket_of s w
+  let side : Side = if nat_lt 0 owed.read then Read else Write
+  let semaphore : Semaphore = of_side side socket.semaphores
+  left ← released semaphore
+  let next : World = tries_again s side (front_of semaphore) (with_semaphore s side socket left w)
+  Ok (Done, with_status g (owing s (with_side side (of_side side owed - 1) owed)) next)
+
+abbrev pub new_row : DescriptorRow
+new_row = record { descriptor = never_opened; timers = twice None }
+
+-- the front of the free list, else the next new number
+abbrev pub taken : List ℕ → World → Result (ℕ × World) Refusal
+taken (d ∷ free) w = Ok (d, record w { free = free })
+taken [] w = do
+  refused_unless (nat_lt (length w.descriptors) w.limits.descriptors) TableFull
+  Ok (length w.descriptors, record w { descriptors = w.descriptors ++ new_row ∷ [] })
+
+-- pollopen: runtime_pollOpen
+abbrev pub pollopen : ℕ → ℕ → World → Outcome
+pollopen g s w = do
+  idle g w
+  _ ← socket_of s w
+  (d, next) ← taken w.free w
+  row ← row_of d next
+  descriptor ← opened_for s row.descriptor
+  Ok (Number d, with_descriptor d row descriptor next)
+
+-- pollclose: runtime_pollClose
+abbrev pub pollclose : ℕ → ℕ → World → Outcome
+pollclose g d w = do
+  idle g w
+  row ← open_row_of d w
+  refused_unless row.descriptor.closing CloseWithoutUnblock
+  refused_if (is_waited d Read w.goroutines || is_waited d Write w.goroutines) WaiterInside
+  descriptor ← closed row.descriptor
+  Ok (Done, record (with_descriptor d row descriptor w) { free = d ∷ w.free })
+
+-- pollreset: runtime_pollReset
+abbrev pub pollreset : ℕ → ℕ → Side → World → Outcome
+pollreset g d side w = do
+  idle g w
+  row ← open_row_of d w
+  let code : ℕ = check side row.descriptor
+  refused_if (code == 0 && is_waited d side w.goroutines) WaiterInside
+  Ok (Code code, if code == 0 then with_descriptor d row (with_word side Word.Nil row.descriptor) w else w)
+
+-- waitbegin: runtime_pollWait, from its top
+abbrev pub waitbegin : ℕ → ℕ → Side → World → Outcome
+waitbegin g d side w = do
+  idle g w
+  row ← open_row_of d w
+  let code : ℕ = check side row.descriptor
+  refused_if (code == 0 && is_waited d side w.goroutines) DoubleWait
+  Ok (Code code, if code == 0 then with_status g (Entering d side) w else w)
+
+-- reason 2, unless at this place of a wait
+abbrev pub entering_of : Status → Result (ℕ × Side) Refusal
+entering_of (Entering d side) = Ok (d, side)
+entering_of _ = Err NotThere
+
+abbrev pub armed_of : Status → Result (ℕ × Side) Refusal
+armed_of (Armed d side) = Ok (d, side)
+armed_of _ = Err NotThere
+
+abbrev pub parking_of : Status → Result (ℕ × Side) Refusal
+parking_of (Parking d side) = Ok (d, side)
+parking_of _ = Err NotThere
+
+abbrev pub swapping_of : Status → Result (ℕ × Side) Refusal
+swapping_of (Swapping d side) = Ok (d, side)
+swapping_of _ = Err NotThere
+
+abbrev pub checking_of : Status → Result (ℕ × Side) Refusal
+checking_of (Checking d side) = Ok (d, side)
+checking_of _ = Err NotThere
+
+-- the world with g's status and the side's word new
+abbrev pub with_wait : ℕ → Status → ℕ → Side → Word → DescriptorRow → World → World
+with_wait g status d side word row w = with_status g status (with_descriptor d row (with_word side word row.descriptor) w)
+
+abbrev pub armed_by : ℕ → ℕ → Side → Word → DescriptorRow → World → Outcome
+armed_by g d side Word.Nil row w = Ok (Wait, with_wait g (Armed d side) d side Word.Wait row w)
+armed_by g d side Word.Ready row w = Ok (Code 0, with_wait g Idle d side Word.Nil row w)
+-- no well-formed world has another word here
+armed_by g d side _ row w = Err DoubleWait
+
+-- blockarm: netpollblock, the word becomes wait
+abbrev pub blockarm : ℕ → World → Outcome
+blockarm g w = do
+  status ← status_of g w
+  (d, side) ← entering_of status
+  row ← row_of d w
+  armed_by g d side (of_side side row.descriptor.words) row w
+
+-- blockcheck: netpollblock, the check before parking
+abbrev pub blockcheck : ℕ → World → Outcome
+blockcheck g w = do
+  status ← status_of g w
+  (d, side) ← armed_of status
+  row ← row_of d w
+  let code : ℕ = check side row.descriptor
+  Ok (Code code, with_status g (if code == 0 then Parking d side else Swapping d side) w)
+
+abbrev pub committed_by : ℕ → ℕ → Side → Word → DescriptorRow → World → Answer × World
+committed_by g d side Word.Wait row w =
+    (Yes, record (with_wait g (Parked d side) d side (Word.Held g) row w) { waiters = w.waiters + 1 })
+committed_by g d side _ row w = (No, with_status g (Swapping d side) w)
+
+-- parkcommit: netpollblockcommit
+abbrev pub parkcommit : ℕ → World → Outcome
+parkcommit g w = do
+  status ← status_of g w
+  (d, side) ← parking_of status
+  row ← row_of d w
+  Ok (committed_by g d side (of_side side row.descriptor.words) row w)
+
+abbrev pub swapped_by : ℕ → ℕ → Side → Word → DescriptorRow → World → Answer × World
+swapped_by g d side Word.Ready row w = (Yes, with_wait g Idle d side Word.Nil row w)
+swapped_by g d side _ row w = (No, with_wait g (Checking d side) d side Word.Nil row w)
+
+-- blockswap: netpollblock, the word is taken up
+abbrev pub blockswap : ℕ → World → Outcome
+blockswap g w = do
+  status ← status_of g w
+  (d, side) ← swapping_of status
+  row ← row_of d w
+  Ok (swapped_by g d side (of_side side row.descriptor.words) row w)
+
+-- waitcheck: runtime_pollWait, the check after netpollblock
+abbrev pub waitcheck : ℕ → World → Outcome
+waitcheck g w = do
+  status ← status_of g w
+  (d, side) ← checking_of status
+  row ← row_of d w
+  let code : ℕ = check side row.descriptor
+  Ok (Code code, with_status g (if code == 0 then Entering d side else Idle) w)
+
+-- the timers after an order, and the next arming number
+abbrev pub obeyed : TimerOrder → Sides (Option Timer) × ℕ → Result (Sides (Option Timer) × ℕ) Refusal
+obeyed (Arm side due function sequence) (timers, number) = do
+  next ← raised_sequence number
+  let timer : Timer = record { due = due; number = number; function = function; sequence = sequence }
+  Ok (with_side side (Some timer) timers, next)
+obeyed (Stop side) (timers, number) = Ok (with_side side None timers, number)
+
+abbrev pub all_obeyed : List TimerOrder → Sides (Option Timer) × ℕ → Result (Sides (Option Timer) × ℕ) Refusal
+all_obeyed [] before = Ok before
+all_obeyed (order ∷ orders) before = do
+  after ← obeyed order before
+  all_obeyed orders after
+
+abbrev pub roused : Status → Status
+roused (Parked d side) = Swapping d side
+roused status = status
+
+-- a goroutine that a word held goes on
+abbrev pub all_woken : List ℕ → World → World
+all_woken [] w = w
+all_woken (g ∷ gs) w =
+    all_woken gs (record w {
+      goroutines = slice_set w.goroutines g (roused (slice_index_or w.goroutines g Idle));
+      waiters = w.waiters - 1;
+    })
+
+-- the world after a change of descriptor d
+abbrev pub changed : ℕ → DescriptorRow → Change → World → Result World Refusal
+changed d row change w = do
+  (timers, number) ← all_obeyed change.orders (row.timers, w.next_arming)
+  let next : World = with_row d (record { descriptor = change.descriptor; timers = timers }) w
+  Ok (all_woken change.woken (record next { next_arming = number }))
+
+-- setdeadline: runtime_pollSetDeadline
+abbrev pub setdeadline : ℕ → ℕ → Mode → ℤ → World → Outcome
+setdeadline g d mode t w = do
+  idle g w
+  row ← open_row_of d w
+  change ← deadline_set w.clock mode t row.descriptor
+  next ← changed d row change w
+  Ok (Done, next)
+
+-- evict: runtime_pollUnblock
+abbrev pub evict : ℕ → ℕ → World → Outcome
+evict g d w = do
+  idle g w
+  row ← open_row_of d w
+  change ← evicted row.descriptor
+  next ← changed d row change w
+  Ok (Done, next)
+
+-- pollevent: netpollready
+abbrev pub pollevent : ℕ → ℕ → Mode → Bool → World → Outcome
+pollevent d tag mode error w = do
+  row ← row_of d w
+  if is_free_number d w.free || not (tag == row.descriptor.fdseq) then Ok (Stale, w) else (do
+    next ← changed d row (event_seen mode error row.descriptor) w
+    Ok (Done, next))
+
+-- tick: the clock goes on
+abbrev pub tick : ℤ → World → Outcome
+tick t w = do
+  refused_if (int_lt t w.clock) ClockGoesBack
+  Ok (Done, record w { clock = t })
+
+-- pop: the first timer that is due goes off
+abbrev pub pop : World → Outcome
+pop w = do
+  entry ← found_or (least_entry w) NoTimerDue
+  refused_unless (int_le entry.timer.due w.clock) NoTimerDue
+  refused_unless (nat_lt (length w.firings) (2 * w.limits.descriptors)) FiringsFull
+  row ← row_of entry.descriptor w
+  let next : World = with_row entry.descriptor (record row { timers = with_side entry.side None row.timers }) w
+  Ok (Done, record next { firings = w.firings ++ entry ∷ [] })
+
+abbrev pub fired_with : ℕ → DescriptorRow → Option Change → World → Outcome
+fired_with d row None w = Ok (Stale, w)
+fired_with d row (Some change) w = do
+  next ← changed d row change w
+  Ok (Done, next)
+
+-- fire: a firing is run
+abbrev pub fire : ℕ → World → Outcome
+fire i w = do
+  entry ← found_or (slice_get w.firings i) NoSuchFiring
+  row ← row_of entry.descriptor w
+  change ← fired entry.timer.function entry.timer.sequence row.descriptor
+  fired_with entry.descriptor row change (record w { firings = remove w.firings i })
+
+-- the answer of a step and the world after it, or the first reason that holds
+abbrev pub outcome : World → Step → Outcome
+outcome w Step.Spawn = spawn w
+outcome w (Step.Exit g) = exit g w
+outcome w (Step.SockOpen rc wc) = sockopen rc wc w
+outcome w (Step.Arrive s bytes) = arrive s bytes w
+outcome w (Step.PeerClose s) = peerclose s w
+outcome w (Step.SysRead g s n) = sysread g s n w
+outcome w (Step.SysWrite g s bytes) = syswrite g s bytes w
+outcome w (Step.Drain s n) = drain s n w
+outcome w (Step.Incref g s) = incref g s w
+outcome w (Step.IncrefClose g s) = increfclose g s w
+outcome w (Step.Decref g s) = decref g s w
+outcome w (Step.RwLock g s side) = rwlock g s side w
+outcome w (Step.RwUnlock g s side) = rwunlock g s side w
+outcome w (Step.Acquire g) = acquire g w
+outcome w (Step.Release g) = release g w
+outcome w (Step.PollOpen g s) = pollopen g s w
+outcome w (Step.PollClose g d) = pollclose g d w
+outcome w (Step.PollReset g d side) = pollreset g d side w
+outcome w (Step.WaitBegin g d side) = waitbegin g d side w
+outcome w (Step.BlockArm g) = blockarm g w
+outcome w (Step.BlockCheck g) = blockcheck g w
+outcome w (Step.ParkCommit g) = parkcommit g w
+outcome w (Step.BlockSwap g) = blockswap g w
+outcome w (Step.WaitCheck g) = waitcheck g w
+outcome w (Step.SetDeadline g d mode t) = setdeadline g d mode t w
+outcome w (Step.Evict g d) = evict g d w
+outcome w (Step.PollEvent d tag mode error) = pollevent d tag mode error w
+outcome w (Step.Tick t) = tick t w
+outcome w Step.Pop = pop w
+outcome w (Step.Fire i) = fire i w
+
+-- a step that applies, by its answer and the next world
+abbrev pub StepTo : World → Step → Answer → World → Type 0
+StepTo w step answer next = outcome w step ≡ Ok (answer, next)

@@ -1,0 +1,165 @@
+-- Recordings whose worlds are told by computing, and what is asked of them.
+use Rattle.std.specs.Prelude.{ℕ, ◌+◌, pos, List, [], ◌∷◌, false, true, Result, Ok, Err, Option, Some, None}
+use Rattle.nr_rev.specs.declared.sides.Side.{Side}
+use Rattle.nr_rev.specs.declared.sides.Mode.{Mode}
+use Rattle.nr_rev.specs.declared.answer.Answer.{Answer}
+use Rattle.nr_rev.specs.declared.refusal.Refusal.{Refusal}
+use Rattle.nr_rev.specs.declared.cell.Cell.{Cell}
+use Rattle.nr_rev.specs.declared.cell.CellValue.{CellValue}
+use Rattle.nr_rev.specs.declared.step.Step.{Step}
+use Rattle.nr_rev.specs.declared.step.Step.TheVariants.{Spawn, Exit, SockOpen, Arrive, SysRead, SysWrite, Drain, Incref, IncrefClose, Decref, RwLock, RwUnlock, Acquire, Release, PollOpen, PollClose, WaitBegin, BlockArm, BlockCheck, ParkCommit, BlockSwap, SetDeadline, Evict, PollEvent, Tick, Pop, Fire}
+use Rattle.nr_rev.specs.declared.lock.Lock.{Lock}
+use Rattle.nr_rev.specs.declared.lock.LockOutcome.{LockOutcome}
+use Rattle.nr_rev.specs.Lock.{open_lock, lock_number}
+use Rattle.nr_rev.specs.Socket.{new_socket}
+use Rattle.nr_rev.specs.World.{World, empty_world}
+use Rattle.nr_rev.specs.Step.{outcome}
+use Rattle.nr_rev.specs.Cell.{cell}
+use Rattle.nr_rev.specs.Run.{Recording, world_at}
+
+-- a recording of these steps, with room for four goroutines, two sockets and two descriptors
+abbrev pub recording : List Step → Recording
+recording steps =
+    record { limits = record { goroutines = 4; sockets = 2; descriptors = 2; buffer = 16 }; steps = steps }
+
+-- the reason of the first step that is refused, with that step's number; the first of the list has number k
+abbrev pub first_refused : ℕ → World → List Step → Option (ℕ × Refusal)
+first_refused k w [] = None
+first_refused k w (step ∷ steps) = elim (outcome w step) [ Ok a ↦ first_refused (k + 1) a.1 steps | Err reason ↦ Some (k, reason) ]
+
+-- the number of the first step of a recording that is refused, from 1, and why
+abbrev pub first_refused_of : Recording → Option (ℕ × Refusal)
+first_refused_of r = first_refused 1 (empty_world r.limits) r.steps
+
+-- the same of some steps where there is room for two goroutines, a socket and a descriptor
+abbrev pub reason_of : List Step → Option (ℕ × Refusal)
+reason_of steps =
+    first_refused 1 (empty_world (record { goroutines = 2; sockets = 1; descriptors = 1; buffer = 16 })) steps
+
+-- the answers of some steps, up to the first that is refused
+abbrev pub answers_from : World → List Step → List Answer
+answers_from w [] = []
+answers_from w (step ∷ steps) = elim (outcome w step) [ Ok a ↦ a.0 ∷ answers_from a.1 steps | Err reason ↦ [] ]
+
+abbrev pub answers_of : Recording → List Answer
+answers_of r = answers_from (empty_world r.limits) r.steps
+
+-- what a cell shows at a position
+abbrev pub shown : Recording → ℕ → Cell → CellValue
+shown r n what = cell (world_at r n) what
+
+-- two goroutines want the lock of reading, and a third closes
+abbrev pub two_readers_and_a_close : Recording
+two_readers_and_a_close =
+    recording (
+    Spawn ∷ Spawn ∷ SockOpen 16 16 ∷ Incref 0 0 ∷ RwLock 0 0 Side.Read ∷ RwLock 1 0 Side.Read
+    ∷ RwUnlock 0 0 Side.Read ∷ IncrefClose 2 0 ∷ Decref 2 0 ∷ Exit 2 ∷ []
+    )
+
+-- a reference is given up that nobody has
+abbrev pub one_reference_given_up_twice : Recording
+one_reference_given_up_twice = recording (SockOpen 1 1 ∷ Incref 0 0 ∷ Decref 0 0 ∷ Decref 0 0 ∷ [])
+
+-- a queued goroutine is released, and another has the lock before it tries again
+abbrev pub a_release_without_hand_off : Recording
+a_release_without_hand_off =
+    recording (
+    Spawn ∷ SockOpen 16 16 ∷ RwLock 0 0 Side.Read ∷ RwLock 1 0 Side.Read ∷ Acquire 1 ∷ RwUnlock 0 0 Side.Read
+    ∷ Release 0 ∷ RwLock 0 0 Side.Read ∷ Acquire 1 ∷ RwLock 1 0 Side.Read ∷ []
+    )
+
+-- a read that parks until bytes arrive
+abbrev pub a_read_through_the_poller : Recording
+a_read_through_the_poller =
+    recording (
+    SockOpen 16 16 ∷ PollOpen 0 0 ∷ RwLock 0 0 Side.Read ∷ WaitBegin 0 0 Side.Read ∷ BlockArm 0 ∷ BlockCheck 0
+    ∷ ParkCommit 0 ∷ Arrive 0 (104 ∷ 105 ∷ []) ∷ PollEvent 0 1 Mode.Read false ∷ BlockSwap 0 ∷ SysRead 0 0 8
+    ∷ RwUnlock 0 0 Side.Read ∷ []
+    )
+
+-- the event comes after the check and before the goroutine parks
+abbrev pub an_event_before_the_parking : Recording
+an_event_before_the_parking =
+    recording (
+    SockOpen 16 16 ∷ PollOpen 0 0 ∷ RwLock 0 0 Side.Read ∷ WaitBegin 0 0 Side.Read ∷ BlockArm 0 ∷ BlockCheck 0
+    ∷ PollEvent 0 1 Mode.Read false ∷ ParkCommit 0 ∷ BlockSwap 0 ∷ []
+    )
+
+-- an error is seen for writing, and a reader waits
+abbrev pub an_error_while_reading_waits : Recording
+an_error_while_reading_waits =
+    recording (
+    SockOpen 1 1 ∷ PollOpen 0 0 ∷ PollEvent 0 1 Mode.Write true ∷ WaitBegin 0 0 Side.Read
+    ∷ PollEvent 0 2 Mode.Read false ∷ []
+    )
+
+-- bytes are written, and leave
+abbrev pub a_drained_output : Recording
+a_drained_output = recording (SockOpen 1 2 ∷ SysWrite 0 0 (104 ∷ 105 ∷ []) ∷ Drain 0 2 ∷ [])
+
+-- one timer for both deadlines fires, and that of reading is set anew before
+abbrev pub a_stale_firing_of_both_deadlines : Recording
+a_stale_firing_of_both_deadlines =
+    recording (
+    SockOpen 16 16 ∷ PollOpen 0 0 ∷ SetDeadline 0 0 Mode.Both (pos 100) ∷ Tick (pos 100) ∷ Pop
+    ∷ SetDeadline 0 0 Mode.Read (pos 50) ∷ Fire 0 ∷ Pop ∷ Fire 0 ∷ []
+    )
+
+-- now and the time to wait are more than the greatest time
+abbrev pub a_deadline_past_the_greatest_time : Recording
+a_deadline_past_the_greatest_time =
+    recording (SockOpen 1 1 ∷ PollOpen 0 0 ∷ Tick (pos 5) ∷ SetDeadline 0 0 Mode.Read (pos 9223372036854775807) ∷ [])
+
+-- an event of before the closing comes after the opening
+abbrev pub a_descriptor_opened_again : Recording
+a_descriptor_opened_again =
+    recording (
+    SockOpen 16 16 ∷ PollOpen 0 0 ∷ Evict 0 0 ∷ PollClose 0 0 ∷ PollOpen 0 0 ∷ PollEvent 0 1 Mode.Read false ∷ []
+    )
+
+-- a third timer is due, and two firings wait to be run
+abbrev pub a_firing_too_many : Recording
+a_firing_too_many =
+    record {
+      limits = record { goroutines = 1; sockets = 1; descriptors = 1; buffer = 1 };
+      steps =
+          SockOpen 1 1 ∷ PollOpen 0 0 ∷ SetDeadline 0 0 Mode.Read (pos 1) ∷ Tick (pos 1) ∷ Pop
+          ∷ SetDeadline 0 0 Mode.Read (pos 1) ∷ Tick (pos 2) ∷ Pop ∷ SetDeadline 0 0 Mode.Read (pos 1) ∷ Tick (pos 3) ∷ Pop
+          ∷ [];
+    }
+
+-- a reader has the lock; two more wait, and a writer
+abbrev pub a_lock_with_three_waiters : Lock
+a_lock_with_three_waiters =
+    record {
+      closed = false;
+      locked = record { read = true; write = false };
+      references = 1;
+      waiters = record { read = 2; write = 1 };
+    }
+
+-- a reader has the lock, and one more waits
+abbrev pub a_lock_with_one_waiter : Lock
+a_lock_with_one_waiter =
+    record {
+      closed = false;
+      locked = record { read = true; write = false };
+      references = 1;
+      waiters = record { read = 1; write = 0 };
+    }
+
+-- as many references as the word can count
+abbrev pub a_lock_full_of_references : Lock
+a_lock_full_of_references = record open_lock { references = 1048575 }
+
+-- an operation's answer, the releases owed of reading and of writing, and the number of the lock that it leaves
+abbrev pub left_by : Result LockOutcome Refusal → Result (Answer × ℕ × ℕ × ℕ) Refusal
+left_by (Ok left) = Ok (left.answer, left.owed.read, left.owed.write, lock_number left.lock)
+left_by (Err reason) = Err reason
+
+-- a world with one goroutine and one socket, with this lock
+abbrev pub world_with_lock : Lock → World
+world_with_lock lock =
+    record (world_at (recording []) 0) {
+      sockets = record (new_socket 16 16) { lock = lock } ∷ [];
+    }

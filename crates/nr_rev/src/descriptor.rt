@@ -1,0 +1,47 @@
+//! Poll descriptors, after `runtime/netpoll.go`.
+
+use crate::sides::Sides;
+use crate::timer::Timer;
+
+/// A poll word, `rg` or `wg` of `pollDesc`: what is known of one side of a descriptor, or who waits there.
+#[derive(Clone, Copy, Debug, PartialEq, Eq)]
+pub enum Word {
+    /// Nothing is known, and nobody waits.
+    Nil,
+    /// The side is ready, or was found ready and nobody took it up yet.
+    Ready,
+    /// A goroutine is about to park.
+    Wait,
+    /// The goroutine of this number is parked.
+    Held(u32),
+}
+
+/// A poll descriptor, `pollDesc`.
+#[derive(Clone, Copy, Debug, PartialEq, Eq)]
+pub struct Descriptor {
+    /// The poll words, `rg` and `wg`.
+    pub words: Sides<Word>,
+    /// It is being closed, so that nothing waits on it any more.
+    pub closing: bool,
+    /// The last event told of an error.
+    pub event_error: bool,
+    /// The deadlines, `rd` and `wd`, in nanoseconds: positive to come, negative past, 0 none.
+    pub deadlines: Sides<i64>,
+    /// Whether a timer was armed for a side and not stopped, `rrun` and `wrun`.
+    pub running: Sides<bool>,
+    /// The sequences by which a stale firing is known, `rseq` and `wseq`.
+    pub sequences: Sides<u64>,
+    /// The tag by which a stale event is known.
+    pub fdseq: u64,
+    /// The number of the socket that it was opened for.
+    pub socket: u32,
+}
+
+/// A descriptor with the timers that are armed for it.
+#[derive(Clone, Copy, Debug, PartialEq, Eq)]
+pub struct DescriptorRow {
+    /// The descriptor.
+    pub descriptor: Descriptor,
+    /// The timer armed for each side, if one is.
+    pub timers: Sides<Option<Timer>>,
+}

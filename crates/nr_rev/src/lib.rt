@@ -1,0 +1,42 @@
+//! The vocabulary of a recorded schedule, the model machine's definitions, and what a machine owes whose steps can be
+//! undone.
+//!
+//! The machine is that of Go's network poller: socket locks after `internal/poll/fd_mutex.go`, descriptors, waits and
+//! deadlines after `runtime/netpoll.go`. Semaphores, sockets, timers and the order of reasons are rules of its own. The
+//! definitions stand in `specs/`: `Step` has the thirty steps, `World` the state, `WellFormed` what holds of every world
+//! that steps lead to, `Cell` what can be read, and `Run` a recording's positions.
+#![tactic(auto)]
+
+mod answer;
+mod bytes;
+mod cell;
+mod descriptor;
+pub mod laws;
+mod limits;
+mod lock;
+mod queue;
+mod refusal;
+mod reversible;
+mod sides;
+mod status;
+mod step;
+mod timer;
+mod transaction;
+pub mod worked;
+mod worlds;
+
+pub use answer::Answer;
+pub use bytes::Bytes;
+pub use cell::{Cell, CellValue};
+pub use descriptor::{Descriptor, DescriptorRow, Word};
+pub use limits::Limits;
+pub use lock::{Lock, LockOutcome};
+pub use queue::Queue;
+pub use refusal::Refusal;
+pub use reversible::Reversible;
+pub use sides::{Mode, Side, Sides};
+pub use status::Status;
+pub use step::Step;
+pub use timer::{Entry, Timer, TimerFunction, TimerOrder};
+pub use transaction::{transact, undo_all};
+pub use worlds::Worlds;

@@ -1,0 +1,43 @@
+//! The goroutines that wait at a semaphore.
+
+use std::marker::Model;
+
+/// The numbers of the goroutines queued at a semaphore, front first, seen in contracts as the list of them. Made of a
+/// `Vec` and given back as one without taking memory.
+#[derive(Drop)]
+pub struct Queue {
+    items: Vec<u32>,
+}
+
+impl Model for Queue {
+    ghost use Rattle.std.specs.Prelude.{ℕ, List};
+
+    ghost Value = { List ℕ };
+
+    ghost view = { λ q. q.items.items };
+}
+
+impl Queue {
+    ghost use Rattle.std.specs.Prelude.{◌≡◌};
+
+    /// The queue of a `Vec`.
+    pub fn new(items: Vec<u32>) -> Self
+        ensures { result ≡ items.items }
+    {
+        Queue { items }
+    }
+
+    /// The goroutines as a slice, front first.
+    pub fn as_slice(&self) -> &[u32]
+        ensures { result.now ≡ self.now }
+    {
+        self.items.as_slice()
+    }
+
+    /// The `Vec` that holds the goroutines.
+    pub fn into_vec(self) -> Vec<u32>
+        ensures { result.items ≡ self }
+    {
+        self.items
+    }
+}

@@ -1,0 +1,59 @@
+//! All of some operations, or none.
+
+ghost use Rattle.std.specs.Prelude.{◌≡◌, ◌≤◌, [], length, OnOk, OnErr, IfErr};
+ghost use Rattle.nr_rev.specs.Reversible.{IsLight, Refuses};
+ghost use Rattle.nr_rev.specs.Transaction.{Applied, LeadsBack, FirstRefused};
+
+use crate::refusal::Refusal;
+use crate::reversible::Reversible;
+use arrayvec::ArrayVec;
+
+/// Undoes the deltas, from the last to the first, and leaves none. Takes no memory and cannot fail.
+pub fn undo_all<S: Reversible>(state: &mut S, deltas: &mut ArrayVec<S::Delta, 8>)
+where
+    S::Delta: Default + Drop,
+    requires { (old : S) × LeadsBack S.back deltas.old.items state.old old }
+    ensures back { (old : S) → LeadsBack S.back deltas.old.items state.old old → state.new ≡ old }
+    ensures empty { deltas.new.items ≡ [] }
+{
+    while let Some(delta) = deltas.pop() {
+        state.undo(delta);
+    }
+}
+
+/// Applies all the operations in order, or, by undoing, none of them. `out` then has a delta for each operation, in
+/// order, so that `undo_all` leads back over them. Where an operation does not apply after those before it, its refusal
+/// is the error, the state is as it was, and `out` is empty.
+pub fn transact<S: Reversible>(
+    state: &mut S,
+    ops: &[S::Op],
+    out: &mut ArrayVec<S::Delta, 8>,
+) -> Result<(), Refusal>
+where
+    S::Answer: Drop,
+    S::Delta: Default + Drop,
+    requires well_formed { S.is_well_formed state.old }
+    requires few { length ops.now ≤ 8 }
+    requires empty { out.old.items ≡ [] }
+    ensures well_formed { S.is_well_formed state.new }
+
+    // All are applied, and each has its delta.
+    ensures applied { OnOk result (Applied S.steps S.back (IsLight S.weight S.allowance S.bytes_out) state.old ops.now out.new.items state.new) }
+    ensures leads_back { OnOk result (LeadsBack S.back out.new.items state.new state.old) }
+
+    // Or none is, and the first that does not apply is refused.
+    ensures refusal { IfErr result (FirstRefused S.steps (Refuses S.reason S.takes_memory) state.old ops.now) }
+    ensures unchanged { OnErr result (state.new ≡ state.old) }
+    ensures nothing_out { OnErr result (out.new.items ≡ []) }
+{
+    for op in ops {
+        match state.apply(op) {
+            Ok((_, delta)) => out.push(delta),
+            Err(refusal) => {
+                undo_all(state, out);
+                return Err(refusal);
+            }
+        }
+    }
+    Ok(())
+}

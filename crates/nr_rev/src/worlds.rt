@@ -1,0 +1,80 @@
+//! What a world owes, whatever represents it.
+
+ghost use Rattle.std.specs.Prelude.{◌≡◌, ◌<◌, Ok, IfOk, IfErr, OnErr};
+ghost use Rattle.nr_rev.specs.Cell.{cell, bytes_of, queue_of};
+ghost use Rattle.nr_rev.specs.Reversible.{Refuses};
+ghost use Rattle.nr_rev.specs.Step.{outcome};
+ghost use Rattle.nr_rev.specs.WellFormed.{WellFormed};
+ghost use Rattle.nr_rev.specs.World.{World, empty_world};
+ghost use Rattle.nr_rev.specs.Worlds.{KeepsBytes, bytes_left, refusal_of};
+ghost use Rattle.nr_rev.specs.declared.answer.Answer.{Answer};
+ghost use Rattle.nr_rev.specs.declared.refusal.Refusal.TheVariants.{Memory};
+ghost use Rattle.nr_rev.specs.declared.step.Step.{Step};
+
+use crate::answer::Answer;
+use crate::bytes::Bytes;
+use crate::cell::{Cell, CellValue};
+use crate::limits::Limits;
+use crate::queue::Queue;
+use crate::refusal::Refusal;
+use crate::reversible::Reversible;
+use crate::sides::Side;
+use crate::step::Step;
+use std::alloc::Global;
+
+/// A machine of goroutines, sockets, descriptors and timers that replays recorded steps and undoes them.
+pub trait Worlds: Reversible<Op = Step, Answer = Answer> + Sized {
+    /// The world that it means.
+    ghost world: { Self → World };
+
+    /// The world before the first step: goroutine 0 is idle, and there is nothing else. All the room that
+    /// its limits allow is made here.
+    fn fresh(alloc: Global, limits: Limits) -> Result<Self, Refusal>
+        requires { 0 < limits.goroutines }
+        ensures well_formed { IfOk result (λ w. Self.is_well_formed w) }
+        ensures world { IfOk result (λ w. world w ≡ empty_world limits) }
+        ensures err { IfErr result (λ e. e ≡ Memory) };
+
+    /// An equal one, with room of its own.
+    fn try_copy(&self) -> Result<Self, Refusal>
+        ensures ok { IfOk result (λ w. w ≡ self.now) }
+        ensures err { IfErr result (λ e. e ≡ Memory) };
+
+    /// Applies the step as `apply` does, and keeps no way back.
+    fn advance(&mut self, step: &Step) -> Result<Answer, Refusal>
+        requires { Self.is_well_formed self.old }
+        ensures step { IfOk result (λ answer. Self.steps self.old step.now answer self.new) }
+        ensures well_formed { Self.is_well_formed self.new }
+        ensures refusal { IfErr result (Refuses Self.reason Self.takes_memory self.old step.now) }
+        ensures unchanged { OnErr result (self.new ≡ self.old) };
+
+    /// The value of a cell.
+    fn cell(&self, what: Cell) -> CellValue
+        requires { Self.is_well_formed self.now }
+        ensures { result ≡ cell (world self.now) what };
+
+    /// The bytes that a socket's buffer holds, reading the input; `None` where there is no such socket.
+    fn bytes(&self, socket: u32, side: Side) -> Result<Option<Bytes>, Refusal>
+        ensures ok { IfOk result (λ bytes. bytes ≡ bytes_of (world self.now) socket side) }
+        ensures err { IfErr result (λ e. e ≡ Memory) };
+
+    /// The goroutines queued at a socket's semaphore, front first; `None` where there is no such socket.
+    fn queue(&self, socket: u32, side: Side) -> Result<Option<Queue>, Refusal>
+        ensures ok { IfOk result (λ queue. queue ≡ queue_of (world self.now) socket side) }
+        ensures err { IfErr result (λ e. e ≡ Memory) };
+
+    /// Its steps are those of the machine.
+    ghost steps_are: { (old : Self) (step : Step) (answer : Answer) (new : Self) → Self.steps old step answer new → outcome (world old) step ≡ Ok (answer, world new) };
+
+    /// So are its reasons.
+    ghost reasons_are: { (old : Self) (step : Step) → Self.reason old step ≡ refusal_of (outcome (world old) step) };
+
+    /// Memory is refused only where bytes leave a buffer, which the way back keeps.
+    ghost memory_is_for_bytes: { (step : Step) → Self.takes_memory step → KeepsBytes step };
+
+    /// Those are the bytes that its deltas may weigh more by.
+    ghost bytes_out_are: { (step : Step) (answer : Answer) → Self.bytes_out step answer ≡ bytes_left step answer };
+
+    /// It means a well-formed world.
+    ghost means_well_formed: { (state : Self) → Self.is_well_formed state → WellFormed (world state) };
+}
