@@ -1,0 +1,11 @@
+pub mod ListLemmas
+pub mod AlterLemmas
+pub mod RoomLemmas
+pub mod BufferLemmas
+pub mod WaitLemmas
+pub mod ChangeLemmas
+pub mod ContinueLemmas
+pub mod OpenLemmas
+pub mod PlanLemmas
+pub mod FreshLemmas
+pub mod LockLemmas

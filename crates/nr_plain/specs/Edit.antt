@@ -1,0 +1,135 @@
+-- The primitive changes of a world: what each leaves, and what undoing it leaves.
+use Rattle.std.specs.Prelude.{◌≡◌, ℕ, ◌+◌, ◌-◌, ◌*◌, ◌<◌, ◌≤◌, List, [], ◌∷◌, ◌++◌, length, take, drop, insert, remove, slice_get, slice_set, Option, Some, None, option_map, IfSome}
+use Rattle.nr_rev.specs.declared.descriptor.DescriptorRow.{DescriptorRow}
+use Rattle.nr_rev.specs.declared.descriptor.Word.{Word}
+use Rattle.nr_rev.specs.declared.descriptor.Word.TheVariants as word
+use Rattle.nr_rev.specs.declared.status.Status.{Status}
+use Rattle.nr_rev.specs.declared.status.Status.TheVariants as status
+use Rattle.nr_rev.specs.Socket.{new_socket}
+use Rattle.nr_rev.specs.Step.{new_row, all_woken}
+use Rattle.nr_rev.specs.World.{World, with_row, with_status}
+use Rattle.nr_plain.specs.declared.edit.Edit.{Edit}
+use Rattle.nr_plain.specs.declared.edit.Edit.TheVariants as edit
+use Rattle.nr_plain.specs.declared.edit.Undo.{Undo}
+use Rattle.nr_plain.specs.declared.edit.Undo.TheVariants as undo
+use Rattle.nr_plain.specs.SocketEdit.{CanEditSocket, CanUndoSocket, option_words, socket_edit_words, socket_edited, socket_reverted, socket_undo_words}
+
+-- a list with another element at a place, where there is one
+abbrev pub written : {X : Type 0} → ℕ → Option X → List X → List X
+written place None xs = xs
+written place (Some x) xs = slice_set xs place x
+
+abbrev pub altered : {X : Type 0} → ℕ → (X → X) → List X → List X
+altered place change xs = written place (option_map change (slice_get xs place)) xs
+
+-- a change of the world
+abbrev pub edited : Edit → World → World
+edited (edit.Status g status) w = with_status g status w
+edited edit.AddGoroutine w = record w { goroutines = w.goroutines ++ status.Idle ∷ [] }
+edited (edit.AddSocket rc wc) w = record w { sockets = w.sockets ++ new_socket rc wc ∷ [] }
+edited (edit.Socket s change) w = record w { sockets = altered s (socket_edited change) w.sockets }
+edited (edit.Row d row) w = with_row d row w
+edited edit.AddRow w = record w { descriptors = w.descriptors ++ new_row ∷ [] }
+edited edit.TakeFree w = record w { free = drop 1 w.free }
+edited (edit.GiveFree d) w = record w { free = d ∷ w.free }
+edited (edit.Wake g) w = all_woken (g ∷ []) w
+edited (edit.Waiters count) w = record w { waiters = count }
+edited (edit.Arming number) w = record w { next_arming = number }
+edited (edit.Clock time) w = record w { clock = time }
+edited (edit.AddFiring entry) w = record w { firings = w.firings ++ entry ∷ [] }
+edited (edit.TakeFiring place) w = record w { firings = remove w.firings place }
+
+-- what undoing a change of the world leaves
+abbrev pub reverted : Undo → World → World
+reverted (undo.Status g status) w = with_status g status w
+reverted undo.RemoveGoroutine w = record w { goroutines = take (length w.goroutines - 1) w.goroutines }
+reverted undo.RemoveSocket w = record w { sockets = take (length w.sockets - 1) w.sockets }
+reverted (undo.Socket s change) w = record w { sockets = altered s (socket_reverted change) w.sockets }
+reverted (undo.Row d row) w = with_row d row w
+reverted undo.RemoveRow w = record w { descriptors = take (length w.descriptors - 1) w.descriptors }
+reverted (undo.ReturnFree d) w = record w { free = d ∷ w.free }
+reverted undo.RemoveFree w = record w { free = drop 1 w.free }
+reverted (undo.Sleep g status waiters) w = record w { goroutines = slice_set w.goroutines g status; waiters = waiters }
+reverted (undo.Waiters count) w = record w { waiters = count }
+reverted (undo.Arming number) w = record w { next_arming = number }
+reverted (undo.Clock time) w = record w { clock = time }
+reverted undo.RemoveFiring w = record w { firings = take (length w.firings - 1) w.firings }
+reverted (undo.ReturnFiring place entry) w = record w { firings = insert w.firings place entry }
+
+-- there is room for the change, and there is what it takes away
+abbrev pub CanEdit : Edit → World → Type 0
+CanEdit (edit.Status g status) w = Unit {0}
+CanEdit edit.AddGoroutine w = length w.goroutines < w.limits.goroutines
+CanEdit (edit.AddSocket rc wc) w = length w.sockets < w.limits.sockets
+CanEdit (edit.Socket s change) w = IfSome (slice_get w.sockets s) (CanEditSocket w.limits.goroutines w.limits.buffer change)
+CanEdit (edit.Row d row) w = Unit {0}
+CanEdit edit.AddRow w = length w.descriptors < w.limits.descriptors
+CanEdit edit.TakeFree w = 0 < length w.free
+CanEdit (edit.GiveFree d) w = length w.free < w.limits.descriptors
+CanEdit (edit.Wake g) w = Unit {0}
+CanEdit (edit.Waiters count) w = Unit {0}
+CanEdit (edit.Arming number) w = Unit {0}
+CanEdit (edit.Clock time) w = Unit {0}
+CanEdit (edit.AddFiring entry) w = length w.firings < 2 * w.limits.descriptors
+CanEdit (edit.TakeFiring place) w = place < length w.firings
+
+-- there is room for what comes back
+abbrev pub CanUndo : Undo → World → Type 0
+CanUndo (undo.Socket s change) w = IfSome (slice_get w.sockets s) (CanUndoSocket w.limits.goroutines w.limits.buffer change)
+CanUndo (undo.ReturnFree d) w = length w.free < w.limits.descriptors
+CanUndo (undo.ReturnFiring place entry) w = (place ≤ length w.firings) × (length w.firings < 2 * w.limits.descriptors)
+CanUndo _ w = Unit {0}
+
+-- undoing leads from the new world back to the old one
+abbrev pub Undoes : Undo → World → World → Type 0
+Undoes undo new old = CanUndo undo new × (old ≡ reverted undo new)
+
+-- how many words an undo holds
+abbrev pub status_words : Status → ℕ
+status_words status.Idle = 1
+status_words status.Gone = 1
+status_words (status.Owing s reads writes) = 4
+status_words _ = 3
+
+abbrev pub word_words : Word → ℕ
+word_words (word.Held g) = 2
+word_words _ = 1
+
+abbrev pub row_words : DescriptorRow → ℕ
+row_words row =
+    word_words row.descriptor.words.read + word_words row.descriptor.words.write + 10
+    + option_words 4 row.timers.read
+    + option_words 4 row.timers.write
+
+abbrev pub undo_words : Undo → ℕ
+undo_words (undo.Status g status) = 2 + status_words status
+undo_words undo.RemoveGoroutine = 1
+undo_words undo.RemoveSocket = 1
+undo_words (undo.Socket s change) = 2 + socket_undo_words change
+undo_words (undo.Row d row) = 2 + row_words row
+undo_words undo.RemoveRow = 1
+undo_words (undo.ReturnFree d) = 2
+undo_words undo.RemoveFree = 1
+undo_words (undo.Sleep g status waiters) = 3 + status_words status
+undo_words (undo.Waiters count) = 2
+undo_words (undo.Arming number) = 2
+undo_words (undo.Clock time) = 2
+undo_words undo.RemoveFiring = 1
+undo_words (undo.ReturnFiring place entry) = 8
+
+-- how many the undo of a change holds at most
+abbrev pub edit_words : Edit → ℕ
+edit_words (edit.Status g status) = 6
+edit_words edit.AddGoroutine = 1
+edit_words (edit.AddSocket rc wc) = 1
+edit_words (edit.Socket s change) = 2 + socket_edit_words change
+edit_words (edit.Row d row) = 26
+edit_words edit.AddRow = 1
+edit_words edit.TakeFree = 2
+edit_words (edit.GiveFree d) = 1
+edit_words (edit.Wake g) = 7
+edit_words (edit.Waiters count) = 2
+edit_words (edit.Arming number) = 2
+edit_words (edit.Clock time) = 2
+edit_words (edit.AddFiring entry) = 1
+edit_words (edit.TakeFiring place) = 8

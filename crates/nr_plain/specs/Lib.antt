@@ -1,0 +1,14 @@
+pub mod Table
+pub mod Semaphore
+pub mod Buffer
+pub mod SocketEdit
+pub mod Socket
+pub mod Sockets
+pub mod Edit
+pub mod World
+pub mod Plan
+pub mod Reads
+pub mod Change
+pub mod Continuing
+pub mod Delta
+pub mod Worlds

@@ -1,0 +1,55 @@
+-- What a step comes to: an answer and the changes to make.
+use Rattle.std.specs.Prelude.{◌≡◌, ℕ, ◌+◌, ◌/◌, ◌≤◌, List, [], ◌∷◌, length, sum_by, Option, Some, None, Result, Ok, Err}
+use Rattle.nr_rev.specs.declared.refusal.Refusal.{Refusal}
+use Rattle.nr_rev.specs.declared.step.Step.{Step}
+use Rattle.std.proofs.Common.{sym, ap, ◌∙◌, arith}
+use Rattle.nr_rev.specs.declared.answer.Answer.{Answer}
+use Rattle.nr_rev.specs.Step.{StepTo, outcome}
+use Rattle.nr_rev.specs.World.{World}
+use Rattle.nr_rev.specs.Reversible.{Refuses}
+use Rattle.nr_rev.specs.Worlds.{KeepsBytes, bytes_left, refusal_of}
+use Rattle.nr_plain.specs.declared.edit.Edit.{Edit}
+use Rattle.nr_plain.specs.declared.plan.Plan.{Plan}
+use Rattle.nr_plain.specs.Edit.{CanEdit, edit_words, edited}
+
+-- some changes, one after the other
+abbrev pub all_edited : List Edit → World → World
+all_edited [] w = w
+all_edited (edit ∷ edits) w = all_edited edits (edited edit w)
+
+-- each can be made where its turn comes
+abbrev pub CanEditAll : List Edit → World → Type 0
+CanEditAll [] w = Unit {0}
+CanEditAll (edit ∷ edits) w = CanEdit edit w × CanEditAll edits (edited edit w)
+
+-- the words that the undos of some changes hold at most
+abbrev pub all_words : List Edit → ℕ
+all_words edits = sum_by edit_words edits
+
+-- the plan leads from w to the outcome of the step; its changes can be made, and their undos are light
+pub record LeadsTo (step : Step) (w : World) (plan : Plan) : Type 0 where
+  pub answer : outcome w step ≡ Ok (plan.answer, all_edited plan.edits.items w)
+  pub can : CanEditAll plan.edits.items w
+  pub light : all_words plan.edits.items ≤ 64 + (bytes_left step plan.answer + 7) / 8
+  pub few : length plan.edits.items ≤ 5
+
+-- why a step does not apply
+abbrev pub world_reason : World → Step → Option Refusal
+world_reason w step = refusal_of (outcome w step)
+
+-- a plan that leads to the step's outcome, or its reason
+abbrev pub Plans : Step → World → Result Plan Refusal → Type 0
+Plans step w (Ok plan) = LeadsTo step w plan
+Plans step w (Err reason) = outcome w step ≡ Err reason
+
+-- a plan that leads to the step's outcome, or its reason, or want of memory where bytes are to be kept
+abbrev pub PlansUnlessMemory : Step → World → Result Plan Refusal → Type 0
+PlansUnlessMemory step w (Ok plan) = LeadsTo step w plan
+PlansUnlessMemory step w (Err reason) = Refuses world_reason KeepsBytes w step reason
+
+-- a step that has a reason does not apply
+pub refused_has_no_step : (old : World) (step : Step) (e : Refusal) (answer : Answer) (new : World) → world_reason old step ≡ Some e → StepTo old step answer new → ⊥
+refused_has_no_step old step e answer new reason is = absurd (let none : Some e ≡ None = sym reason ∙ ap refusal_of is in cc)
+
+pub sixty_four_is_within : (step : Step) → 64 ≤ 64
+sixty_four_is_within step = omega arith

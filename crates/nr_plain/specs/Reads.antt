@@ -1,0 +1,13 @@
+-- Where a goroutine stands that a step takes further.
+use Rattle.std.specs.Prelude.{ℕ, Result}
+use Rattle.nr_rev.specs.declared.refusal.Refusal.{Refusal}
+use Rattle.nr_rev.specs.declared.sides.Side.{Side}
+use Rattle.nr_rev.specs.Refusing.{◌>>=◌}
+use Rattle.nr_rev.specs.Step.{acquiring_of, status_of}
+use Rattle.nr_rev.specs.World.{World}
+
+-- the socket and side that a goroutine acquires the semaphore of
+abbrev pub acquiring_by : ℕ → World → Result (ℕ × Side) Refusal
+acquiring_by g w = do
+  status ← status_of g w
+  acquiring_of status

@@ -1,0 +1,99 @@
+-- The primitive changes of a socket: what each leaves, and what undoing it leaves.
+use Rattle.std.specs.Prelude.{◌≡◌, ℕ, ◌+◌, ◌-◌, ◌<◌, ◌≤◌, ◌^◌, ◌/◌, true, false, Option, Some, None, List, [], ◌∷◌, ◌++◌, length, take, drop, option_to_list}
+use Rattle.nr_rev.specs.declared.sides.Side.{Side}
+use Rattle.nr_rev.specs.Sides.{of_side, with_side}
+use Rattle.nr_rev.specs.Semaphore.{Semaphore}
+use Rattle.nr_rev.specs.Socket.{Socket}
+use Rattle.nr_plain.specs.declared.socket_edit.SocketEdit.{SocketEdit}
+use Rattle.nr_plain.specs.declared.socket_edit.SocketEdit.TheVariants as edit
+use Rattle.nr_plain.specs.declared.socket_edit.SocketUndo.{SocketUndo}
+use Rattle.nr_plain.specs.declared.socket_edit.SocketUndo.TheVariants as undo
+
+-- a socket with another semaphore at a side
+abbrev pub on_semaphore : Side → (Semaphore → Semaphore) → Socket → Socket
+on_semaphore side change socket =
+    record socket { semaphores = with_side side (change (of_side side socket.semaphores)) socket.semaphores }
+
+-- a socket with other bytes at a side
+abbrev pub on_bytes : Side → (List ℕ → List ℕ) → Socket → Socket
+on_bytes side change socket =
+    record socket { buffers = with_side side (record (of_side side socket.buffers) { bytes = change (of_side side socket.buffers).bytes }) socket.buffers }
+
+-- a change of a socket
+abbrev pub socket_edited : SocketEdit → Socket → Socket
+socket_edited (edit.Lock lock) socket = record socket { lock = lock }
+socket_edited (edit.Count side count) socket = on_semaphore side (λ semaphore. record semaphore { count = count }) socket
+socket_edited (edit.Enqueue side g) socket = on_semaphore side (λ semaphore. record semaphore { queue = semaphore.queue ++ g ∷ [] }) socket
+socket_edited (edit.Release side) socket =
+    on_semaphore side (λ semaphore. record { count = semaphore.count + 1; queue = drop 1 semaphore.queue }) socket
+socket_edited (edit.Append side bytes) socket = on_bytes side (λ held. held ++ bytes.now) socket
+socket_edited (edit.Take side bytes) socket = on_bytes side (λ held. drop (length bytes) held) socket
+socket_edited edit.ClosePeer socket = record socket { peer_closed = true }
+
+-- what undoing a change of a socket leaves
+abbrev pub socket_reverted : SocketUndo → Socket → Socket
+socket_reverted (undo.Lock lock) socket = record socket { lock = lock }
+socket_reverted (undo.Count side count) socket = on_semaphore side (λ semaphore. record semaphore { count = count }) socket
+socket_reverted (undo.LeaveQueue side) socket =
+    on_semaphore side (λ semaphore. record semaphore { queue = take (length semaphore.queue - 1) semaphore.queue }) socket
+socket_reverted (undo.Requeue side front) socket =
+    on_semaphore side (λ semaphore. record { count = semaphore.count - 1; queue = option_to_list front ++ semaphore.queue }) socket
+socket_reverted (undo.Cut side len) socket = on_bytes side (λ held. take len held) socket
+socket_reverted (undo.Restore side bytes) socket = on_bytes side (λ held. bytes ++ held) socket
+socket_reverted undo.OpenPeer socket = record socket { peer_closed = false }
+
+-- there is room for the change in queues and buffers of this room, and what leaves a buffer is what stands
+-- at its front
+abbrev pub CanEditSocket : ℕ → ℕ → SocketEdit → Socket → Type 0
+CanEditSocket queue_room byte_room (edit.Lock lock) socket = Unit {0}
+CanEditSocket queue_room byte_room (edit.Count side count) socket = Unit {0}
+CanEditSocket queue_room byte_room (edit.Enqueue side g) socket = length (of_side side socket.semaphores).queue < queue_room
+CanEditSocket queue_room byte_room (edit.Release side) socket = (of_side side socket.semaphores).count + 1 < 2 ^ 32
+CanEditSocket queue_room byte_room (edit.Append side bytes) socket = length (of_side side socket.buffers).bytes + length bytes.now ≤ byte_room
+CanEditSocket queue_room byte_room (edit.Take side bytes) socket = take (length bytes) (of_side side socket.buffers).bytes ≡ bytes
+CanEditSocket queue_room byte_room edit.ClosePeer socket = socket.peer_closed ≡ false
+
+-- there is room for what comes back
+abbrev pub CanUndoSocket : ℕ → ℕ → SocketUndo → Socket → Type 0
+CanUndoSocket queue_room byte_room (undo.Lock lock) socket = Unit {0}
+CanUndoSocket queue_room byte_room (undo.Count side count) socket = Unit {0}
+CanUndoSocket queue_room byte_room (undo.LeaveQueue side) socket = Unit {0}
+CanUndoSocket queue_room byte_room (undo.Requeue side front) socket =
+    length (option_to_list front) + length (of_side side socket.semaphores).queue ≤ queue_room
+CanUndoSocket queue_room byte_room (undo.Cut side len) socket = Unit {0}
+CanUndoSocket queue_room byte_room (undo.Restore side bytes) socket = length bytes + length (of_side side socket.buffers).bytes ≤ byte_room
+CanUndoSocket queue_room byte_room undo.OpenPeer socket = Unit {0}
+
+-- undoing leads from the new socket back to the old one
+abbrev pub UndoesSocket : ℕ → ℕ → SocketUndo → Socket → Socket → Type 0
+UndoesSocket queue_room byte_room undo new old = CanUndoSocket queue_room byte_room undo new × (old ≡ socket_reverted undo new)
+
+-- how many words the undo of a change holds
+abbrev pub lock_words : ℕ
+lock_words = 6
+
+abbrev pub bytes_words : List ℕ → ℕ
+bytes_words bytes = (length bytes + 7) / 8
+
+abbrev pub option_words : {A : Type 0} → ℕ → Option A → ℕ
+option_words words None = 1
+option_words words (Some a) = 1 + words
+
+abbrev pub socket_undo_words : SocketUndo → ℕ
+socket_undo_words (undo.Lock lock) = 1 + lock_words
+socket_undo_words (undo.Count side count) = 3
+socket_undo_words (undo.LeaveQueue side) = 2
+socket_undo_words (undo.Requeue side front) = 2 + option_words 1 front
+socket_undo_words (undo.Cut side len) = 3
+socket_undo_words (undo.Restore side bytes) = 2 + bytes_words bytes
+socket_undo_words undo.OpenPeer = 1
+
+-- how many the undo of a change holds at most
+abbrev pub socket_edit_words : SocketEdit → ℕ
+socket_edit_words (edit.Lock lock) = 1 + lock_words
+socket_edit_words (edit.Count side count) = 3
+socket_edit_words (edit.Enqueue side g) = 2
+socket_edit_words (edit.Release side) = 4
+socket_edit_words (edit.Append side bytes) = 3
+socket_edit_words (edit.Take side bytes) = 2 + bytes_words bytes
+socket_edit_words edit.ClosePeer = 1

@@ -1,0 +1,15 @@
+-- A list in room that was made at once.
+use Rattle.std.specs.Prelude.{ℕ, List}
+use Rattle.nr_rev.specs.Socket.{Socket}
+
+-- the items, and how many there is room for
+pub record Roomed (A : Type 0) : Type 0 where
+  pub items : List A
+  pub room : ℕ
+
+-- the sockets opened, how many there is room for, and the room of each one's queues and buffers
+pub record SocketTable : Type 0 where
+  pub sockets : List Socket
+  pub room : ℕ
+  pub queue_room : ℕ
+  pub byte_room : ℕ

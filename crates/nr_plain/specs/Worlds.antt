@@ -1,0 +1,28 @@
+-- That a world over lists is a world of the machine: it means what is seen of it.
+use Rattle.std.specs.Prelude.{◌≡◌, Ok}
+use Rattle.nr_rev.specs.declared.answer.Answer.{Answer}
+use Rattle.nr_rev.specs.declared.step.Step.{Step}
+use Rattle.nr_rev.specs.Step.{StepTo, outcome}
+use Rattle.nr_rev.specs.WellFormed.{WellFormed}
+use Rattle.nr_rev.specs.World.{World}
+use Rattle.nr_rev.specs.Worlds.{KeepsBytes, bytes_left, refusal_of}
+use Rattle.nr_plain.specs.Plan.{world_reason}
+
+-- it means itself
+abbrev pub meant : World → World
+meant w = w
+
+pub steps_are : (old : World) (step : Step) (answer : Answer) (new : World) → StepTo old step answer new → outcome old step ≡ Ok (answer, new)
+steps_are old step answer new leads = leads
+
+pub reasons_are : (old : World) (step : Step) → world_reason old step ≡ refusal_of (outcome old step)
+reasons_are old step = λ _. world_reason old step
+
+pub memory_is_for_bytes : (step : Step) → KeepsBytes step → KeepsBytes step
+memory_is_for_bytes step keeps = keeps
+
+pub bytes_out_are : (step : Step) (answer : Answer) → bytes_left step answer ≡ bytes_left step answer
+bytes_out_are step answer = λ _. bytes_left step answer
+
+pub means_well_formed : (state : World) → WellFormed state → WellFormed state
+means_well_formed state fits = fits

@@ -1,0 +1,181 @@
+//! Steps applied and undone.
+
+ghost use Rattle.std.specs.Prelude.{◌≡◌, ◌≤◌, ◌+◌, length, sum_by};
+ghost use Rattle.nr_rev.specs.Transaction.{LeadsBack};
+ghost use Rattle.nr_rev.specs.WellFormed.{WellFormed};
+ghost use Rattle.nr_plain.specs.Edit.{Undoes, undo_words};
+ghost use Rattle.nr_plain.specs.Plan.{CanEditAll, PlansUnlessMemory, all_edited, all_words};
+
+use crate::delta::PlainDelta;
+use crate::edit::{Edit, Undo};
+use crate::plan::{MOST_EDITS, Plan};
+use crate::world::PlainWorld;
+use arrayvec::ArrayVec;
+use nr_rev::{Answer, Refusal, Reversible, Step};
+
+impl PlainWorld {
+    /// What the step comes to: its answer and the changes to make, or why it does not apply.
+    #[tactic(auto, using(crate::proofs::PlanLemmas::unless_memory))]
+    fn plan<'a>(&self, step: &'a Step) -> Result<Plan<'a>, Refusal>
+        requires { WellFormed self.now }
+        ensures { PlansUnlessMemory step.now self.now result }
+    {
+        match step {
+            Step::Spawn => self.spawn(),
+            Step::Exit { goroutine: g } => self.exit(*g),
+            Step::SockOpen {
+                read_capacity: rc,
+                write_capacity: wc,
+            } => self.sockopen(*rc, *wc),
+            Step::Arrive { socket: s, bytes } => self.arrive(*s, bytes),
+            Step::PeerClose { socket: s } => self.peerclose(*s),
+            Step::SysRead {
+                goroutine: g,
+                socket: s,
+                count,
+            } => self.sysread(*g, *s, *count),
+            Step::SysWrite {
+                goroutine: g,
+                socket: s,
+                bytes,
+            } => self.syswrite(*g, *s, bytes),
+            Step::Drain { socket: s, count } => self.drain(*s, *count),
+            Step::Incref {
+                goroutine: g,
+                socket: s,
+            } => self.incref(*g, *s),
+            Step::IncrefClose {
+                goroutine: g,
+                socket: s,
+            } => self.increfclose(*g, *s),
+            Step::Decref {
+                goroutine: g,
+                socket: s,
+            } => self.decref(*g, *s),
+            Step::RwLock {
+                goroutine: g,
+                socket: s,
+                side,
+            } => self.rwlock(*g, *s, *side),
+            Step::RwUnlock {
+                goroutine: g,
+                socket: s,
+                side,
+            } => self.rwunlock(*g, *s, *side),
+            Step::Acquire { goroutine: g } => self.acquire(*g),
+            Step::Release { goroutine: g } => self.release(*g),
+            Step::PollOpen {
+                goroutine: g,
+                socket: s,
+            } => self.pollopen(*g, *s),
+            Step::PollClose {
+                goroutine: g,
+                descriptor: d,
+            } => self.pollclose(*g, *d),
+            Step::PollReset {
+                goroutine: g,
+                descriptor: d,
+                side,
+            } => self.pollreset(*g, *d, *side),
+            Step::WaitBegin {
+                goroutine: g,
+                descriptor: d,
+                side,
+            } => self.waitbegin(*g, *d, *side),
+            Step::BlockArm { goroutine: g } => self.blockarm(*g),
+            Step::BlockCheck { goroutine: g } => self.blockcheck(*g),
+            Step::ParkCommit { goroutine: g } => self.parkcommit(*g),
+            Step::BlockSwap { goroutine: g } => self.blockswap(*g),
+            Step::WaitCheck { goroutine: g } => self.waitcheck(*g),
+            Step::SetDeadline {
+                goroutine: g,
+                descriptor: d,
+                mode,
+                time,
+            } => self.setdeadline(*g, *d, *mode, *time),
+            Step::Evict {
+                goroutine: g,
+                descriptor: d,
+            } => self.evict(*g, *d),
+            Step::PollEvent {
+                descriptor: d,
+                tag,
+                mode,
+                error,
+            } => self.pollevent(*d, *tag, *mode, *error),
+            Step::Tick { time } => self.tick(*time),
+            Step::Pop => self.pop(),
+            Step::Fire { place } => self.fire(*place),
+        }
+    }
+
+    /// Makes the changes, in order, and gives what undoes them.
+    fn perform_all(&mut self, mut edits: ArrayVec<Edit, MOST_EDITS>) -> ArrayVec<Undo, MOST_EDITS>
+        requires few { length edits.items ≤ 5 }
+        requires can { CanEditAll edits.items self.old }
+        ensures after { self.new ≡ all_edited edits.entry.items self.old }
+        ensures back { LeadsBack Undoes result.items self.new self.old }
+        ensures light { sum_by undo_words result.items ≤ all_words edits.entry.items }
+    {
+        let mut undos = ArrayVec::new();
+        while let Some(edit) = edits.pop_at(0) {
+            undos.push(self.perform(edit));
+        }
+        undos
+    }
+}
+
+/// A step is planned first, which changes nothing, and then made of primitive changes; undoing it undoes
+/// these, from the last to the first.
+impl Reversible for PlainWorld {
+    ghost use Rattle.nr_rev.specs.Step.{StepTo};
+    ghost use Rattle.nr_rev.specs.WellFormed.{WellFormed};
+    ghost use Rattle.nr_rev.specs.Worlds.{KeepsBytes, bytes_left};
+    ghost use Rattle.nr_plain.specs.Delta.{PlainBack, PlainBack-unique, delta_words};
+    ghost use Rattle.nr_plain.specs.Plan.{world_reason, refused_has_no_step, sixty_four_is_within};
+
+    type Op = Step;
+
+    type Answer = Answer;
+
+    type Delta = PlainDelta;
+
+    const WORDS: u32 = 64;
+
+    ghost WORDS = { 64 };
+
+    ghost is_well_formed = { WellFormed };
+
+    ghost steps = { StepTo };
+
+    ghost reason = { world_reason };
+
+    ghost takes_memory = { KeepsBytes };
+
+    ghost back = { PlainBack };
+
+    ghost weight = { delta_words };
+
+    ghost allowance = { λ _. 64 };
+
+    ghost bytes_out = { bytes_left };
+
+    fn apply(&mut self, step: &Step) -> Result<(Answer, PlainDelta), Refusal> {
+        let Plan { answer, edits } = self.plan(step)?;
+        let undos = self.perform_all(edits);
+        Ok((answer, PlainDelta { undos }))
+    }
+
+    fn undo(&mut self, delta: PlainDelta) {
+        let PlainDelta { mut undos } = delta;
+        while let Some(undo) = undos.pop() {
+            self.revert(undo);
+        }
+    }
+
+    ghost back_is_unique = { PlainBack-unique };
+
+    ghost refused_has_no_step = { refused_has_no_step };
+
+    ghost allowance_is_within = { sixty_four_is_within };
+}

@@ -1,0 +1,162 @@
+//! What can be read of a world.
+
+ghost use Rattle.std.specs.Prelude.{◌≡◌, ◌^◌, ◌<◌, ◌≤◌, length, slice_get, option_map};
+ghost use Rattle.nr_rev.specs.Cell.{cell, descriptor_value, socket_value};
+ghost use Rattle.nr_rev.specs.Lock.{bit, lock_number};
+ghost use Rattle.nr_rev.specs.Sides.{of_side};
+ghost use Rattle.nr_rev.specs.WellFormed.{LockFits, WellFormed};
+ghost use Rattle.nr_rev.specs.World.{entries_of};
+ghost use Rattle.nr_rev.specs.declared.cell.CellValue.TheVariants as value;
+ghost use Rattle.nr_rev.specs.declared.descriptor.DescriptorRow.{DescriptorRow as Row};
+
+use crate::descriptor::summary;
+use crate::world::PlainWorld;
+use nr_rev::{Cell, CellValue, Descriptor, DescriptorRow, Lock, Side};
+
+impl PlainWorld {
+    /// The value of a cell.
+    pub(crate) fn value(&self, what: Cell) -> CellValue
+        requires { WellFormed self.now }
+        ensures { result ≡ cell self.now what }
+    {
+        match what {
+            Cell::Clock => CellValue::Time(self.clock),
+            Cell::Waiters => CellValue::Number(self.waiters),
+            Cell::Timers => CellValue::Number(armed_in(self.descriptors.as_slice())),
+            Cell::Firings => CellValue::Number(self.firings.len() as u64),
+            Cell::Least => self.least_entry().map_or(
+                CellValue::Absent,
+                |entry| CellValue::Time(entry.timer.due),
+            ),
+            Cell::Goroutine(g) => self
+                .goroutines
+                .get(g as usize)
+                .map_or(CellValue::Absent, |status| CellValue::Status(status)),
+            Cell::Lock(s) => self.lock_value(s),
+            Cell::ReadSemaphore(s) => self.count_value(s, Side::Read),
+            Cell::WriteSemaphore(s) => self.count_value(s, Side::Write),
+            Cell::Input(s) => self.length_value(s, Side::Read),
+            Cell::Output(s) => self.length_value(s, Side::Write),
+            Cell::ReadWord(d) => self.word_value(d, Side::Read),
+            Cell::WriteWord(d) => self.word_value(d, Side::Write),
+            Cell::ReadDeadline(d) => self.deadline_value(d, Side::Read),
+            Cell::WriteDeadline(d) => self.deadline_value(d, Side::Write),
+            Cell::ReadSequence(d) => self.sequence_value(d, Side::Read),
+            Cell::WriteSequence(d) => self.sequence_value(d, Side::Write),
+            Cell::DescriptorSequence(d) => self
+                .descriptor(d)
+                .map_or(CellValue::Absent, |x| CellValue::Number(x.fdseq)),
+            Cell::Info(d) => self
+                .descriptor(d)
+                .map_or(CellValue::Absent, |x| CellValue::Number(summary(x))),
+        }
+    }
+
+    fn lock_value(&self, socket: u32) -> CellValue
+        requires { WellFormed self.now }
+        ensures { result ≡ socket_value socket self.now (λ row. value.Number (lock_number row.lock)) }
+    {
+        match self.sockets.get(socket as usize) {
+            None => CellValue::Absent,
+            Some(row) => CellValue::Number(number(row.lock)),
+        }
+    }
+
+    fn count_value(&self, socket: u32, side: Side) -> CellValue
+        ensures { result ≡ socket_value socket self.now (λ row. value.Number (of_side side row.semaphores).count) }
+    {
+        match self.sockets.get(socket as usize) {
+            None => CellValue::Absent,
+            Some(row) => CellValue::Number(u64::from(row.semaphore(side).count)),
+        }
+    }
+
+    fn length_value(&self, socket: u32, side: Side) -> CellValue
+        ensures { result ≡ socket_value socket self.now (λ row. value.Number (length (of_side side row.buffers).bytes)) }
+    {
+        match self.sockets.get(socket as usize) {
+            None => CellValue::Absent,
+            Some(row) => CellValue::Number(row.buffer(side).bytes.len() as u64),
+        }
+    }
+
+    fn word_value(&self, descriptor: u32, side: Side) -> CellValue
+        ensures { result ≡ descriptor_value descriptor self.now (λ x. value.Word (of_side side x.words)) }
+    {
+        match self.descriptor(descriptor) {
+            None => CellValue::Absent,
+            Some(x) => CellValue::Word(x.words.of(side)),
+        }
+    }
+
+    fn deadline_value(&self, descriptor: u32, side: Side) -> CellValue
+        ensures { result ≡ descriptor_value descriptor self.now (λ x. value.Time (of_side side x.deadlines)) }
+    {
+        match self.descriptor(descriptor) {
+            None => CellValue::Absent,
+            Some(x) => CellValue::Time(x.deadlines.of(side)),
+        }
+    }
+
+    fn sequence_value(&self, descriptor: u32, side: Side) -> CellValue
+        ensures { result ≡ descriptor_value descriptor self.now (λ x. value.Number (of_side side x.sequences)) }
+    {
+        match self.descriptor(descriptor) {
+            None => CellValue::Absent,
+            Some(x) => CellValue::Number(x.sequences.of(side)),
+        }
+    }
+
+    /// A descriptor that was made.
+    fn descriptor(&self, descriptor: u32) -> Option<Descriptor>
+        ensures { result ≡ option_map (λ (row : Row). row.descriptor) (slice_get self.now.descriptors descriptor) }
+    {
+        match self.descriptors.get(descriptor as usize) {
+            None => None,
+            Some(row) => Some(row.descriptor),
+        }
+    }
+}
+
+/// What one more that waits to read adds to a lock's word.
+const READ_WAITER: u64 = 8_388_608;
+
+/// What one more that waits to write adds to a lock's word.
+const WRITE_WAITER: u64 = 8_796_093_022_208;
+
+/// A lock as Go's 64-bit word: bit 0 closed, 1 and 2 locked for reading and writing, from bit 3
+/// references, from 23 and 43 those that wait to read and to write.
+pub(crate) fn number(lock: Lock) -> u64
+    requires { LockFits lock }
+    ensures { result ≡ lock_number lock }
+{
+    bit(lock.closed)
+        + 2 * bit(lock.locked.read)
+        + 4 * bit(lock.locked.write)
+        + 8 * u64::from(lock.references)
+        + READ_WAITER * u64::from(lock.waiters.read)
+        + WRITE_WAITER * u64::from(lock.waiters.write)
+}
+
+/// 1 where it is so.
+fn bit(flag: bool) -> u64
+    ensures is { result ≡ bit flag }
+    ensures small { result ≤ 1 }
+{
+    if flag { 1 } else { 0 }
+}
+
+/// How many timers these rows have armed.
+fn armed_in(rows: &[DescriptorRow]) -> u64
+    requires { length rows.now < 2 ^ 32 }
+    ensures { result ≡ length (entries_of rows.now) }
+{
+    let mut armed = 0u64;
+    let mut d = rows.len();
+    while d > 0 {
+        d -= 1;
+        let timers = rows[d].timers;
+        armed += u64::from(timers.read.is_some()) + u64::from(timers.write.is_some());
+    }
+    armed
+}

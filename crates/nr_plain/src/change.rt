@@ -1,0 +1,348 @@
+//! What an operation leaves of a descriptor: its fields, orders to its timers, and who is woken. At most
+//! one order and one goroutine a side, reading first.
+
+ghost use Rattle.std.specs.Prelude.{◌≡◌, ◌==◌, ◌&&◌, IfOk, None, negsuc, option_map, option_to_list};
+ghost use Rattle.std.specs.Ordering.{int_eq};
+ghost use Rattle.nr_rev.specs.Descriptor as spec;
+ghost use Rattle.nr_rev.specs.Lock as lock;
+ghost use Rattle.nr_rev.specs.Sides as sides;
+ghost use Rattle.nr_rev.specs.declared.sides.Side.TheVariants.{Read, Write};
+ghost use Rattle.nr_plain.specs.Change.{Gives, both_followed, change_shown, followed_shown, unblocked_shown};
+
+use crate::descriptor::{
+    both_raised, covers_side, deadline_from, is_combo, is_expired, names_side, raised_sequence,
+    side_of_function, with_deadlines, with_word,
+};
+use nr_rev::{Descriptor, Mode, Refusal, Side, Sides, TimerFunction, TimerOrder, Word};
+
+/// What an operation leaves.
+#[derive(Clone, Copy)]
+pub(crate) struct PlainChange {
+    pub(crate) descriptor: Descriptor,
+    pub(crate) orders: Sides<Option<TimerOrder>>,
+    pub(crate) woken: Sides<Option<u32>>,
+}
+
+/// A descriptor, and the order to the timer of one side.
+#[derive(Clone, Copy)]
+pub(crate) struct Followed {
+    pub(crate) descriptor: Descriptor,
+    pub(crate) order: Option<TimerOrder>,
+}
+
+/// A word, and the goroutine that it held.
+#[derive(Clone, Copy)]
+pub(crate) struct Unblocked {
+    pub(crate) word: Word,
+    pub(crate) woken: Option<u32>,
+}
+
+/// A descriptor with no order and nobody woken.
+fn quiet(descriptor: Descriptor) -> PlainChange
+    ensures shown { change_shown result ≡ spec.quiet descriptor }
+    ensures orders { result.orders ≡ sides.twice None }
+    ensures woken { result.woken ≡ sides.twice None }
+{
+    PlainChange {
+        descriptor,
+        orders: Sides::twice(None),
+        woken: Sides::twice(None),
+    }
+}
+
+/// A word unblocked (Go's `netpollunblock`).
+fn unblock(word: Word, ioready: bool) -> Unblocked
+    ensures { unblocked_shown result ≡ spec.unblock word ioready }
+{
+    let free = if ioready { Word::Ready } else { Word::Nil };
+    match word {
+        Word::Ready => Unblocked { word, woken: None },
+        Word::Nil | Word::Wait => Unblocked {
+            word: free,
+            woken: None,
+        },
+        Word::Held(goroutine) => Unblocked {
+            word: free,
+            woken: Some(goroutine),
+        },
+    }
+}
+
+impl PlainChange {
+    /// The read side unblocked, before the write side is.
+    fn unblock_read(self, ioready: bool) -> PlainChange
+        requires { self.woken ≡ sides.twice None }
+        ensures shown { change_shown result ≡ spec.and_then (change_shown self) (spec.unblocked ioready Read) }
+        ensures write { result.woken.write ≡ None }
+    {
+        let left = unblock(self.descriptor.words.read, ioready);
+        PlainChange {
+            descriptor: with_word(Side::Read, left.word, self.descriptor),
+            woken: self.woken.with(Side::Read, left.woken),
+            ..self
+        }
+    }
+
+    /// The write side unblocked.
+    fn unblock_write(self, ioready: bool) -> PlainChange
+        requires { self.woken.write ≡ None }
+        ensures { change_shown result ≡ spec.and_then (change_shown self) (spec.unblocked ioready Write) }
+    {
+        let left = unblock(self.descriptor.words.write, ioready);
+        PlainChange {
+            descriptor: with_word(Side::Write, left.word, self.descriptor),
+            woken: self.woken.with(Side::Write, left.woken),
+            ..self
+        }
+    }
+}
+
+/// The descriptor with a side's timer armed at its deadline, or stopped.
+fn timer_reset(side: Side, descriptor: Descriptor) -> Followed
+    ensures { followed_shown result ≡ spec.timer_reset side descriptor }
+{
+    let wanted = wants_timer(side, descriptor);
+    let order = if wanted {
+        TimerOrder::Arm {
+            side,
+            due: descriptor.deadlines.of(side),
+            function: timer_function(side, descriptor),
+            sequence: descriptor.sequences.of(side),
+        }
+    } else {
+        TimerOrder::Stop { side }
+    };
+    Followed {
+        descriptor: Descriptor {
+            running: descriptor.running.with(side, wanted),
+            ..descriptor
+        },
+        order: Some(order),
+    }
+}
+
+/// Whether a side's deadline wants a timer of its own: one for writing isn't armed under combo.
+fn wants_timer(side: Side, descriptor: Descriptor) -> bool
+    ensures { result ≡ spec.wants_timer side descriptor }
+{
+    match side {
+        Side::Read => descriptor.deadlines.read > 0,
+        Side::Write => descriptor.deadlines.write > 0 && !is_combo(descriptor),
+    }
+}
+
+/// What a side's timer runs: under combo the one for reading serves both.
+fn timer_function(side: Side, descriptor: Descriptor) -> TimerFunction
+    ensures { result ≡ spec.timer_function side descriptor }
+{
+    match side {
+        Side::Read if is_combo(descriptor) => TimerFunction::Both,
+        Side::Read => TimerFunction::Read,
+        Side::Write => TimerFunction::Write,
+    }
+}
+
+/// A side's timer after the deadlines of `old` became those of the descriptor.
+fn timer_follows(side: Side, old: Descriptor, descriptor: Descriptor) -> Result<Followed, Refusal>
+    ensures { Gives followed_shown result (spec.timer_follows side old descriptor) }
+{
+    let stays = Followed {
+        descriptor,
+        order: None,
+    };
+    if !descriptor.running.of(side) {
+        if wants_timer(side, descriptor) {
+            return Ok(timer_reset(side, descriptor));
+        }
+        return Ok(stays);
+    }
+    if is_unmoved(side, old, descriptor) {
+        return Ok(stays);
+    }
+    let sequence = raised_sequence(descriptor.sequences.of(side))?;
+    Ok(timer_reset(
+        side,
+        Descriptor {
+            sequences: descriptor.sequences.with(side, sequence),
+            ..descriptor
+        },
+    ))
+}
+
+/// Whether a side's deadline and combo are as they were.
+fn is_unmoved(side: Side, old: Descriptor, descriptor: Descriptor) -> bool
+    ensures { result ≡ (int_eq (sides.of_side side old.deadlines) (sides.of_side side descriptor.deadlines) && (lock.bit (spec.is_combo old) == lock.bit (spec.is_combo descriptor))) }
+{
+    old.deadlines.of(side) == descriptor.deadlines.of(side) && is_combo(old) == is_combo(descriptor)
+}
+
+impl PlainChange {
+    /// The sides whose deadline is past unblocked, reading first.
+    fn unblock_expired(self) -> PlainChange
+        requires { self.woken ≡ sides.twice None }
+        ensures { change_shown result ≡ spec.expired_unblocked (change_shown self) }
+    {
+        let mut change = self;
+        if is_expired(Side::Read, self.descriptor) {
+            change = change.unblock_read(false);
+        }
+        if is_expired(Side::Write, change.descriptor) {
+            change = change.unblock_write(false);
+        }
+        change
+    }
+}
+
+/// Both timers after the deadlines of `old` became those of the descriptor, reading first.
+fn both_follow(old: Descriptor, descriptor: Descriptor) -> Result<PlainChange, Refusal>
+    ensures shown { Gives change_shown result (both_followed old descriptor) }
+    ensures woken { IfOk result (λ change. change.woken ≡ sides.twice None) }
+{
+    let read = timer_follows(Side::Read, old, descriptor)?;
+    let write = timer_follows(Side::Write, old, read.descriptor)?;
+    Ok(PlainChange {
+        descriptor: write.descriptor,
+        orders: Sides {
+            read: read.order,
+            write: write.order,
+        },
+        woken: Sides::twice(None),
+    })
+}
+
+/// A deadline set (Go's `poll_runtime_pollSetDeadline`): the timers follow, reading first, and the sides
+/// whose deadline is past are unblocked.
+pub(crate) fn deadline_set(
+    clock: i64,
+    mode: Mode,
+    time: i64,
+    old: Descriptor,
+) -> Result<PlainChange, Refusal>
+    ensures { Gives change_shown result (spec.deadline_set clock mode time old) }
+{
+    if old.closing {
+        return Ok(quiet(old));
+    }
+    let descriptor = with_deadlines_from(clock, mode, time, old);
+    let change = both_follow(old, descriptor)?;
+    Ok(change.unblock_expired())
+}
+
+/// The descriptor with a deadline, told from now, at the sides that a mode names.
+fn with_deadlines_from(clock: i64, mode: Mode, time: i64, descriptor: Descriptor) -> Descriptor
+    ensures { result ≡ spec.with_deadlines mode (spec.deadline_from clock time) descriptor }
+{
+    with_deadlines(mode, deadline_from(clock, time), descriptor)
+}
+
+/// An order to stop a side's timer, if it runs.
+fn stop_if(running: bool, side: Side) -> Option<TimerOrder>
+    ensures { option_to_list result ≡ spec.stop_if running side }
+{
+    if running {
+        Some(TimerOrder::Stop { side })
+    } else {
+        None
+    }
+}
+
+/// A descriptor evicted (Go's `poll_runtime_pollUnblock`): it is closing, its timers are stopped, and both
+/// sides are unblocked.
+pub(crate) fn evicted(descriptor: Descriptor) -> Result<PlainChange, Refusal>
+    ensures { Gives change_shown result (spec.evicted descriptor) }
+{
+    if descriptor.closing {
+        return Err(Refusal::AlreadyClosing);
+    }
+    let sequences = both_raised(descriptor.sequences)?;
+    let stopped = PlainChange {
+        descriptor: Descriptor {
+            closing: true,
+            sequences,
+            running: Sides::twice(false),
+            ..descriptor
+        },
+        orders: Sides {
+            read: stop_if(descriptor.running.read, Side::Read),
+            write: stop_if(descriptor.running.write, Side::Write),
+        },
+        woken: Sides::twice(None),
+    };
+    Ok(stopped.unblock_read(false).unblock_write(false))
+}
+
+/// The descriptor with a side's deadline past.
+fn with_past(side: Side, descriptor: Descriptor) -> Descriptor
+    ensures { result ≡ record descriptor { deadlines = sides.with_side side (negsuc 0) descriptor.deadlines } }
+{
+    Descriptor {
+        deadlines: descriptor.deadlines.with(side, -1),
+        ..descriptor
+    }
+}
+
+impl PlainChange {
+    /// The sides that a function covers expired, reading first.
+    fn expire(self, function: TimerFunction) -> PlainChange
+        requires { self.woken ≡ sides.twice None }
+        ensures { change_shown result ≡ spec.and_if (sides.covers_side function Write) (spec.expire Write) (spec.and_if (sides.covers_side function Read) (spec.expire Read) (change_shown self)) }
+    {
+        let mut change = self;
+        if covers_side(function, Side::Read) {
+            change.descriptor = with_past(Side::Read, change.descriptor);
+            change = change.unblock_read(false);
+        }
+        if covers_side(function, Side::Write) {
+            change.descriptor = with_past(Side::Write, change.descriptor);
+            change = change.unblock_write(false);
+        }
+        change
+    }
+}
+
+/// Whether a side that a function covers waits for its timer.
+fn is_timed(function: TimerFunction, descriptor: Descriptor) -> bool
+    ensures { result ≡ spec.is_timed function descriptor }
+{
+    let read = descriptor.deadlines.read > 0 && descriptor.running.read;
+    match function {
+        TimerFunction::Read => read,
+        TimerFunction::Write => descriptor.deadlines.write > 0 && descriptor.running.write,
+        TimerFunction::Both => read && descriptor.deadlines.write > 0,
+    }
+}
+
+/// A firing run (Go's `netpollDeadline`), or `None` where its sequence is no longer the descriptor's.
+pub(crate) fn fired(
+    function: TimerFunction,
+    sequence: u64,
+    descriptor: Descriptor,
+) -> Result<Option<PlainChange>, Refusal>
+    ensures { Gives (option_map change_shown) result (spec.fired function sequence descriptor) }
+{
+    if sequence != descriptor.sequences.of(side_of_function(function)) {
+        return Ok(None);
+    }
+    if !is_timed(function, descriptor) {
+        return Err(Refusal::CorruptedDescriptor);
+    }
+    Ok(Some(quiet(descriptor).expire(function)))
+}
+
+/// An event of the poller (Go's `netpollready`): the event error is the event's, and the sides that it names
+/// are ready.
+pub(crate) fn event_seen(mode: Mode, error: bool, descriptor: Descriptor) -> PlainChange
+    ensures { change_shown result ≡ spec.event_seen mode error descriptor }
+{
+    let mut change = quiet(Descriptor {
+        event_error: error,
+        ..descriptor
+    });
+    if names_side(mode, Side::Read) {
+        change = change.unblock_read(true);
+    }
+    if names_side(mode, Side::Write) {
+        change = change.unblock_write(true);
+    }
+    change
+}

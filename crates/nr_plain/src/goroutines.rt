@@ -1,0 +1,53 @@
+//! The steps that make goroutines and sockets, or end a goroutine.
+
+ghost use Rattle.nr_rev.specs.declared.step.Step.TheVariants as steps;
+ghost use Rattle.nr_plain.specs.Plan.{Plans};
+
+use crate::edit::Edit;
+use crate::plan::Plan;
+use crate::world::PlainWorld;
+use nr_rev::{Answer, Refusal, Status};
+
+impl PlainWorld {
+    /// The plan of `spawn`.
+    pub(crate) fn spawn<'a>(&self) -> Result<Plan<'a>, Refusal>
+        ensures { Plans steps.Spawn self.now result }
+    {
+        let made = self.goroutines.len();
+        if made >= self.limits.goroutines as usize {
+            return Err(Refusal::TableFull);
+        }
+        Ok(Plan::new(Answer::Number(made as u32)).then(Edit::AddGoroutine))
+    }
+
+    /// The plan of `exit`.
+    pub(crate) fn exit<'a>(&self, goroutine: u32) -> Result<Plan<'a>, Refusal>
+        ensures { Plans (steps.Exit goroutine) self.now result }
+    {
+        self.idle(goroutine)?;
+        Ok(Plan::new(Answer::Done).then(Edit::Status {
+            goroutine,
+            status: Status::Gone,
+        }))
+    }
+
+    /// The plan of `sockopen`.
+    pub(crate) fn sockopen<'a>(
+        &self,
+        read_capacity: u32,
+        write_capacity: u32,
+    ) -> Result<Plan<'a>, Refusal>
+        ensures { Plans (steps.SockOpen read_capacity write_capacity) self.now result }
+    {
+        let opened = self.sockets.len();
+        if opened >= self.limits.sockets as usize {
+            return Err(Refusal::TableFull);
+        }
+        self.sized(read_capacity)?;
+        self.sized(write_capacity)?;
+        Ok(Plan::new(Answer::Number(opened as u32)).then(Edit::AddSocket {
+            read_capacity,
+            write_capacity,
+        }))
+    }
+}

@@ -1,0 +1,142 @@
+//! The steps on a socket's lock.
+
+ghost use Rattle.std.specs.Prelude.{◌≡◌, ◌∷◌, []};
+ghost use Rattle.nr_rev.specs.Sides as sides;
+ghost use Rattle.nr_rev.specs.declared.step.Step.TheVariants as steps;
+ghost use Rattle.nr_rev.specs.Step as step;
+ghost use Rattle.nr_plain.specs.declared.edit.Edit.TheVariants as edit;
+ghost use Rattle.nr_plain.specs.declared.socket_edit.SocketEdit.TheVariants as socket_edit;
+ghost use Rattle.nr_plain.specs.Plan.{Plans};
+
+use crate::edit::Edit;
+use crate::lock;
+use crate::plan::Plan;
+use crate::socket_edit::SocketEdit;
+use crate::world::PlainWorld;
+use nr_rev::{Answer, LockOutcome, Refusal, Side, Sides, Status};
+
+impl PlainWorld {
+    /// The plan of `incref`.
+    pub(crate) fn incref<'a>(&self, goroutine: u32, socket: u32) -> Result<Plan<'a>, Refusal>
+        ensures { Plans (steps.Incref goroutine socket) self.now result }
+    {
+        self.idle(goroutine)?;
+        let row = self.socket_of(socket)?;
+        let left = lock::incref(row.lock)?;
+        Ok(left_lock(goroutine, Status::Idle, socket, left))
+    }
+
+    /// The plan of `increfclose`.
+    pub(crate) fn increfclose<'a>(&self, goroutine: u32, socket: u32) -> Result<Plan<'a>, Refusal>
+        ensures { Plans (steps.IncrefClose goroutine socket) self.now result }
+    {
+        self.idle(goroutine)?;
+        let row = self.socket_of(socket)?;
+        let left = lock::incref_close(row.lock)?;
+        let status = owing(socket, left.owed);
+        Ok(left_lock(goroutine, status, socket, left))
+    }
+
+    /// The plan of `decref`.
+    pub(crate) fn decref<'a>(&self, goroutine: u32, socket: u32) -> Result<Plan<'a>, Refusal>
+        ensures { Plans (steps.Decref goroutine socket) self.now result }
+    {
+        self.idle(goroutine)?;
+        let row = self.socket_of(socket)?;
+        let left = lock::decref(row.lock)?;
+        Ok(left_lock(goroutine, Status::Idle, socket, left))
+    }
+
+    /// The plan of `rwlock`.
+    pub(crate) fn rwlock<'a>(
+        &self,
+        goroutine: u32,
+        socket: u32,
+        side: Side,
+    ) -> Result<Plan<'a>, Refusal>
+        ensures { Plans (steps.RwLock goroutine socket side) self.now result }
+    {
+        let status = self.status_of(goroutine)?;
+        if !may_lock(socket, side, status) {
+            return Err(Refusal::NotThere);
+        }
+        let row = self.socket_of(socket)?;
+        let left = lock::rw_lock(side, row.lock)?;
+        let status = locker(socket, side, left.answer);
+        Ok(left_lock(goroutine, status, socket, left))
+    }
+
+    /// The plan of `rwunlock`.
+    pub(crate) fn rwunlock<'a>(
+        &self,
+        goroutine: u32,
+        socket: u32,
+        side: Side,
+    ) -> Result<Plan<'a>, Refusal>
+        ensures { Plans (steps.RwUnlock goroutine socket side) self.now result }
+    {
+        self.idle(goroutine)?;
+        let row = self.socket_of(socket)?;
+        let left = lock::rw_unlock(side, row.lock)?;
+        let status = owing(socket, left.owed);
+        Ok(left_lock(goroutine, status, socket, left))
+    }
+}
+
+/// The lock is left so, and the goroutine has this status.
+fn left_lock<'a>(goroutine: u32, status: Status, socket: u32, left: LockOutcome) -> Plan<'a>
+    ensures answer { result.answer ≡ left.answer }
+    ensures edits { result.edits.items ≡ edit.Socket socket (socket_edit.Lock left.lock) ∷ edit.Status goroutine status ∷ [] }
+{
+    let edit = SocketEdit::Lock(left.lock);
+    Plan::new(left.answer)
+        .then(Edit::Socket { socket, edit })
+        .then(Edit::Status { goroutine, status })
+}
+
+/// The status of one that owes these releases, or nothing.
+pub(crate) fn owing(socket: u32, owed: Sides<u32>) -> Status
+    ensures { result ≡ step.owing socket owed }
+{
+    if owed.read == 0 && owed.write == 0 {
+        return Status::Idle;
+    }
+    Status::Owing {
+        socket,
+        reads: owed.read,
+        writes: owed.write,
+    }
+}
+
+/// Whether one of this status may take the lock: it is idle, or was let go to try again here.
+fn may_lock(socket: u32, side: Side, status: Status) -> bool
+    ensures { result ≡ step.may_lock socket side status }
+{
+    match status {
+        Status::Idle => true,
+        Status::Relock {
+            socket: other_socket,
+            side: other_side,
+        } => socket == other_socket && same_side(side, other_side),
+        _ => false,
+    }
+}
+
+fn same_side(side: Side, other: Side) -> bool
+    ensures { result ≡ sides.same_side side other }
+{
+    matches!(
+        (side, other),
+        (Side::Read, Side::Read) | (Side::Write, Side::Write)
+    )
+}
+
+/// The status after `rwlock` with this answer.
+fn locker(socket: u32, side: Side, answer: Answer) -> Status
+    ensures { result ≡ step.locker socket side answer }
+{
+    match answer {
+        Answer::Wait => Status::Acquiring { socket, side },
+        _ => Status::Idle,
+    }
+}

@@ -1,0 +1,91 @@
+//! The steps that open a descriptor and close it: Go's `poll_runtime_pollOpen` and `poll_runtime_pollClose`.
+
+ghost use Rattle.std.specs.Prelude.{◌≡◌, ◌<◌, ◌∷◌, [], List, MatchOption, ℕ, OnOk, length};
+ghost use Rattle.nr_rev.specs.declared.step.Step.TheVariants as steps;
+ghost use Rattle.nr_rev.specs.Step as step;
+ghost use Rattle.nr_rev.specs.WellFormed.{WellFormed};
+ghost use Rattle.nr_plain.specs.Plan.{Plans};
+
+use crate::descriptor::{closed, never_opened, opened_for};
+use crate::edit::Edit;
+use crate::plan::Plan;
+use crate::world::PlainWorld;
+use nr_rev::{Answer, DescriptorRow, Refusal, Side, Sides};
+
+impl PlainWorld {
+    /// The plan of `pollopen`.
+    #[tactic(auto, using(crate::proofs::OpenLemmas::pushed_here))]
+    pub(crate) fn pollopen<'a>(&self, goroutine: u32, socket: u32) -> Result<Plan<'a>, Refusal>
+        ensures { Plans (steps.PollOpen goroutine socket) self.now result }
+    {
+        self.idle(goroutine)?;
+        let _opened = self.socket_of(socket)?;
+        if let Some(descriptor) = self.front_free() {
+            let row = self.row_of(descriptor)?;
+            let row = DescriptorRow {
+                descriptor: opened_for(socket, row.descriptor)?,
+                ..row
+            };
+            return Ok(
+                Plan::new(Answer::Number(descriptor))
+                    .then(Edit::TakeFree)
+                    .then(Edit::Row { descriptor, row }),
+            );
+        }
+        let made = self.descriptors.len();
+        if made >= self.limits.descriptors as usize {
+            return Err(Refusal::TableFull);
+        }
+        let descriptor = made as u32;
+        let row = DescriptorRow {
+            descriptor: opened_for(socket, never_opened())?,
+            timers: Sides::twice(None),
+        };
+        Ok(
+            Plan::new(Answer::Number(descriptor))
+                .then(Edit::AddRow)
+                .then(Edit::Row { descriptor, row }),
+        )
+    }
+
+    /// The front of the free list, if there is one.
+    #[tactic(auto, using(crate::proofs::OpenLemmas::front_or_none))]
+    fn front_free(&self) -> Option<u32>
+        ensures { MatchOption result (self.now.free ≡ []) (λ d. (rest : List ℕ) × (self.now.free ≡ d ∷ rest)) }
+    {
+        self.free.get(0)
+    }
+
+    /// The plan of `pollclose`.
+    pub(crate) fn pollclose<'a>(&self, goroutine: u32, descriptor: u32) -> Result<Plan<'a>, Refusal>
+        requires { WellFormed self.now }
+        ensures { Plans (steps.PollClose goroutine descriptor) self.now result }
+    {
+        self.idle(goroutine)?;
+        let row = self.closable_row_of(descriptor)?;
+        if !row.descriptor.closing {
+            return Err(Refusal::CloseWithoutUnblock);
+        }
+        if self.is_waited(descriptor, Side::Read) || self.is_waited(descriptor, Side::Write) {
+            return Err(Refusal::WaiterInside);
+        }
+        let row = DescriptorRow {
+            descriptor: closed(row.descriptor)?,
+            ..row
+        };
+        Ok(
+            Plan::new(Answer::Done)
+                .then(Edit::Row { descriptor, row })
+                .then(Edit::GiveFree { descriptor }),
+        )
+    }
+
+    /// A descriptor that is open, for which the free list has room.
+    fn closable_row_of(&self, descriptor: u32) -> Result<DescriptorRow, Refusal>
+        requires { WellFormed self.now }
+        ensures row { result ≡ step.open_row_of descriptor self.now }
+        ensures room { OnOk result (length self.now.free < self.now.limits.descriptors) }
+    {
+        self.open_row_of(descriptor)
+    }
+}

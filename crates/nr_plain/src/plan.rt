@@ -1,0 +1,52 @@
+//! What a step comes to.
+
+ghost use Rattle.std.specs.Prelude.{◌≡◌, ◌<◌, ◌∷◌, ◌++◌, [], length};
+
+use crate::edit::{Edit, Undo};
+use arrayvec::ArrayVec;
+use nr_rev::Answer;
+
+/// The most changes that a step is made of.
+pub(crate) const MOST_EDITS: usize = 5;
+
+/// An answer, and the changes to make for it, in order.
+#[derive(Drop)]
+pub(crate) struct Plan<'a> {
+    pub(crate) answer: Answer,
+    pub(crate) edits: ArrayVec<Edit<'a>, MOST_EDITS>,
+}
+
+impl Default for Edit<'_> {
+    fn default() -> Self {
+        Edit::AddRow
+    }
+}
+
+impl Default for Undo {
+    fn default() -> Self {
+        Undo::RemoveRow
+    }
+}
+
+impl<'a> Plan<'a> {
+    /// An answer with nothing to change.
+    pub(crate) fn new(answer: Answer) -> Plan<'a>
+        ensures answer { result.answer ≡ answer }
+        ensures edits { result.edits.items ≡ [] }
+    {
+        Plan {
+            answer,
+            edits: ArrayVec::new(),
+        }
+    }
+
+    /// One change more.
+    pub(crate) fn then(mut self, edit: Edit<'a>) -> Plan<'a>
+        requires { length self.edits.items < 5 }
+        ensures answer { result.answer ≡ self.entry.answer }
+        ensures edits { result.edits.items ≡ self.entry.edits.items ++ edit.entry ∷ [] }
+    {
+        self.edits.push(edit);
+        self
+    }
+}

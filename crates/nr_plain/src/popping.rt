@@ -1,0 +1,86 @@
+//! The step that takes the timer that is due out of those armed.
+
+ghost use Rattle.std.specs.Prelude.{◌≡◌, ◌^◌, ◌<◌, ◌++◌, List, length};
+ghost use Rattle.nr_rev.specs.declared.step.Step.TheVariants as steps;
+ghost use Rattle.nr_rev.specs.declared.timer.Entry.{Entry};
+ghost use Rattle.nr_rev.specs.Timer.{entry_of, is_before, least_of};
+ghost use Rattle.nr_rev.specs.World as world;
+ghost use Rattle.nr_plain.specs.Plan.{Plans};
+
+use crate::edit::Edit;
+use crate::plan::Plan;
+use crate::world::PlainWorld;
+use nr_rev::{Answer, DescriptorRow, Entry, Refusal, Side, Timer};
+
+impl PlainWorld {
+    /// The plan of `pop`.
+    pub(crate) fn pop<'a>(&self) -> Result<Plan<'a>, Refusal>
+        ensures { Plans steps.Pop self.now result }
+    {
+        let entry = self.least_entry().ok_or(Refusal::NoTimerDue)?;
+        if entry.timer.due > self.clock {
+            return Err(Refusal::NoTimerDue);
+        }
+        if self.firings.len() >= 2 * self.limits.descriptors as usize {
+            return Err(Refusal::FiringsFull);
+        }
+        let descriptor = entry.descriptor;
+        let row = self.row_of(descriptor)?;
+        let row = DescriptorRow {
+            timers: row.timers.with(entry.side, None),
+            ..row
+        };
+        Ok(
+            Plan::new(Answer::Done)
+                .then(Edit::Row { descriptor, row })
+                .then(Edit::AddFiring { entry }),
+        )
+    }
+
+    /// The entry that is due before all others.
+    pub(crate) fn least_entry(&self) -> Option<Entry>
+        ensures { result ≡ world.least_entry self.now }
+    {
+        least_of_rows(self.descriptors.as_slice())
+    }
+}
+
+/// The least entry of these rows, the first of which is descriptor 0.
+fn least_of_rows(rows: &[DescriptorRow]) -> Option<Entry>
+    requires { length rows.now < 2 ^ 32 }
+    ensures { result ≡ least_of (world.entries_of rows.now) }
+{
+    let mut least = None;
+    let mut d = rows.len();
+    while d > 0 {
+        d -= 1;
+        let timers = rows[d].timers;
+        least = earlier(d as u32, Side::Write, timers.write, least);
+        least = earlier(d as u32, Side::Read, timers.read, least);
+    }
+    least
+}
+
+/// The earlier of a timer, if there is one, and an entry.
+fn earlier(descriptor: u32, side: Side, timer: Option<Timer>, least: Option<Entry>) -> Option<Entry>
+    ensures { (entries : List Entry) → least ≡ least_of entries → result ≡ least_of (entry_of descriptor side timer ++ entries) }
+{
+    let Some(timer) = timer else {
+        return least;
+    };
+    match least {
+        Some(other) if is_before(other.timer, timer) => Some(other),
+        _ => Some(Entry {
+            descriptor,
+            side,
+            timer,
+        }),
+    }
+}
+
+/// Whether a timer comes before another: by when they are due, then by arming number.
+fn is_before(timer: Timer, other: Timer) -> bool
+    ensures { result ≡ is_before timer other }
+{
+    timer.due < other.due || (timer.due == other.due && timer.number < other.number)
+}

@@ -1,0 +1,113 @@
+//! What the plans of steps read of a world, with the reasons where it isn't there.
+
+ghost use Rattle.std.specs.Prelude.{◌≡◌, Some, None, MatchResult, slice_get};
+ghost use Rattle.nr_rev.specs.declared.refusal.Refusal.TheVariants.{NoSuchSocket};
+ghost use Rattle.nr_rev.specs.Step as step;
+ghost use Rattle.nr_rev.specs.World.{is_free_number, is_place, is_waited, wait_of};
+ghost use Rattle.nr_plain.specs.Socket.{socket_shown};
+
+use crate::socket::PlainSocket;
+use crate::world::PlainWorld;
+use nr_rev::{DescriptorRow, Refusal, Side, Status};
+
+impl PlainWorld {
+    /// The status of a goroutine that was made and isn't gone.
+    pub(crate) fn status_of(&self, goroutine: u32) -> Result<Status, Refusal>
+        ensures { result ≡ step.status_of goroutine self.now }
+    {
+        match self.goroutines.get(goroutine as usize) {
+            None | Some(Status::Gone) => Err(Refusal::NoSuchGoroutine),
+            Some(status) => Ok(status),
+        }
+    }
+
+    /// Whether a goroutine is idle.
+    pub(crate) fn idle(&self, goroutine: u32) -> Result<(), Refusal>
+        ensures { result ≡ step.idle goroutine self.now }
+    {
+        match self.status_of(goroutine)? {
+            Status::Idle => Ok(()),
+            _ => Err(Refusal::NotThere),
+        }
+    }
+
+    /// A socket that is opened.
+    pub(crate) fn socket_of(&self, socket: u32) -> Result<&PlainSocket, Refusal>
+        ensures { MatchResult result (λ p. slice_get self.now.sockets socket ≡ Some (socket_shown p.now)) (λ e. (slice_get self.now.sockets socket ≡ None) × (e ≡ NoSuchSocket)) }
+    {
+        self.sockets
+            .get(socket as usize)
+            .ok_or(Refusal::NoSuchSocket)
+    }
+
+    /// Whether a size is from 1 to the limit of buffers.
+    pub(crate) fn sized(&self, size: u32) -> Result<(), Refusal>
+        ensures { result ≡ step.sized size self.now }
+    {
+        if size == 0 || size > self.limits.buffer {
+            return Err(Refusal::SizeOutOfRange);
+        }
+        Ok(())
+    }
+
+    /// A descriptor that was made, with its timers.
+    pub(crate) fn row_of(&self, descriptor: u32) -> Result<DescriptorRow, Refusal>
+        ensures { result ≡ step.row_of descriptor self.now }
+    {
+        self.descriptors
+            .get(descriptor as usize)
+            .ok_or(Refusal::NoSuchDescriptor)
+    }
+
+    /// A descriptor that is open, with its timers.
+    pub(crate) fn open_row_of(&self, descriptor: u32) -> Result<DescriptorRow, Refusal>
+        ensures { result ≡ step.open_row_of descriptor self.now }
+    {
+        if self.is_free(descriptor) {
+            return Err(Refusal::NoSuchDescriptor);
+        }
+        self.row_of(descriptor)
+    }
+
+    /// Whether a descriptor is one of the free ones.
+    pub(crate) fn is_free(&self, descriptor: u32) -> bool
+        ensures { result ≡ is_free_number descriptor self.now.free }
+    {
+        self.free.as_slice().iter().any(|free| descriptor == *free)
+    }
+
+    /// Whether a goroutine is inside a wait of the descriptor and side.
+    pub(crate) fn is_waited(&self, descriptor: u32, side: Side) -> bool
+        ensures { result ≡ is_waited descriptor side self.now.goroutines }
+    {
+        self.goroutines
+            .as_slice()
+            .iter()
+            .any(|status| is_inside(descriptor, side, *status))
+    }
+}
+
+/// Whether one of this status is inside a wait of the descriptor and side.
+fn is_inside(descriptor: u32, side: Side, status: Status) -> bool
+    ensures { result ≡ is_place descriptor side (wait_of status) }
+{
+    match wait_of(status) {
+        None => false,
+        Some((at_descriptor, at_side)) => descriptor == at_descriptor && side == at_side,
+    }
+}
+
+/// The descriptor and side that one of this status is inside a wait of.
+fn wait_of(status: Status) -> Option<(u32, Side)>
+    ensures { result ≡ wait_of status }
+{
+    match status {
+        Status::Entering { descriptor, side }
+        | Status::Armed { descriptor, side }
+        | Status::Parking { descriptor, side }
+        | Status::Parked { descriptor, side }
+        | Status::Swapping { descriptor, side }
+        | Status::Checking { descriptor, side } => Some((descriptor, side)),
+        _ => None,
+    }
+}

@@ -1,0 +1,168 @@
+//! The steps that move bytes into a socket's buffers and out of them.
+
+ghost use Rattle.std.specs.Prelude.{◌≡◌, ◌^◌, ◌<◌, IfOk, if◌then◌else◌, length, min, nat_lt, take};
+ghost use Rattle.nr_rev.specs.declared.answer.Answer.TheVariants.{Put, Again};
+ghost use Rattle.nr_rev.specs.declared.step.Step.TheVariants as steps;
+ghost use Rattle.nr_rev.specs.Socket.{room_of};
+ghost use Rattle.nr_rev.specs.Step as step;
+ghost use Rattle.nr_rev.specs.WellFormed.{WellFormed};
+ghost use Rattle.nr_plain.specs.Buffer.{buffer_shown};
+ghost use Rattle.nr_plain.specs.Plan.{Plans, PlansUnlessMemory};
+
+use crate::buffer::PlainBuffer;
+use crate::edit::Edit;
+use crate::plan::Plan;
+use crate::socket_edit::SocketEdit;
+use crate::world::PlainWorld;
+use nr_rev::{Answer, Bytes, Refusal, Side};
+use std::alloc::{AllocError, Global};
+
+impl PlainWorld {
+    /// The plan of `arrive`.
+    #[tactic(auto, using(crate::proofs::BufferLemmas::capacity_within))]
+    pub(crate) fn arrive<'a>(&self, socket: u32, bytes: &'a Bytes) -> Result<Plan<'a>, Refusal>
+        requires { WellFormed self.now }
+        ensures { Plans (steps.Arrive socket bytes.now) self.now result }
+    {
+        let row = self.socket_of(socket)?;
+        if bytes.is_empty() {
+            return Err(Refusal::SizeOutOfRange);
+        }
+        if row.peer_closed {
+            return Err(Refusal::PeerClosed);
+        }
+        if bytes.len() > row.input.room() {
+            return Err(Refusal::NoRoom);
+        }
+        let edit = SocketEdit::Append {
+            side: Side::Read,
+            bytes: bytes.as_slice(),
+        };
+        Ok(Plan::new(Answer::Done).then(Edit::Socket { socket, edit }))
+    }
+
+    /// The plan of `peerclose`.
+    pub(crate) fn peerclose<'a>(&self, socket: u32) -> Result<Plan<'a>, Refusal>
+        ensures { Plans (steps.PeerClose socket) self.now result }
+    {
+        let row = self.socket_of(socket)?;
+        if row.peer_closed {
+            return Err(Refusal::PeerClosed);
+        }
+        let edit = SocketEdit::ClosePeer;
+        Ok(Plan::new(Answer::Done).then(Edit::Socket { socket, edit }))
+    }
+
+    /// The plan of `sysread`, which has a copy of the bytes that leave.
+    pub(crate) fn sysread<'a>(
+        &self,
+        goroutine: u32,
+        socket: u32,
+        count: u32,
+    ) -> Result<Plan<'a>, Refusal>
+        ensures { PlansUnlessMemory (steps.SysRead goroutine socket count) self.now result }
+    {
+        self.idle(goroutine)?;
+        let row = self.socket_of(socket)?;
+        self.sized(count)?;
+        let Ok(bytes) = front(self.alloc, &row.input, count) else {
+            return Err(Refusal::Memory);
+        };
+        let answer = read_answer(bytes.len() as u32, row.peer_closed);
+        let edit = SocketEdit::Take {
+            side: Side::Read,
+            bytes,
+        };
+        Ok(Plan::new(answer).then(Edit::Socket { socket, edit }))
+    }
+
+    /// The plan of `syswrite`.
+    #[tactic(auto, using(crate::proofs::BufferLemmas::written_fits))]
+    pub(crate) fn syswrite<'a>(
+        &self,
+        goroutine: u32,
+        socket: u32,
+        bytes: &'a Bytes,
+    ) -> Result<Plan<'a>, Refusal>
+        requires { WellFormed self.now }
+        ensures { Plans (steps.SysWrite goroutine socket bytes.now) self.now result }
+    {
+        self.idle(goroutine)?;
+        let row = self.socket_of(socket)?;
+        if bytes.is_empty() {
+            return Err(Refusal::SizeOutOfRange);
+        }
+        let bytes = writable(&row.output, bytes.as_slice());
+        let answer = write_answer(bytes.len() as u32);
+        let edit = SocketEdit::Append {
+            side: Side::Write,
+            bytes,
+        };
+        Ok(Plan::new(answer).then(Edit::Socket { socket, edit }))
+    }
+
+    /// The plan of `drain`, which has a copy of the bytes that leave.
+    pub(crate) fn drain<'a>(&self, socket: u32, count: u32) -> Result<Plan<'a>, Refusal>
+        ensures { PlansUnlessMemory (steps.Drain socket count) self.now result }
+    {
+        let row = self.socket_of(socket)?;
+        if count == 0 {
+            return Err(Refusal::SizeOutOfRange);
+        }
+        if row.output.bytes.len() < count as usize {
+            return Err(Refusal::TooFewBytes);
+        }
+        let Ok(bytes) = front(self.alloc, &row.output, count) else {
+            return Err(Refusal::Memory);
+        };
+        let edit = SocketEdit::Take {
+            side: Side::Write,
+            bytes,
+        };
+        Ok(Plan::new(Answer::Done).then(Edit::Socket { socket, edit }))
+    }
+}
+
+/// A copy of so many bytes at the front, or of all where there are fewer.
+fn front(alloc: Global, buffer: &PlainBuffer, count: u32) -> Result<Bytes, AllocError>
+    ensures bytes { IfOk result (λ bytes. bytes ≡ take count buffer.now.bytes.items) }
+    ensures len { IfOk result (λ bytes. length bytes ≡ min count (length buffer.now.bytes.items)) }
+{
+    let count = (count as usize).min(buffer.bytes.len());
+    let bytes = Vec::from_slice(alloc, &buffer.bytes.as_slice()[..count])?;
+    Ok(Bytes::new(bytes))
+}
+
+/// The answer of `sysread` that got so many bytes.
+fn read_answer(count: u32, peer_closed: bool) -> Answer
+    ensures { result ≡ step.read_answer count peer_closed }
+{
+    if count > 0 {
+        Answer::Got(count)
+    } else if peer_closed {
+        Answer::Eof
+    } else {
+        Answer::Again
+    }
+}
+
+/// The bytes that there is room for.
+fn writable<'a>(buffer: &PlainBuffer, bytes: &'a [u8]) -> &'a [u8]
+    ensures bytes { result.now ≡ take (min (room_of (buffer_shown buffer.now)) (length bytes.now)) bytes.now }
+    ensures len { length result.now ≡ min (room_of (buffer_shown buffer.now)) (length bytes.now) }
+    ensures small { length result.now < 2 ^ 32 }
+{
+    let count = buffer.room().min(bytes.len());
+    &bytes[..count]
+}
+
+/// The answer of `syswrite` that put so many bytes.
+fn write_answer(count: u32) -> Answer
+    ensures { result ≡ (if nat_lt 0 count then Put count else Again) }
+{
+    if count > 0 {
+        Answer::Put(count)
+    } else {
+        Answer::Again
+    }
+}

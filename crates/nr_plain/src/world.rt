@@ -1,0 +1,34 @@
+//! The world over lists.
+
+use crate::sockets::Sockets;
+use crate::table::Table;
+use nr_rev::{DescriptorRow, Entry, Limits, Status};
+use std::alloc::Global;
+use std::marker::Model;
+
+/// A world over lists, all room of which is made at once.
+#[derive(Drop)]
+pub struct PlainWorld {
+    pub(crate) alloc: Global,
+    pub(crate) limits: Limits,
+    pub(crate) goroutines: Table<Status>,
+    pub(crate) sockets: Sockets,
+    pub(crate) descriptors: Table<DescriptorRow>,
+    pub(crate) firings: Table<Entry>,
+    pub(crate) free: Table<u32>,
+    pub(crate) clock: i64,
+    pub(crate) waiters: u64,
+    pub(crate) next_arming: u64,
+}
+
+impl Model for PlainWorld {
+    ghost use Rattle.nr_rev.specs.World.{World};
+
+    ghost Value = { World };
+
+    ghost use Rattle.nr_plain.specs.World.{world_shown, HasRooms};
+
+    ghost view = { world_shown };
+
+    ghost invariant = { HasRooms };
+}

@@ -1,0 +1,124 @@
+//! The world over lists as a world.
+
+ghost use Rattle.std.specs.Prelude.{◌≡◌, ◌<◌, IfOk};
+ghost use Rattle.nr_rev.specs.Cell.{bytes_of, queue_of};
+ghost use Rattle.nr_rev.specs.World.{empty_world};
+
+use crate::sockets::Sockets;
+use crate::table::Table;
+use crate::world::PlainWorld;
+use nr_rev::{
+    Answer, Bytes, Cell, CellValue, Limits, Queue, Refusal, Reversible, Side, Status, Step, Worlds,
+};
+use std::alloc::{AllocError, Global};
+
+impl PlainWorld {
+    /// The world before the first step.
+    fn with_room(alloc: Global, limits: Limits) -> Result<PlainWorld, AllocError>
+        requires { 0 < limits.goroutines }
+        ensures { IfOk result (λ w. w ≡ empty_world limits) }
+    {
+        let descriptors = limits.descriptors as usize;
+        let mut goroutines = Table::with_room(alloc, limits.goroutines as usize)?;
+        goroutines.push(Status::Idle);
+        Ok(PlainWorld {
+            alloc,
+            limits,
+            goroutines,
+            sockets: Sockets::with_room(
+                alloc,
+                limits.sockets as usize,
+                limits.goroutines as usize,
+                limits.buffer as usize,
+            )?,
+            descriptors: Table::with_room(alloc, descriptors)?,
+            firings: Table::with_room(alloc, 2 * descriptors)?,
+            free: Table::with_room(alloc, descriptors)?,
+            clock: 0,
+            waiters: 0,
+            next_arming: 1,
+        })
+    }
+
+    /// An equal one, with room of its own.
+    fn copy(&self) -> Result<PlainWorld, AllocError>
+        ensures { IfOk result (λ w. w ≡ self.now) }
+    {
+        Ok(PlainWorld {
+            alloc: self.alloc,
+            limits: self.limits,
+            goroutines: self.goroutines.try_copy(self.alloc)?,
+            sockets: self.sockets.try_copy(self.alloc)?,
+            descriptors: self.descriptors.try_copy(self.alloc)?,
+            firings: self.firings.try_copy(self.alloc)?,
+            free: self.free.try_copy(self.alloc)?,
+            clock: self.clock,
+            waiters: self.waiters,
+            next_arming: self.next_arming,
+        })
+    }
+
+    /// A copy of the bytes that a buffer holds.
+    fn bytes_copy(&self, socket: u32, side: Side) -> Result<Option<Bytes>, AllocError>
+        ensures { IfOk result (λ bytes. bytes ≡ bytes_of self.now socket side) }
+    {
+        let Some(row) = self.sockets.get(socket as usize) else {
+            return Ok(None);
+        };
+        let bytes = Vec::from_slice(self.alloc, row.buffer(side).bytes.as_slice())?;
+        Ok(Some(Bytes::new(bytes)))
+    }
+
+    /// A copy of a semaphore's queue.
+    fn queue_copy(&self, socket: u32, side: Side) -> Result<Option<Queue>, AllocError>
+        ensures { IfOk result (λ queue. queue ≡ queue_of self.now socket side) }
+    {
+        let Some(row) = self.sockets.get(socket as usize) else {
+            return Ok(None);
+        };
+        let queue = Vec::from_slice(self.alloc, row.semaphore(side).queue.as_slice())?;
+        Ok(Some(Queue::new(queue)))
+    }
+}
+
+impl Worlds for PlainWorld {
+    ghost use Rattle.nr_plain.specs.Worlds.{meant, steps_are, reasons_are, memory_is_for_bytes, bytes_out_are, means_well_formed};
+
+    ghost world = { meant };
+
+    #[tactic(auto, using(crate::proofs::FreshLemmas::fresh_fits))]
+    fn fresh(alloc: Global, limits: Limits) -> Result<Self, Refusal> {
+        PlainWorld::with_room(alloc, limits).map_err(|_| Refusal::Memory)
+    }
+
+    fn try_copy(&self) -> Result<Self, Refusal> {
+        self.copy().map_err(|_| Refusal::Memory)
+    }
+
+    fn advance(&mut self, step: &Step) -> Result<Answer, Refusal> {
+        let (answer, _) = self.apply(step)?;
+        Ok(answer)
+    }
+
+    fn cell(&self, what: Cell) -> CellValue {
+        self.value(what)
+    }
+
+    fn bytes(&self, socket: u32, side: Side) -> Result<Option<Bytes>, Refusal> {
+        self.bytes_copy(socket, side).map_err(|_| Refusal::Memory)
+    }
+
+    fn queue(&self, socket: u32, side: Side) -> Result<Option<Queue>, Refusal> {
+        self.queue_copy(socket, side).map_err(|_| Refusal::Memory)
+    }
+
+    ghost steps_are = { steps_are };
+
+    ghost reasons_are = { reasons_are };
+
+    ghost memory_is_for_bytes = { memory_is_for_bytes };
+
+    ghost bytes_out_are = { bytes_out_are };
+
+    ghost means_well_formed = { means_well_formed };
+}
