@@ -1,0 +1,87 @@
+-- What is written of a step or of the limits is read as it was.
+use Rattle.std.proofs.Common.{◌≡◌, ◌≤◌, ◌<◌, ◌^◌, ℕ, ℤ, pos, negsuc, Bool, true, false, ltb, leb, List, length, get_or, Some, Ok, refl, arith}
+use Rattle.std.proofs.lemmas.Bool.{lt-ltb, le-ltb, le-leb, leb-true}
+use Rattle.hex.specs.Hex.{encode_lower, lower_digits}
+use Rattle.hex.proofs.HexLemmas.{length-encode_with, decode_of-encode_lower}
+use Rattle.nr_rev.specs.declared.limits.Limits.{Limits}
+use Rattle.nr_rev.specs.declared.sides.Side.{Side}
+use Rattle.nr_rev.specs.declared.sides.Side.TheVariants as sides
+use Rattle.nr_rev.specs.declared.sides.Mode.{Mode}
+use Rattle.nr_rev.specs.declared.sides.Mode.TheVariants as modes
+use Rattle.nr_rev.specs.declared.step.Step.{Step}
+use Rattle.nr_rev.specs.declared.step.Step.TheVariants.{Spawn, Exit, SockOpen, Arrive, PeerClose, SysRead, SysWrite, Drain, Incref, IncrefClose, Decref, RwLock, RwUnlock, Acquire, Release, PollOpen, PollClose, PollReset, WaitBegin, BlockArm, BlockCheck, ParkCommit, BlockSwap, WaitCheck, SetDeadline, Evict, PollEvent, Tick, Pop, Fire}
+use Rattle.nr_recording.specs.Recording.{AreInRange, is_writable}
+use Rattle.nr_recording.specs.Arguments.{number_of, side_of, mode_of, bit_of, bytes_of, moment_of, from_zero}
+use Rattle.nr_recording.specs.Header.{limit_of, limits_of, header_of}
+use Rattle.nr_recording.specs.Steps.{step_of}
+use Rattle.nr_recording.specs.Writing.{numeral, time, side, mode, bit, digits, argument_data, IsMoment, step_data, IsTyped, limits_data}
+
+number_again : (n : ℕ) → n < 2 ^ 32 → number_of (argument_data (numeral n)) ≡ Some n
+number_again n h = rw (lt-ltb n (2 ^ 32) h) refl
+
+side_again : (s : Side) → side_of (argument_data (side s)) ≡ Some s
+side_again sides.Read = refl
+side_again sides.Write = refl
+
+mode_again : (m : Mode) → mode_of (argument_data (mode m)) ≡ Some m
+mode_again modes.Read = refl
+mode_again modes.Write = refl
+mode_again modes.Both = refl
+
+bit_again : (b : Bool) → bit_of (argument_data (bit b)) ≡ Some b
+bit_again false = refl
+bit_again true = refl
+
+moment_again : (t : ℤ) → IsMoment t → moment_of (argument_data (time t)) ≡ Some t
+moment_again (pos n) h = rw (lt-ltb n (2 ^ 63) h) refl
+moment_again (negsuc n) h = refl
+
+from_zero_again : (t : ℤ) → is_writable (Tick t) ≡ true → from_zero t ≡ Some t
+from_zero_again (pos n) h = rw (le-ltb n 0 (omega arith)) refl
+from_zero_again (negsuc n) h = absurd cc
+
+bytes_again : (bytes : List ℕ) → ((i : ℕ) → get_or bytes i 0 < 256) → leb (length bytes) 65536 ≡ true → bytes_of (argument_data (digits bytes)) ≡ Some bytes
+bytes_again bytes below few =
+    let most = leb-true (length bytes) 65536 few in
+    let short : ltb 131072 (length (encode_lower bytes)) ≡ false = le-ltb _ _ (omega (arith, length-encode_with lower_digits bytes)) in
+    rw (short, decode_of-encode_lower bytes below) refl
+
+pub step_again : (s : Step) → IsTyped s → is_writable s ≡ true → step_of (step_data s) ≡ Ok s
+unfolding step_of
+step_again Spawn h w = refl
+step_again (Exit g) h w = rw (number_again g h.0) refl
+step_again (SockOpen rc wc) h w = rw (number_again rc h.0, number_again wc h.1.0) refl
+step_again (Arrive s bytes) h w = rw (number_again s h.0, bytes_again bytes h.1.0 w) refl
+step_again (PeerClose s) h w = rw (number_again s h.0) refl
+step_again (SysRead g s n) h w = rw (number_again g h.0, number_again s h.1.0, number_again n h.1.1.0) refl
+step_again (SysWrite g s bytes) h w = rw (number_again g h.0, number_again s h.1.0, bytes_again bytes h.1.1.0 w) refl
+step_again (Drain s n) h w = rw (number_again s h.0, number_again n h.1.0) refl
+step_again (Incref g s) h w = rw (number_again g h.0, number_again s h.1.0) refl
+step_again (IncrefClose g s) h w = rw (number_again g h.0, number_again s h.1.0) refl
+step_again (Decref g s) h w = rw (number_again g h.0, number_again s h.1.0) refl
+step_again (RwLock g s way) h w = rw (number_again g h.0, number_again s h.1.0, side_again way) refl
+step_again (RwUnlock g s way) h w = rw (number_again g h.0, number_again s h.1.0, side_again way) refl
+step_again (Acquire g) h w = rw (number_again g h.0) refl
+step_again (Release g) h w = rw (number_again g h.0) refl
+step_again (PollOpen g s) h w = rw (number_again g h.0, number_again s h.1.0) refl
+step_again (PollClose g d) h w = rw (number_again g h.0, number_again d h.1.0) refl
+step_again (PollReset g d way) h w = rw (number_again g h.0, number_again d h.1.0, side_again way) refl
+step_again (WaitBegin g d way) h w = rw (number_again g h.0, number_again d h.1.0, side_again way) refl
+step_again (BlockArm g) h w = rw (number_again g h.0) refl
+step_again (BlockCheck g) h w = rw (number_again g h.0) refl
+step_again (ParkCommit g) h w = rw (number_again g h.0) refl
+step_again (BlockSwap g) h w = rw (number_again g h.0) refl
+step_again (WaitCheck g) h w = rw (number_again g h.0) refl
+step_again (SetDeadline g d ways t) h w = rw (number_again g h.0, number_again d h.1.0, mode_again ways, moment_again t h.1.1.1.0) refl
+step_again (Evict g d) h w = rw (number_again g h.0, number_again d h.1.0) refl
+step_again (PollEvent d t ways err) h w = rw (number_again d h.0, mode_again ways, bit_again err) refl
+step_again (Tick t) h w = rw (moment_again t h.0, from_zero_again t w) refl
+step_again Pop h w = refl
+step_again (Fire i) h w = rw (number_again i h.0) refl
+
+limit_again : (most n : ℕ) → 0 < n → n ≤ most → limit_of most n ≡ Ok n
+limit_again most n low high = rw (lt-ltb 0 n low, le-leb n most high) refl
+
+pub header_again : (l : Limits) → AreInRange l → header_of (limits_data l) ≡ Ok l
+unfolding header_of limits_of
+header_again l h = rw (limit_again 4096 l.goroutines h.goroutines h.goroutines_most, limit_again 256 l.sockets h.sockets h.sockets_most, limit_again 256 l.descriptors h.descriptors h.descriptors_most, limit_again 65536 l.buffer h.buffer h.buffer_most) refl

@@ -1,0 +1,12 @@
+pub mod Values
+pub mod Lines
+pub mod Members
+pub mod Loop
+pub mod Binds
+pub mod TextLaws
+pub mod Ranges
+pub mod Texts
+pub mod Shown
+pub mod ReadBack
+pub mod Again
+pub mod Written

@@ -1,0 +1,91 @@
+-- JSON reads the text of a written line as the value that was written.
+use Rattle.std.proofs.Common.{◌≡◌, ◌≤◌, ◌<◌, ◌^◌, ◌++◌, ℕ, pos, negsuc, true, false, List, [], ◌∷◌, Some, refl, sym, ap, ◌∙◌, append-nil, arith, lit≤, lit<}
+use Rattle.std.specs.Prelude.{option_map, option_and_then}
+use Rattle.json.specs.Lex.{tokens}
+use Rattle.json.specs.Json as json
+use Rattle.json.specs.Tree as tree
+use Rattle.json.proofs.Printed.Decimals.{IsNumber-decimal, IsNumber-signed_decimal}
+use Rattle.json.proofs.Printed.Tokens.{tokens-print}
+use Rattle.json.proofs.Printed.Trees.{value-json_tokens, ArePrintable-json_tokens}
+use Rattle.serde_json.specs.Data.{Data, number}
+use Rattle.serde_json.specs.Read.{read, max_depth, of_json, of_items}
+use Rattle.serde_json.specs.Written.{outline, items_outline, compact_text}
+use Rattle.serde_json.proofs.Numbers.{number_of-decimal, number_of-negative}
+use Rattle.serde_json.proofs.Texts.{print-outline}
+use Rattle.serde_json.proofs.OnLiterals.{serde_json_on_literals}
+use Rattle.nr_rev.specs.declared.limits.Limits.{Limits}
+use Rattle.nr_recording.specs.Writing.{Argument, numeral, tag, time, side, mode, bit, digits, argument_data, arguments_data, IsInType, AreInTypes, line_data, limits_data}
+use Rattle.nr_recording.specs.Recording.{AreInRange}
+
+text_read : (d : Data) → tree.HasNumbers (outline d) → tree.depth (outline d) ≤ 127 → of_json (outline d) ≡ Some d → read (compact_text d) ≡ Some d
+text_read d numbers shallow same =
+    let lexed : tokens (compact_text d) ≡ tree.json_tokens (outline d) ++ [] = ap tokens (sym (print-outline d)) ∙ tokens-print _ (ArePrintable-json_tokens (outline d) numbers) ∙ sym (append-nil _) in
+    let parsed = value-json_tokens (outline d) 127 [] shallow in
+    ap (λ ts. option_and_then of_json (option_and_then (λ p. json.if_last p.0 p.1) (json.value max_depth ts))) lexed
+    ∙ ap (λ o. option_and_then of_json (option_and_then (λ p. json.if_last p.0 p.1) o)) parsed
+    ∙ same
+
+-- ---- arguments
+
+argument_numbers : (a : Argument) → IsInType a → tree.HasNumbers (outline (argument_data a))
+argument_numbers (numeral n) h = IsNumber-decimal n (omega arith)
+argument_numbers (tag n) h = IsNumber-decimal n h
+argument_numbers (time (pos n)) h = IsNumber-decimal n (omega arith)
+argument_numbers (time (negsuc n)) h = IsNumber-signed_decimal (negsuc n) h
+argument_numbers (side s) h = tt
+argument_numbers (mode m) h = tt
+argument_numbers (bit false) h = IsNumber-decimal 0 (lit< tt)
+argument_numbers (bit true) h = IsNumber-decimal 1 (lit< tt)
+argument_numbers (digits bytes) h = tt
+
+argument_same : (a : Argument) → IsInType a → of_json (outline (argument_data a)) ≡ Some (argument_data a)
+argument_same (numeral n) h = ap (option_map number) (number_of-decimal n (omega arith))
+argument_same (tag n) h = ap (option_map number) (number_of-decimal n h)
+argument_same (time (pos n)) h = ap (option_map number) (number_of-decimal n (omega arith))
+argument_same (time (negsuc n)) h = ap (option_map number) (number_of-negative n h)
+argument_same (side s) h = refl
+argument_same (mode m) h = refl
+argument_same (bit false) h = ap (option_map number) (number_of-decimal 0 (lit< tt))
+argument_same (bit true) h = ap (option_map number) (number_of-decimal 1 (lit< tt))
+argument_same (digits bytes) h = refl
+
+argument_flat : (a : Argument) → tree.depth (outline (argument_data a)) ≡ 0
+argument_flat (numeral n) = refl
+argument_flat (tag n) = refl
+argument_flat (time (pos n)) = refl
+argument_flat (time (negsuc n)) = refl
+argument_flat (side s) = refl
+argument_flat (mode m) = refl
+argument_flat (bit b) = refl
+argument_flat (digits bytes) = refl
+
+arguments_numbers : (args : List Argument) → AreInTypes args → tree.ItemsHaveNumbers (items_outline (arguments_data args))
+arguments_numbers [] h = tt
+arguments_numbers (a ∷ rest) h = (argument_numbers a h.0, arguments_numbers rest h.1)
+
+arguments_same : (args : List Argument) → AreInTypes args → of_items (items_outline (arguments_data args)) ≡ Some (arguments_data args)
+arguments_same [] h = refl
+arguments_same (a ∷ rest) h = rw (argument_same a h.0, arguments_same rest h.1) refl
+
+arguments_flat : (args : List Argument) → tree.items_depth (items_outline (arguments_data args)) ≡ 0
+arguments_flat [] = refl
+arguments_flat (a ∷ rest) = rw (argument_flat a, arguments_flat rest) refl
+
+-- ---- lines
+
+pub line_read : (line : List ℕ × List Argument) → AreInTypes line.1 → read (compact_text (line_data line)) ≡ Some (line_data line)
+line_read line h = text_read (line_data line) (tt, arguments_numbers line.1 h) (rw (arguments_flat line.1) (lit≤ tt)) (rw (arguments_same line.1 h) refl)
+
+pub header_read : (l : Limits) → AreInRange l → read (compact_text (limits_data l)) ≡ Some (limits_data l)
+unfolding serde_json_on_literals
+header_read l h =
+    let goroutines = h.goroutines_most in
+    let sockets = h.sockets_most in
+    let descriptors = h.descriptors_most in
+    let buffer = h.buffer_most in
+    let b : l.buffer < 2 ^ 64 = omega arith in
+    let d : l.descriptors < 2 ^ 64 = omega arith in
+    let g : l.goroutines < 2 ^ 64 = omega arith in
+    let s : l.sockets < 2 ^ 64 = omega arith in
+    text_read (limits_data l) (IsNumber-decimal l.buffer b, (IsNumber-decimal l.descriptors d, (IsNumber-decimal l.goroutines g, (IsNumber-decimal 1 (lit< tt), (IsNumber-decimal l.sockets s, tt))))) (lit≤ tt)
+    (rw (number_of-decimal l.buffer b, number_of-decimal l.descriptors d, number_of-decimal l.goroutines g, number_of-decimal 1 (lit< tt), number_of-decimal l.sockets s) refl)

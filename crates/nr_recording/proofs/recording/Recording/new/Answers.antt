@@ -1,0 +1,17 @@
+use Rattle.std.proofs.Common.{◌≡◌, ◌≤◌, length, true, sym, ◌∙◌, arith}
+use Rattle.nr_recording.specs.Recording.{are_writable}
+use Rattle.nr_recording.proofs.Ranges.{limits_fit, recording_made}
+use Rattle.nr_recording.proofs.recording.Recording.new.Goals as goal
+
+pub invariant_of-result : goal.invariant_of-result
+invariant_of-result c = record {
+  limits = limits_fit c.args.limits (sym c.are_in_range.ensures ∙ c.if-not-are_in_range.false);
+  few = omega arith;
+  writable = rw (← c.deref.ensures.value) (sym c.are_all_writable.ensures ∙ c.if-not-are_all_writable.false);
+}
+
+pub returns : goal.returns
+returns c =
+    let few : length c.args.steps.items ≤ 1000000 = omega arith in
+    let writable : are_writable c.args.steps.items ≡ true = rw (← c.deref.ensures.value) (sym c.are_all_writable.ensures ∙ c.if-not-are_all_writable.false) in
+    sym (recording_made c.args.limits c.args.steps.items (sym c.are_in_range.ensures ∙ c.if-not-are_in_range.false) few writable)

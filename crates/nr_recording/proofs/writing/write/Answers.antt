@@ -1,0 +1,37 @@
+use Rattle.std.proofs.Common.{◌≡◌, ◌≤◌, ◌<◌, length, get_or}
+use Rattle.std.proofs.lemmas.List.{take_all}
+use Rattle.std.proofs.lemmas.List.Elements.{All-more}
+use Rattle.nr_recording.specs.Recording.{IsRecording}
+use Rattle.nr_recording.specs.Writing.{IsTyped}
+use Rattle.nr_recording.proofs.Texts.{one_more_line}
+use Rattle.nr_recording.proofs.TextLaws.{reading_again}
+use Rattle.nr_recording.proofs.Written.{text_is_text}
+use Rattle.nr_recording.proofs.writing.write.Goals as goal
+
+pub loop-step-preserved : goal.loop-step-preserved
+loop-step-preserved g c =
+    let steps = c.args.recording.now.steps in
+    let step = c.step-item.result in
+    let same = c.steps-step-items.ensures.value in
+    let here : c.loop-step.step-index < length steps = rw (← same) c.loop-step-test.true in
+    let is : step ≡ get_or steps c.loop-step.step-index step = rw (← same) c.step-item.is in
+    let line = rw c.in_ok-step_value.ensures.is at c.in_ok-write_line-2.ensures in
+    record {
+      so_far = one_more_line c.args.recording.now step c.loop-step.step-index _ _ _ here is c.loop-step.invariant.so_far line.ok;
+      typed = All-more IsTyped steps c.loop-step.step-index step here c.loop-step.invariant.typed (rw (← is) c.in_ok-step_value.ensures.typed);
+    }
+
+pub returns-clause-again : goal.returns-clause-again
+returns-clause-again g c =
+    let recording = c.args.recording.now in
+    let shown = c.steps-step-items.ensures in
+    let is : IsRecording recording = record {
+      limits = rw (← c.limits.ensures.value) c.limits.ensures.in_range;
+      few = rw (← shown.value) shown.few;
+      writable = rw (← shown.value) shown.writable;
+    } in
+    let last : length recording.steps ≤ c.loop-step.step-index = rw (← shown.value) c.loop-step-test.false in
+    text_is_text recording is (rw (take_all c.loop-step.step-index recording.steps last) at c.loop-step.invariant.typed)
+
+pub returns-clause-read_again : goal.returns-clause-read_again
+returns-clause-read_again g c = reading_again _ c.args.recording.now (returns-clause-again g c)

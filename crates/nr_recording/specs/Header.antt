@@ -1,0 +1,46 @@
+-- What limits the value of the header's line gives.
+use Rattle.std.specs.Prelude.{ℕ, suc, ◌==◌, List, ◌&&◌, Option, option_map, option_and_then, Result, Ok, Err, if◌then◌else◌, codes}
+use Rattle.serde_json.specs.Data.{Data, Members, no_members, member}
+use Rattle.serde_json.specs.Find.{get, as_number, as_u64, as_object}
+use Rattle.nr_rev.specs.declared.limits.Limits.{Limits}
+use Rattle.nr_recording.specs.declared.fault.Fault.{Fault}
+use Rattle.nr_recording.specs.declared.fault.Fault.TheVariants as fault
+use Rattle.nr_recording.specs.Faults.{◌>>=◌, or_fault}
+use Rattle.nr_recording.specs.Recording.{is_limit}
+
+-- the unsigned number at a key
+abbrev pub unsigned_at : List ℕ → Data → Result ℕ Fault
+unsigned_at key d = or_fault fault.Header (option_and_then as_u64 (option_and_then as_number (get key d)))
+
+-- how many members stand there
+abbrev pub members_len : Members → ℕ
+members_len no_members = 0
+members_len (member k d ms) = suc (members_len ms)
+
+-- how many members an object has
+abbrev pub member_count : Data → Option ℕ
+member_count d = option_map members_len (as_object d)
+
+-- a limit, from 1 to the most
+abbrev pub limit_of : ℕ → ℕ → Result ℕ Fault
+limit_of most n = if is_limit most n then Ok n else Err fault.Limit
+
+-- the four limits
+unfoldable pub limits_of : ℕ → ℕ → ℕ → ℕ → Result Limits Fault
+limits_of gor sock desc buf = do
+  goroutines ← limit_of 4096 gor
+  sockets ← limit_of 256 sock
+  descriptors ← limit_of 256 desc
+  buffer ← limit_of 65536 buf
+  Ok (record { goroutines = goroutines; sockets = sockets; descriptors = descriptors; buffer = buffer })
+
+-- the limits of an object of the five keys and no other: its form is tested before the ranges
+unfoldable pub header_of : Data → Result Limits Fault
+header_of d = do
+  count ← or_fault fault.Header (member_count d)
+  version ← unsigned_at (codes "netrev") d
+  gor ← unsigned_at (codes "gor") d
+  sock ← unsigned_at (codes "sock") d
+  desc ← unsigned_at (codes "desc") d
+  buf ← unsigned_at (codes "buf") d
+  if (count == 5) && (version == 1) then limits_of gor sock desc buf else Err fault.Header

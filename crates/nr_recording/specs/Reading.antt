@@ -1,0 +1,114 @@
+-- The recording that bytes stand for, or the first fault.
+use Rattle.std.specs.Prelude.{◌≡◌, ℕ, suc, ◌==◌, ◌≤◌, true, List, [], ◌∷◌, ◌++◌, length, Bool, ◌||◌, Option, Some, None, Result, Ok, Err, IfSome, nat_lt, if◌then◌else◌}
+use Rattle.std.specs.List.{slice_split, list_all}
+use Rattle.std.specs.Str.{is_utf8}
+use Rattle.serde_json.specs.Data.{Data}
+use Rattle.serde_json.specs.Read.{read}
+use Rattle.nr_rev.specs.declared.limits.Limits.{Limits}
+use Rattle.nr_rev.specs.declared.step.Step.{Step}
+use Rattle.nr_rev.specs.Run.{Recording}
+use Rattle.nr_recording.specs.declared.fault.Fault.{Fault}
+use Rattle.nr_recording.specs.declared.fault.Fault.TheVariants as fault
+use Rattle.nr_recording.specs.declared.fault.LineError.{LineError}
+use Rattle.nr_recording.specs.declared.fault.LineError.TheVariants as line
+use Rattle.nr_recording.specs.declared.fault.ReadFault.{ReadFault}
+use Rattle.nr_recording.specs.declared.fault.ReadFault.TheVariants as errors
+use Rattle.nr_recording.specs.Faults.{◌>>=◌, or_fault}
+use Rattle.nr_recording.specs.Recording.{AreInRange, are_writable}
+use Rattle.nr_recording.specs.Header.{header_of}
+use Rattle.nr_recording.specs.Steps.{step_of}
+
+-- ---- one line
+
+-- a line feed ends a line, and the last one may lack it
+abbrev pub lines : List ℕ → List (List ℕ)
+lines bytes = slice_split (λ b. b == 10) bytes
+
+-- a space, a tab or a carriage return
+abbrev pub is_space : ℕ → Bool
+is_space b = (b == 32) || (b == 9) || (b == 13)
+
+-- such bytes alone, or none
+abbrev pub is_blank : List ℕ → Bool
+is_blank line = list_all is_space line
+
+-- the JSON value of a line
+unfoldable pub value_of : List ℕ → Result Data Fault
+value_of line = if is_utf8 line then or_fault fault.NotJson (read line) else Err fault.NotJson
+
+-- ---- line after line
+
+-- what was read of some lines
+pub record Seen : Type 0 where
+  pub limits : Option Limits
+  pub steps : List Step
+
+-- what holds of what was seen
+pub record IsSeen (seen : Seen) : Type 0 where
+  pub limits : IfSome seen.limits AreInRange
+  pub few : length seen.steps ≤ 1000000
+  pub writable : are_writable seen.steps ≡ true
+
+-- before the first line
+abbrev pub nothing : Seen
+nothing = record { limits = None; steps = [] }
+
+-- what was seen, and the value of one more line
+abbrev pub with_value : Seen → Option Limits → Data → Result Seen Fault
+with_value seen None d = do
+  limits ← header_of d
+  Ok (record seen { limits = Some limits })
+with_value seen (Some limits) d =
+    if length seen.steps == 1000000 then Err fault.TooManySteps
+    else do
+      step ← step_of d
+      Ok (record seen { steps = seen.steps ++ step ∷ [] })
+
+-- what was seen, and one more line
+unfoldable pub with_line : Seen → List ℕ → Result Seen Fault
+with_line seen line =
+    if nat_lt 200000 (length line) then Err fault.Limit
+    else (if is_blank line then Ok seen
+    else do
+      d ← value_of line
+      with_value seen seen.limits d)
+
+-- a fault is that of line n
+abbrev pub at_line : {A : Type 0} → ℕ → Result A Fault → Result A ReadFault
+at_line n (Ok x) = Ok x
+at_line n (Err f) = Err (errors.Line n f)
+
+-- the same of what a function answers: want of memory has no line
+abbrev pub placed : ℕ → LineError → ReadFault
+placed n line.Memory = errors.Memory
+placed n (line.Fault f) = errors.Line n f
+
+-- the lines from number n on, behind what was seen
+unfoldable pub with_lines : ℕ → Seen → List (List ℕ) → Result Seen ReadFault
+with_lines n seen [] = Ok seen
+with_lines n seen (line ∷ rest) = at_line n (with_line seen line) >>= λ next. with_lines (suc n) next rest
+
+-- ---- the whole text
+
+-- without a header line the fault is that of line n
+abbrev pub with_limits : ℕ → Option Limits → List Step → Result Recording ReadFault
+with_limits n None steps = Err (errors.Line n fault.Header)
+with_limits n (Some limits) steps = Ok (record { limits = limits; steps = steps })
+
+-- what stands after the last line, whose number is n
+abbrev pub finished : ℕ → Seen → Result Recording ReadFault
+finished n seen = with_limits n seen.limits seen.steps
+
+-- the recording, or the fault of the first faulty line
+unfoldable pub reading : List ℕ → Result Recording ReadFault
+reading bytes = with_lines 1 nothing (lines bytes) >>= finished (length (lines bytes))
+
+-- what reading gives is this fault, unless memory ran out
+abbrev pub Refuses : {Y : Type 0} → ReadFault → Result Y ReadFault → Type 0
+Refuses errors.Memory read = Unit {0}
+Refuses (errors.Line n f) read = read ≡ Err (errors.Line n f)
+
+-- what was returned is what reading gives, unless memory ran out
+abbrev pub Answers : {X : Type 0} → Result X ReadFault → Result X ReadFault → Type 0
+Answers (Ok x) read = read ≡ Ok x
+Answers (Err e) read = Refuses e read

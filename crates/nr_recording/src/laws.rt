@@ -1,0 +1,23 @@
+//! Laws of the format, with no code.
+
+ghost use Rattle.std.specs.Prelude.{◌≡◌, All, List, ℕ};
+ghost use Rattle.nr_rev.specs.Run.{Recording};
+ghost use Rattle.nr_recording.specs.Recording.{IsRecording};
+ghost use Rattle.nr_recording.specs.Reading.{reading};
+ghost use Rattle.nr_recording.specs.Text.{IsTextOf};
+ghost use Rattle.nr_recording.specs.Writing.{IsTyped, text};
+
+/// What is written of a recording is a text of it, and is read as that recording. `IsTyped` says of a
+/// step just what its type says: each number is in the range of its type.
+#[tactic(auto, using(crate::proofs::Written::text_is_text, crate::proofs::Written::text_read_again))]
+pub fn what_is_written_is_read_again()
+    ensures text { (r : Recording) → IsRecording r → All IsTyped r.steps → IsTextOf (text r) r }
+    ensures reading { (r : Recording) → IsRecording r → All IsTyped r.steps → reading (text r) ≡ Ok r }
+{}
+
+/// A text is a text of at most one recording: the one that it is read as.
+#[tactic(auto, using(crate::proofs::TextLaws::reading_found, crate::proofs::TextLaws::reading_again))]
+pub fn a_text_is_of_what_it_is_read_as()
+    ensures found { (bytes : List ℕ) (r : Recording) → reading bytes ≡ Ok r → IsTextOf bytes r }
+    ensures only { (bytes : List ℕ) (r : Recording) → IsTextOf bytes r → reading bytes ≡ Ok r }
+{}

@@ -1,0 +1,19 @@
+//! Recordings of a run as text, a line of JSON for each step: reading and writing.
+#![tactic(auto)]
+
+mod arguments;
+mod fault;
+mod header;
+pub mod laws;
+mod reading;
+mod recording;
+mod steps;
+mod writing;
+
+pub use fault::{Fault, MakeFault, ReadFault, WriteFault};
+pub use reading::read;
+pub use recording::Recording;
+pub use writing::write;
+
+#[cfg(test)]
+mod tests;

@@ -1,0 +1,133 @@
+//! A recording: limits and steps.
+
+ghost use Rattle.std.specs.Prelude.{◌≡◌};
+ghost use Rattle.nr_recording.specs.Recording.{is_limit, are_limits, is_writable, are_writable};
+
+use crate::fault::MakeFault;
+use nr_rev::{Limits, Step};
+use std::marker::Model;
+
+/// The limits of a run and its steps. Each recording has a text, which is read as that recording.
+#[derive(Drop)]
+pub struct Recording {
+    limits: Limits,
+    steps: Vec<Step>,
+}
+
+impl Model for Recording {
+    ghost use Rattle.nr_rev.specs.Run.{Recording as Recorded};
+    ghost use Rattle.nr_recording.specs.Recording.{IsRecording};
+
+    ghost Value = { Recorded };
+
+    ghost view = { λ r. record { limits = r.limits; steps = r.steps.items } };
+
+    ghost invariant = { λ r. IsRecording (record { limits = r.limits; steps = r.steps.items }) };
+}
+
+pub(crate) const MOST_STEPS: usize = 1_000_000;
+
+const MOST_BYTES: usize = 65_536;
+
+fn is_limit(most: u32, number: u32) -> bool
+    ensures { result ≡ is_limit most number }
+{
+    number > 0 && number <= most
+}
+
+fn are_in_range(limits: &Limits) -> bool
+    ensures { result ≡ are_limits limits.now }
+{
+    is_limit(4096, limits.goroutines)
+        && is_limit(256, limits.sockets)
+        && is_limit(256, limits.descriptors)
+        && is_limit(65_536, limits.buffer)
+}
+
+fn is_writable(step: &Step) -> bool
+    ensures { result ≡ is_writable step.now }
+{
+    match step {
+        Step::Arrive { bytes, .. } | Step::SysWrite { bytes, .. } => bytes.len() <= MOST_BYTES,
+        Step::Tick { time } => *time >= 0,
+        _ => true,
+    }
+}
+
+fn are_all_writable(steps: &[Step]) -> bool
+    ensures { result ≡ are_writable steps.now }
+{
+    steps.iter().all(|step| is_writable(step))
+}
+
+impl Recording {
+    ghost use Rattle.std.specs.Prelude.{◌==◌, ◌≤◌, length, slice_get, true};
+    ghost use Rattle.std.specs.Option.{option_copied};
+    ghost use Rattle.nr_recording.specs.Recording.{IsRecording, AreInRange, recording_of};
+
+    /// The recording of these limits and steps. Fails for the first that holds: a limit is out of its
+    /// range (goroutines 1 to 4,096, sockets and descriptors 1 to 256, buffer 1 to 65,536 bytes);
+    /// there are more than 1,000,000 steps; a step carries more than 65,536 bytes or sets the clock
+    /// below 0. The steps are then gone.
+    pub fn new(limits: Limits, steps: Vec<Step>) -> Result<Self, MakeFault>
+        ensures { result ≡ recording_of limits steps.items }
+    {
+        if !are_in_range(&limits) {
+            return Err(MakeFault::Limit);
+        }
+        if steps.len() > MOST_STEPS {
+            return Err(MakeFault::TooManySteps);
+        }
+        if !are_all_writable(&steps) {
+            return Err(MakeFault::Step);
+        }
+        Ok(Recording { limits, steps })
+    }
+
+    /// The recording of limits and steps that are known to make one.
+    pub(crate) fn checked(limits: Limits, steps: Vec<Step>) -> Self
+        requires { IsRecording (record { limits = limits; steps = steps.items }) }
+        ensures { result ≡ record { limits = limits; steps = steps.items } }
+    {
+        Recording { limits, steps }
+    }
+
+    /// The limits of the run.
+    pub fn limits(&self) -> Limits
+        ensures value { result ≡ self.now.limits }
+        ensures in_range { AreInRange result }
+    {
+        self.limits
+    }
+
+    /// How many steps there are.
+    pub fn len(&self) -> usize
+        ensures value { result ≡ length self.now.steps }
+        ensures few { result ≤ 1000000 }
+    {
+        self.steps.len()
+    }
+
+    /// Whether there are no steps.
+    pub fn is_empty(&self) -> bool
+        ensures { result ≡ (length self.now.steps == 0) }
+    {
+        self.steps.is_empty()
+    }
+
+    /// Step n, counted from 0.
+    pub fn step(&self, n: usize) -> Option<&Step>
+        ensures { option_copied result ≡ slice_get self.now.steps n }
+    {
+        self.steps.get(n)
+    }
+
+    /// The steps in their order.
+    pub fn steps(&self) -> &[Step]
+        ensures value { result.now ≡ self.now.steps }
+        ensures writable { are_writable result.now ≡ true }
+        ensures few { length result.now ≤ 1000000 }
+    {
+        self.steps.as_slice()
+    }
+}

@@ -1,0 +1,321 @@
+//! Texts that are read, refused and written.
+
+use crate::{Fault, MakeFault, ReadFault, Recording, WriteFault, read, write};
+use nr_rev::{Limits, Step};
+use std::test::Fail;
+
+const HEADER: &str = "{\"netrev\":1,\"gor\":4,\"sock\":2,\"desc\":2,\"buf\":16}\n";
+
+const WRITTEN_HEADER: &str = "{\"buf\":16,\"desc\":2,\"gor\":4,\"netrev\":1,\"sock\":2}\n";
+
+/// A goroutine waits for bytes at a socket and reads them.
+const WAITS: &str =
+    "[\"sockopen\",16,16]\n[\"pollopen\",0,0]\n[\"rwlock\",0,0,\"r\"]\n[\"waitbegin\",0,0,\"r\"]\n[\"blockarm\",0]\n[\"blockcheck\",0]\n[\"parkcommit\",0]\n[\"arrive\",0,\"6869\"]\n[\"pollevent\",0,1,\"r\",0]\n[\"blockswap\",0]\n[\"sysread\",0,0,8]\n[\"rwunlock\",0,0,\"r\"]\n";
+
+/// Two goroutines take a lock in turn.
+const TAKES_TURNS: &str =
+    "[\"spawn\"]\n[\"sockopen\",16,16]\n[\"rwlock\",0,0,\"r\"]\n[\"rwlock\",1,0,\"r\"]\n[\"acquire\",1]\n[\"rwunlock\",0,0,\"r\"]\n[\"release\",0]\n[\"rwlock\",0,0,\"r\"]\n[\"acquire\",1]\n[\"rwlock\",1,0,\"r\"]\n";
+
+/// A socket is closed while a goroutine waits for its lock.
+const CLOSES: &str =
+    "[\"spawn\"]\n[\"spawn\"]\n[\"sockopen\",16,16]\n[\"incref\",0,0]\n[\"rwlock\",0,0,\"r\"]\n[\"rwlock\",1,0,\"r\"]\n[\"rwunlock\",0,0,\"r\"]\n[\"increfclose\",2,0]\n[\"decref\",2,0]\n[\"exit\",2]\n";
+
+/// Each kind, with the least and the greatest of its arguments.
+const ALL_KINDS: &str =
+    "[\"spawn\"]\n[\"exit\",4294967295]\n[\"sockopen\",0,4294967295]\n[\"arrive\",0,\"00ff\"]\n[\"peerclose\",0]\n[\"sysread\",1,2,3]\n[\"syswrite\",1,2,\"\"]\n[\"drain\",1,2]\n[\"incref\",1,2]\n[\"increfclose\",1,2]\n[\"decref\",1,2]\n[\"rwlock\",1,2,\"r\"]\n[\"rwunlock\",1,2,\"w\"]\n[\"acquire\",1]\n[\"release\",1]\n[\"pollopen\",1,2]\n[\"pollclose\",1,2]\n[\"pollreset\",1,2,\"w\"]\n[\"waitbegin\",1,2,\"r\"]\n[\"blockarm\",1]\n[\"blockcheck\",1]\n[\"parkcommit\",1]\n[\"blockswap\",1]\n[\"waitcheck\",1]\n[\"setdeadline\",1,2,\"rw\",-9223372036854775808]\n[\"evict\",1,2]\n[\"pollevent\",1,18446744073709551615,\"w\",1]\n[\"tick\",9223372036854775807]\n[\"pop\"]\n[\"fire\",4294967295]\n";
+
+fn at(line: usize, fault: Fault) -> Option<ReadFault> {
+    Some(ReadFault::Line { line, fault })
+}
+
+fn fault_of(rt: &HostRuntime, text: &[u8]) -> Option<ReadFault> {
+    read(rt.alloc(), text).err()
+}
+
+fn step_fault(rt: &HostRuntime, lines: &str) -> Result<Option<ReadFault>, Fail> {
+    let text = format!(in rt.alloc(); "{HEADER}{lines}")?;
+    Ok(fault_of(rt, text.as_bytes()))
+}
+
+/// What a beginning of a good text with no blank line is: where a line ends there, as many steps as
+/// lines behind the header, else no JSON; and where nothing stands, no header.
+fn expected(beginning: &[u8], next: Option<&u8>) -> Result<usize, ReadFault> {
+    let feeds = beginning.iter().filter(|byte| **byte == b'\n').count();
+    let fault = match beginning.last() {
+        None => Fault::Header,
+        Some(b'\n') => return Ok(feeds.saturating_sub(1)),
+        Some(_) => match next {
+            None | Some(b'\n') => return Ok(feeds),
+            Some(_) => Fault::NotJson,
+        },
+    };
+    Err(ReadFault::Line {
+        line: feeds.saturating_add(1),
+        fault,
+    })
+}
+
+#[test]
+fn reads_each_beginning_as_specified(rt: HostRuntime) -> Result<(), Fail> {
+    for steps in [CLOSES, WAITS] {
+        let text = format!(in rt.alloc(); "{HEADER}{steps}")?;
+        let bytes = text.as_bytes();
+        for taken in 0..bytes.len() + 1 {
+            let beginning = bytes.get(..taken).ok_or("a beginning")?;
+            let found = read(rt.alloc(), beginning).map(|recording| recording.len());
+            assert_eq!(rt;
+                found,
+                expected(beginning, bytes.get(taken)),
+                "the first {taken} bytes"
+            );
+        }
+    }
+    assert_eq!(rt;
+        step_fault(
+            &rt,
+            "[\"sockopen\",16,16]\n[\"pollopen\",0,0]\n[\"rwlock\",0,0,\"r\"]\n[\"waitbegin\",0,0,\"r\"]\n[\"block"
+        )?,
+        at(6, Fault::NotJson)
+    );
+    Ok(())
+}
+
+#[test]
+fn refuses_faulty_steps(rt: HostRuntime) -> Result<(), Fail> {
+    for (lines, line, fault) in [
+        ("[\"spawn\",1]", 2, Fault::Arguments),
+        ("[\"exit\"]", 2, Fault::Arguments),
+        ("[\"exit\",4294967296]", 2, Fault::Arguments),
+        ("[\"exit\",-1]", 2, Fault::Arguments),
+        ("[\"exit\",1.0]", 2, Fault::Arguments),
+        ("[\"exit\",\"1\"]", 2, Fault::Arguments),
+        ("[\"arrive\",0,\"6\"]", 2, Fault::Arguments),
+        ("[\"arrive\",0,\"6g\"]", 2, Fault::Arguments),
+        ("[\"rwlock\",0,0,\"rw\"]", 2, Fault::Arguments),
+        ("[\"setdeadline\",0,0,\"wr\",0]", 2, Fault::Arguments),
+        (
+            "[\"pollevent\",0,18446744073709551616,\"r\",0]",
+            2,
+            Fault::Arguments,
+        ),
+        ("[\"pollevent\",0,1,\"r\",2]", 2, Fault::Arguments),
+        ("[\"tick\",-1]", 2, Fault::Arguments),
+        ("[\"tick\",9223372036854775808]", 2, Fault::Arguments),
+        ("\n \t\r\n[\"jump\"]", 4, Fault::UnknownStep),
+        ("[\"jump\",[]]", 2, Fault::UnknownStep),
+        ("{}", 2, Fault::UnknownStep),
+        ("[]", 2, Fault::UnknownStep),
+        ("[1]", 2, Fault::UnknownStep),
+        ("[\"spawn\"]\n[\"spawn\"]]\n[", 3, Fault::NotJson),
+    ] {
+        assert_eq!(rt; step_fault(&rt, lines)?, at(line, fault), "{lines}");
+    }
+    Ok(())
+}
+
+#[test]
+fn refuses_faulty_headers(rt: HostRuntime) {
+    for (text, line, fault) in [
+        ("", 1, Fault::Header),
+        ("\n \n", 3, Fault::Header),
+        ("[\"spawn\"]", 1, Fault::Header),
+        (
+            "{\"netrev\":1,\"gor\":4,\"sock\":2,\"desc\":2,\"buf\":16,\"more\":1}",
+            1,
+            Fault::Header,
+        ),
+        (
+            "{\"netrev\":1,\"gor\":4,\"sock\":2,\"desc\":2,\"buff\":16}",
+            1,
+            Fault::Header,
+        ),
+        (
+            "{\"netrev\":2,\"gor\":0,\"sock\":2,\"desc\":2,\"buf\":16}",
+            1,
+            Fault::Header,
+        ),
+        (
+            "{\"netrev\":1,\"gor\":0,\"sock\":-2,\"desc\":2,\"buf\":16}",
+            1,
+            Fault::Header,
+        ),
+        (
+            "{\"netrev\":1,\"gor\":0,\"sock\":2,\"desc\":2,\"buf\":16}",
+            1,
+            Fault::Limit,
+        ),
+        (
+            "{\"netrev\":1,\"gor\":4097,\"sock\":2,\"desc\":2,\"buf\":16}",
+            1,
+            Fault::Limit,
+        ),
+        (
+            "{\"netrev\":1,\"gor\":4,\"sock\":257,\"desc\":2,\"buf\":16}",
+            1,
+            Fault::Limit,
+        ),
+        (
+            "{\"netrev\":1,\"gor\":4,\"sock\":2,\"desc\":257,\"buf\":16}",
+            1,
+            Fault::Limit,
+        ),
+        (
+            "{\"netrev\":1,\"gor\":4,\"sock\":2,\"desc\":2,\"buf\":4294967296}",
+            1,
+            Fault::Limit,
+        ),
+    ] {
+        assert_eq!(rt; fault_of(&rt, text.as_bytes()), at(line, fault), "{text}");
+    }
+}
+
+#[test]
+fn refuses_what_is_no_line(rt: HostRuntime) -> Result<(), Fail> {
+    assert_eq!(rt; fault_of(&rt, b"\xff"), at(1, Fault::NotJson));
+    for (count, fault) in [(200_000, Fault::Header), (200_001, Fault::Limit)] {
+        let spaces = vec![in rt.alloc(); b' '; count]?;
+        assert_eq!(rt; fault_of(&rt, &spaces), at(1, fault));
+    }
+    for (count, fault) in [(127, Fault::UnknownStep), (128, Fault::NotJson)] {
+        let mut text = String::from_str(rt.alloc(), HEADER)?;
+        for _ in 0..count {
+            text.push('[')?;
+        }
+        for _ in 0..count {
+            text.push(']')?;
+        }
+        assert_eq!(rt; fault_of(&rt, text.as_bytes()), at(2, fault));
+    }
+    Ok(())
+}
+
+#[test]
+fn reads_as_many_bytes_as_may_be(rt: HostRuntime) -> Result<(), Fail> {
+    for (count, fault) in [(131_072, None), (131_074, at(2, Fault::Arguments))] {
+        let mut text = format!(in rt.alloc(); "{HEADER}[\"arrive\",0,\"")?;
+        for _ in 0..count {
+            text.push('A')?;
+        }
+        text.push_str("\"]")?;
+        assert_eq!(rt; fault_of(&rt, text.as_bytes()), fault);
+    }
+    Ok(())
+}
+
+#[test]
+fn writes_what_is_read_again(rt: HostRuntime) -> Result<(), Fail> {
+    for steps in [WAITS, TAKES_TURNS, CLOSES, ALL_KINDS] {
+        let text = format!(in rt.alloc(); "{HEADER}\n{steps}")?;
+        let written = format!(in rt.alloc(); "{WRITTEN_HEADER}{steps}")?;
+        let recording = read(rt.alloc(), text.as_bytes())?;
+        let mut out = Vec::new(rt.alloc());
+        assert_eq!(rt; write(rt.alloc(), &recording, &mut out), Ok(()));
+        assert_eq!(rt; out.as_slice(), written.as_bytes());
+        let again = read(rt.alloc(), &out)?;
+        assert_eq!(rt; again.len(), recording.len());
+    }
+    Ok(())
+}
+
+#[test]
+fn writes_digits_in_lower_case(rt: HostRuntime) -> Result<(), Fail> {
+    let text = format!(in rt.alloc(); "{HEADER}[\"syswrite\",0,1,\"AbCD\"]")?;
+    let written = format!(in rt.alloc(); "{WRITTEN_HEADER}[\"syswrite\",0,1,\"abcd\"]\n")?;
+    let recording = read(rt.alloc(), text.as_bytes())?;
+    let mut out = Vec::new(rt.alloc());
+    assert_eq!(rt; write(rt.alloc(), &recording, &mut out), Ok(()));
+    assert_eq!(rt; out.as_slice(), written.as_bytes());
+    Ok(())
+}
+
+#[test]
+fn tells_a_failed_write(rt: HostRuntime) -> Result<(), Fail> {
+    let text = format!(in rt.alloc(); "{WRITTEN_HEADER}{CLOSES}")?;
+    let recording = read(rt.alloc(), text.as_bytes())?;
+    for taken in 0..text.len() {
+        let beginning = text.as_bytes().get(..taken).ok_or("a beginning")?;
+        let mut room = vec![in rt.alloc(); 0u8; taken]?;
+        let mut out = room.as_mut_slice();
+        assert_eq!(rt;
+            write(rt.alloc(), &recording, &mut out),
+            Err(WriteFault::Device)
+        );
+        assert_eq!(rt; room.as_slice(), beginning);
+    }
+    Ok(())
+}
+
+/// Passes too where any one allocation is refused.
+#[test]
+fn tells_refused_memory(rt: HostRuntime) {
+    let mut text = [0u8; 600];
+    let mut rest = text.as_mut_slice();
+    let recording = match read(
+        rt.alloc(),
+        b"{\"netrev\":1,\"gor\":4,\"sock\":2,\"desc\":2,\"buf\":16}\n[\"arrive\",0,\"6869\"]\n[\"pollevent\",0,1,\"r\",0]\n[\"sysread\",0,0,8]",
+    ) {
+        Ok(recording) => recording,
+        Err(fault) => {
+            assert_eq!(rt; fault, ReadFault::Memory);
+            return;
+        }
+    };
+    let written =
+        "{\"buf\":16,\"desc\":2,\"gor\":4,\"netrev\":1,\"sock\":2}\n[\"arrive\",0,\"6869\"]\n[\"pollevent\",0,1,\"r\",0]\n[\"sysread\",0,0,8]\n";
+    let result = write(rt.alloc(), &recording, &mut rest);
+    let left = rest.len();
+    let count = text.len().saturating_sub(left);
+    let out = text.get(..count).unwrap_or(&[]);
+    match result {
+        Ok(()) => assert_eq!(rt; out, written.as_bytes()),
+        Err(fault) => {
+            assert_eq!(rt; fault, WriteFault::Memory);
+            assert!(rt; written.as_bytes().starts_with(out));
+            assert!(rt; matches!(out.last(), None | Some(b'\n')));
+        }
+    }
+}
+
+#[test]
+fn makes_recordings(rt: HostRuntime) -> Result<(), Fail> {
+    let limits = Limits {
+        goroutines: 1,
+        sockets: 256,
+        descriptors: 256,
+        buffer: 65_536,
+    };
+    let steps = vec![in rt.alloc(); Step::Pop, Step::Tick { time: 0 }]?;
+    let recording = Recording::new(limits, steps)?;
+    assert_eq!(rt; recording.limits(), limits);
+    assert_eq!(rt; recording.len(), 2);
+    assert!(rt; !recording.is_empty());
+    assert!(rt; matches!(recording.step(1), Some(Step::Tick { time: 0 })));
+    assert!(rt; recording.step(2).is_none());
+    let steps = vec![in rt.alloc(); Step::Tick { time: -1 }]?;
+    assert_eq!(rt; Recording::new(limits, steps).err(), Some(MakeFault::Step));
+    let limits = Limits {
+        sockets: 257,
+        ..limits
+    };
+    let none = Recording::new(limits, Vec::new(rt.alloc()));
+    assert_eq!(rt; none.err(), Some(MakeFault::Limit));
+    Ok(())
+}
+
+#[test]
+fn prints_faults(rt: HostRuntime) -> Result<(), Fail> {
+    let fault = ReadFault::Line {
+        line: 6,
+        fault: Fault::NotJson,
+    };
+    for (text, printed) in [
+        (fault.to_string(rt.alloc())?, "line 6: fault 102 not JSON"),
+        (ReadFault::Memory.to_string(rt.alloc())?, "fault 108 memory"),
+        (WriteFault::Memory.to_string(rt.alloc())?, "memory"),
+        (WriteFault::Device.to_string(rt.alloc())?, "device"),
+    ] {
+        assert_eq!(rt; text.as_str(), printed);
+    }
+    assert_eq!(rt; Fault::TooManySteps.text(), "106 too many steps");
+    Ok(())
+}
