@@ -1,0 +1,14 @@
+pub mod GoodPositions
+pub mod IdleTicks
+pub mod LineLemmas
+pub mod Named
+pub mod Openings
+pub mod PlainWords
+pub mod Positions
+pub mod SendLemmas
+pub mod ServingLemmas
+pub mod StreamLemmas
+pub mod TextLemmas
+pub mod TurnLemmas
+pub mod Ways
+pub mod WordLemmas

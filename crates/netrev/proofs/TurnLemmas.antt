@@ -1,0 +1,41 @@
+-- The answers to lines that go on.
+use Rattle.std.proofs.Common.{◌≡◌, ℕ, ◌+◌, Bool, true, false, cond, ◌||◌, List, [], ◌∷◌, ◌++◌, arith, length, filter, refl, sym, ap, ◌∙◌, subst, nat_lt, append-nil, length-append}
+use Rattle.std.specs.List.{concat}
+use Rattle.std.proofs.lemmas.List.Folds.{concat-append}
+use Rattle.std.proofs.lemmas.List.Elements.{filter-append}
+use Rattle.netrev.specs.CommandLine.{line_of}
+use Rattle.nr_rev.specs.Run.{Recording}
+use Rattle.netrev.specs.ReplyText.{counted}
+use Rattle.netrev.specs.Transcript.{MayReply, Turn, Turns, is_quit, has_quit, some_count, counted_with}
+
+abbrev some : List ℕ → Bool
+some text = nat_lt 0 (length text)
+
+counted_text : (whole n : ℕ) (text : List ℕ) → whole ≡ counted n → counted_with whole text ≡ counted (n + length (filter some (text ∷ [])))
+counted_text whole n text h =
+    elim (nat_lt 0 (length text)) as (λ t. cond t (counted (whole + 1)) whole ≡ counted (n + length (cond t (text ∷ []) [])))
+    [ true ↦ omega (arith, h) | false ↦ omega (arith, h) ]
+
+-- the count of the texts that aren't empty goes on
+pub counted_more : (texts : List (List ℕ)) (text : List ℕ) (whole : ℕ) → whole ≡ counted (some_count texts) → counted_with whole text ≡ counted (some_count (texts ++ text ∷ []))
+counted_more texts text whole h =
+    counted_text whole (some_count texts) text h
+    ∙ ap counted (sym (ap length (filter-append some texts (text ∷ [])) ∙ length-append (filter some texts) (filter some (text ∷ []))))
+
+pub has_quit-append : (xs ys : List (List ℕ)) → has_quit xs ≡ false → has_quit (xs ++ ys) ≡ has_quit ys
+has_quit-append [] ys = λ h. refl
+has_quit-append (x ∷ xs) ys =
+    elim (is_quit (line_of x)) as (λ t. (t || has_quit xs) ≡ false → (t || has_quit (xs ++ ys)) ≡ has_quit ys) [ true ↦ λ h. cc | false ↦ has_quit-append xs ys ]
+
+pub concat_more : (texts : List (List ℕ)) (text : List ℕ) → concat (texts ++ text ∷ []) ≡ concat texts ++ text
+concat_more texts text = concat-append texts (text ∷ []) ∙ ap (λ t. concat texts ++ t) (append-nil text)
+
+pub turns_more : (r : Recording) (p : ℕ) (lines texts : List (List ℕ)) (mid : ℕ) (line text : List ℕ) (p' : ℕ) → Turns r p lines texts mid → Turn r mid line text p' → Turns r p (lines ++ line ∷ []) (texts ++ text ∷ []) p'
+turns_more r p [] [] mid line text p' here turn = (p', subst (λ m. Turn r m line text p') here turn, refl)
+turns_more r p [] (t ∷ ts) mid line text p' here turn = absurd here
+turns_more r p (l ∷ ls) [] mid line text p' here turn = absurd here
+turns_more r p (l ∷ ls) (t ∷ ts) mid line text p' here turn = (here.0, here.1, turns_more r here.0 ls ts mid line text p' here.2 turn)
+
+-- a line that asks for the same has the same turns
+pub turn_asks : (r : Recording) (a b text : List ℕ) (p p' : ℕ) → line_of a ≡ line_of b → Turn r p a text p' → Turn r p b text p'
+turn_asks r a b text p p' e turn = (turn.0, subst (λ asked. MayReply asked r p turn.0 p') e turn.1, turn.2)

@@ -1,0 +1,31 @@
+-- What a command does to a debugger that stands at a position of a recording, and what a look shows.
+use Rattle.std.specs.Prelude.{ℕ, Bool, true, false, ◌+◌, ◌-◌, min, nat_lt, length, if◌then◌else◌}
+use Rattle.nr_rev.specs.Cell.{cell, bytes_of, queue_of}
+use Rattle.nr_rev.specs.Run.{Recording, world_at}
+use Rattle.netrev.specs.declared.command.Command.{Command}
+use Rattle.netrev.specs.declared.command.Command.TheVariants.{Step, ReverseStep}
+use Rattle.netrev.specs.declared.command.Query.{Query}
+use Rattle.netrev.specs.declared.command.Query.TheVariants.{Print, DumpBytes, DumpQueue}
+use Rattle.netrev.specs.declared.reply.Reply.{Reply}
+use Rattle.netrev.specs.declared.reply.Reply.TheVariants.{At, AtEnd, AtStart, Printed, Bytes, Queue}
+
+-- The position after a command: so many steps on, and no further than the ends of the recording.
+abbrev pub after : Command → Recording → ℕ → ℕ
+after (Step n) r p = min (p + n) (length r.steps)
+after (ReverseStep n) r p = p - n
+
+-- What a command is answered: where it stands then, and whether an end stopped it.
+abbrev pub reply_to : Command → Recording → ℕ → Reply
+reply_to (Step n) r p = if nat_lt (length r.steps) (p + n) then AtEnd (length r.steps) else At (p + n)
+reply_to (ReverseStep n) r p = if nat_lt p n then AtStart else At (p - n)
+
+-- whether a command goes forwards, which takes memory: each step leaves a way back
+abbrev pub goes_forwards : Command → Bool
+goes_forwards (Step n) = true
+goes_forwards (ReverseStep n) = false
+
+-- What a look shows at position p: a cell, a buffer's bytes or a queue, of the world after p steps.
+abbrev pub seen : Query → Recording → ℕ → Reply
+seen (Print c) r p = Printed c (cell (world_at r p) c)
+seen (DumpBytes side s) r p = Bytes side s (bytes_of (world_at r p) s side)
+seen (DumpQueue side s) r p = Queue side s (queue_of (world_at r p) s side)

@@ -1,0 +1,12 @@
+pub mod CommandLine
+pub mod Debugging
+pub mod LoadFaults
+pub mod Opening
+pub mod ProgramWords
+pub mod ReplyText
+pub mod Running
+pub mod Sending
+pub mod Serving
+pub mod Standing
+pub mod Transcript
+pub mod Walk

@@ -1,0 +1,53 @@
+-- What the program's words ask for.
+use Rattle.std.specs.Prelude.{◌≡◌, ◌==◌, List, [], ◌∷◌, Option, Some, None, codes, option_map, option_and_then, true, false}
+use Rattle.clap.specs.Words.{App, Row, Rule, Text, fault_of, first_of, new_app, new_rule, subcommand_of, with_rule, with_subcommand}
+use Rattle.clap.specs.Simple.{on_top}
+use Rattle.netrev.specs.declared.words.Program.{Program}
+use Rattle.netrev.specs.declared.words.Program.TheVariants as program
+use Rattle.netrev.specs.declared.words.WordsFault.{WordsFault}
+use Rattle.netrev.specs.declared.words.WordsFault.TheVariants as fault
+
+-- the argument FILE, which has to be there
+abbrev pub file_rule : Rule
+file_rule = record (new_rule (codes "file")) { required = true }
+
+-- a program of the name, with its FILE
+abbrev pub file_program : Text → App
+file_program name = with_rule (new_app name) file_rule
+
+-- `netrev run FILE` and `netrev check FILE`, and no other
+abbrev pub netrev : App
+netrev = with_subcommand (with_subcommand (on_top (λ s. record s {
+  disable_help_flag = true;
+  disable_help_subcommand = true;
+  subcommand_required = true;
+}) (new_app (codes "netrev"))) (file_program (codes "run")).top) (file_program (codes "check")).top
+
+-- the program that is named, and its file
+abbrev pub asked_in : Option (Text × List Row) → Option (Text × Text)
+asked_in = option_and_then (λ p. option_map (λ file. (p.0, file)) (first_of (codes "file") p.1))
+
+-- the words, the program's own name first, are a command line that asks for this program on this file
+pub record Ask (words : List Text) (program file : Text) : Type 0 where
+  pub faultless : fault_of netrev words ≡ []
+  pub is_asked : asked_in (subcommand_of netrev words) ≡ Some (program, file)
+
+abbrev pub Asks : List Text → Program → Type 0
+Asks words (program.Run file) = Ask words (codes "run") file.now
+Asks words (program.Check file) = Ask words (codes "check") file.now
+
+-- usage is told only of words that ask for no program
+abbrev pub IsWordsFault : List Text → WordsFault → Type 0
+IsWordsFault words fault.Usage = (file : Text) → (¬ Ask words (codes "run") file) × (¬ Ask words (codes "check") file)
+IsWordsFault words fault.Memory = Unit {0}
+
+-- what is found names this program, or no program
+abbrev pub IsNamed : Option (Text × List Row) → Option Program → Type 0
+IsNamed found None = (file : Text) → (¬ (asked_in found ≡ Some (codes "run", file))) × (¬ (asked_in found ≡ Some (codes "check", file)))
+IsNamed found (Some (program.Run file)) = asked_in found ≡ Some (codes "run", file.now)
+IsNamed found (Some (program.Check file)) = asked_in found ≡ Some (codes "check", file.now)
+
+-- the text does not begin with a hyphen
+abbrev pub IsPlain : Text → Type 0
+IsPlain [] = Unit {0}
+IsPlain (x ∷ xs) = (x == 45) ≡ false

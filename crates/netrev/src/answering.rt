@@ -1,0 +1,84 @@
+//! One line and its answer.
+ghost use Rattle.std.specs.Prelude.{◌≡◌, ℕ, List, false, IfOk, IfErr, IsOk, OnErr};
+ghost use Rattle.std.specs.Io.KnownBytes.{Appends};
+ghost use Rattle.nr_rev.specs.Run.{Recording};
+ghost use Rattle.netrev.specs.CommandLine.{line_of};
+ghost use Rattle.netrev.specs.Debugging.{reply_to, after, goes_forwards, seen};
+ghost use Rattle.netrev.specs.Transcript.{Turn, MayReply, is_dump, is_quit, counted_with};
+ghost use Rattle.netrev.specs.Serving.{IsCut};
+
+use crate::command::{Command, Line, LineFault, Query};
+use crate::engine::LineEnd;
+use crate::reply::{Part, Reply};
+use std::alloc::AllocError;
+use std::io::Write;
+
+/// What stands behind the lines: it walks a recording, as GDB's commands of the same names do a
+/// program's.
+pub(crate) trait Front {
+    /// The recording that it walks.
+    ghost recording: { Self → Recording };
+
+    /// Where it stands.
+    ghost position: { Self → ℕ };
+
+    /// Runs a command. Out of memory it stays where it was. Only going forwards takes memory.
+    fn exec(&mut self, command: Command) -> Result<Reply, AllocError>
+        ensures recording { recording self.new ≡ recording self.old }
+        ensures ok { IfOk result (λ reply. (reply ≡ reply_to command (recording self.old) (position self.old))
+            × (position self.new ≡ after command (recording self.old) (position self.old))) }
+        ensures err { OnErr result (position self.new ≡ position self.old) }
+        ensures succeeds { goes_forwards command ≡ false → IsOk result };
+
+    /// Looks, and changes nothing. Only a dump takes memory.
+    fn look(&self, query: Query) -> Result<Reply, AllocError>
+        ensures ok { IfOk result (λ reply. reply ≡ seen query (recording self.now) (position self.now)) }
+        ensures succeeds { is_dump query ≡ false → IsOk result };
+}
+
+/// Answers a line, and says whether it is `quit`. `whole` counts the texts that went out whole.
+pub(crate) fn turn<W: Write, F: Front>(
+    line: &[u8],
+    w: &mut W,
+    front: &mut F,
+    whole: &mut u64,
+) -> Result<bool, LineEnd>
+    ensures recording { F.recording front.new ≡ F.recording front.old }
+    ensures quits { IfOk result (λ quits. quits ≡ is_quit (line_of line.now)) }
+    ensures ok { IfOk result (λ _. (text : List ℕ)
+        × Turn (F.recording front.old) (F.position front.old) line.now text (F.position front.new)
+        × Appends (W.contents w.old) (W.contents w.new) text × (whole.new ≡ counted_with whole.old text)) }
+    ensures err { IfErr result (λ e. (text : List ℕ)
+        × Turn (F.recording front.old) (F.position front.old) line.now text (F.position front.new)
+        × IsCut e whole.old text (W.contents w.old) (W.contents w.new)) }
+{
+    let asked = Command::parse(line);
+    let quits = matches!(&asked, Ok(Line::Quit));
+    let Some(reply) = reply_to_line(front, asked) else {
+        return Ok(false);
+    };
+    match reply.print(w) {
+        Ok(()) => {
+            *whole = whole.saturating_add(1);
+            Ok(quits)
+        }
+        Err(Part(part)) => Err(LineEnd::Write {
+            whole: *whole,
+            part,
+        }),
+    }
+}
+
+/// The reply, unless the line is empty.
+fn reply_to_line<F: Front>(front: &mut F, asked: Result<Line, LineFault>) -> Option<Reply>
+    ensures recording { F.recording front.new ≡ F.recording front.old }
+    ensures reply { MayReply asked (F.recording front.old) (F.position front.old) result (F.position front.new) }
+{
+    match asked {
+        Ok(Line::Run(command)) => Some(front.exec(command).unwrap_or(Reply::Memory)),
+        Ok(Line::Look(query)) => Some(front.look(query).unwrap_or(Reply::Memory)),
+        Ok(Line::Quit) => Some(Reply::Bye),
+        Ok(Line::Empty) => None,
+        Err(fault) => Some(Reply::Fault(fault)),
+    }
+}

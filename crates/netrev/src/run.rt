@@ -1,0 +1,145 @@
+//! The programs `run` and `check`, over the bytes of the file and the streams.
+
+ghost use Rattle.std.specs.Prelude.{◌≡◌, ◌⊎◌};
+ghost use Rattle.nr_rev.specs.Run.{Recording, IsGood};
+ghost use Rattle.nr_recording.specs.Text.{IsTextOf};
+ghost use Rattle.netrev.specs.Opening.{IsFirstFault, IsGoodText, fault_line};
+ghost use Rattle.netrev.specs.Running.{Runs, Walks, Refuses, Checks, Prints, code_of, ok_line};
+ghost use Rattle.netrev.specs.declared.opening.OpenFault.TheVariants as faults;
+ghost use Rattle.netrev.specs.declared.run.ExitStatus.TheVariants as statuses;
+
+use crate::debugger::Debugger;
+use crate::engine::serve;
+use crate::film::Film;
+use crate::opening::{OpenFault, open};
+use crate::reply::{Token, send_all};
+use nr_rev::Worlds;
+use std::alloc::Global;
+use std::io::{Read, Write};
+use std::sync::Wait;
+
+/// How a program ended.
+#[derive(Clone, Copy, Debug, PartialEq, Eq)]
+pub enum ExitStatus {
+    /// It did all that it was asked for.
+    Done,
+    /// The recording was refused, or there was no memory for it.
+    Refused,
+    /// The program's words ask for nothing.
+    Usage,
+    /// A read or a write failed.
+    StreamFailed,
+}
+
+impl ExitStatus {
+    /// The process's exit status: 0, 1, 2 or 3, in the order above.
+    pub fn code(self) -> u8
+        ensures { result ≡ code_of self }
+    {
+        match self {
+            ExitStatus::Done => 0,
+            ExitStatus::Refused => 1,
+            ExitStatus::Usage => 2,
+            ExitStatus::StreamFailed => 3,
+        }
+    }
+}
+
+/// Opens the recording, and answers the lines of the input on the output, one after the other, as a
+/// debugger does that stands at position 0 first: each reply is about the world after so many of the
+/// recording's first steps as the position says.
+///
+/// `Done`: a line was `quit`, or the input's end was reached. `Refused`: the recording's first fault
+/// was printed, or `fault 108 memory`, as one line, and nothing was read. `StreamFailed`: a read or a
+/// write failed; then a first part of these texts is written, and nothing else.
+pub fn run_bytes<W: Worlds + Drop, I: Read, O: Write>(
+    alloc: Global,
+    rt: &impl Wait,
+    bytes: &[u8],
+    input: &mut I,
+    output: &mut O,
+) -> ExitStatus
+where
+    W::Delta: Drop,
+    // What was read and written, whatever the bytes are.
+    ensures runs { Runs I.remaining bytes.now input.old input.new (O.contents output.old) (O.contents output.new) result }
+
+    // A recording whose steps all apply is walked, unless memory runs out before the first line.
+    ensures good { (r : Recording) → IsTextOf bytes.now r → IsGood r
+        → Walks (I.remaining input.old) (I.remaining input.new) (O.contents output.old) (O.contents output.new) r result
+        ⊎ Refuses faults.Memory input.old input.new (O.contents output.old) (O.contents output.new) result }
+{
+    match open::<W>(alloc, bytes) {
+        Ok(film) => walk(alloc, rt, &film, input, output),
+        Err(fault) => refuse(fault, output),
+    }
+}
+
+// Walks a film by the lines of the input.
+fn walk<W: Worlds + Drop, I: Read, O: Write>(
+    alloc: Global,
+    rt: &impl Wait,
+    film: &Film<W>,
+    input: &mut I,
+    output: &mut O,
+) -> ExitStatus
+where
+    W::Delta: Drop,
+    ensures { Walks (I.remaining input.old) (I.remaining input.new) (O.contents output.old) (O.contents output.new) film.now result
+        ⊎ Refuses faults.Memory input.old input.new (O.contents output.old) (O.contents output.new) result }
+{
+    let Ok(mut debugger) = Debugger::new(alloc, film) else {
+        return refuse(OpenFault::Memory, output);
+    };
+    match serve(rt, input, output, &mut debugger) {
+        Ok(_) => ExitStatus::Done,
+        Err(_) => ExitStatus::StreamFailed,
+    }
+}
+
+/// Prints the fault, as one line.
+pub(crate) fn refuse<O: Write>(fault: OpenFault, output: &mut O) -> ExitStatus
+    ensures { Prints (fault_line fault) statuses.Refused (O.contents output.old) (O.contents output.new) result }
+{
+    match fault.print(output) {
+        Ok(()) => ExitStatus::Refused,
+        Err(_) => ExitStatus::StreamFailed,
+    }
+}
+
+/// Opens the recording, and prints `ok L steps`, where L is how many steps it has, as one line.
+///
+/// `Refused`: the recording's first fault was printed, or `fault 108 memory`, as one line.
+/// `StreamFailed`: a write failed; then a first part of that line is written.
+pub fn check_bytes<W: Worlds + Drop, O: Write>(
+    alloc: Global,
+    bytes: &[u8],
+    output: &mut O,
+) -> ExitStatus
+    // What was written, whatever the bytes are.
+    ensures checks { Checks bytes.now (O.contents output.old) (O.contents output.new) result }
+
+    // A recording whose steps all apply is accepted, unless memory runs out.
+    ensures good { (r : Recording) → IsTextOf bytes.now r → IsGood r
+        → Prints (ok_line r) statuses.Done (O.contents output.old) (O.contents output.new) result
+        ⊎ Prints (fault_line faults.Memory) statuses.Refused (O.contents output.old) (O.contents output.new) result }
+{
+    match open::<W>(alloc, bytes) {
+        Ok(film) => accept(&film, output),
+        Err(fault) => refuse(fault, output),
+    }
+}
+
+// Prints that the film has so many steps.
+fn accept<W: Worlds + Drop, O: Write>(film: &Film<W>, output: &mut O) -> ExitStatus
+    ensures { Prints (ok_line film.now) statuses.Done (O.contents output.old) (O.contents output.new) result }
+{
+    let steps = Token::Number(film.len() as u64);
+    match send_all(
+        &[Token::Text(b"ok "), steps, Token::Text(b" steps\n")],
+        output,
+    ) {
+        Ok(_) => ExitStatus::Done,
+        Err(_) => ExitStatus::StreamFailed,
+    }
+}
