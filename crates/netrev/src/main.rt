@@ -11,6 +11,8 @@ mod engine;
 mod film;
 #[cfg(test)]
 mod line_tests;
+#[cfg(test)]
+mod machine_tests;
 pub mod opening;
 mod reply;
 pub mod run;

@@ -49,7 +49,7 @@ at 0 start
 lock 0 = absent
 ";
 
-const HEADER: &str = "{\"netrev\":1,\"gor\":4,\"sock\":2,\"desc\":2,\"buf\":16}\n";
+pub(crate) const HEADER: &str = "{\"netrev\":1,\"gor\":4,\"sock\":2,\"desc\":2,\"buf\":16}\n";
 
 /// A reader waits for bytes that arrive while it is parked.
 const READ: &str = r#"["sockopen",16,16]
@@ -100,7 +100,12 @@ const REFUSED: [(&str, &str); 7] = [
 ];
 
 /// Runs a script, and answers how it ended and what is written.
-fn run(rt: &HostRuntime, wait: &impl Wait, recording: &str, script: &str) -> (ExitStatus, Vec<u8>) {
+pub(crate) fn run(
+    rt: &HostRuntime,
+    wait: &impl Wait,
+    recording: &str,
+    script: &str,
+) -> (ExitStatus, Vec<u8>) {
     let mut input = script.as_bytes();
     let mut output = Vec::new(rt.alloc());
     let bytes = recording.as_bytes();
@@ -152,7 +157,7 @@ fn looks_show_the_position(rt: HostRuntime) -> Result<(), Fail> {
 }
 
 /// Runs and checks a recording that is refused with this line: no input is read for it.
-fn assert_refused(rt: &(impl Wait + Abort), alloc: Global, recording: &str, line: &str) {
+pub(crate) fn assert_refused(rt: &(impl Wait + Abort), alloc: Global, recording: &str, line: &str) {
     let bytes = recording.as_bytes();
     let mut input = SCRIPT.as_bytes();
     let mut output = Vec::new(alloc);
