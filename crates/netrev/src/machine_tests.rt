@@ -261,6 +261,23 @@ fn each_reason_is_told_by_its_number(rt: HostRuntime) -> Result<(), Fail> {
 }
 
 #[test]
+fn a_read_that_is_cut_or_out_of_turn_is_refused(rt: HostRuntime) -> Result<(), Fail> {
+    let opened = r#"["sockopen",16,16]
+["pollopen",0,0]
+["rwlock",0,0,"r"]
+["waitbegin",0,0,"r"]
+"#;
+    for (last, line) in [
+        (r#"["block"#, "line 6: fault 102 not JSON\n"),
+        (r#"["blockswap",0]"#, "step 5: fault 107 reason 2\n"),
+    ] {
+        let recording = format!(in rt.alloc(); "{HEADER}{opened}{last}")?;
+        assert_refused(&rt, rt.alloc(), recording.as_str(), line);
+    }
+    Ok(())
+}
+
+#[test]
 fn a_firing_too_many_is_refused(rt: HostRuntime) -> Result<(), Fail> {
     let opened = r#"["sockopen",1,1]
 ["pollopen",0,0]
