@@ -8,6 +8,8 @@ here=$(cd "$(dirname "$0")" && pwd)
 netrev=${NETREV:-$here/../crates/netrev/out/netrev}
 shapes=${SHAPES:-locks queues bytes waits timers mix}
 runs=${RUNS:-3}
+look="print lock 4294967295"
+nothing="lock 4294967295 = absent"
 [ $# -gt 0 ] || set -- 10000 100000 1000000
 
 work=$(mktemp -d)
@@ -37,6 +39,15 @@ ask() {
 	since=$now
 }
 
+# Moves by the command $1, which must be answered $2, and looks, which leads the world there. The nanoseconds
+# of both are in $spent.
+go() {
+	ask "$1" "$2"
+	moved=$spent
+	ask "$look" "$nothing"
+	spent=$((spent + moved))
+}
+
 # The lesser of $1, which may be empty, and $2.
 least() {
 	if [ -z "$1" ] || [ "$2" -lt "$1" ]; then echo "$2"; else echo "$1"; fi
@@ -47,11 +58,11 @@ walk() {
 	since=$(date +%s%N)
 	start "$1" < "$work/commands" > "$work/replies" &
 	exec 3> "$work/commands" 4< "$work/replies"
-	ask "print lock 4294967295" "lock 4294967295 = absent"
+	ask "$look" "$nothing"
 	load=$(least "$load" "$spent")
-	ask "stepi $steps" "at $steps"
+	go "stepi $steps" "at $steps"
 	there=$(least "$there" "$spent")
-	ask "reverse-stepi $steps" "at 0"
+	go "reverse-stepi $steps" "at 0"
 	back=$(least "$back" "$spent")
 	ask quit bye
 	exec 3>&- 4<&-

@@ -2,6 +2,7 @@
 use Rattle.std.specs.Prelude.{ℕ, Bool, true, false, ◌+◌, ◌-◌, min, nat_lt, length, if◌then◌else◌}
 use Rattle.nr_rev.specs.Cell.{cell, bytes_of, queue_of}
 use Rattle.nr_rev.specs.Run.{Recording, world_at}
+use Rattle.nr_rev.specs.World.{World}
 use Rattle.netrev.specs.declared.command.Command.{Command}
 use Rattle.netrev.specs.declared.command.Command.TheVariants.{Step, ReverseStep}
 use Rattle.netrev.specs.declared.command.Query.{Query}
@@ -19,13 +20,18 @@ abbrev pub reply_to : Command → Recording → ℕ → Reply
 reply_to (Step n) r p = if nat_lt (length r.steps) (p + n) then AtEnd (length r.steps) else At (p + n)
 reply_to (ReverseStep n) r p = if nat_lt p n then AtStart else At (p - n)
 
--- whether a command goes forwards, which takes memory: each step leaves a way back
-abbrev pub goes_forwards : Command → Bool
-goes_forwards (Step n) = true
-goes_forwards (ReverseStep n) = false
+-- What a look shows in a world: a cell, a buffer's bytes or a queue.
+abbrev pub shown_in : World → Query → Reply
+shown_in w (Print c) = Printed c (cell w c)
+shown_in w (DumpBytes side s) = Bytes side s (bytes_of w s side)
+shown_in w (DumpQueue side s) = Queue side s (queue_of w s side)
 
--- What a look shows at position p: a cell, a buffer's bytes or a queue, of the world after p steps.
+-- What a look shows at position p: that of the world after p steps.
 abbrev pub seen : Query → Recording → ℕ → Reply
-seen (Print c) r p = Printed c (cell (world_at r p) c)
-seen (DumpBytes side s) r p = Bytes side s (bytes_of (world_at r p) s side)
-seen (DumpQueue side s) r p = Queue side s (queue_of (world_at r p) s side)
+seen query r p = shown_in (world_at r p) query
+
+-- whether a look copies what it shows, so that it takes memory
+abbrev pub is_dump : Query → Bool
+is_dump (Print c) = false
+is_dump (DumpBytes side s) = true
+is_dump (DumpQueue side s) = true

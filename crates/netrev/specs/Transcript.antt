@@ -3,10 +3,8 @@ use Rattle.std.specs.Prelude.{◌≡◌, ℕ, ◌+◌, ◌==◌, ◌⊎◌, nat_
 use Rattle.std.specs.List.{list_any}
 use Rattle.nr_rev.specs.Run.{Recording}
 use Rattle.netrev.specs.CommandLine.{line_of}
-use Rattle.netrev.specs.Debugging.{reply_to, after, goes_forwards, seen}
+use Rattle.netrev.specs.Debugging.{reply_to, after, seen}
 use Rattle.netrev.specs.ReplyText.{text_of, counted}
-use Rattle.netrev.specs.declared.command.Query.{Query}
-use Rattle.netrev.specs.declared.command.Query.TheVariants.{Print, DumpBytes, DumpQueue}
 use Rattle.netrev.specs.declared.command.Line.{Line}
 use Rattle.netrev.specs.declared.command.Line.TheVariants.{Run, Look, Quit, Empty}
 use Rattle.netrev.specs.declared.command.LineFault.{LineFault}
@@ -29,19 +27,11 @@ abbrev pub lines_of : Bool → List ℕ → List (List ℕ)
 lines_of false text = whole_from [] text
 lines_of true text = whole_from [] text ++ (if nat_lt 0 (length (rest_from [] text)) then rest_from [] text ∷ [] else [])
 
--- whether a look copies what it shows, so that it takes memory
-abbrev pub is_dump : Query → Bool
-is_dump (Print c) = false
-is_dump (DumpBytes side s) = true
-is_dump (DumpQueue side s) = true
-
 -- At position p a line that asks for this may have this reply, and leave position p'. Want of memory
--- is the answer to commands that go forwards and to dumps alone, and changes nothing.
+-- is the answer to looks alone.
 abbrev pub MayReply : Result Line LineFault → Recording → ℕ → Option Reply → ℕ → Type 0
-MayReply (Ok (Run command)) r p reply p' =
-    ((reply ≡ Some (reply_to command r p)) × (p' ≡ after command r p)) ⊎ ((reply ≡ Some Memory) × (p' ≡ p) × (goes_forwards command ≡ true))
-MayReply (Ok (Look query)) r p reply p' =
-    ((reply ≡ Some (seen query r p)) ⊎ ((reply ≡ Some Memory) × (is_dump query ≡ true))) × (p' ≡ p)
+MayReply (Ok (Run command)) r p reply p' = (reply ≡ Some (reply_to command r p)) × (p' ≡ after command r p)
+MayReply (Ok (Look query)) r p reply p' = ((reply ≡ Some (seen query r p)) ⊎ (reply ≡ Some Memory)) × (p' ≡ p)
 MayReply (Ok Quit) r p reply p' = (reply ≡ Some Bye) × (p' ≡ p)
 MayReply (Ok Empty) r p reply p' = (reply ≡ None) × (p' ≡ p)
 MayReply (Err fault) r p reply p' = (reply ≡ Some (Fault fault)) × (p' ≡ p)

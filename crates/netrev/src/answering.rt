@@ -1,10 +1,10 @@
 //! One line and its answer.
-ghost use Rattle.std.specs.Prelude.{◌≡◌, ℕ, List, false, IfOk, IfErr, IsOk, OnErr};
+ghost use Rattle.std.specs.Prelude.{◌≡◌, ℕ, List, IfOk, IfErr};
 ghost use Rattle.std.specs.Io.KnownBytes.{Appends};
 ghost use Rattle.nr_rev.specs.Run.{Recording};
 ghost use Rattle.netrev.specs.CommandLine.{line_of};
-ghost use Rattle.netrev.specs.Debugging.{reply_to, after, goes_forwards, seen};
-ghost use Rattle.netrev.specs.Transcript.{Turn, MayReply, is_dump, is_quit, counted_with};
+ghost use Rattle.netrev.specs.Debugging.{reply_to, after, seen};
+ghost use Rattle.netrev.specs.Transcript.{Turn, MayReply, is_quit, counted_with};
 ghost use Rattle.netrev.specs.Serving.{IsCut};
 
 use crate::command::{Command, Line, LineFault, Query};
@@ -22,18 +22,18 @@ pub(crate) trait Front {
     /// Where it stands.
     ghost position: { Self → ℕ };
 
-    /// Runs a command. Out of memory it stays where it was. Only going forwards takes memory.
-    fn exec(&mut self, command: Command) -> Result<Reply, AllocError>
+    /// Runs a command, which takes no memory.
+    fn exec(&mut self, command: Command) -> Reply
         ensures recording { recording self.new ≡ recording self.old }
-        ensures ok { IfOk result (λ reply. (reply ≡ reply_to command (recording self.old) (position self.old))
-            × (position self.new ≡ after command (recording self.old) (position self.old))) }
-        ensures err { OnErr result (position self.new ≡ position self.old) }
-        ensures succeeds { goes_forwards command ≡ false → IsOk result };
+        ensures reply { result ≡ reply_to command (recording self.old) (position self.old) }
+        ensures moved { position self.new ≡ after command (recording self.old) (position self.old) };
 
-    /// Looks, and changes nothing. Only a dump takes memory.
-    fn look(&self, query: Query) -> Result<Reply, AllocError>
-        ensures ok { IfOk result (λ reply. reply ≡ seen query (recording self.now) (position self.now)) }
-        ensures succeeds { is_dump query ≡ false → IsOk result };
+    /// Looks at the world where it stands. The way there may take memory, and so may a dump; refused it,
+    /// the front still stands there, and can look again.
+    fn look(&mut self, query: Query) -> Result<Reply, AllocError>
+        ensures recording { recording self.new ≡ recording self.old }
+        ensures stays { position self.new ≡ position self.old }
+        ensures ok { IfOk result (λ reply. reply ≡ seen query (recording self.old) (position self.old)) };
 }
 
 /// Answers a line, and says whether it is `quit`. `whole` counts the texts that went out whole.
@@ -75,7 +75,7 @@ fn reply_to_line<F: Front>(front: &mut F, asked: Result<Line, LineFault>) -> Opt
     ensures reply { MayReply asked (F.recording front.old) (F.position front.old) result (F.position front.new) }
 {
     match asked {
-        Ok(Line::Run(command)) => Some(front.exec(command).unwrap_or(Reply::Memory)),
+        Ok(Line::Run(command)) => Some(front.exec(command)),
         Ok(Line::Look(query)) => Some(front.look(query).unwrap_or(Reply::Memory)),
         Ok(Line::Quit) => Some(Reply::Bye),
         Ok(Line::Empty) => None,

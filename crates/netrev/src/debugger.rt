@@ -1,124 +1,103 @@
-//! A debugger: it runs commands over a walker, and looks at the world where that stands.
+//! A debugger: where it stands in a film, and what it replies.
 
-ghost use Rattle.std.specs.Prelude.{◌≡◌, ◌^◌, ◌<◌, IfOk, OnErr};
-ghost use Rattle.netrev.specs.Debugging.{reply_to, after, seen};
+ghost use Rattle.std.specs.Prelude.{◌≡◌, ◌≤◌, length, false, IfOk, IsOk};
+ghost use Rattle.netrev.specs.Debugging.{reply_to, after, shown_in, is_dump};
 ghost use Rattle.netrev.specs.declared.command.Command.TheVariants as commands;
 
-use crate::answering::Front;
 use crate::command::{Command, Query};
 use crate::film::Film;
 use crate::reply::Reply;
-use crate::walker::Walker;
 use nr_rev::Worlds;
-use std::alloc::{AllocError, Global};
-use std::marker::Model;
+use std::alloc::AllocError;
 
-/// Walks a film by commands.
-#[derive(Drop)]
-pub(crate) struct Debugger<'f, W: Worlds + Drop>
-where
-    W::Delta: Drop,
-{
-    walker: Walker<'f, W>,
+/// Stands at a position of a film. It has no world: a command moves the position alone and takes no memory.
+#[derive(Clone, Copy, Debug, PartialEq, Eq)]
+pub(crate) struct Debugger {
+    /// How many steps lie behind it.
+    pub(crate) position: usize,
 }
 
-impl<'f, W: Worlds + Drop> Model for Debugger<'f, W>
-where
-    W::Delta: Drop,
-{
-    ghost use Rattle.netrev.specs.Walk.{Walk};
-
-    ghost Value = { Walk };
-
-    ghost view = { λ d. d.walker };
-}
-
-impl<'f, W: Worlds + Drop> Debugger<'f, W>
-where
-    W::Delta: Drop,
-{
+impl Debugger {
     /// Stands at position 0.
-    pub(crate) fn new(alloc: Global, film: &'f Film<W>) -> Result<Debugger<'f, W>, AllocError>
-        ensures { IfOk result (λ debugger. debugger ≡ record { recording = film.now; position = 0 }) }
+    pub(crate) fn new() -> Debugger
+        ensures { result.position ≡ 0 }
     {
-        let walker = Walker::new(alloc, film)?;
-        Ok(Debugger { walker })
+        Debugger { position: 0 }
+    }
+
+    /// Runs a command.
+    pub(crate) fn exec<W: Worlds + Drop>(&mut self, film: &Film<W>, command: Command) -> Reply
+        requires { self.old.position ≤ length film.now.steps }
+        ensures reply { result ≡ reply_to command film.now self.old.position }
+        ensures moved { self.new.position ≡ after command film.now self.old.position }
+        ensures within { self.new.position ≤ length film.now.steps }
+    {
+        match command {
+            Command::Step(count) => self.step(film, count),
+            Command::ReverseStep(count) => self.reverse_step(film, count),
+        }
     }
 
     // Goes so many steps forwards, and no further than the end.
-    fn step(&mut self, count: u32) -> Result<Reply, AllocError>
-        ensures reply { IfOk result (λ reply. reply ≡ reply_to (commands.Step count) self.old.recording self.old.position) }
-        ensures moved { IfOk result (λ reply. self.new ≡ record self.old { position = after (commands.Step count) self.old.recording self.old.position }) }
-        ensures err { OnErr result (self.new ≡ self.old) }
+    fn step<W: Worlds + Drop>(&mut self, film: &Film<W>, count: u32) -> Reply
+        requires { self.old.position ≤ length film.now.steps }
+        ensures reply { result ≡ reply_to (commands.Step count) film.now self.old.position }
+        ensures moved { self.new.position ≡ after (commands.Step count) film.now self.old.position }
     {
-        let last = self.walker.last();
-        let wanted = self.walker.position() + count as usize;
+        let last = film.len();
+        let wanted = self.position + count as usize;
+        self.position = wanted.min(last);
         if wanted > last {
-            self.walker.goto(last)?;
-            return Ok(Reply::AtEnd(last));
-        }
-        self.walker.goto(wanted)?;
-        Ok(Reply::At(wanted))
-    }
-
-    // Goes so many steps backwards, and no further than the start.
-    fn reverse_step(&mut self, count: u32) -> Reply
-        ensures reply { result ≡ reply_to (commands.ReverseStep count) self.old.recording self.old.position }
-        ensures moved { self.new ≡ record self.old { position = after (commands.ReverseStep count) self.old.recording self.old.position } }
-    {
-        let from = self.walker.position();
-        let count = count as usize;
-        let wanted = from.saturating_sub(count);
-        self.walker.backward_to(wanted);
-        if count > from {
-            return Reply::AtStart;
+            return Reply::AtEnd(last);
         }
         Reply::At(wanted)
     }
+
+    // Goes so many steps backwards, and no further than the start.
+    fn reverse_step<W: Worlds + Drop>(&mut self, film: &Film<W>, count: u32) -> Reply
+        requires { self.old.position ≤ length film.now.steps }
+        ensures reply { result ≡ reply_to (commands.ReverseStep count) film.now self.old.position }
+        ensures moved { self.new.position ≡ after (commands.ReverseStep count) film.now self.old.position }
+    {
+        let from = self.position;
+        self.position = from.saturating_sub(count as usize);
+        if count as usize > from {
+            return Reply::AtStart;
+        }
+        Reply::At(self.position)
+    }
 }
 
-impl<'f, W: Worlds + Drop> Front for Debugger<'f, W>
-where
-    W::Delta: Drop,
+/// What a look shows in a world. Only a dump takes memory, for the copy of what it shows.
+pub(crate) fn look<W: Worlds>(world: &W, query: Query) -> Result<Reply, AllocError>
+    requires { W.is_well_formed world.now }
+    ensures ok { IfOk result (λ reply. reply ≡ shown_in (W.world world.now) query) }
+    ensures succeeds { is_dump query ≡ false → IsOk result }
 {
-    ghost recording = { λ d. d.recording };
-
-    ghost position = { λ d. d.position };
-
-    fn exec(&mut self, command: Command) -> Result<Reply, AllocError> {
-        match command {
-            Command::Step(count) => self.step(count),
-            Command::ReverseStep(count) => Ok(self.reverse_step(count)),
+    match query {
+        Query::Print(cell) => {
+            let value = world.cell(cell);
+            Ok(Reply::Printed { cell, value })
         }
-    }
-
-    fn look(&self, query: Query) -> Result<Reply, AllocError> {
-        let world = self.walker.world();
-        match query {
-            Query::Print(cell) => {
-                let value = world.cell(cell);
-                Ok(Reply::Printed { cell, value })
-            }
-            Query::DumpBytes { side, socket } => {
-                let Ok(bytes) = world.bytes(socket, side) else {
-                    return Err(AllocError);
-                };
-                Ok(Reply::Bytes {
-                    side,
-                    socket,
-                    bytes,
-                })
-            }
-            Query::DumpQueue { side, socket } => {
-                let Ok(queue) = world.queue(socket, side) else {
-                    return Err(AllocError);
-                };
-                Ok(Reply::Queue {
-                    side,
-                    socket,
-                    queue,
-                })
-            }
+        Query::DumpBytes { side, socket } => {
+            let Ok(bytes) = world.bytes(socket, side) else {
+                return Err(AllocError);
+            };
+            Ok(Reply::Bytes {
+                side,
+                socket,
+                bytes,
+            })
+        }
+        Query::DumpQueue { side, socket } => {
+            let Ok(queue) = world.queue(socket, side) else {
+                return Err(AllocError);
+            };
+            Ok(Reply::Queue {
+                side,
+                socket,
+                queue,
+            })
         }
     }
 }

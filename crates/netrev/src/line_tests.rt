@@ -14,8 +14,8 @@ use std::alloc::AllocError;
 use std::sync::Wait;
 use std::test::*;
 
-/// Stands in a recording of so many ticks, none of which changes anything. It is refused memory
-/// where the lowest bit of `refusals` is set, at each command the next, unless that goes back.
+/// Stands in a recording of so many ticks, none of which changes anything. A look is refused memory
+/// where the lowest bit of `refusals` is set, and the next look has the next bit.
 #[derive(Drop)]
 struct Idler {
     ticks: u32,
@@ -29,42 +29,39 @@ impl Front for Idler {
 
     ghost position = { λ f. f.position };
 
-    fn exec(&mut self, command: Command) -> Result<Reply, AllocError> {
-        let refused = self.refusals % 2 == 1 && matches!(&command, Command::Step(_));
-        self.refusals /= 2;
-        if refused {
-            return Err(AllocError);
-        }
+    fn exec(&mut self, command: Command) -> Reply {
         match command {
             Command::Step(count) if count > self.ticks - self.position => {
                 self.position = self.ticks;
-                Ok(Reply::AtEnd(self.position as usize))
+                Reply::AtEnd(self.position as usize)
             }
             Command::Step(count) => {
                 self.position += count;
-                Ok(Reply::At(self.position as usize))
+                Reply::At(self.position as usize)
             }
             Command::ReverseStep(count) if count > self.position => {
                 self.position = 0;
-                Ok(Reply::AtStart)
+                Reply::AtStart
             }
             Command::ReverseStep(count) => {
                 self.position -= count;
-                Ok(Reply::At(self.position as usize))
+                Reply::At(self.position as usize)
             }
         }
     }
 
-    fn look(&self, query: Query) -> Result<Reply, AllocError> {
+    fn look(&mut self, query: Query) -> Result<Reply, AllocError> {
+        let refused = self.refusals % 2 == 1;
+        self.refusals /= 2;
+        if refused {
+            return Err(AllocError);
+        }
         match query {
             Query::Print(cell) => {
                 let value = value_at_start(cell);
                 Ok(Reply::Printed { cell, value })
             }
             Query::DumpBytes { side, socket } => {
-                if self.refusals % 2 == 1 {
-                    return Err(AllocError);
-                }
                 let bytes = None;
                 Ok(Reply::Bytes {
                     side,
@@ -73,9 +70,6 @@ impl Front for Idler {
                 })
             }
             Query::DumpQueue { side, socket } => {
-                if self.refusals % 2 == 1 {
-                    return Err(AllocError);
-                }
                 let queue = None;
                 Ok(Reply::Queue {
                     side,
@@ -458,9 +452,9 @@ fn a_long_line_is_one_fault(rt: HostRuntime) -> Result<(), Fail> {
 
 #[test]
 fn a_refused_line_can_be_sent_again(rt: HostRuntime) {
-    let script = "dump in 0\nprint clock\nsi 2\nsi 2\ndump in 0\n";
-    let text = "fault 301 memory\nclock = 0\nfault 301 memory\nat 2\nin 0 = absent\n";
-    let (end, cup) = serve_cup(&rt, script, &mut make_idler(1), make_cup(&rt, 200));
+    let script = "si 2\ndump in 0\ndump in 0\nprint clock\nprint clock\nsi 2\n";
+    let text = "at 2\nfault 301 memory\nin 0 = absent\nfault 301 memory\nclock = 0\nat 4\n";
+    let (end, cup) = serve_cup(&rt, script, &mut make_idler(0b101), make_cup(&rt, 200));
     assert_eq!(rt; end, Ok(End::Closed));
     assert_eq!(rt; cup.held.as_slice(), text.as_bytes());
 }

@@ -18,6 +18,7 @@ mod reply;
 pub mod run;
 #[cfg(test)]
 mod run_tests;
+mod session;
 #[cfg(test)]
 mod streams;
 mod walker;

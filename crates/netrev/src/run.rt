@@ -8,11 +8,11 @@ ghost use Rattle.netrev.specs.Running.{Runs, Walks, Refuses, Checks, Prints, cod
 ghost use Rattle.netrev.specs.declared.opening.OpenFault.TheVariants as faults;
 ghost use Rattle.netrev.specs.declared.run.ExitStatus.TheVariants as statuses;
 
-use crate::debugger::Debugger;
 use crate::engine::serve;
 use crate::film::Film;
 use crate::opening::{OpenFault, open};
 use crate::reply::{Token, send_all};
+use crate::session::Session;
 use nr_rev::Worlds;
 use std::alloc::Global;
 use std::io::{Read, Write};
@@ -88,10 +88,10 @@ where
     ensures { Walks (I.remaining input.old) (I.remaining input.new) (O.contents output.old) (O.contents output.new) film.now result
         ⊎ Refuses faults.Memory input.old input.new (O.contents output.old) (O.contents output.new) result }
 {
-    let Ok(mut debugger) = Debugger::new(alloc, film) else {
+    let Ok(mut session) = Session::new(alloc, film) else {
         return refuse(OpenFault::Memory, output);
     };
-    match serve(rt, input, output, &mut debugger) {
+    match serve(rt, input, output, &mut session) {
         Ok(_) => ExitStatus::Done,
         Err(_) => ExitStatus::StreamFailed,
     }

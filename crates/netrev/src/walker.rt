@@ -52,20 +52,19 @@ where
         })
     }
 
-    /// How many steps lie behind it.
-    pub(crate) fn position(&self) -> usize
+    // How many steps lie behind it.
+    fn position(&self) -> usize
         ensures is { result ≡ self.now.position }
         ensures within { result ≤ length self.now.recording.steps }
     {
         self.deltas.len()
     }
 
-    /// The last position: how many steps there are.
-    pub(crate) fn last(&self) -> usize
-        ensures is { result ≡ length self.now.recording.steps }
-        ensures within { result ≤ 1000000 }
+    /// The film that it walks.
+    pub(crate) fn film(&self) -> &'f Film<W>
+        ensures { result.now ≡ self.now.recording }
     {
-        self.film.len()
+        self.film
     }
 
     /// The world at its position.
@@ -98,8 +97,8 @@ where
         self.world.undo(delta);
     }
 
-    /// Goes back to position n, which takes no memory.
-    pub(crate) fn backward_to(&mut self, n: usize)
+    // Back to position n, which takes no memory.
+    fn backward_to(&mut self, n: usize)
         requires { n ≤ self.old.position }
         ensures { self.new ≡ record self.old { position = n } }
     {

@@ -9,15 +9,15 @@ returns-in-Print-clause-ok c =
     let idle = sym (idle_ticks _ c.args.self.now.ticks c.args.self.now.position) in
     rw c.in-Print.is (ap (replies.Printed c.in-Print.cell) (c.value_at_start-value.ensures ∙ ap (λ w. cell w c.in-Print.cell) idle))
 
-pub returns-else-self-eq1-clause-ok : goal.returns-else-self-eq1-clause-ok
-returns-else-self-eq1-clause-ok c =
+pub returns-in-DumpBytes-clause-ok : goal.returns-in-DumpBytes-clause-ok
+returns-in-DumpBytes-clause-ok c =
     let side = c.in-DumpBytes.side in
     let s = c.in-DumpBytes.socket in
     let idle = sym (idle_ticks _ c.args.self.now.ticks c.args.self.now.position) in
     rw c.in-DumpBytes.is (ap (λ w. replies.Bytes side s (bytes_of w s side)) idle)
 
-pub returns-else-self-eq1-2-clause-ok : goal.returns-else-self-eq1-2-clause-ok
-returns-else-self-eq1-2-clause-ok c =
+pub returns-in-DumpQueue-clause-ok : goal.returns-in-DumpQueue-clause-ok
+returns-in-DumpQueue-clause-ok c =
     let side = c.in-DumpQueue.side in
     let s = c.in-DumpQueue.socket in
     let idle = sym (idle_ticks _ c.args.self.now.ticks c.args.self.now.position) in
