@@ -1,12 +1,12 @@
 //! A film: a recording whose steps all apply, and the world that it begins with.
 
-ghost use Rattle.std.specs.Prelude.{◌≡◌, ◌<◌, ◌≤◌, ◌+◌, length, slice_get, option_copied, IfOk, IfErr, OnOk, OnErr};
+ghost use Rattle.std.specs.Prelude.{◌≡◌, ◌<◌, ◌≤◌, ◌+◌, length, IfOk, IfErr, OnOk, OnErr};
 ghost use Rattle.nr_rev.specs.Run.{IsGood};
 ghost use Rattle.netrev.specs.Standing.{Stands, AppliesAt, IsGoodTo, KeepsBytesAt};
 ghost use Rattle.netrev.specs.LoadFaults.{IsRefusedFor, IsLoadFault};
 
 use nr_recording::Recording;
-use nr_rev::{Refusal, Step, Worlds};
+use nr_rev::{Refusal, Worlds};
 use std::alloc::{AllocError, Global};
 use std::marker::Model;
 
@@ -100,13 +100,6 @@ impl<W: Worlds + Drop> Film<W> {
         ensures good { IsGood self.now }
     {
         self.recording.len()
-    }
-
-    /// The step of number n, counted from 0.
-    pub(crate) fn step(&self, n: usize) -> Option<&Step>
-        ensures { option_copied result ≡ slice_get self.now.steps n }
-    {
-        self.recording.step(n)
     }
 
     /// The world at position 0.

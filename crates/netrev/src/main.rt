@@ -87,7 +87,7 @@ fn start(rt: &HostRuntime, wait: &impl Wait) -> Result<ExitStatus, Unstarted> {
         Program::Run { file } => {
             let bytes = read_file(rt, file)?;
             let mut input = rt.stdin();
-            Ok(run_bytes::<World, _, _>(alloc, wait, bytes.as_slice(), &mut input, &mut output))
+            Ok(run_bytes::<World, _, _>(wait, alloc, bytes.as_slice(), &mut input, &mut output))
         }
         Program::Check { file } => {
             let bytes = read_file(rt, file)?;

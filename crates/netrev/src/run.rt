@@ -53,8 +53,8 @@ impl ExitStatus {
 /// was printed, or `fault 108 memory`, as one line, and nothing was read. `StreamFailed`: a read or a
 /// write failed; then a first part of these texts is written, and nothing else.
 pub fn run_bytes<W: Worlds + Drop, I: Read, O: Write>(
-    alloc: Global,
     rt: &impl Wait,
+    alloc: Global,
     bytes: &[u8],
     input: &mut I,
     output: &mut O,
@@ -70,15 +70,15 @@ where
         ⊎ Refuses faults.Memory input.old input.new (O.contents output.old) (O.contents output.new) result }
 {
     match open::<W>(alloc, bytes) {
-        Ok(film) => walk(alloc, rt, &film, input, output),
+        Ok(film) => walk(rt, alloc, &film, input, output),
         Err(fault) => refuse(fault, output),
     }
 }
 
 // Walks a film by the lines of the input.
 fn walk<W: Worlds + Drop, I: Read, O: Write>(
-    alloc: Global,
     rt: &impl Wait,
+    alloc: Global,
     film: &Film<W>,
     input: &mut I,
     output: &mut O,

@@ -109,7 +109,7 @@ pub(crate) fn run(
     let mut input = script.as_bytes();
     let mut output = Vec::new(rt.alloc());
     let bytes = recording.as_bytes();
-    let status = run_bytes::<World, _, _>(rt.alloc(), wait, bytes, &mut input, &mut output);
+    let status = run_bytes::<World, _, _>(wait, rt.alloc(), bytes, &mut input, &mut output);
     (status, output)
 }
 
@@ -161,7 +161,7 @@ pub(crate) fn assert_refused(rt: &(impl Wait + Abort), alloc: Global, recording:
     let bytes = recording.as_bytes();
     let mut input = SCRIPT.as_bytes();
     let mut output = Vec::new(alloc);
-    let status = run_bytes::<World, _, _>(alloc, rt, bytes, &mut input, &mut output);
+    let status = run_bytes::<World, _, _>(rt, alloc, bytes, &mut input, &mut output);
     assert_eq!(rt; status, ExitStatus::Refused);
     assert_eq!(rt; output.as_slice(), line.as_bytes());
     assert_eq!(rt; input, SCRIPT.as_bytes());
@@ -210,7 +210,7 @@ fn one_byte_a_call_makes_no_difference(rt: HostRuntime) {
     };
     let mut output = make_cup(&rt, REPLIES.len());
     let bytes = LOCKS.as_bytes();
-    let status = run_bytes::<World, _, _>(rt.alloc(), &rt, bytes, &mut input, &mut output);
+    let status = run_bytes::<World, _, _>(&rt, rt.alloc(), bytes, &mut input, &mut output);
     assert_eq!(rt; status, ExitStatus::Done);
     assert_eq!(rt; output.held.as_slice(), REPLIES.as_bytes());
 }
@@ -229,7 +229,7 @@ fn a_failed_read_leaves_whole_replies(rt: HostRuntime) {
             left,
         };
         let mut output = Vec::new(rt.alloc());
-        let status = run_bytes::<World, _, _>(rt.alloc(), &rt, bytes, &mut input, &mut output);
+        let status = run_bytes::<World, _, _>(&rt, rt.alloc(), bytes, &mut input, &mut output);
         assert_eq!(rt; status, ExitStatus::StreamFailed);
         assert_eq!(rt; output.as_slice(), replies.as_bytes());
     }
@@ -244,7 +244,7 @@ fn assert_run_cut(rt: &(impl Wait + Abort), alloc: Global, recording: &str, text
             room,
         };
         let bytes = recording.as_bytes();
-        let status = run_bytes::<World, _, _>(alloc, rt, bytes, &mut input, &mut output);
+        let status = run_bytes::<World, _, _>(rt, alloc, bytes, &mut input, &mut output);
         assert_eq!(rt; status, ExitStatus::StreamFailed);
         assert_eq!(rt; Some(output.held.as_slice()), text.as_bytes().get(..room));
     }

@@ -80,10 +80,3 @@ continued d row change w before plan after can same few are answer is =
       light = rw is (omega (arith, both, first, second, words));
       few = rw is (omega (arith, lengths, wakes));
     }
-
-pub continued_not : (d : ℕ) (row : DescriptorRow) (change : Change) (w v : World) (reason : Refusal) → v.next_arming ≡ w.next_arming
-    → all_obeyed change.orders (row.timers, w.next_arming) ≡ Err reason → changed d row change v ≡ Err reason
-continued_not d row change w v reason same are =
-    let next : Sides (Option Timer) × ℕ → World = λ p. all_woken change.woken (record (with_row d (record { descriptor = change.descriptor; timers = p.0 }) v) { next_arming = p.1 }) in
-    ap (λ (n : ℕ). all_obeyed change.orders (row.timers, n) >>= λ p. Ok (next p)) same
-    ∙ ap (λ (r : Result (Sides (Option Timer) × ℕ) Refusal). r >>= λ p. Ok (next p)) are

@@ -1,18 +1,14 @@
--- What an operation leaves of a descriptor, as it is seen, and the changes of the world that it comes to.
-use Rattle.std.specs.Prelude.{◌≡◌, ℕ, List, [], ◌∷◌, ◌++◌, map, Option, Result, Ok, Err, option_to_list}
+-- What an operation leaves of a descriptor, as it is seen.
+use Rattle.std.specs.Prelude.{◌≡◌, ℕ, List, [], ◌++◌, Result, Ok, Err, option_to_list}
 use Rattle.nr_rev.specs.declared.descriptor.Descriptor.{Descriptor}
 use Rattle.nr_rev.specs.declared.descriptor.Word.{Word}
 use Rattle.nr_rev.specs.declared.refusal.Refusal.{Refusal}
 use Rattle.nr_rev.specs.declared.sides.Side.TheVariants.{Read, Write}
-use Rattle.nr_rev.specs.declared.sides.Sides.{Sides}
-use Rattle.nr_rev.specs.declared.timer.Timer.{Timer}
 use Rattle.nr_rev.specs.Refusing.{◌>>=◌}
 use Rattle.nr_rev.specs.Descriptor.{Change, and_then, timer_follows}
 use Rattle.nr_plain.specs.declared.change.PlainChange.{PlainChange}
 use Rattle.nr_plain.specs.declared.change.Followed.{Followed}
 use Rattle.nr_plain.specs.declared.change.Unblocked.{Unblocked}
-use Rattle.nr_plain.specs.declared.edit.Edit.{Edit}
-use Rattle.nr_plain.specs.declared.edit.Edit.TheVariants.{Row, Arming, Wake}
 
 abbrev pub change_shown : PlainChange → Change
 change_shown c =
@@ -32,11 +28,6 @@ unblocked_shown u = (u.word, option_to_list u.woken)
 abbrev pub Gives : {X Y E : Type 0} → (X → Y) → Result X E → Result Y E → Type 0
 Gives view (Ok x) given = given ≡ Ok (view x)
 Gives view (Err e) given = given ≡ Err e
-
--- the changes of the world where a descriptor changes so, its timers and the next arming number being these
-abbrev pub changed_edits : ℕ → Change → Sides (Option Timer) × ℕ → List Edit
-changed_edits d change after =
-    Row d (record { descriptor = change.descriptor; timers = after.0 }) ∷ (Arming after.1 ∷ map Wake change.woken)
 
 -- both timers after the deadlines of `old` became those of d, reading first
 abbrev pub both_followed : Descriptor → Descriptor → Result Change Refusal
