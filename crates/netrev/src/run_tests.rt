@@ -139,8 +139,8 @@ fn looks_show_the_position(rt: HostRuntime) -> Result<(), Fail> {
         ),
         (
             EARLY,
-            "si 5\np rg 0\nsi\np rg 0\nsi\np rg 0\nsi\np rg 0\nsi\np rg 0\np waiters\n",
-            "at 5\nrg 0 = wait\nat 6\nrg 0 = wait\nat 7\nrg 0 = ready\nat 8\nrg 0 = ready\nat 9\nrg 0 = nil\nwaiters = 0\n",
+            "p waiters\nsi 5\np rg 0\np waiters\nsi\np rg 0\np waiters\nsi\np rg 0\np waiters\nsi\np rg 0\np waiters\nsi\np rg 0\np waiters\n",
+            "waiters = 0\nat 5\nrg 0 = wait\nwaiters = 0\nat 6\nrg 0 = wait\nwaiters = 0\nat 7\nrg 0 = ready\nwaiters = 0\nat 8\nrg 0 = ready\nwaiters = 0\nat 9\nrg 0 = nil\nwaiters = 0\n",
         ),
         (
             EARLY,
