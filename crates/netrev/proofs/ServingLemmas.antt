@@ -5,6 +5,7 @@ use Rattle.std.proofs.lemmas.Bool.{lt-ltb, le-ltb, eqb-false}
 use Rattle.std.specs.List.{concat}
 use Rattle.std.specs.Io.KnownBytes.{Appends, Consumes, IsAtEnd}
 use Rattle.netrev.specs.CommandLine.{line_of}
+use Rattle.netrev.specs.Debugging.{Place}
 use Rattle.nr_rev.specs.Run.{Recording}
 use Rattle.netrev.proofs.StreamLemmas.{Appends-then, Appends-nil, Consumes-nil, Consumes-then}
 use Rattle.netrev.specs.declared.engine.End.TheVariants.{Closed, Quit}
@@ -17,7 +18,7 @@ use Rattle.netrev.proofs.LineLemmas.{whole_from-byte, rest_from-byte, whole_from
 use Rattle.netrev.proofs.TurnLemmas.{counted_more, has_quit-append, concat_more, turns_more, turn_asks}
 
 -- Of the bytes that came from the reader, the first `read` are done with: their lines are answered, and the line holds what follows the last of them.
-pub record Standing (r r' w w' : Option (List ℕ)) (recording : Recording) (p p' : ℕ) (came read line : List ℕ) (whole : ℕ) : Type 0 where
+pub record Standing (r r' w w' : Option (List ℕ)) (recording : Recording) (p p' : Place) (came read line : List ℕ) (whole : ℕ) : Type 0 where
   pub texts : List (List ℕ)
   pub reads : Consumes r r' came
   pub writes : Appends w w' (concat texts)
@@ -27,17 +28,17 @@ pub record Standing (r r' w w' : Option (List ℕ)) (recording : Recording) (p p
   pub count : whole ≡ counted (some_count texts)
 
 -- what a turn gave
-abbrev pub Turned : Recording → ℕ → List ℕ → ℕ → Option (List ℕ) → Option (List ℕ) → ℕ → ℕ → Type 0
+abbrev pub Turned : Recording → Place → List ℕ → Place → Option (List ℕ) → Option (List ℕ) → ℕ → ℕ → Type 0
 Turned recording p line p' w w' whole whole' = (text : List ℕ) × Turn recording p line text p' × Appends w w' text × (whole' ≡ counted_with whole text)
 
-abbrev pub Failed : Recording → ℕ → List ℕ → ℕ → Option (List ℕ) → Option (List ℕ) → ℕ → LineEnd → Type 0
+abbrev pub Failed : Recording → Place → List ℕ → Place → Option (List ℕ) → Option (List ℕ) → ℕ → LineEnd → Type 0
 Failed recording p line p' w w' whole e = (text : List ℕ) × Turn recording p line text p' × IsCut e whole text w w'
 
 -- the front walks the same recording still
-turned_at : (recording now : Recording) (p : ℕ) (line : List ℕ) (p' : ℕ) (w w' : Option (List ℕ)) (whole whole' : ℕ) → now ≡ recording → Turned now p line p' w w' whole whole' → Turned recording p line p' w w' whole whole'
+turned_at : (recording now : Recording) (p : Place) (line : List ℕ) (p' : Place) (w w' : Option (List ℕ)) (whole whole' : ℕ) → now ≡ recording → Turned now p line p' w w' whole whole' → Turned recording p line p' w w' whole whole'
 turned_at recording now p line p' w w' whole whole' same turned = subst (λ x. Turned x p line p' w w' whole whole') same turned
 
-failed_at : (recording now : Recording) (p : ℕ) (line : List ℕ) (p' : ℕ) (w w' : Option (List ℕ)) (whole : ℕ) (e : LineEnd) → now ≡ recording → Failed now p line p' w w' whole e → Failed recording p line p' w w' whole e
+failed_at : (recording now : Recording) (p : Place) (line : List ℕ) (p' : Place) (w w' : Option (List ℕ)) (whole : ℕ) (e : LineEnd) → now ≡ recording → Failed now p line p' w w' whole e → Failed recording p line p' w w' whole e
 failed_at recording now p line p' w w' whole e same failed = subst (λ x. Failed x p line p' w w' whole e) same failed
 
 -- the line that is kept asks for what the whole line does
@@ -45,7 +46,7 @@ asks : (line read : List ℕ) → line ≡ take 257 (rest_from [] read) → line
 asks line read kept = ap line_of kept ∙ line_of-take (rest_from [] read)
 
 -- a byte that is no line feed
-pub byte_more : (r r' w w' : Option (List ℕ)) (recording : Recording) (p p' : ℕ) (came read line line' : List ℕ) (whole b : ℕ)
+pub byte_more : (r r' w w' : Option (List ℕ)) (recording : Recording) (p p' : Place) (came read line line' : List ℕ) (whole b : ℕ)
     → Standing r r' w w' recording p p' came read line whole → nat_eq b 10 ≡ false → line' ≡ take 257 (line ++ b ∷ []) → Standing r r' w w' recording p p' came (read ++ b ∷ []) line' whole
 byte_more r r' w w' recording p p' came read line line' whole b st goes e = record {
   texts = st.texts;
@@ -65,7 +66,7 @@ abbrev has_one : Bool → Bool
 has_one t = t || false
 
 -- a line feed, after a line that isn't quit
-pub line_more : (r r' w w' w'' : Option (List ℕ)) (recording now : Recording) (p p' p'' : ℕ) (came read line line' : List ℕ) (whole whole' b : ℕ)
+pub line_more : (r r' w w' w'' : Option (List ℕ)) (recording now : Recording) (p p' p'' : Place) (came read line line' : List ℕ) (whole whole' b : ℕ)
     → Standing r r' w w' recording p p' came read line whole → nat_eq b 10 ≡ true → is_quit (line_of line) ≡ false → now ≡ recording → Turned now p' line p'' w' w'' whole whole' → line' ≡ []
     → Standing r r' w w'' recording p p'' came (read ++ b ∷ []) line' whole'
 line_more r r' w w' w'' recording now p p' p'' came read line line' whole whole' b st feed goes walks given cleared =
@@ -100,7 +101,7 @@ no_line read line kept none =
     ap (λ t. whole_from [] read ++ cond t (rest_from [] read ∷ []) []) (le-ltb 0 (length (rest_from [] read)) (omega (arith, len, none))) ∙ append-nil (whole_from [] read)
 
 -- a line is quit: these lines, of which it is one
-quits : (r r' w w' w'' : Option (List ℕ)) (recording : Recording) (p p' p'' : ℕ) (came read line : List ℕ) (back : List (List ℕ)) (whole whole' : ℕ) (ended : Bool)
+quits : (r r' w w' w'' : Option (List ℕ)) (recording : Recording) (p p' p'' : Place) (came read line : List ℕ) (back : List (List ℕ)) (whole whole' : ℕ) (ended : Bool)
     → Standing r r' w w' recording p p' came read line whole → lines_of ended came ≡ whole_from [] read ++ rest_from [] read ∷ back → (ended ≡ true → IsAtEnd r') → is_quit (line_of line) ≡ true
     → Turned recording p' line p'' w' w'' whole whole' → Serves r r' w w'' recording p p'' (Ok Quit)
 quits r r' w w' w'' recording p p' p'' came read line back whole whole' ended st lines at_end stops turned =
@@ -128,7 +129,7 @@ quits r r' w w' w'' recording p p' p'' came read line back whole whole' ended st
     }
 
 -- a write failed
-cut : (r r' w w' w'' : Option (List ℕ)) (recording : Recording) (p p' p'' : ℕ) (came read line : List ℕ) (back : List (List ℕ)) (whole : ℕ) (ended : Bool) (e : LineEnd)
+cut : (r r' w w' w'' : Option (List ℕ)) (recording : Recording) (p p' p'' : Place) (came read line : List ℕ) (back : List (List ℕ)) (whole : ℕ) (ended : Bool) (e : LineEnd)
     → Standing r r' w w' recording p p' came read line whole → lines_of ended came ≡ whole_from [] read ++ rest_from [] read ∷ back → (ended ≡ true → IsAtEnd r')
     → Failed recording p' line p'' w' w'' whole e → Serves r r' w w'' recording p p'' (Err e)
 cut r r' w w' w'' recording p p' p'' came read line back whole ended Read st lines at_end failed = absurd failed.2
@@ -162,7 +163,7 @@ cut r r' w w' w'' recording p p' p'' came read line back whole ended (Write n pa
     }
 
 -- the reader is at its end, and no line is left
-pub closed : (r r' w w' : Option (List ℕ)) (recording : Recording) (p p' : ℕ) (read line : List ℕ) (whole : ℕ) → Standing r r' w w' recording p p' read read line whole → IsAtEnd r' → length line ≡ 0
+pub closed : (r r' w w' : Option (List ℕ)) (recording : Recording) (p p' : Place) (read line : List ℕ) (whole : ℕ) → Standing r r' w w' recording p p' read read line whole → IsAtEnd r' → length line ≡ 0
     → Serves r r' w w' recording p p' (Ok Closed)
 closed r r' w w' recording p p' read line whole st at_end none = record {
   read = read;
@@ -175,7 +176,7 @@ closed r r' w w' recording p p' read line whole st at_end none = record {
 }
 
 -- the reader is at its end, and the last line isn't quit
-pub closed_after : (r r' w w' w'' : Option (List ℕ)) (recording now : Recording) (p p' p'' : ℕ) (read line : List ℕ) (whole whole' : ℕ) → Standing r r' w w' recording p p' read read line whole → IsAtEnd r' → 0 < length line
+pub closed_after : (r r' w w' w'' : Option (List ℕ)) (recording now : Recording) (p p' p'' : Place) (read line : List ℕ) (whole whole' : ℕ) → Standing r r' w w' recording p p' read read line whole → IsAtEnd r' → 0 < length line
     → is_quit (line_of line) ≡ false → now ≡ recording → Turned now p' line p'' w' w'' whole whole' → Serves r r' w w'' recording p p'' (Ok Closed)
 closed_after r r' w w' w'' recording now p p' p'' read line whole whole' st at_end some goes walks given =
     let turned = turned_at recording now p' line p'' w' w'' whole whole' walks given in
@@ -201,29 +202,29 @@ closed_after r r' w w' w'' recording now p p' p'' read line whole whole' st at_e
     }
 
 -- the last line, at the reader's end
-pub last_quits : (r r' w w' w'' : Option (List ℕ)) (recording now : Recording) (p p' p'' : ℕ) (read line : List ℕ) (whole whole' : ℕ) → Standing r r' w w' recording p p' read read line whole → IsAtEnd r' → 0 < length line
+pub last_quits : (r r' w w' w'' : Option (List ℕ)) (recording now : Recording) (p p' p'' : Place) (read line : List ℕ) (whole whole' : ℕ) → Standing r r' w w' recording p p' read read line whole → IsAtEnd r' → 0 < length line
     → is_quit (line_of line) ≡ true → now ≡ recording → Turned now p' line p'' w' w'' whole whole' → Serves r r' w w'' recording p p'' (Ok Quit)
 last_quits r r' w w' w'' recording now p p' p'' read line whole whole' st at_end some stops walks turned =
     quits r r' w w' w'' recording p p' p'' read read line [] whole whole' true st (last_line read line st.kept some) (λ _. at_end) stops (turned_at recording now p' line p'' w' w'' whole whole' walks turned)
 
-pub last_cut : (r r' w w' w'' : Option (List ℕ)) (recording now : Recording) (p p' p'' : ℕ) (read line : List ℕ) (whole : ℕ) (e : LineEnd) → Standing r r' w w' recording p p' read read line whole → IsAtEnd r' → 0 < length line
+pub last_cut : (r r' w w' w'' : Option (List ℕ)) (recording now : Recording) (p p' p'' : Place) (read line : List ℕ) (whole : ℕ) (e : LineEnd) → Standing r r' w w' recording p p' read read line whole → IsAtEnd r' → 0 < length line
     → now ≡ recording → Failed now p' line p'' w' w'' whole e → Serves r r' w w'' recording p p'' (Err e)
 last_cut r r' w w' w'' recording now p p' p'' read line whole e st at_end some walks failed =
     cut r r' w w' w'' recording p p' p'' read read line [] whole true e st (last_line read line st.kept some) (λ _. at_end) (failed_at recording now p' line p'' w' w'' whole e walks failed)
 
 -- a line that ends by a line feed
-pub line_quits : (r r' w w' w'' : Option (List ℕ)) (recording now : Recording) (p p' p'' : ℕ) (came read line bs : List ℕ) (whole whole' b : ℕ) → Standing r r' w w' recording p p' came read line whole → came ≡ read ++ b ∷ bs → nat_eq b 10 ≡ true
+pub line_quits : (r r' w w' w'' : Option (List ℕ)) (recording now : Recording) (p p' p'' : Place) (came read line bs : List ℕ) (whole whole' b : ℕ) → Standing r r' w w' recording p p' came read line whole → came ≡ read ++ b ∷ bs → nat_eq b 10 ≡ true
     → is_quit (line_of line) ≡ true → now ≡ recording → Turned now p' line p'' w' w'' whole whole' → Serves r r' w w'' recording p p'' (Ok Quit)
 line_quits r r' w w' w'' recording now p p' p'' came read line bs whole whole' b st e feed stops walks turned =
     quits r r' w w' w'' recording p p' p'' came read line (whole_from [] bs) whole whole' false st (lines_there read came bs b e feed) (λ (h : false ≡ true). cc) stops (turned_at recording now p' line p'' w' w'' whole whole' walks turned)
 
-pub line_cut : (r r' w w' w'' : Option (List ℕ)) (recording now : Recording) (p p' p'' : ℕ) (came read line bs : List ℕ) (whole b : ℕ) (err : LineEnd) → Standing r r' w w' recording p p' came read line whole → came ≡ read ++ b ∷ bs → nat_eq b 10 ≡ true
+pub line_cut : (r r' w w' w'' : Option (List ℕ)) (recording now : Recording) (p p' p'' : Place) (came read line bs : List ℕ) (whole b : ℕ) (err : LineEnd) → Standing r r' w w' recording p p' came read line whole → came ≡ read ++ b ∷ bs → nat_eq b 10 ≡ true
     → now ≡ recording → Failed now p' line p'' w' w'' whole err → Serves r r' w w'' recording p p'' (Err err)
 line_cut r r' w w' w'' recording now p p' p'' came read line bs whole b err st e feed walks failed =
     cut r r' w w' w'' recording p p' p'' came read line (whole_from [] bs) whole false err st (lines_there read came bs b e feed) (λ (h : false ≡ true). cc) (failed_at recording now p' line p'' w' w'' whole err walks failed)
 
 -- nothing came yet
-pub standing_at_first : (r w : Option (List ℕ)) (recording : Recording) (p : ℕ) (line : List ℕ) → line ≡ [] → Standing r r w w recording p p [] [] line 0
+pub standing_at_first : (r w : Option (List ℕ)) (recording : Recording) (p : Place) (line : List ℕ) → line ≡ [] → Standing r r w w recording p p [] [] line 0
 standing_at_first r w recording p line e = record {
   texts = [];
   reads = Consumes-nil r;
@@ -235,7 +236,7 @@ standing_at_first r w recording p line e = record {
 }
 
 -- a read that gave some bytes
-pub came_more : (r r' r'' w w' : Option (List ℕ)) (recording : Recording) (p p' : ℕ) (read line bytes : List ℕ) (whole : ℕ) → Standing r r' w w' recording p p' read read line whole → Consumes r' r'' bytes → Standing r r'' w w' recording p p' (read ++ bytes) read line whole
+pub came_more : (r r' r'' w w' : Option (List ℕ)) (recording : Recording) (p p' : Place) (read line bytes : List ℕ) (whole : ℕ) → Standing r r' w w' recording p p' read read line whole → Consumes r' r'' bytes → Standing r r'' w w' recording p p' (read ++ bytes) read line whole
 came_more r r' r'' w w' recording p p' read line bytes whole st more = record {
   texts = st.texts;
   reads = Consumes-then r r' r'' read bytes st.reads more;
@@ -247,13 +248,13 @@ came_more r r' r'' w w' recording p p' read line bytes whole st more = record {
 }
 
 -- a read that gave none
-pub came_none : (r r' r'' w w' : Option (List ℕ)) (recording : Recording) (p p' : ℕ) (read line buf : List ℕ) (whole n : ℕ) → Standing r r' w w' recording p p' read read line whole → Consumes r' r'' (take n buf) → n ≡ 0 → Standing r r'' w w' recording p p' read read line whole
+pub came_none : (r r' r'' w w' : Option (List ℕ)) (recording : Recording) (p p' : Place) (read line buf : List ℕ) (whole n : ℕ) → Standing r r' w w' recording p p' read read line whole → Consumes r' r'' (take n buf) → n ≡ 0 → Standing r r'' w w' recording p p' read read line whole
 came_none r r' r'' w w' recording p p' read line buf whole n st more none =
     subst (λ came. Standing r r'' w w' recording p p' came read line whole) (append-nil read)
     (came_more r r' r'' w w' recording p p' read line [] whole st (subst (λ m. Consumes r' r'' (take m buf)) none more))
 
 -- the line by another name
-pub relined : (r r' w w' : Option (List ℕ)) (recording : Recording) (p p' : ℕ) (came read line slice : List ℕ) (whole : ℕ) → Standing r r' w w' recording p p' came read line whole → slice ≡ line → Standing r r' w w' recording p p' came read slice whole
+pub relined : (r r' w w' : Option (List ℕ)) (recording : Recording) (p p' : Place) (came read line slice : List ℕ) (whole : ℕ) → Standing r r' w w' recording p p' came read line whole → slice ≡ line → Standing r r' w w' recording p p' came read slice whole
 relined r r' w w' recording p p' came read line slice whole st e = subst (λ l. Standing r r' w w' recording p p' came read l whole) (sym e) st
 
 -- what came, at the byte at i

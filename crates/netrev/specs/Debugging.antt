@@ -1,5 +1,5 @@
 -- What a command does to a debugger that stands at a position of a recording, and what a look shows.
-use Rattle.std.specs.Prelude.{ℕ, Bool, true, false, ◌+◌, ◌-◌, min, nat_lt, length, if◌then◌else◌}
+use Rattle.std.specs.Prelude.{◌≡◌, ◌<◌, ◌⊎◌, ℕ, Bool, true, false, ◌+◌, ◌-◌, min, nat_lt, length, if◌then◌else◌}
 use Rattle.nr_rev.specs.Cell.{cell, bytes_of, queue_of}
 use Rattle.nr_rev.specs.Run.{Recording, world_at}
 use Rattle.nr_rev.specs.World.{World}
@@ -9,6 +9,18 @@ use Rattle.netrev.specs.declared.command.Query.{Query}
 use Rattle.netrev.specs.declared.command.Query.TheVariants.{Print, DumpBytes, DumpQueue}
 use Rattle.netrev.specs.declared.reply.Reply.{Reply}
 use Rattle.netrev.specs.declared.reply.Reply.TheVariants.{At, AtEnd, AtStart, Printed, Bytes, Queue}
+
+-- Where a front stands: its position, and the position that its last look led its world to.
+pub record Place : Type 0 where
+  pub position : ℕ
+  pub reached : ℕ
+
+abbrev pub at_start : Place
+at_start = record { position = 0; reached = 0 }
+
+-- where it stands after a look
+abbrev pub looked : Place → Place
+looked place = record place { reached = place.position }
 
 -- The position after a command: so many steps on, and no further than the ends of the recording.
 abbrev pub after : Command → Recording → ℕ → ℕ
@@ -30,8 +42,18 @@ shown_in w (DumpQueue side s) = Queue side s (queue_of w s side)
 abbrev pub seen : Query → Recording → ℕ → Reply
 seen query r p = shown_in (world_at r p) query
 
--- whether a look copies what it shows, so that it takes memory
+-- where it stands after a command
+abbrev pub moved : Command → Recording → Place → Place
+moved command r place = record place { position = after command r place.position }
+
+-- whether a look copies what it shows
 abbrev pub is_dump : Query → Bool
 is_dump (Print c) = false
 is_dump (DumpBytes side s) = true
 is_dump (DumpQueue side s) = true
+
+-- Memory is wanting for a look, from one place to the next: on the way forwards, for the way back, and then
+-- nothing has moved; or, the world being led there, for a dump's copy.
+abbrev pub WantsMemory : Query → Place → Place → Type 0
+WantsMemory query place place' =
+    ((place.reached < place.position) × (place' ≡ place)) ⊎ ((is_dump query ≡ true) × (place' ≡ looked place))

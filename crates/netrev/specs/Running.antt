@@ -3,6 +3,7 @@ use Rattle.std.specs.Prelude.{◌≡◌, ◌⊎◌, ℕ, ◌<◌, List, ◌++◌
 use Rattle.std.specs.Io.KnownBytes.{Appends}
 use Rattle.nr_rev.specs.Run.{Recording}
 use Rattle.netrev.specs.Opening.{IsFirstFault, IsGoodText, fault_line}
+use Rattle.netrev.specs.Debugging.{Place, at_start}
 use Rattle.netrev.specs.Serving.{Serves}
 use Rattle.netrev.specs.declared.engine.End.{End}
 use Rattle.netrev.specs.declared.engine.LineEnd.{LineEnd}
@@ -30,8 +31,8 @@ Prints text wanted old new status =
 -- The lines that were read are answered from position 0 of the recording.
 pub record Walks (from left old new : Option (List ℕ)) (r : Recording) (status : ExitStatus) : Type 0 where
   pub ending : Result End LineEnd
-  pub position : ℕ
-  pub serves : Serves from left old new r 0 position ending
+  pub place : Place
+  pub serves : Serves from left old new r at_start place ending
   pub ends : status ≡ status_of ending
 
 -- Nothing was read, and the fault's line is all that was written.

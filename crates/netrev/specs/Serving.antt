@@ -4,6 +4,7 @@ use Rattle.std.specs.List.{concat}
 use Rattle.std.specs.Io.KnownBytes.{Appends, Consumes, IsAtEnd}
 use Rattle.nr_rev.specs.Run.{Recording}
 use Rattle.netrev.specs.CommandLine.{line_of}
+use Rattle.netrev.specs.Debugging.{Place}
 use Rattle.netrev.specs.ReplyText.{counted}
 use Rattle.netrev.specs.Transcript.{lines_of, Turn, Turns, is_quit, has_quit, some_count}
 use Rattle.netrev.specs.declared.engine.End.{End}
@@ -17,16 +18,16 @@ IsCut Read count text old new = ⊥
 IsCut (Write whole part) count text old new =
     (n : ℕ) × (whole ≡ count) × (n < length text) × (part ≡ counted n) × Appends old new (take n text)
 
--- From position p these lines were answered whole, none of them quit; `out` is their texts, and p' the
--- position then.
-pub record Answered (r : Recording) (p : ℕ) (lines : List (List ℕ)) (out : List ℕ) (p' : ℕ) : Type 0 where
+-- From place p these lines were answered whole, none of them quit; `out` is their texts, and p' the place
+-- then.
+pub record Answered (r : Recording) (p : Place) (lines : List (List ℕ)) (out : List ℕ) (p' : Place) : Type 0 where
   pub texts : List (List ℕ)
   pub turns : Turns r p lines texts p'
   pub no_quit : has_quit lines ≡ false
   pub written : out ≡ concat texts
 
 -- One of the lines is the first quit, and `out` is the texts up to its own.
-pub record Quitted (r : Recording) (p : ℕ) (lines : List (List ℕ)) (out : List ℕ) (p' : ℕ) : Type 0 where
+pub record Quitted (r : Recording) (p : Place) (lines : List (List ℕ)) (out : List ℕ) (p' : Place) : Type 0 where
   pub front : List (List ℕ)
   pub line : List ℕ
   pub back : List (List ℕ)
@@ -39,13 +40,13 @@ pub record Quitted (r : Recording) (p : ℕ) (lines : List (List ℕ)) (out : Li
 
 -- The lines before one were answered whole, `whole` texts of them not empty; of that line's text the
 -- first n bytes were written, and not all of it. The line was run.
-pub record CutShort (r : Recording) (p : ℕ) (lines : List (List ℕ)) (whole part : ℕ) (out : List ℕ) (p' : ℕ) : Type 0 where
+pub record CutShort (r : Recording) (p : Place) (lines : List (List ℕ)) (whole part : ℕ) (out : List ℕ) (p' : Place) : Type 0 where
   pub front : List (List ℕ)
   pub line : List ℕ
   pub back : List (List ℕ)
   pub texts : List (List ℕ)
   pub text : List ℕ
-  pub mid : ℕ
+  pub mid : Place
   pub n : ℕ
   pub split : lines ≡ front ++ line ∷ back
   pub no_quit : has_quit front ≡ false
@@ -57,16 +58,16 @@ pub record CutShort (r : Recording) (p : ℕ) (lines : List (List ℕ)) (whole p
   pub written : out ≡ concat texts ++ take n text
 
 -- What was written for the lines that were read, by how it ended. `ended`: the reader was at its end.
-abbrev pub Outcome : Result End LineEnd → Bool → Recording → ℕ → List (List ℕ) → List ℕ → ℕ → Type 0
+abbrev pub Outcome : Result End LineEnd → Bool → Recording → Place → List (List ℕ) → List ℕ → Place → Type 0
 Outcome (Ok Closed) ended r p lines out p' = (ended ≡ true) × Answered r p lines out p'
 Outcome (Ok Quit) ended r p lines out p' = Quitted r p lines out p'
 Outcome (Err Read) ended r p lines out p' = (ended ≡ false) × Answered r p lines out p'
 Outcome (Err (Write whole part)) ended r p lines out p' = CutShort r p lines whole part out p'
 
 -- From a reader that had `from` and has `left` some bytes were read, and to a writer that had `old` and
--- has `new` others were written. Those written answer the lines of those read, from position p of the
+-- has `new` others were written. Those written answer the lines of those read, from place p of the
 -- recording to p', and nothing else.
-pub record Serves (from left old new : Option (List ℕ)) (r : Recording) (p p' : ℕ) (result : Result End LineEnd) : Type 0 where
+pub record Serves (from left old new : Option (List ℕ)) (r : Recording) (p p' : Place) (result : Result End LineEnd) : Type 0 where
   pub read : List ℕ
   pub out : List ℕ
   pub ended : Bool

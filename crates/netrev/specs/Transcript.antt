@@ -3,7 +3,7 @@ use Rattle.std.specs.Prelude.{◌≡◌, ℕ, ◌+◌, ◌==◌, ◌⊎◌, nat_
 use Rattle.std.specs.List.{list_any}
 use Rattle.nr_rev.specs.Run.{Recording}
 use Rattle.netrev.specs.CommandLine.{line_of}
-use Rattle.netrev.specs.Debugging.{reply_to, after, seen}
+use Rattle.netrev.specs.Debugging.{Place, reply_to, moved, looked, seen, WantsMemory}
 use Rattle.netrev.specs.ReplyText.{text_of, counted}
 use Rattle.netrev.specs.declared.command.Line.{Line}
 use Rattle.netrev.specs.declared.command.Line.TheVariants.{Run, Look, Quit, Empty}
@@ -27,11 +27,12 @@ abbrev pub lines_of : Bool → List ℕ → List (List ℕ)
 lines_of false text = whole_from [] text
 lines_of true text = whole_from [] text ++ (if nat_lt 0 (length (rest_from [] text)) then rest_from [] text ∷ [] else [])
 
--- At position p a line that asks for this may have this reply, and leave position p'. Want of memory
--- is the answer to looks alone.
-abbrev pub MayReply : Result Line LineFault → Recording → ℕ → Option Reply → ℕ → Type 0
-MayReply (Ok (Run command)) r p reply p' = (reply ≡ Some (reply_to command r p)) × (p' ≡ after command r p)
-MayReply (Ok (Look query)) r p reply p' = ((reply ≡ Some (seen query r p)) ⊎ (reply ≡ Some Memory)) × (p' ≡ p)
+-- At a place a line that asks for this may have this reply, and leave the next place. Want of memory is the
+-- answer to looks alone.
+abbrev pub MayReply : Result Line LineFault → Recording → Place → Option Reply → Place → Type 0
+MayReply (Ok (Run command)) r p reply p' = (reply ≡ Some (reply_to command r p.position)) × (p' ≡ moved command r p)
+MayReply (Ok (Look query)) r p reply p' =
+    ((reply ≡ Some (seen query r p.position)) × (p' ≡ looked p)) ⊎ ((reply ≡ Some Memory) × WantsMemory query p p')
 MayReply (Ok Quit) r p reply p' = (reply ≡ Some Bye) × (p' ≡ p)
 MayReply (Ok Empty) r p reply p' = (reply ≡ None) × (p' ≡ p)
 MayReply (Err fault) r p reply p' = (reply ≡ Some (Fault fault)) × (p' ≡ p)
@@ -41,14 +42,14 @@ abbrev pub text_or_none : Option Reply → List ℕ
 text_or_none None = []
 text_or_none (Some reply) = text_of reply
 
--- One line: its text, and the position after it.
-abbrev pub Turn : Recording → ℕ → List ℕ → List ℕ → ℕ → Type 0
+-- One line: its text, and the place after it.
+abbrev pub Turn : Recording → Place → List ℕ → List ℕ → Place → Type 0
 Turn r p line text p' = (reply : Option Reply) × MayReply (line_of line) r p reply p' × (text ≡ text_or_none reply)
 
 -- Lines and their texts, one turn after the other.
-abbrev pub Turns : Recording → ℕ → List (List ℕ) → List (List ℕ) → ℕ → Type 0
+abbrev pub Turns : Recording → Place → List (List ℕ) → List (List ℕ) → Place → Type 0
 Turns r p [] [] p' = p' ≡ p
-Turns r p (line ∷ lines) (text ∷ texts) p' = (mid : ℕ) × Turn r p line text mid × Turns r mid lines texts p'
+Turns r p (line ∷ lines) (text ∷ texts) p' = (mid : Place) × Turn r p line text mid × Turns r mid lines texts p'
 Turns r p [] (text ∷ texts) p' = ⊥
 Turns r p (line ∷ lines) [] p' = ⊥
 

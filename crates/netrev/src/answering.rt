@@ -1,9 +1,9 @@
 //! One line and its answer.
-ghost use Rattle.std.specs.Prelude.{◌≡◌, ℕ, List, IfOk, IfErr};
+ghost use Rattle.std.specs.Prelude.{◌≡◌, ℕ, List, IfOk, IfErr, OnErr};
 ghost use Rattle.std.specs.Io.KnownBytes.{Appends};
 ghost use Rattle.nr_rev.specs.Run.{Recording};
 ghost use Rattle.netrev.specs.CommandLine.{line_of};
-ghost use Rattle.netrev.specs.Debugging.{reply_to, after, seen};
+ghost use Rattle.netrev.specs.Debugging.{Place, WantsMemory, looked, moved, reply_to, seen};
 ghost use Rattle.netrev.specs.Transcript.{Turn, MayReply, is_quit, counted_with};
 ghost use Rattle.netrev.specs.Serving.{IsCut};
 
@@ -20,20 +20,21 @@ pub(crate) trait Front {
     ghost recording: { Self → Recording };
 
     /// Where it stands.
-    ghost position: { Self → ℕ };
+    ghost place: { Self → Place };
 
     /// Runs a command, which takes no memory.
     fn exec(&mut self, command: Command) -> Reply
         ensures recording { recording self.new ≡ recording self.old }
-        ensures reply { result ≡ reply_to command (recording self.old) (position self.old) }
-        ensures moved { position self.new ≡ after command (recording self.old) (position self.old) };
+        ensures reply { result ≡ reply_to command (recording self.old) (place self.old).position }
+        ensures moved { place self.new ≡ moved command (recording self.old) (place self.old) };
 
-    /// Looks at the world where it stands. The way there may take memory, and so may a dump; refused it,
-    /// the front still stands there, and can look again.
+    /// Looks at the world where it stands. Memory is wanted only to go further on than the last look went, and
+    /// for a dump. Refused it, the front stands at the same position, and can look again.
     fn look(&mut self, query: Query) -> Result<Reply, AllocError>
         ensures recording { recording self.new ≡ recording self.old }
-        ensures stays { position self.new ≡ position self.old }
-        ensures ok { IfOk result (λ reply. reply ≡ seen query (recording self.old) (position self.old)) };
+        ensures ok { IfOk result (λ reply. (reply ≡ seen query (recording self.old) (place self.old).position)
+            × (place self.new ≡ looked (place self.old))) }
+        ensures err { OnErr result (WantsMemory query (place self.old) (place self.new)) };
 }
 
 /// Answers a line, and says whether it is `quit`. `whole` counts the texts that went out whole.
@@ -46,10 +47,10 @@ pub(crate) fn turn<W: Write, F: Front>(
     ensures recording { F.recording front.new ≡ F.recording front.old }
     ensures quits { IfOk result (λ quits. quits ≡ is_quit (line_of line.now)) }
     ensures ok { IfOk result (λ _. (text : List ℕ)
-        × Turn (F.recording front.old) (F.position front.old) line.now text (F.position front.new)
+        × Turn (F.recording front.old) (F.place front.old) line.now text (F.place front.new)
         × Appends (W.contents w.old) (W.contents w.new) text × (whole.new ≡ counted_with whole.old text)) }
     ensures err { IfErr result (λ e. (text : List ℕ)
-        × Turn (F.recording front.old) (F.position front.old) line.now text (F.position front.new)
+        × Turn (F.recording front.old) (F.place front.old) line.now text (F.place front.new)
         × IsCut e whole.old text (W.contents w.old) (W.contents w.new)) }
 {
     let asked = Command::parse(line);
@@ -72,7 +73,7 @@ pub(crate) fn turn<W: Write, F: Front>(
 /// The reply, unless the line is empty.
 fn reply_to_line<F: Front>(front: &mut F, asked: Result<Line, LineFault>) -> Option<Reply>
     ensures recording { F.recording front.new ≡ F.recording front.old }
-    ensures reply { MayReply asked (F.recording front.old) (F.position front.old) result (F.position front.new) }
+    ensures reply { MayReply asked (F.recording front.old) (F.place front.old) result (F.place front.new) }
 {
     match asked {
         Ok(Line::Run(command)) => Some(front.exec(command)),

@@ -1,8 +1,7 @@
 //! A debugger: where it stands in a film, and what it replies.
 
-ghost use Rattle.std.specs.Prelude.{◌≡◌, ◌≤◌, length, false, IfOk, IsOk};
+ghost use Rattle.std.specs.Prelude.{◌≡◌, ◌≤◌, length, true, IfOk, OnErr};
 ghost use Rattle.netrev.specs.Debugging.{reply_to, after, shown_in, is_dump};
-ghost use Rattle.netrev.specs.declared.command.Command.TheVariants as commands;
 
 use crate::command::{Command, Query};
 use crate::film::Film;
@@ -25,46 +24,33 @@ impl Debugger {
         Debugger { position: 0 }
     }
 
-    /// Runs a command.
+    /// Runs a command: goes so many steps forwards or backwards, and no further than the ends.
     pub(crate) fn exec<W: Worlds + Drop>(&mut self, film: &Film<W>, command: Command) -> Reply
         requires { self.old.position ≤ length film.now.steps }
         ensures reply { result ≡ reply_to command film.now self.old.position }
         ensures moved { self.new.position ≡ after command film.now self.old.position }
         ensures within { self.new.position ≤ length film.now.steps }
     {
-        match command {
-            Command::Step(count) => self.step(film, count),
-            Command::ReverseStep(count) => self.reverse_step(film, count),
-        }
-    }
-
-    // Goes so many steps forwards, and no further than the end.
-    fn step<W: Worlds + Drop>(&mut self, film: &Film<W>, count: u32) -> Reply
-        requires { self.old.position ≤ length film.now.steps }
-        ensures reply { result ≡ reply_to (commands.Step count) film.now self.old.position }
-        ensures moved { self.new.position ≡ after (commands.Step count) film.now self.old.position }
-    {
-        let last = film.len();
-        let wanted = self.position + count as usize;
-        self.position = wanted.min(last);
-        if wanted > last {
-            return Reply::AtEnd(last);
-        }
-        Reply::At(wanted)
-    }
-
-    // Goes so many steps backwards, and no further than the start.
-    fn reverse_step<W: Worlds + Drop>(&mut self, film: &Film<W>, count: u32) -> Reply
-        requires { self.old.position ≤ length film.now.steps }
-        ensures reply { result ≡ reply_to (commands.ReverseStep count) film.now self.old.position }
-        ensures moved { self.new.position ≡ after (commands.ReverseStep count) film.now self.old.position }
-    {
         let from = self.position;
-        self.position = from.saturating_sub(count as usize);
-        if count as usize > from {
-            return Reply::AtStart;
+        let last = film.len();
+        match command {
+            Command::Step(count) => {
+                let wanted = from + count as usize;
+                self.position = wanted.min(last);
+                if wanted > last {
+                    return Reply::AtEnd(last);
+                }
+                Reply::At(wanted)
+            }
+            Command::ReverseStep(count) => {
+                let count = count as usize;
+                self.position = from.saturating_sub(count);
+                if count > from {
+                    return Reply::AtStart;
+                }
+                Reply::At(from - count)
+            }
         }
-        Reply::At(self.position)
     }
 }
 
@@ -72,7 +58,7 @@ impl Debugger {
 pub(crate) fn look<W: Worlds>(world: &W, query: Query) -> Result<Reply, AllocError>
     requires { W.is_well_formed world.now }
     ensures ok { IfOk result (λ reply. reply ≡ shown_in (W.world world.now) query) }
-    ensures succeeds { is_dump query ≡ false → IsOk result }
+    ensures err { OnErr result (is_dump query ≡ true) }
 {
     match query {
         Query::Print(cell) => {
@@ -80,9 +66,7 @@ pub(crate) fn look<W: Worlds>(world: &W, query: Query) -> Result<Reply, AllocErr
             Ok(Reply::Printed { cell, value })
         }
         Query::DumpBytes { side, socket } => {
-            let Ok(bytes) = world.bytes(socket, side) else {
-                return Err(AllocError);
-            };
+            let bytes = world.bytes(socket, side).map_err(|_| AllocError)?;
             Ok(Reply::Bytes {
                 side,
                 socket,
@@ -90,9 +74,7 @@ pub(crate) fn look<W: Worlds>(world: &W, query: Query) -> Result<Reply, AllocErr
             })
         }
         Query::DumpQueue { side, socket } => {
-            let Ok(queue) = world.queue(socket, side) else {
-                return Err(AllocError);
-            };
+            let queue = world.queue(socket, side).map_err(|_| AllocError)?;
             Ok(Reply::Queue {
                 side,
                 socket,

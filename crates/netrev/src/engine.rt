@@ -45,7 +45,7 @@ pub(crate) fn serve<R: Read, W: Write, F: Front>(
 ) -> Result<End, LineEnd>
     ensures recording { F.recording front.new ≡ F.recording front.old }
     ensures serves { Serves (R.remaining r.old) (R.remaining r.new) (W.contents w.old) (W.contents w.new)
-        (F.recording front.old) (F.position front.old) (F.position front.new) result }
+        (F.recording front.old) (F.place front.old) (F.place front.new) result }
 {
     let mut line = ArrayVec::<u8, LINE_ROOM>::new();
     let mut whole = 0u64;

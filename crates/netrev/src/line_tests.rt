@@ -14,12 +14,13 @@ use std::alloc::AllocError;
 use std::sync::Wait;
 use std::test::*;
 
-/// Stands in a recording of so many ticks, none of which changes anything. A look is refused memory
-/// where the lowest bit of `refusals` is set, and the next look has the next bit.
+/// Stands in a recording of so many ticks, none of which changes anything. A look that may want memory is
+/// refused it where the lowest bit of `refusals` is set, and the next look has the next bit.
 #[derive(Drop)]
 struct Idler {
     ticks: u32,
     position: u32,
+    reached: u32,
     refusals: u64,
     ghost within: { position ≤ ticks },
 }
@@ -27,7 +28,7 @@ struct Idler {
 impl Front for Idler {
     ghost recording = { λ f. record { limits = record { goroutines = 4; sockets = 2; descriptors = 2; buffer = 16 }; steps = replicate f.ticks (Tick (pos 0)) } };
 
-    ghost position = { λ f. f.position };
+    ghost place = { λ f. record { position = f.position; reached = f.reached } };
 
     fn exec(&mut self, command: Command) -> Reply {
         match command {
@@ -53,7 +54,11 @@ impl Front for Idler {
     fn look(&mut self, query: Query) -> Result<Reply, AllocError> {
         let refused = self.refusals % 2 == 1;
         self.refusals /= 2;
-        if refused {
+        if refused && self.reached < self.position {
+            return Err(AllocError);
+        }
+        self.reached = self.position;
+        if refused && !matches!(&query, Query::Print(_)) {
             return Err(AllocError);
         }
         match query {
@@ -109,6 +114,7 @@ fn make_idler(refusals: u64) -> Idler {
     Idler {
         ticks: 9,
         position: 0,
+        reached: 0,
         refusals,
     }
 }
@@ -452,9 +458,10 @@ fn a_long_line_is_one_fault(rt: HostRuntime) -> Result<(), Fail> {
 
 #[test]
 fn a_refused_line_can_be_sent_again(rt: HostRuntime) {
-    let script = "si 2\ndump in 0\ndump in 0\nprint clock\nprint clock\nsi 2\n";
-    let text = "at 2\nfault 301 memory\nin 0 = absent\nfault 301 memory\nclock = 0\nat 4\n";
-    let (end, cup) = serve_cup(&rt, script, &mut make_idler(0b101), make_cup(&rt, 200));
+    let script = "si 2\nprint clock\nprint clock\ndump in 0\ndump in 0\nprint clock\nsi 2\n";
+    let text =
+        "at 2\nfault 301 memory\nclock = 0\nfault 301 memory\nin 0 = absent\nclock = 0\nat 4\n";
+    let (end, cup) = serve_cup(&rt, script, &mut make_idler(0b10101), make_cup(&rt, 200));
     assert_eq!(rt; end, Ok(End::Closed));
     assert_eq!(rt; cup.held.as_slice(), text.as_bytes());
 }

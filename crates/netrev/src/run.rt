@@ -47,7 +47,8 @@ impl ExitStatus {
 
 /// Opens the recording, and answers the lines of the input on the output, one after the other, as a
 /// debugger does that stands at position 0 first: each reply is about the world after so many of the
-/// recording's first steps as the position says.
+/// recording's first steps as the position says. A look that is refused memory says so, which only one
+/// that goes further on than the last, or a dump, can be.
 ///
 /// `Done`: a line was `quit`, or the input's end was reached. `Refused`: the recording's first fault
 /// was printed, or `fault 108 memory`, as one line, and nothing was read. `StreamFailed`: a read or a

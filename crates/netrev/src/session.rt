@@ -1,6 +1,7 @@
 //! A session: a debugger over a film, and the walker that is led to where it stands when somebody looks.
 
 ghost use Rattle.std.specs.Prelude.{◌≡◌, IfOk};
+ghost use Rattle.netrev.specs.Debugging.{at_start};
 
 use crate::answering::Front;
 use crate::command::{Command, Query};
@@ -27,11 +28,12 @@ where
     W::Delta: Drop,
 {
     ghost use Rattle.std.specs.Prelude.{◌≤◌, length};
-    ghost use Rattle.netrev.specs.Walk.{Walk};
+    ghost use Rattle.nr_rev.specs.Run.{Recording as Recorded};
+    ghost use Rattle.netrev.specs.Debugging.{Place};
 
-    ghost Value = { Walk };
+    ghost Value = { Recorded × Place };
 
-    ghost view = { λ s. record { recording = s.walker.recording; position = s.debugger.position } };
+    ghost view = { λ s. (s.walker.recording, record { position = s.debugger.position; reached = s.walker.position }) };
 
     ghost invariant = { λ s. s.debugger.position ≤ length s.walker.recording.steps };
 }
@@ -42,7 +44,7 @@ where
 {
     /// Stands at position 0.
     pub(crate) fn new(alloc: Global, film: &'f Film<W>) -> Result<Session<'f, W>, AllocError>
-        ensures { IfOk result (λ session. session ≡ record { recording = film.now; position = 0 }) }
+        ensures { IfOk result (λ session. session ≡ (film.now, at_start)) }
     {
         let walker = Walker::new(alloc, film)?;
         Ok(Session {
@@ -56,9 +58,9 @@ impl<'f, W: Worlds + Drop> Front for Session<'f, W>
 where
     W::Delta: Drop,
 {
-    ghost recording = { λ s. s.recording };
+    ghost recording = { λ s. s.0 };
 
-    ghost position = { λ s. s.position };
+    ghost place = { λ s. s.1 };
 
     fn exec(&mut self, command: Command) -> Reply {
         self.debugger.exec(self.walker.film(), command)

@@ -126,7 +126,7 @@ where
         requires { n ≤ length self.old.recording.steps }
         ensures ok { OnOk result (self.new ≡ record self.old { position = n }) }
         ensures err { OnErr result (self.new ≡ self.old) }
-        ensures back { n ≤ self.old.position → IsOk result }
+        ensures forward { OnErr result (self.old.position < n) }
     {
         let from = self.position();
         if n <= from {

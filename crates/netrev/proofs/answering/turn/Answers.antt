@@ -9,5 +9,5 @@ returns-in-Ok-clause-ok g c =
     let reply = c.in-Some.reply in
     let whole = c.args.whole.now in
     let count = c.saturating_add.ensures ∙ sym (ap (λ some. cond some (counted (whole + 1)) whole) (has_text reply)) in
-    let asked = subst (λ asked. MayReply asked (g.F.Front.recording c.args.front.now) (g.F.Front.position c.args.front.now) (Some reply) (g.F.Front.position c.reply_to_line.new.front)) c.parse-asked.ensures c.in-Some.ensures.reply in
+    let asked = subst (λ asked. MayReply asked (g.F.Front.recording c.args.front.now) (g.F.Front.place c.args.front.now) (Some reply) (g.F.Front.place c.reply_to_line.new.front)) c.parse-asked.ensures c.in-Some.ensures.reply in
     (text_of reply, (Some reply, asked, refl), c.in-Ok.ensures, count)
