@@ -1,5 +1,5 @@
 -- A descriptor changes: its timers first, then its words.
-use Rattle.std.proofs.Common.{◌≡◌, ℕ, zero, suc, ◌<◌, Bool, true, false, List, [], ◌∷◌, ◌++◌, Option, Some, Ok, inl, refl, sym, ap, subst, ◌∙◌, set, arith}
+use Rattle.std.proofs.Common.{◌≡◌, ℕ, zero, suc, ◌<◌, Bool, true, false, List, [], ◌∷◌, ◌++◌, Option, Some, Ok, inl, refl, sym, ap, subst, ◌∙◌, set, arith, ◌+◌, ◌-◌, ◌^◌, None, true≢false}
 use Rattle.std.specs.Prelude.{slice_get, option_map}
 use Rattle.std.specs.Option.{option_and_then}
 use Rattle.nr_rev.specs.declared.sides.Side.{Side}
@@ -9,18 +9,21 @@ use Rattle.nr_rev.specs.declared.sides.Sides.{Sides}
 use Rattle.nr_rev.specs.Sides.{of_side, with_side}
 use Rattle.nr_rev.specs.declared.descriptor.DescriptorRow.{DescriptorRow}
 use Rattle.nr_rev.specs.World.{World, with_row, is_free_number}
-use Rattle.nr_rev.specs.WellFormed.{WellFormed, RowFits, FiringFits}
+use Rattle.nr_rev.specs.WellFormed.{WellFormed, RowFits, FiringFits, ArmedAt, armed_at}
 use Rattle.nr_rev.proofs.Lists.{slice_get-set_here}
-use Rattle.nr_rev.proofs.Reasons.{bound_then, same_ok}
+use Rattle.nr_rev.proofs.Reasons.{bound_then, same_ok, then_ok, unless_ok, below_of}
 use Rattle.std.proofs.lemmas.List.{append-nil}
 use Rattle.nr_rev.specs.declared.timer.Timer.{Timer}
 use Rattle.nr_rev.specs.declared.timer.Entry.{Entry}
-use Rattle.nr_rev.specs.WellFormed.{ArmedAt, armed_at}
-use Rattle.nr_rev.specs.Descriptor.{Change, and_then, and_if, unblocked, unblock}
-use Rattle.nr_rev.specs.Step.{all_woken, changed, all_obeyed}
+use Rattle.nr_rev.specs.Descriptor.{Change, and_then, and_if, unblocked, unblock, both_raised}
+use Rattle.nr_rev.specs.Step.{all_woken, changed, all_obeyed, obeyed}
 use Rattle.nr_rev.proofs.Retimed.{Retimed}
 use Rattle.nr_rev.proofs.RetimedKeeps.{retimed_keeps}
 use Rattle.nr_rev.proofs.Unblocked.{unblocked_keeps}
+use Rattle.nr_rev.specs.Refusing.{raised_sequence}
+use Rattle.nr_rev.specs.declared.timer.TimerOrder.{TimerOrder}
+use Rattle.nr_rev.specs.declared.timer.TimerOrder.TheVariants.{Arm, Stop}
+use Rattle.nr_rev.proofs.Outcomes.{Spares, Spares-ok, Ends-bind, Spares-raised_sequence}
 
 pub set_set : {X : Type 0} (xs : List X) (i : ℕ) (a b : X) → set (set xs i a) i b ≡ set xs i b
 set_set [] i a b = refl
@@ -124,3 +127,41 @@ retimed_still w d old new h at timers sequences fits firing =
       rises = omega arith;
       in_range = h.timers.in_range;
     }
+
+pub raised_range : (n m : ℕ) → raised_sequence n ≡ Ok m → (m ≡ n + 1) × (m < 2 ^ 64)
+raised_range n m e =
+    let t = then_ok _ _ _ e in
+    let below : n < 2 ^ 64 - 1 = below_of _ _ (unless_ok _ _ t.0) in
+    let is : n + 1 ≡ m = same_ok _ _ t.1 in
+    (sym is, omega arith)
+
+pub both_range : (old new : Sides ℕ) → both_raised old ≡ Ok new → (side : Side) → (of_side side new ≡ of_side side old + 1) × (of_side side new < 2 ^ 64)
+both_range old new e side =
+    bound_then _ (raised_sequence old.read) _ _ e λ read raised e.
+    bound_then _ (raised_sequence old.write) _ _ e λ write raised' e.
+    subst (λ (x : Sides ℕ). (of_side side x ≡ of_side side old + 1) × (of_side side x < 2 ^ 64)) (same_ok _ _ e)
+    (go read write (raised_range _ _ raised) (raised_range _ _ raised') side)
+  where
+    go : (read write : ℕ) → (read ≡ old.read + 1) × (read < 2 ^ 64) → (write ≡ old.write + 1) × (write < 2 ^ 64) → (s : Side) → (of_side s (record { read = read; write = write }) ≡ of_side s old + 1) × (of_side s (record { read = read; write = write }) < 2 ^ 64)
+    go read write r c Read = r
+    go read write r c Write = c
+
+-- a timer stands only where it runs
+pub none_at_rest : (row : DescriptorRow) (side : Side) → RowFits row → of_side side row.descriptor.running ≡ false → of_side side row.timers ≡ None
+none_at_rest row side h rest = go (of_side side row.timers) refl
+  where
+    go : (o : Option Timer) → of_side side row.timers ≡ o → of_side side row.timers ≡ None
+    go None at = at
+    go (Some timer) at = absurd (true≢false (sym (h.entries side timer at).running ∙ rest))
+
+-- what is ordered of timers is refused for no other reason than a last number
+Spares-obeyed : (order : TimerOrder) (before : Sides (Option Timer) × ℕ) → Spares (obeyed order before)
+Spares-obeyed (Arm side due function sequence) before = Ends-bind _ (raised_sequence before.1) _ (Spares-raised_sequence before.1) (λ n _. Spares-ok _)
+Spares-obeyed (Stop side) before = Spares-ok _
+
+Spares-all_obeyed : (orders : List TimerOrder) (before : Sides (Option Timer) × ℕ) → Spares (all_obeyed orders before)
+Spares-all_obeyed [] before = Spares-ok _
+Spares-all_obeyed (order ∷ orders) before = Ends-bind _ (obeyed order before) _ (Spares-obeyed order before) (λ after _. Spares-all_obeyed orders after)
+
+pub Spares-changed : (d : ℕ) (row : DescriptorRow) (change : Change) (w : World) → Spares (changed d row change w)
+Spares-changed d row change w = Ends-bind _ (all_obeyed change.orders (row.timers, w.next_arming)) _ (Spares-all_obeyed change.orders _) (λ after _. Spares-ok _)

@@ -36,6 +36,7 @@ empty_world_fits limits room =
             one_current = λ p q e f at_p at_q same_d same_side e_now f_now. absurd (nothing_stands p e at_p);
             armed_before = λ p e at_p. absurd (nothing_stands p e at_p);
             armed_once = λ p q e f at_p at_q same. absurd (nothing_stands p e at_p);
+            numbered = lit< tt;
             in_range = lit< tt;
           };
       free =
@@ -50,7 +51,7 @@ empty_world_fits limits room =
       sockets_limited = omega arith;
       descriptors_limited = omega arith;
       firings_limited = omega arith;
-      clock = record { le = tt };
+      clock = record { begun = record { le = tt }; time = record { sfits = lit< tt } };
     }
   where
     nothing_stands : (p : Stand) (e : Entry) → standing [] [] p ≡ Some e → ⊥

@@ -5,12 +5,13 @@ use Rattle.std.specs.Prelude.{slice_get}
 use Rattle.nr_rev.specs.declared.sides.Side.{Side}
 use Rattle.nr_rev.specs.declared.sides.Side.TheVariants.{Read, Write}
 use Rattle.nr_rev.specs.declared.status.Status.{Status}
-use Rattle.nr_rev.specs.declared.status.Status.TheVariants.{Idle, Gone}
+use Rattle.nr_rev.specs.declared.status.Status.TheVariants.{Idle, Gone, Acquiring, Owing, Entering, Armed, Parking, Swapping, Checking}
 use Rattle.nr_rev.specs.declared.descriptor.DescriptorRow.{DescriptorRow}
 use Rattle.nr_rev.specs.World.{World, is_waited, is_place, is_free_number}
-use Rattle.nr_rev.specs.Step.{alive, status_of, idle, is_idle, row_of, open_row_of}
+use Rattle.nr_rev.specs.Step.{alive, status_of, idle, is_idle, row_of, open_row_of, entering_of, armed_of, swapping_of, checking_of, acquiring_of, owing_of, parking_of}
 use Rattle.nr_rev.specs.WellFormed.{IsInside, IsOpen}
-use Rattle.nr_rev.proofs.Reasons.{bound_ok, then_ok, unless_ok, if_ok, found_ok}
+use Rattle.nr_rev.proofs.Reasons.{bound_ok, then_ok, unless_ok, if_ok, found_ok, same_ok}
+use Rattle.nr_rev.specs.declared.sides.Sides.{Sides}
 
 alive_ok : (o : Option Status) (status : Status) → alive o ≡ Ok status → o ≡ Some status
 alive_ok None status e = cc
@@ -52,3 +53,32 @@ nobody_inside [] d side g e p = cc
 nobody_inside (status ∷ gs) d side zero e p =
     true≢false (sym (ap (is_place d side) p ∙ is_place_here d side) ∙ (neither_of _ _ e).0)
 nobody_inside (status ∷ gs) d side (suc g) e p = nobody_inside gs d side g (neither_of _ _ e).1 p
+
+-- where a goroutine has to be
+pub entering_ok : (status : Status) (place : ℕ × Side) → entering_of status ≡ Ok place → status ≡ Entering place.0 place.1
+entering_ok (Entering d side) place e = ap (λ (p : ℕ × Side). Entering p.0 p.1) (same_ok _ _ e)
+entering_ok _ place e = cc
+
+pub armed_ok : (status : Status) (place : ℕ × Side) → armed_of status ≡ Ok place → status ≡ Armed place.0 place.1
+armed_ok (Armed d side) place e = ap (λ (p : ℕ × Side). Armed p.0 p.1) (same_ok _ _ e)
+armed_ok _ place e = cc
+
+pub swapping_ok : (status : Status) (place : ℕ × Side) → swapping_of status ≡ Ok place → status ≡ Swapping place.0 place.1
+swapping_ok (Swapping d side) place e = ap (λ (p : ℕ × Side). Swapping p.0 p.1) (same_ok _ _ e)
+swapping_ok _ place e = cc
+
+pub checking_ok : (status : Status) (place : ℕ × Side) → checking_of status ≡ Ok place → status ≡ Checking place.0 place.1
+checking_ok (Checking d side) place e = ap (λ (p : ℕ × Side). Checking p.0 p.1) (same_ok _ _ e)
+checking_ok _ place e = cc
+
+pub acquiring_ok : (status : Status) (place : ℕ × Side) → acquiring_of status ≡ Ok place → status ≡ Acquiring place.0 place.1
+acquiring_ok (Acquiring d side) place e = ap (λ (p : ℕ × Side). Acquiring p.0 p.1) (same_ok _ _ e)
+acquiring_ok _ place e = cc
+
+pub owing_ok : (status : Status) (debt : ℕ × Sides ℕ) → owing_of status ≡ Ok debt → status ≡ Owing debt.0 debt.1.read debt.1.write
+owing_ok (Owing s reads writes) debt e = ap (λ (p : ℕ × Sides ℕ). Owing p.0 p.1.read p.1.write) (same_ok _ _ e)
+owing_ok _ debt e = cc
+
+pub parking_ok : (status : Status) (place : ℕ × Side) → parking_of status ≡ Ok place → status ≡ Parking place.0 place.1
+parking_ok (Parking d side) place e = ap (λ (p : ℕ × Side). Parking p.0 p.1) (same_ok _ _ e)
+parking_ok _ place e = cc

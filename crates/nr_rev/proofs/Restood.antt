@@ -12,6 +12,7 @@ use Rattle.nr_rev.proofs.Lists.{slice_get-set_unseen, slice_get-set_cases, slice
 use Rattle.nr_rev.specs.declared.timer.TimerFunction.{TimerFunction}
 use Rattle.nr_rev.specs.Sides.{side_of_function}
 use Rattle.nr_rev.specs.declared.timer.Timer.{Timer}
+use Rattle.nr_rev.specs.Timer.{IsTime}
 use Rattle.nr_rev.specs.declared.timer.Entry.{Entry}
 use Rattle.nr_rev.specs.declared.descriptor.Descriptor.{Descriptor}
 use Rattle.nr_rev.specs.Descriptor.{timer_function, is_combo, is_positive}
@@ -35,6 +36,7 @@ TimersFit-restood rows rows' firings firings' n Was was once current rows_fit fi
           let a = was p e at_p in
           let b = was q f at_q in
           once p q a.0 b.0 a.1 b.1 (h.armed_once a.0 b.0 e f a.2 b.2 same);
+      numbered = h.numbered;
       in_range = h.in_range;
     }
 
@@ -123,6 +125,7 @@ RowFits-unarmed row side h =
       closing = h.closing;
       sequences = h.sequences;
       fdseq = h.fdseq;
+      times = h.times;
     }
 
 function_side : (side : Side) (d : Descriptor) → side ≡ side_of_function (timer_function side d)
@@ -140,6 +143,7 @@ FiringFits-popped row e h is =
     record {
       side = function_side e.side row.descriptor ∙ sym (ap side_of_function fits.function);
       sequence = rw fits.sequence (omega arith);
+      due = subst IsTime (sym fits.due) (h.times e.side);
       current = λ now.
           record {
             positive = λ s covers.

@@ -199,5 +199,6 @@ module _ (rows : List DescriptorRow) (firings : List Entry) (n m d : ℕ) (old n
         one_current = one_current;
         armed_before = armed_before;
         armed_once = armed_once;
+        numbered = let before = h.numbered in let up = change.rises in omega arith;
         in_range = change.in_range;
       }

@@ -31,6 +31,7 @@ RowFits-reworded row words h =
       closing = h.closing;
       sequences = h.sequences;
       fdseq = h.fdseq;
+      times = h.times;
     }
   where
     function_same : (side : Side) {f : TimerFunction} → f ≡ timer_function side row.descriptor → f ≡ timer_function side (reworded row words).descriptor
@@ -42,6 +43,7 @@ FiringFits-reworded row words firing h =
     record {
       side = h.side;
       sequence = h.sequence;
+      due = h.due;
       current = λ e.
           let due : IsDueFor row.descriptor firing = h.current e in
           record { positive = due.positive; running = due.running; function = function_same firing.side due.function };
@@ -70,6 +72,7 @@ TimersFit-reworded rows firings n d row words at h =
       one_current = λ p q e f at_p at_q same_d same_side e_now f_now. h.one_current p q e f (stands p at_p) (stands q at_q) same_d same_side (now e e_now) (now f f_now);
       armed_before = λ p e at_p. h.armed_before p e (stands p at_p);
       armed_once = λ p q e f at_p at_q. h.armed_once p q e f (stands p at_p) (stands q at_q);
+      numbered = h.numbered;
       in_range = h.in_range;
     }
   where

@@ -86,6 +86,7 @@ firing_fits e old new before after (Kept sequence running same kept) h =
     record {
       side = h.side;
       sequence = rw sequence h.sequence;
+      due = h.due;
       current = λ now.
           let due : IsDueFor old e = h.current (now ∙ sequence) in
           let alike = same due.running in
@@ -106,15 +107,16 @@ firing_fits e old new before after (Armed begun running wants armed due function
           record {
             side = h.side;
             sequence = rw rest.1 h.sequence;
+            due = h.due;
             current = λ now. let due : IsDueFor old e = h.current (now ∙ rest.1) in absurd (true≢false (sym due.running ∙ rest.0));
           }
       | inr raised ↦
           let most = h.sequence in
-          record { side = h.side; sequence = omega arith; current = λ now. absurd (omega arith) }
+          record { side = h.side; sequence = omega arith; due = h.due; current = λ now. absurd (omega arith) }
     ]
 firing_fits e old new before after (Stopped raised halted now) h =
     let most = h.sequence in
-    record { side = h.side; sequence = omega arith; current = λ now. absurd (omega arith) }
+    record { side = h.side; sequence = omega arith; due = h.due; current = λ now. absurd (omega arith) }
 
 -- no firing is current where the timer was armed anew or stopped
 pub none_current : (e : Entry) (old new : Descriptor) → ((of_side e.side old.running ≡ false) × (of_side e.side new.sequences ≡ of_side e.side old.sequences)) ⊎ (of_side e.side new.sequences ≡ of_side e.side old.sequences + 1) → FiringFits old e → e.timer.sequence ≢ of_side e.side new.sequences

@@ -19,8 +19,8 @@ use Rattle.nr_rev.specs.Step.{all_woken, roused}
 use Rattle.nr_rev.specs.WellFormed.{WellFormed, WordsFit, Shows, parked_of, awaiting_of, is_queued, is_held, held_count}
 use Rattle.nr_rev.proofs.Lists.{slice_get-set_unseen}
 use Rattle.nr_rev.proofs.SameViews.{QueuesFit-same}
-use Rattle.nr_rev.proofs.Moved.{shown_cases, shown_kept}
-use Rattle.nr_rev.proofs.ParkcommitKeeps.{stays_inside}
+use Rattle.nr_rev.proofs.StatusSet.{shown_cases, shown_kept}
+use Rattle.nr_rev.proofs.StatusSet.{stays_inside}
 use Rattle.nr_rev.proofs.Reworded.{reworded, with_word_at, word_at_cases, word_kept, TimersFit-reworded, FreeFits-reworded, GoroutinesFit-rows}
 
 -- a word that says nothing of a goroutine

@@ -2,8 +2,8 @@
 use Rattle.std.specs.Prelude.{ℕ, List, length, slice_get, Option, Some, None, option_map}
 use Rattle.nr_rev.specs.declared.sides.Side.{Side}
 use Rattle.nr_rev.specs.declared.cell.Cell.{Cell}
-use Rattle.nr_rev.specs.declared.cell.CellValue.{CellValue}
-use Rattle.nr_rev.specs.declared.cell.CellValue.TheVariants.{Absent, Number, Time}
+use Rattle.nr_rev.specs.declared.cell_value.CellValue.{CellValue}
+use Rattle.nr_rev.specs.declared.cell_value.CellValue.TheVariants.{Absent, Number, Time}
 use Rattle.nr_rev.specs.Sides.{of_side}
 use Rattle.nr_rev.specs.Lock.{lock_number}
 use Rattle.nr_rev.specs.declared.descriptor.Descriptor.{Descriptor}

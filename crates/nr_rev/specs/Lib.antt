@@ -1,3 +1,4 @@
+pub mod Limits
 pub mod Sides
 pub mod Refusing
 pub mod Lock
@@ -8,6 +9,7 @@ pub mod Socket
 pub mod World
 pub mod Step
 pub mod Cell
+pub mod Weight
 pub mod Run
 pub mod WellFormed
 pub mod Reversible

@@ -1,11 +1,11 @@
 -- What is said of a single operation that can be undone.
-use Rattle.std.specs.Prelude.{◌≡◌, ◌⊎◌, ℕ, ◌+◌, ◌/◌, ◌≤◌, Option, Some}
+use Rattle.std.specs.Prelude.{◌≡◌, ◌⊎◌, ℕ, ◌+◌, ◌/◌, ◌≤◌, Option, Some, None}
 use Rattle.nr_rev.specs.declared.refusal.Refusal.{Refusal}
 use Rattle.nr_rev.specs.declared.refusal.Refusal.TheVariants.{Memory}
 
--- the refusal is the reason of the state, or want of memory at an operation that may take some
-abbrev pub Refuses : {State Op : Type 0} → (State → Op → Option Refusal) → (Op → Type 0) → State → Op → Refusal → Type 0
-Refuses reason takes_memory old op refusal = (reason old op ≡ Some refusal) ⊎ ((refusal ≡ Memory) × takes_memory op)
+-- the refusal is the reason of the state; or there is none, and it is want of memory at an operation that takes some there
+abbrev pub Refuses : {State Op : Type 0} → (State → Op → Option Refusal) → (State → Op → Type 0) → State → Op → Refusal → Type 0
+Refuses reason takes_memory old op refusal = (reason old op ≡ Some refusal) ⊎ ((refusal ≡ Memory) × (reason old op ≡ None) × takes_memory old op)
 
 -- a delta weighs at most what its operation is allowed, and one word more for each eight bytes, begun ones
 -- included, that left a buffer

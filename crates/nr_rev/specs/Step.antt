@@ -18,12 +18,21 @@ use Rattle.nr_rev.specs.Lock
 use Rattle.nr_rev.specs.declared.lock.LockOutcome.{LockOutcome}
 use Rattle.nr_rev.specs.Semaphore.{Semaphore, is_free, acquired, front_of, released}
 use Rattle.nr_rev.specs.declared.timer.Timer.{Timer}
+use Rattle.nr_rev.specs.Timer.{IsTime}
 use Rattle.nr_rev.specs.declared.timer.TimerOrder.{TimerOrder}
 use Rattle.nr_rev.specs.declared.timer.TimerOrder.TheVariants.{Arm, Stop}
 use Rattle.nr_rev.specs.Descriptor.{never_opened, check, opened_for, closed, with_word, Change, deadline_set, evicted, event_seen, fired}
 use Rattle.nr_rev.specs.Socket.{Socket, new_socket, room_of}
 use Rattle.nr_rev.specs.declared.descriptor.DescriptorRow.{DescriptorRow}
 use Rattle.nr_rev.specs.World.{World, is_free_number, least_entry, is_waited, with_status, with_socket, with_row, with_descriptor}
+
+-- ---- what steps look up, and the reasons where it isn't there
+
+-- the time that a step carries, if it carries one, is a time
+abbrev pub IsTimely : Step → Type 0
+IsTimely (Step.SetDeadline g d mode t) = IsTime t
+IsTimely (Step.Tick t) = IsTime t
+IsTimely _ = Unit {0}
 
 abbrev pub Outcome : Type 0
 Outcome = Result (Answer × World) Refusal
@@ -65,6 +74,8 @@ open_row_of d w = do
 abbrev pub sized : ℕ → World → Result (Unit {0}) Refusal
 sized n w = refused_unless (nat_lt 0 n && nat_le n w.limits.buffer) SizeOutOfRange
 
+-- ---- goroutines
+
 -- spawn: a go statement
 abbrev pub spawn : World → Outcome
 spawn w = do
@@ -76,6 +87,111 @@ abbrev pub exit : ℕ → World → Outcome
 exit g w = do
   idle g w
   Ok (Done, with_status g Gone w)
+
+-- ---- locking
+
+-- a goroutine that owes these releases, or nothing
+abbrev pub owing : ℕ → Sides ℕ → Status
+owing s owed = if owed.read + owed.write == 0 then Idle else Owing s owed.read owed.write
+
+abbrev pub lock_left : ℕ → Status → ℕ → Socket → LockOutcome → World → Answer × World
+lock_left g status s socket left w =
+    (left.answer, with_status g status (with_socket s (record socket { lock = left.lock }) w))
+
+-- incref: fdMutex.incref
+abbrev pub incref : ℕ → ℕ → World → Outcome
+incref g s w = do
+  idle g w
+  socket ← socket_of s w
+  left ← Lock.incref socket.lock
+  Ok (lock_left g Idle s socket left w)
+
+-- increfclose: fdMutex.increfAndClose
+abbrev pub increfclose : ℕ → ℕ → World → Outcome
+increfclose g s w = do
+  idle g w
+  socket ← socket_of s w
+  left ← Lock.incref_close socket.lock
+  Ok (lock_left g (owing s left.owed) s socket left w)
+
+-- decref: fdMutex.decref
+abbrev pub decref : ℕ → ℕ → World → Outcome
+decref g s w = do
+  idle g w
+  socket ← socket_of s w
+  left ← Lock.decref socket.lock
+  Ok (lock_left g Idle s socket left w)
+
+abbrev pub may_lock : ℕ → Side → Status → Bool
+may_lock s side Idle = true
+may_lock s side (Relock s' side') = (s == s') && same_side side side'
+may_lock s side _ = false
+
+abbrev pub locker : ℕ → Side → Answer → Status
+locker s side Answer.Wait = Acquiring s side
+locker s side _ = Idle
+
+-- rwlock: fdMutex.rwlock, from its top
+abbrev pub rwlock : ℕ → ℕ → Side → World → Outcome
+rwlock g s side w = do
+  status ← status_of g w
+  refused_unless (may_lock s side status) NotThere
+  socket ← socket_of s w
+  left ← Lock.rw_lock side socket.lock
+  Ok (lock_left g (locker s side left.answer) s socket left w)
+
+-- rwunlock: fdMutex.rwunlock
+abbrev pub rwunlock : ℕ → ℕ → Side → World → Outcome
+rwunlock g s side w = do
+  idle g w
+  socket ← socket_of s w
+  left ← Lock.rw_unlock side socket.lock
+  Ok (lock_left g (owing s left.owed) s socket left w)
+
+-- ---- semaphores
+
+abbrev pub with_semaphore : ℕ → Side → Socket → Semaphore → World → World
+with_semaphore s side socket semaphore w =
+    with_socket s (record socket { semaphores = with_side side semaphore socket.semaphores }) w
+
+-- reason 2, unless acquiring
+abbrev pub acquiring_of : Status → Result (ℕ × Side) Refusal
+acquiring_of (Acquiring s side) = Ok (s, side)
+acquiring_of _ = Err NotThere
+
+-- acquire: the semaphore is had, or the goroutine is queued
+abbrev pub acquire : ℕ → World → Outcome
+acquire g w = do
+  status ← status_of g w
+  (s, side) ← acquiring_of status
+  socket ← socket_of s w
+  let semaphore : Semaphore = of_side side socket.semaphores
+  let next : World = with_semaphore s side socket (acquired g semaphore) w
+  Ok (if is_free semaphore then (Yes, with_status g (Relock s side) next) else (Wait, with_status g (Queued s side) next))
+
+-- reason 2, unless owing
+abbrev pub owing_of : Status → Result (ℕ × Sides ℕ) Refusal
+owing_of (Owing s reads writes) = Ok (s, record { read = reads; write = writes })
+owing_of _ = Err NotThere
+
+-- the front of a queue that leaves it must try again
+abbrev pub tries_again : ℕ → Side → Option ℕ → World → World
+tries_again s side None w = w
+tries_again s side (Some g) w = with_status g (Acquiring s side) w
+
+-- release: one release, of reading first
+abbrev pub release : ℕ → World → Outcome
+release g w = do
+  status ← status_of g w
+  (s, owed) ← owing_of status
+  socket ← socket_of s w
+  let side : Side = if nat_lt 0 owed.read then Read else Write
+  let semaphore : Semaphore = of_side side socket.semaphores
+  left ← released semaphore
+  let next : World = tries_again s side (front_of semaphore) (with_semaphore s side socket left w)
+  Ok (Done, with_status g (owing s (with_side side (of_side side owed - 1) owed)) next)
+
+-- ---- transfers
 
 -- sockopen: a socket with room to read and to write
 abbrev pub sockopen : ℕ → ℕ → World → Outcome
@@ -137,104 +253,7 @@ drain s n w = do
   refused_if (nat_lt (length socket.buffers.write.bytes) n) TooFewBytes
   Ok (Done, with_socket s (with_buffer Write (drop n socket.buffers.write.bytes) socket) w)
 
--- a goroutine that owes these releases, or nothing
-abbrev pub owing : ℕ → Sides ℕ → Status
-owing s owed = if owed.read + owed.write == 0 then Idle else Owing s owed.read owed.write
-
-abbrev pub lock_left : ℕ → Status → ℕ → Socket → LockOutcome → World → Answer × World
-lock_left g status s socket left w =
-    (left.answer, with_status g status (with_socket s (record socket { lock = left.lock }) w))
-
--- incref: fdMutex.incref
-abbrev pub incref : ℕ → ℕ → World → Outcome
-incref g s w = do
-  idle g w
-  socket ← socket_of s w
-  left ← Lock.incref socket.lock
-  Ok (lock_left g Idle s socket left w)
-
--- increfclose: fdMutex.increfAndClose
-abbrev pub increfclose : ℕ → ℕ → World → Outcome
-increfclose g s w = do
-  idle g w
-  socket ← socket_of s w
-  left ← Lock.incref_close socket.lock
-  Ok (lock_left g (owing s left.owed) s socket left w)
-
--- decref: fdMutex.decref
-abbrev pub decref : ℕ → ℕ → World → Outcome
-decref g s w = do
-  idle g w
-  socket ← socket_of s w
-  left ← Lock.decref socket.lock
-  Ok (lock_left g Idle s socket left w)
-
-abbrev pub may_lock : ℕ → Side → Status → Bool
-may_lock s side Idle = true
-may_lock s side (Relock s' side') = (s == s') && same_side side side'
-may_lock s side _ = false
-
-abbrev pub locker : ℕ → Side → Answer → Status
-locker s side Answer.Wait = Acquiring s side
-locker s side _ = Idle
-
--- rwlock: fdMutex.rwlock, from its top
-abbrev pub rwlock : ℕ → ℕ → Side → World → Outcome
-rwlock g s side w = do
-  status ← status_of g w
-  refused_unless (may_lock s side status) NotThere
-  socket ← socket_of s w
-  left ← Lock.rw_lock side socket.lock
-  Ok (lock_left g (locker s side left.answer) s socket left w)
-
--- rwunlock: fdMutex.rwunlock
-abbrev pub rwunlock : ℕ → ℕ → Side → World → Outcome
-rwunlock g s side w = do
-  idle g w
-  socket ← socket_of s w
-  left ← Lock.rw_unlock side socket.lock
-  Ok (lock_left g (owing s left.owed) s socket left w)
-
-abbrev pub with_semaphore : ℕ → Side → Socket → Semaphore → World → World
-with_semaphore s side socket semaphore w =
-    with_socket s (record socket { semaphores = with_side side semaphore socket.semaphores }) w
-
--- reason 2, unless acquiring
-abbrev pub acquiring_of : Status → Result (ℕ × Side) Refusal
-acquiring_of (Acquiring s side) = Ok (s, side)
-acquiring_of _ = Err NotThere
-
--- acquire: the semaphore is had, or the goroutine is queued
-abbrev pub acquire : ℕ → World → Outcome
-acquire g w = do
-  status ← status_of g w
-  (s, side) ← acquiring_of status
-  socket ← socket_of s w
-  let semaphore : Semaphore = of_side side socket.semaphores
-  let next : World = with_semaphore s side socket (acquired g semaphore) w
-  Ok (if is_free semaphore then (Yes, with_status g (Relock s side) next) else (Wait, with_status g (Queued s side) next))
-
--- reason 2, unless owing
-abbrev pub owing_of : Status → Result (ℕ × Sides ℕ) Refusal
-owing_of (Owing s reads writes) = Ok (s, record { read = reads; write = writes })
-owing_of _ = Err NotThere
-
--- the front of a queue that leaves it must try again
-abbrev pub tries_again : ℕ → Side → Option ℕ → World → World
-tries_again s side None w = w
-tries_again s side (Some g) w = with_status g (Acquiring s side) w
-
--- release: one release, of reading first
-abbrev pub release : ℕ → World → Outcome
-release g w = do
-  status ← status_of g w
-  (s, owed) ← owing_of status
-  socket ← socket_of s w
-  let side : Side = if nat_lt 0 owed.read then Read else Write
-  let semaphore : Semaphore = of_side side socket.semaphores
-  left ← released semaphore
-  let next : World = tries_again s side (front_of semaphore) (with_semaphore s side socket left w)
-  Ok (Done, with_status g (owing s (with_side side (of_side side owed - 1) owed)) next)
+-- ---- descriptors
 
 abbrev pub new_row : DescriptorRow
 new_row = record { descriptor = never_opened; timers = twice None }
@@ -265,6 +284,59 @@ pollclose g d w = do
   refused_if (is_waited d Read w.goroutines || is_waited d Write w.goroutines) WaiterInside
   descriptor ← closed row.descriptor
   Ok (Done, record (with_descriptor d row descriptor w) { free = d ∷ w.free })
+
+-- the timers after an order, and the next arming number
+abbrev pub obeyed : TimerOrder → Sides (Option Timer) × ℕ → Result (Sides (Option Timer) × ℕ) Refusal
+obeyed (Arm side due function sequence) (timers, number) = do
+  next ← raised_sequence number
+  let timer : Timer = record { due = due; number = number; function = function; sequence = sequence }
+  Ok (with_side side (Some timer) timers, next)
+obeyed (Stop side) (timers, number) = Ok (with_side side None timers, number)
+
+abbrev pub all_obeyed : List TimerOrder → Sides (Option Timer) × ℕ → Result (Sides (Option Timer) × ℕ) Refusal
+all_obeyed [] before = Ok before
+all_obeyed (order ∷ orders) before = do
+  after ← obeyed order before
+  all_obeyed orders after
+
+abbrev pub roused : Status → Status
+roused (Parked d side) = Swapping d side
+roused status = status
+
+-- a goroutine that a word held goes on
+abbrev pub all_woken : List ℕ → World → World
+all_woken [] w = w
+all_woken (g ∷ gs) w =
+    all_woken gs (record w {
+      goroutines = slice_set w.goroutines g (roused (slice_index_or w.goroutines g Idle));
+      waiters = w.waiters - 1;
+    })
+
+-- the world after a change of descriptor d
+abbrev pub changed : ℕ → DescriptorRow → Change → World → Result World Refusal
+changed d row change w = do
+  (timers, number) ← all_obeyed change.orders (row.timers, w.next_arming)
+  let next : World = with_row d (record { descriptor = change.descriptor; timers = timers }) w
+  Ok (all_woken change.woken (record next { next_arming = number }))
+
+-- evict: runtime_pollUnblock
+abbrev pub evict : ℕ → ℕ → World → Outcome
+evict g d w = do
+  idle g w
+  row ← open_row_of d w
+  change ← evicted row.descriptor
+  next ← changed d row change w
+  Ok (Done, next)
+
+-- pollevent: netpollready
+abbrev pub pollevent : ℕ → ℕ → Mode → Bool → World → Outcome
+pollevent d tag mode error w = do
+  row ← row_of d w
+  if is_free_number d w.free || not (tag == row.descriptor.fdseq) then Ok (Stale, w) else (do
+    next ← changed d row (event_seen mode error row.descriptor) w
+    Ok (Done, next))
+
+-- ---- waits
 
 -- pollreset: runtime_pollReset
 abbrev pub pollreset : ℕ → ℕ → Side → World → Outcome
@@ -366,39 +438,7 @@ waitcheck g w = do
   let code : ℕ = check side row.descriptor
   Ok (Code code, with_status g (if code == 0 then Entering d side else Idle) w)
 
--- the timers after an order, and the next arming number
-abbrev pub obeyed : TimerOrder → Sides (Option Timer) × ℕ → Result (Sides (Option Timer) × ℕ) Refusal
-obeyed (Arm side due function sequence) (timers, number) = do
-  next ← raised_sequence number
-  let timer : Timer = record { due = due; number = number; function = function; sequence = sequence }
-  Ok (with_side side (Some timer) timers, next)
-obeyed (Stop side) (timers, number) = Ok (with_side side None timers, number)
-
-abbrev pub all_obeyed : List TimerOrder → Sides (Option Timer) × ℕ → Result (Sides (Option Timer) × ℕ) Refusal
-all_obeyed [] before = Ok before
-all_obeyed (order ∷ orders) before = do
-  after ← obeyed order before
-  all_obeyed orders after
-
-abbrev pub roused : Status → Status
-roused (Parked d side) = Swapping d side
-roused status = status
-
--- a goroutine that a word held goes on
-abbrev pub all_woken : List ℕ → World → World
-all_woken [] w = w
-all_woken (g ∷ gs) w =
-    all_woken gs (record w {
-      goroutines = slice_set w.goroutines g (roused (slice_index_or w.goroutines g Idle));
-      waiters = w.waiters - 1;
-    })
-
--- the world after a change of descriptor d
-abbrev pub changed : ℕ → DescriptorRow → Change → World → Result World Refusal
-changed d row change w = do
-  (timers, number) ← all_obeyed change.orders (row.timers, w.next_arming)
-  let next : World = with_row d (record { descriptor = change.descriptor; timers = timers }) w
-  Ok (all_woken change.woken (record next { next_arming = number }))
+-- ---- deadlines
 
 -- setdeadline: runtime_pollSetDeadline
 abbrev pub setdeadline : ℕ → ℕ → Mode → ℤ → World → Outcome
@@ -409,22 +449,7 @@ setdeadline g d mode t w = do
   next ← changed d row change w
   Ok (Done, next)
 
--- evict: runtime_pollUnblock
-abbrev pub evict : ℕ → ℕ → World → Outcome
-evict g d w = do
-  idle g w
-  row ← open_row_of d w
-  change ← evicted row.descriptor
-  next ← changed d row change w
-  Ok (Done, next)
-
--- pollevent: netpollready
-abbrev pub pollevent : ℕ → ℕ → Mode → Bool → World → Outcome
-pollevent d tag mode error w = do
-  row ← row_of d w
-  if is_free_number d w.free || not (tag == row.descriptor.fdseq) then Ok (Stale, w) else (do
-    next ← changed d row (event_seen mode error row.descriptor) w
-    Ok (Done, next))
+-- ---- timers
 
 -- tick: the clock goes on
 abbrev pub tick : ℤ → World → Outcome
@@ -455,6 +480,8 @@ fire i w = do
   row ← row_of entry.descriptor w
   change ← fired entry.timer.function entry.timer.sequence row.descriptor
   fired_with entry.descriptor row change (record w { firings = remove w.firings i })
+
+-- ---- all kinds
 
 -- the answer of a step and the world after it, or the first reason that holds
 abbrev pub outcome : World → Step → Outcome

@@ -1,11 +1,16 @@
 -- Timers: entries, their order, and the firings that wait to be run.
-use Rattle.std.specs.Prelude.{ℕ, ◌+◌, Bool, ◌&&◌, ◌||◌, nat_lt, int_lt, if◌then◌else◌, List, [], ◌∷◌, ◌++◌, Option, Some, None}
+use Rattle.std.specs.Prelude.{ℕ, ℤ, FitsSigned, ◌+◌, Bool, ◌&&◌, ◌||◌, nat_lt, int_lt, if◌then◌else◌, List, [], ◌∷◌, ◌++◌, Option, Some, None}
 use Rattle.std.specs.Ordering.{int_eq}
+use Rattle.std.specs.Int.{w64}
 use Rattle.nr_rev.specs.declared.sides.Side.{Side}
 use Rattle.nr_rev.specs.declared.sides.Side.TheVariants.{Read, Write}
 use Rattle.nr_rev.specs.declared.sides.Sides.{Sides}
 use Rattle.nr_rev.specs.declared.timer.Timer.{Timer}
 use Rattle.nr_rev.specs.declared.timer.Entry.{Entry}
+
+-- a time is a signed 64-bit number of nanoseconds
+abbrev pub IsTime : ℤ → Type 0
+IsTime t = FitsSigned w64 t
 
 -- the order of timers: by when they are due, then by arming number
 abbrev pub is_before : Timer → Timer → Bool

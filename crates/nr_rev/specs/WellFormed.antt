@@ -1,5 +1,5 @@
 -- What holds of every world that steps lead to.
-use Rattle.std.specs.Prelude.{◌≡◌, ℕ, ◌+◌, ◌*◌, ◌^◌, ◌<◌, ◌≤◌, Bool, true, false, ◌&&◌, ◌==◌, ◌⊎◌, ◌↔◌, pos, ◌≤ℤ◌, List, length, sum_by, count_by, All, slice_get, Option, Some, None, option_map, option_and_then, IsTrue}
+use Rattle.std.specs.Prelude.{◌≡◌, ℕ, ◌+◌, ◌*◌, ◌^◌, ◌<◌, ◌≤◌, Bool, true, false, ◌&&◌, ◌==◌, ◌⊎◌, ◌↔◌, ℤ, pos, ◌≤ℤ◌, List, length, sum_by, count_by, All, slice_get, Option, Some, None, option_map, option_and_then, IsTrue}
 use Rattle.nr_rev.specs.declared.sides.Side.{Side}
 use Rattle.nr_rev.specs.declared.descriptor.Word.{Word}
 use Rattle.nr_rev.specs.declared.descriptor.Word.TheVariants.{Nil, Ready, Held}
@@ -10,6 +10,7 @@ use Rattle.nr_rev.specs.declared.lock.Lock.{Lock}
 use Rattle.nr_rev.specs.Lock.{bit}
 use Rattle.nr_rev.specs.declared.timer.Timer.{Timer}
 use Rattle.nr_rev.specs.declared.timer.Entry.{Entry}
+use Rattle.nr_rev.specs.Timer.{IsTime}
 use Rattle.nr_rev.specs.declared.descriptor.Descriptor.{Descriptor}
 use Rattle.nr_rev.specs.Descriptor.{is_positive, is_combo, timer_function}
 use Rattle.nr_rev.specs.Socket.{Socket}
@@ -91,6 +92,7 @@ pub record IsDueFor (d : Descriptor) (firing : Entry) : Type 0 where
 pub record FiringFits (d : Descriptor) (firing : Entry) : Type 0 where
   pub side : firing.side ≡ side_of_function firing.timer.function
   pub sequence : firing.timer.sequence ≤ of_side firing.side d.sequences
+  pub due : IsTime firing.timer.due
   pub current : firing.timer.sequence ≡ of_side firing.side d.sequences → IsDueFor d firing
 
 pub record RowFits (row : DescriptorRow) : Type 0 where
@@ -99,6 +101,7 @@ pub record RowFits (row : DescriptorRow) : Type 0 where
   pub closing : row.descriptor.closing ≡ true → row.descriptor.running ≡ twice false
   pub sequences : (side : Side) → of_side side row.descriptor.sequences < 2 ^ 64
   pub fdseq : row.descriptor.fdseq < 2 ^ 64
+  pub times : (side : Side) → IsTime (of_side side row.descriptor.deadlines)
 
 pub record LockFits (lock : Lock) : Type 0 where
   pub references : IsField lock.references
@@ -149,6 +152,7 @@ pub record TimersFit (descriptors : List DescriptorRow) (firings : List Entry) (
   pub one_current : (p q : Stand) (e f : Entry) → standing descriptors firings p ≡ Some e → standing descriptors firings q ≡ Some f → e.descriptor ≡ f.descriptor → e.side ≡ f.side → IsCurrent descriptors e → IsCurrent descriptors f → p ≡ q
   pub armed_before : (p : Stand) (e : Entry) → standing descriptors firings p ≡ Some e → e.timer.number < next_arming
   pub armed_once : (p q : Stand) (e f : Entry) → standing descriptors firings p ≡ Some e → standing descriptors firings q ≡ Some f → e.timer.number ≡ f.timer.number → p ≡ q
+  pub numbered : 0 < next_arming
   pub in_range : next_arming < 2 ^ 64
 
 pub record FreeFits (descriptors : List DescriptorRow) (free : List ℕ) : Type 0 where
@@ -156,6 +160,11 @@ pub record FreeFits (descriptors : List DescriptorRow) (free : List ℕ) : Type 
   pub once : (d : ℕ) → count_by (λ f. f == d) free ≤ 1
   pub closing : (d : ℕ) (row : DescriptorRow) → is_free_number d free ≡ true → slice_get descriptors d ≡ Some row → row.descriptor.closing ≡ true
   pub words : (d : ℕ) (side : Side) (word : Word) → is_free_number d free ≡ true → HasWord descriptors d side word → (word ≡ Nil) ⊎ (word ≡ Ready)
+
+-- the clock began at 0 and goes on
+pub record ClockFits (clock : ℤ) : Type 0 where
+  pub begun : pos 0 ≤ℤ clock
+  pub time : IsTime clock
 
 pub record WellFormed (w : World) : Type 0 where
   pub goroutines : GoroutinesFit w.goroutines w.sockets w.descriptors w.free
@@ -168,4 +177,4 @@ pub record WellFormed (w : World) : Type 0 where
   pub sockets_limited : length w.sockets ≤ w.limits.sockets
   pub descriptors_limited : length w.descriptors ≤ w.limits.descriptors
   pub firings_limited : length w.firings ≤ 2 * w.limits.descriptors
-  pub clock : pos 0 ≤ℤ w.clock
+  pub clock : ClockFits w.clock

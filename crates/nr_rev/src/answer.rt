@@ -31,3 +31,14 @@ pub enum Answer {
     /// The event or firing is of a time that is past, and nothing changed.
     Stale,
 }
+
+impl Answer {
+    ghost use Rattle.std.specs.Prelude.{◌≡◌, ◌≢◌, MatchBool};
+
+    /// Whether it is the same answer as another.
+    pub fn is(self, other: Answer) -> bool
+        ensures { MatchBool result (self ≡ other) (self ≢ other) }
+    {
+        self == other
+    }
+}

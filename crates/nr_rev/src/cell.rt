@@ -1,8 +1,5 @@
 //! What can be read of a world.
 
-use crate::descriptor::Word;
-use crate::status::Status;
-
 /// Something of a world that has a value, or none. The number is that of a goroutine, a socket or a descriptor; where
 /// nothing made so far has it, the value is absent. A descriptor that was closed keeps its values.
 #[derive(Clone, Copy, Debug, PartialEq, Eq)]
@@ -48,17 +45,13 @@ pub enum Cell {
     Info(u32),
 }
 
-/// The value of a cell.
-#[derive(Clone, Copy, Debug, PartialEq, Eq)]
-pub enum CellValue {
-    /// There is no such thing.
-    Absent,
-    /// A count, a sequence, a summary or a lock word.
-    Number(u64),
-    /// A time in nanoseconds: that of a deadline, of a timer or now.
-    Time(i64),
-    /// A poll word.
-    Word(Word),
-    /// Where a goroutine is.
-    Status(Status),
+impl Cell {
+    ghost use Rattle.std.specs.Prelude.{◌≡◌, ◌≢◌, MatchBool};
+
+    /// Whether it is the same cell as another.
+    pub fn is(self, other: Cell) -> bool
+        ensures { MatchBool result (self ≡ other) (self ≢ other) }
+    {
+        self == other
+    }
 }

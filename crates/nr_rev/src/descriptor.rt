@@ -16,6 +16,17 @@ pub enum Word {
     Held(u32),
 }
 
+impl Word {
+    ghost use Rattle.std.specs.Prelude.{◌≡◌, ◌≢◌, MatchBool};
+
+    /// Whether it is the same word as another.
+    pub fn is(self, other: Word) -> bool
+        ensures { MatchBool result (self ≡ other) (self ≢ other) }
+    {
+        self == other
+    }
+}
+
 /// A poll descriptor, `pollDesc`.
 #[derive(Clone, Copy, Debug, PartialEq, Eq)]
 pub struct Descriptor {

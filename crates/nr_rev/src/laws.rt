@@ -1,9 +1,14 @@
 //! Laws over the definitions: what a step leaves is well formed.
 
-ghost use Rattle.std.specs.Prelude.{◌≡◌, ◌≢◌, ◌⊎◌, ℕ, Ok, Err, slice_get, Some, ◌<◌};
+ghost use Rattle.std.specs.Prelude.{All, ◌≡◌, ◌≢◌, ◌⊎◌, ℕ, Ok, Err, slice_get, Some, ◌<◌};
 ghost use Rattle.nr_rev.specs.declared.answer.Answer.{Answer};
 ghost use Rattle.nr_rev.specs.declared.limits.Limits.{Limits};
 ghost use Rattle.nr_rev.specs.declared.sides.Side.{Side};
+ghost use Rattle.nr_rev.specs.declared.sides.Sides.{Sides};
+ghost use Rattle.nr_rev.specs.declared.lock.Lock.{Lock};
+ghost use Rattle.nr_rev.specs.declared.timer.Timer.{Timer};
+ghost use Rattle.nr_rev.specs.declared.descriptor.Descriptor.{Descriptor};
+ghost use Rattle.nr_rev.specs.declared.kept.KeptBytes.TheInside.{Inside as Kept};
 ghost use Rattle.nr_rev.specs.Socket.{Socket};
 ghost use Rattle.nr_rev.specs.declared.timer.Entry.{Entry};
 ghost use Rattle.nr_rev.specs.declared.descriptor.DescriptorRow.{DescriptorRow};
@@ -14,7 +19,7 @@ ghost use Rattle.nr_rev.specs.declared.descriptor.Word.{Word};
 ghost use Rattle.nr_rev.specs.declared.descriptor.Word.TheVariants.{Nil, Ready, Held};
 ghost use Rattle.nr_rev.specs.declared.status.Status.TheVariants.{Entering, Swapping};
 ghost use Rattle.nr_rev.specs.Run.{Recording, world_at};
-ghost use Rattle.nr_rev.specs.Step.{outcome};
+ghost use Rattle.nr_rev.specs.Step.{IsTimely, outcome};
 ghost use Rattle.nr_rev.specs.WellFormed.{WellFormed, HasWord, IsInside, Shows, socket_named, Stand, standing};
 
 /// The world that a recording begins with.
@@ -22,9 +27,10 @@ pub fn empty_world_fits()
     ensures { (limits : Limits) → 0 < limits.goroutines → WellFormed (empty_world limits) }
 {}
 
-/// A step leaves a well-formed world well formed.
+/// A step leaves a well-formed world well formed. Its time has 64 bits, as its type says.
 pub fn steps_keep_well_formedness()
-    ensures { (w : World) (step : Step) (answer : Answer) (next : World) → WellFormed w → outcome w step ≡ Ok (answer, next) → WellFormed next }
+    ensures { (w : World) (step : Step) (answer : Answer) (next : World) → IsTimely step → WellFormed w
+        → outcome w step ≡ Ok (answer, next) → WellFormed next }
 {}
 
 /// Words at the places where a goroutine takes them up: nil or ready at blockarm, and none that holds a goroutine at blockswap.
@@ -40,7 +46,8 @@ pub fn no_step_finds_corruption()
 
 /// Each position of a recording is well formed.
 pub fn positions_are_well_formed()
-    ensures { (r : Recording) (n : ℕ) → 0 < r.limits.goroutines → WellFormed (world_at r n) }
+    ensures { (r : Recording) (n : ℕ) → 0 < r.limits.goroutines → All IsTimely r.steps
+        → WellFormed (world_at r n) }
 {}
 
 /// What a status, a heap entry or a firing names was made, so no look-up of it is refused.
@@ -48,4 +55,42 @@ pub fn what_is_named_is_there()
     ensures place { (w : World) (g d : ℕ) (side : Side) → WellFormed w → IsInside w.goroutines g d side → (row : DescriptorRow) × (slice_get w.descriptors d ≡ Some row) }
     ensures socket { (w : World) (g s : ℕ) → WellFormed w → Shows socket_named w.goroutines g s → (socket : Socket) × (slice_get w.sockets s ≡ Some socket) }
     ensures entry { (w : World) (p : Stand) (e : Entry) → WellFormed w → standing w.descriptors w.firings p ≡ Some e → (row : DescriptorRow) × (slice_get w.descriptors e.descriptor ≡ Some row) }
+{}
+
+/// What the weights of a way back count is all that there is: each type that they look into has just the
+/// parts counted, so that nothing can be kept beside them.
+pub fn weights_count_every_part()
+    ensures sides { (both : Sides ℕ) → both ≡ record { read = both.read; write = both.write } }
+    ensures lock { (lock : Lock) → lock ≡ record {
+      closed = lock.closed;
+      locked = lock.locked;
+      references = lock.references;
+      waiters = lock.waiters;
+    } }
+    ensures timer { (timer : Timer) → timer ≡ record {
+      due = timer.due;
+      number = timer.number;
+      function = timer.function;
+      sequence = timer.sequence;
+    } }
+    ensures entry { (e : Entry) → e ≡ record {
+      descriptor = e.descriptor;
+      side = e.side;
+      timer = e.timer;
+    } }
+    ensures descriptor { (d : Descriptor) → d ≡ record {
+      words = d.words;
+      closing = d.closing;
+      event_error = d.event_error;
+      deadlines = d.deadlines;
+      running = d.running;
+      sequences = d.sequences;
+      fdseq = d.fdseq;
+      socket = d.socket;
+    } }
+    ensures row { (row : DescriptorRow) → row ≡ record {
+      descriptor = row.descriptor;
+      timers = row.timers;
+    } }
+    ensures kept { (bytes : Kept) → bytes ≡ record { items = bytes.items } }
 {}

@@ -10,7 +10,9 @@
 mod answer;
 mod bytes;
 mod cell;
+mod cell_value;
 mod descriptor;
+mod kept;
 pub mod laws;
 mod limits;
 mod lock;
@@ -27,9 +29,11 @@ mod worlds;
 
 pub use answer::Answer;
 pub use bytes::Bytes;
-pub use cell::{Cell, CellValue};
+pub use cell::Cell;
+pub use cell_value::CellValue;
 pub use descriptor::{Descriptor, DescriptorRow, Word};
-pub use limits::Limits;
+pub use kept::KeptBytes;
+pub use limits::{Limits, MOST_BUFFER, MOST_DESCRIPTORS, MOST_GOROUTINES, MOST_SOCKETS, is_limit};
 pub use lock::{Lock, LockOutcome};
 pub use queue::Queue;
 pub use refusal::Refusal;

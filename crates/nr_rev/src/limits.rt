@@ -1,14 +1,53 @@
-//! The limits of a recording.
+//! The limits of a recording, and their ranges.
+
+ghost use Rattle.std.specs.Prelude.{◌≡◌};
+ghost use Rattle.nr_rev.specs.Limits.{is_limit};
+
+/// The most goroutines that a recording may make.
+pub const MOST_GOROUTINES: u32 = 4_096;
+
+/// The most sockets that a recording may open.
+pub const MOST_SOCKETS: u32 = 256;
+
+/// The most descriptors that may be open at once.
+pub const MOST_DESCRIPTORS: u32 = 256;
+
+/// The greatest capacity of a buffer, in bytes.
+pub const MOST_BUFFER: u32 = 65_536;
 
 /// How many goroutines, sockets and descriptors a recording may make, and how many bytes a buffer may hold.
 #[derive(Clone, Copy, Debug, PartialEq, Eq)]
 pub struct Limits {
-    /// The goroutines that may be made, the first and those that are gone included; at least 1.
+    /// The goroutines that may be made, the first and those that are gone included; 1 to 4,096.
     pub goroutines: u32,
-    /// The sockets that may be opened.
+    /// The sockets that may be opened; 1 to 256.
     pub sockets: u32,
-    /// The descriptors that may be open at once. Twice as many firings may wait.
+    /// The descriptors that may be open at once; 1 to 256. Twice as many firings may wait.
     pub descriptors: u32,
-    /// The greatest capacity of a socket's input or output, and the most that one read may ask for, in bytes.
+    /// The greatest capacity of a socket's input or output, and the most that one read may ask for, in bytes; 1 to
+    /// 65,536.
     pub buffer: u32,
+}
+
+impl Limits {
+    ghost use Rattle.std.specs.Bool.{OnTrue};
+    ghost use Rattle.nr_rev.specs.Limits.{AreInRange, are_in_range};
+
+    /// Whether each limit is in its range.
+    pub fn are_in_range(&self) -> bool
+        ensures value { result ≡ are_in_range self.now }
+        ensures facts { OnTrue result (AreInRange self.now) }
+    {
+        is_limit(MOST_GOROUTINES, self.goroutines)
+            && is_limit(MOST_SOCKETS, self.sockets)
+            && is_limit(MOST_DESCRIPTORS, self.descriptors)
+            && is_limit(MOST_BUFFER, self.buffer)
+    }
+}
+
+/// Whether a limit is from 1 to the most that there may be.
+pub fn is_limit(most: u32, number: u32) -> bool
+    ensures { result ≡ is_limit most number }
+{
+    number > 0 && number <= most
 }

@@ -3,6 +3,7 @@
 ghost use Rattle.std.specs.Prelude.{◌≡◌, ◌≤◌, ℕ, Option, Some, IfOk, IfErr, OnErr};
 ghost use Rattle.nr_rev.specs.Reversible.{IsLight, Refuses};
 ghost use Rattle.nr_rev.specs.declared.refusal.Refusal.{Refusal};
+ghost use Rattle.nr_rev.specs.declared.refusal.Refusal.TheVariants.{Memory};
 
 use crate::refusal::Refusal;
 
@@ -33,8 +34,8 @@ pub trait Reversible {
     /// Why the operation does not apply in the state, want of memory aside.
     ghost reason: { Self → Self.Op → Option Refusal };
 
-    /// Holds of the operations that may be refused memory.
-    ghost takes_memory: { Self.Op → Type 0 };
+    /// Holds of the operations that take memory in the state, and so may be refused it.
+    ghost takes_memory: { Self → Self.Op → Type 0 };
 
     /// The delta leads back from the new state to the old one.
     ghost back: { Self.Delta → Self → Self → Type 0 };
@@ -68,6 +69,12 @@ pub trait Reversible {
 
     /// Where there is a reason, no step is possible.
     ghost refused_has_no_step: { (old : Self) (op : Self.Op) (e : Refusal) (answer : Self.Answer) (new : Self) → reason old op ≡ Some e → steps old op answer new → ⊥ };
+
+    /// Want of memory is no reason.
+    ghost memory_is_no_reason: { (old : Self) (op : Self.Op) → is_well_formed old → reason old op ≡ Some Memory → ⊥ };
+
+    /// From a state, an operation gives one answer and leads to one state.
+    ghost steps_unique: { (old : Self) (op : Self.Op) (a b : Self.Answer) (new other : Self) → steps old op a new → steps old op b other → (a ≡ b) × (new ≡ other) };
 
     /// No operation is allowed more than all are.
     ghost allowance_is_within: { (op : Self.Op) → allowance op ≤ WORDS };

@@ -62,3 +62,14 @@ pub enum Status {
     /// It has ended. Its number is not used again.
     Gone,
 }
+
+impl Status {
+    ghost use Rattle.std.specs.Prelude.{◌≡◌, ◌≢◌, MatchBool};
+
+    /// Whether it is the same status as another.
+    pub fn is(self, other: Status) -> bool
+        ensures { MatchBool result (self ≡ other) (self ≢ other) }
+    {
+        self == other
+    }
+}

@@ -14,7 +14,7 @@ ghost use Rattle.nr_rev.specs.declared.status.Status.{Status};
 ghost use Rattle.nr_rev.specs.declared.refusal.Refusal.{Refusal};
 ghost use Rattle.nr_rev.specs.declared.answer.Answer.{Answer};
 ghost use Rattle.nr_rev.specs.declared.cell.Cell.{Cell};
-ghost use Rattle.nr_rev.specs.declared.cell.CellValue.{CellValue};
+ghost use Rattle.nr_rev.specs.declared.cell_value.CellValue.{CellValue};
 ghost use Rattle.nr_rev.specs.declared.step.Step.{Step};
 
 /// The operations of `internal/poll/fd_mutex.go` on single lock words. `increfAndClose` wakes every waiter, of both

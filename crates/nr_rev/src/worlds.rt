@@ -1,19 +1,20 @@
 //! What a world owes, whatever represents it.
 
-ghost use Rattle.std.specs.Prelude.{◌≡◌, ◌<◌, Ok, IfOk, IfErr, OnErr};
+ghost use Rattle.std.specs.Prelude.{◌≡◌, Ok, Some, IfOk, IfErr, OnErr};
 ghost use Rattle.nr_rev.specs.Cell.{cell, bytes_of, queue_of};
-ghost use Rattle.nr_rev.specs.Reversible.{Refuses};
 ghost use Rattle.nr_rev.specs.Step.{outcome};
 ghost use Rattle.nr_rev.specs.WellFormed.{WellFormed};
 ghost use Rattle.nr_rev.specs.World.{World, empty_world};
-ghost use Rattle.nr_rev.specs.Worlds.{KeepsBytes, bytes_left, refusal_of};
+ghost use Rattle.nr_rev.specs.Limits.{AreInRange};
+ghost use Rattle.nr_rev.specs.Worlds.{HasItems, LosesBytes, bytes_left, refusal_of};
 ghost use Rattle.nr_rev.specs.declared.answer.Answer.{Answer};
 ghost use Rattle.nr_rev.specs.declared.refusal.Refusal.TheVariants.{Memory};
 ghost use Rattle.nr_rev.specs.declared.step.Step.{Step};
 
 use crate::answer::Answer;
 use crate::bytes::Bytes;
-use crate::cell::{Cell, CellValue};
+use crate::cell::Cell;
+use crate::cell_value::CellValue;
 use crate::limits::Limits;
 use crate::queue::Queue;
 use crate::refusal::Refusal;
@@ -28,9 +29,9 @@ pub trait Worlds: Reversible<Op = Step, Answer = Answer> + Sized {
     ghost world: { Self → World };
 
     /// The world before the first step: goroutine 0 is idle, and there is nothing else. All the room that
-    /// its limits allow is made here.
+    /// its limits allow is made here, so that only a dump and a step which keeps bytes take memory later.
     fn fresh(alloc: Global, limits: Limits) -> Result<Self, Refusal>
-        requires { 0 < limits.goroutines }
+        requires { AreInRange limits }
         ensures well_formed { IfOk result (λ w. Self.is_well_formed w) }
         ensures world { IfOk result (λ w. world w ≡ empty_world limits) }
         ensures err { IfErr result (λ e. e ≡ Memory) };
@@ -40,12 +41,12 @@ pub trait Worlds: Reversible<Op = Step, Answer = Answer> + Sized {
         ensures ok { IfOk result (λ w. w ≡ self.now) }
         ensures err { IfErr result (λ e. e ≡ Memory) };
 
-    /// Applies the step as `apply` does, and keeps no way back.
+    /// Applies the step as `apply` does, and keeps no way back. Takes no memory.
     fn advance(&mut self, step: &Step) -> Result<Answer, Refusal>
         requires { Self.is_well_formed self.old }
         ensures step { IfOk result (λ answer. Self.steps self.old step.now answer self.new) }
         ensures well_formed { Self.is_well_formed self.new }
-        ensures refusal { IfErr result (Refuses Self.reason Self.takes_memory self.old step.now) }
+        ensures refusal { IfErr result (λ e. Self.reason self.old step.now ≡ Some e) }
         ensures unchanged { OnErr result (self.new ≡ self.old) };
 
     /// The value of a cell.
@@ -53,15 +54,19 @@ pub trait Worlds: Reversible<Op = Step, Answer = Answer> + Sized {
         requires { Self.is_well_formed self.now }
         ensures { result ≡ cell (world self.now) what };
 
-    /// The bytes that a socket's buffer holds, reading the input; `None` where there is no such socket.
+    /// The bytes that a socket's buffer holds, reading the input; `None` where there is no such socket. Takes memory
+    /// for these bytes alone, so where there are none it isn't refused.
     fn bytes(&self, socket: u32, side: Side) -> Result<Option<Bytes>, Refusal>
         ensures ok { IfOk result (λ bytes. bytes ≡ bytes_of (world self.now) socket side) }
-        ensures err { IfErr result (λ e. e ≡ Memory) };
+        ensures err { IfErr result (λ e. e ≡ Memory) }
+        ensures some { OnErr result (HasItems (bytes_of (world self.now) socket side)) };
 
-    /// The goroutines queued at a socket's semaphore, front first; `None` where there is no such socket.
+    /// The goroutines queued at a socket's semaphore, front first; `None` where there is no such socket. Takes memory
+    /// for their numbers alone, so where none is queued it isn't refused.
     fn queue(&self, socket: u32, side: Side) -> Result<Option<Queue>, Refusal>
         ensures ok { IfOk result (λ queue. queue ≡ queue_of (world self.now) socket side) }
-        ensures err { IfErr result (λ e. e ≡ Memory) };
+        ensures err { IfErr result (λ e. e ≡ Memory) }
+        ensures some { OnErr result (HasItems (queue_of (world self.now) socket side)) };
 
     /// Its steps are those of the machine.
     ghost steps_are: { (old : Self) (step : Step) (answer : Answer) (new : Self) → Self.steps old step answer new → outcome (world old) step ≡ Ok (answer, world new) };
@@ -69,8 +74,8 @@ pub trait Worlds: Reversible<Op = Step, Answer = Answer> + Sized {
     /// So are its reasons.
     ghost reasons_are: { (old : Self) (step : Step) → Self.reason old step ≡ refusal_of (outcome (world old) step) };
 
-    /// Memory is refused only where bytes leave a buffer, which the way back keeps.
-    ghost memory_is_for_bytes: { (step : Step) → Self.takes_memory step → KeepsBytes step };
+    /// Memory is taken only where bytes leave a buffer, which the way back keeps.
+    ghost memory_is_for_bytes: { (old : Self) (step : Step) → Self.takes_memory old step → LosesBytes (world old) step };
 
     /// Those are the bytes that its deltas may weigh more by.
     ghost bytes_out_are: { (step : Step) (answer : Answer) → Self.bytes_out step answer ≡ bytes_left step answer };

@@ -1,28 +1,25 @@
--- A word of a descriptor changes together with the status of the goroutine inside its wait.
-use Rattle.std.proofs.Common.{◌≡◌, ◌≢◌, ℕ, Bool, true, false, ◌&&◌, List, Option, Some, None, Ok, ◌⊎◌, inl, inr, refl, sym, ap, subst, ◌∙◌, set, length-set, arith}
-use Rattle.std.proofs.lemmas.Option.{none-some, some_pair_parts}
-use Rattle.std.specs.Prelude.{slice_get, if◌then◌else◌, sum_by, option_map}
+-- A word of a descriptor is set together with a goroutine's status, or cleared.
+use Rattle.std.proofs.Common.{◌≡◌, ◌≢◌, ℕ, false, List, Option, Some, None, ◌⊎◌, inl, inr, refl, sym, ap, ◌∙◌, set, length-set, arith}
+use Rattle.std.proofs.lemmas.Option.{none-some}
+use Rattle.std.specs.Prelude.{slice_get, sum_by, option_map}
 use Rattle.std.specs.Option.{option_and_then}
 use Rattle.nr_rev.specs.declared.sides.Side.{Side}
 use Rattle.nr_rev.specs.declared.status.Status.{Status}
-use Rattle.nr_rev.specs.declared.status.Status.TheVariants.{Idle, Entering, Armed, Parking, Parked, Swapping, Checking}
+use Rattle.nr_rev.specs.declared.status.Status.TheVariants.{Entering, Armed, Parking, Parked, Swapping}
 use Rattle.nr_rev.specs.declared.descriptor.Word.{Word}
 use Rattle.nr_rev.specs.declared.descriptor.Word.TheVariants.{Nil, Ready, Held}
-use Rattle.nr_rev.specs.declared.answer.Answer.{Answer}
 use Rattle.nr_rev.specs.Sides.{of_side, with_side}
 use Rattle.nr_rev.specs.declared.descriptor.DescriptorRow.{DescriptorRow}
 use Rattle.nr_rev.specs.World.{World, wait_of, with_row, is_free_number, is_waited}
 use Rattle.nr_rev.specs.WellFormed.{WellFormed, WordsFit, IsInside, Shows, HasWord, parked_of, awaiting_of, is_queued, is_held, held_count}
 use Rattle.nr_rev.proofs.Lists.{slice_get-set_unseen, slice_get-set_here}
-use Rattle.nr_rev.proofs.Reasons.{bound_then, then_ok, if_ok, same_ok, next_is}
-use Rattle.nr_rev.proofs.Found.{status_ok, row_ok, open_row_ok, nobody_inside}
+use Rattle.nr_rev.proofs.Found.{nobody_inside}
 use Rattle.nr_rev.proofs.SameViews.{QueuesFit-same}
-use Rattle.nr_rev.proofs.Moved.{MayMove, GoroutinesFit-moved, shown_cases, shown_kept}
+use Rattle.nr_rev.proofs.StatusSet.{MayMove, GoroutinesFit-moved, shown_cases, shown_kept}
 use Rattle.nr_rev.specs.Lock.{bit}
-use Rattle.nr_rev.specs.Step.{blockarm, blockswap, pollreset, with_wait, armed_by, swapped_by, entering_of, swapping_of, status_of, row_of, idle, open_row_of}
+use Rattle.nr_rev.specs.Step.{with_wait}
 use Rattle.nr_rev.proofs.Reworded.{reworded, with_word_at, word_at_cases, word_kept, TimersFit-reworded, FreeFits-reworded, GoroutinesFit-rows}
 use Rattle.nr_rev.proofs.Unblocked.{held_sum, unblocked_quietly, parked_at, if_clear}
-use Rattle.nr_rev.proofs.Moving.{may_leave, may_stay, entering_ok, swapping_ok}
 
 -- a word that holds no goroutine
 pub record IsUnheld (word : Word) : Type 0 where
@@ -137,61 +134,8 @@ nil_unheld = record { none = λ k e. cc; uncounted = refl }
 pub ready_unheld : IsUnheld Ready
 ready_unheld = record { none = λ k e. cc; uncounted = refl }
 
-wait_unheld : IsUnheld Word.Wait
+pub wait_unheld : IsUnheld Word.Wait
 wait_unheld = record { none = λ k e. cc; uncounted = refl }
-
-armed : (w next : World) (answer : Answer) (g d : ℕ) (side : Side) (row : DescriptorRow) (word : Word) → WellFormed w → slice_get w.goroutines g ≡ Some (Entering d side) → slice_get w.descriptors d ≡ Some row → of_side side row.descriptor.words ≡ word → armed_by g d side word row w ≡ Ok (answer, next) → WellFormed next
-armed w next answer g d side row Nil h at row_at is e =
-    subst WellFormed (next_is _ _ _ _ e)
-    (worded w g d side row (Entering d side) (Armed d side) Nil Word.Wait h at row_at (h.goroutines.inside_open g d side (ap (option_and_then wait_of) at)).1 is nil_unheld wait_unheld
-    (record { unparked = (refl, refl); awaits = λ _. refl; only = λ k s e. cc; unqueued = λ _ _. refl })
-    (may_stay w g _ _ (d, side) h at refl refl refl refl))
-armed w next answer g d side row Ready h at row_at is e =
-    subst WellFormed (next_is _ _ _ _ e)
-    (worded w g d side row (Entering d side) Idle Ready Nil h at row_at (h.goroutines.inside_open g d side (ap (option_and_then wait_of) at)).1 is ready_unheld nil_unheld
-    (record { unparked = (refl, refl); awaits = λ e. cc; only = λ k s e. cc; unqueued = λ _ _. refl })
-    (may_leave w g Idle refl refl refl))
-armed w next answer g d side row Word.Wait h at row_at is e = cc
-armed w next answer g d side row (Held k) h at row_at is e = cc
-
-pub blockarm_keeps : (w next : World) (answer : Answer) (g : ℕ) → WellFormed w → blockarm g w ≡ Ok (answer, next) → WellFormed next
-blockarm_keeps w next answer g h e =
-    bound_then _ (status_of g w) _ _ e λ status has e.
-    bound_then _ (entering_of status) _ _ e λ place is e.
-    bound_then _ (row_of place.0 w) _ _ e λ row found e.
-    armed w next answer g place.0 place.1 row _ h (status_ok g w status has ∙ ap Some (entering_ok status place is)) (row_ok place.0 w row found) refl e
-
-swapped : (w : World) (g d : ℕ) (side : Side) (row : DescriptorRow) (word : Word) → WellFormed w → slice_get w.goroutines g ≡ Some (Swapping d side) → slice_get w.descriptors d ≡ Some row → of_side side row.descriptor.words ≡ word → WellFormed (swapped_by g d side word row w).1
-swapped w g d side row word h at row_at is = go word is
-  where
-    only : (k : ℕ) (s : Side) → awaiting_of (Swapping d side) ≡ Some (k, s) → (k ≡ d) × (s ≡ side)
-    only k s e = let p = some_pair_parts d k side s e in (sym p.0, sym p.1)
-
-    is_open : is_free_number d w.free ≡ false
-    is_open = (h.goroutines.inside_open g d side (ap (option_and_then wait_of) at)).1
-
-    checks : (was : Word) → of_side side row.descriptor.words ≡ was → IsUnheld was → WellFormed (with_wait g (Checking d side) d side Nil row w)
-    checks was is unheld =
-        worded w g d side row (Swapping d side) (Checking d side) was Nil h at row_at is_open is unheld nil_unheld
-        (record { unparked = (refl, refl); awaits = λ e. cc; only = only; unqueued = λ _ _. refl })
-        (may_stay w g _ _ (d, side) h at refl refl refl refl)
-
-    go : (was : Word) → of_side side row.descriptor.words ≡ was → WellFormed (swapped_by g d side was row w).1
-    go Ready is =
-        worded w g d side row (Swapping d side) Idle Ready Nil h at row_at is_open is ready_unheld nil_unheld
-        (record { unparked = (refl, refl); awaits = λ e. cc; only = only; unqueued = λ _ _. refl })
-        (may_leave w g Idle refl refl refl)
-    go Nil is = checks Nil is nil_unheld
-    go Word.Wait is = checks Word.Wait is wait_unheld
-    go (Held k) is = absurd (word_at_swap w g k d side h at (word_has w d side row (Held k) row_at is))
-
-pub blockswap_keeps : (w next : World) (answer : Answer) (g : ℕ) → WellFormed w → blockswap g w ≡ Ok (answer, next) → WellFormed next
-blockswap_keeps w next answer g h e =
-    bound_then _ (status_of g w) _ _ e λ status has e.
-    bound_then _ (swapping_of status) _ _ e λ place is e.
-    bound_then _ (row_of place.0 w) _ _ e λ row found e.
-    subst WellFormed (ap (λ (p : Answer × World). p.1) (same_ok _ _ e))
-    (swapped w g place.0 place.1 row _ h (status_ok g w status has ∙ ap Some (swapping_ok status place is)) (row_ok place.0 w row found) refl)
 
 -- a word that holds nobody and waits for nobody is cleared
 pub cleared : (w : World) (d : ℕ) (side : Side) (row : DescriptorRow) → WellFormed w → slice_get w.descriptors d ≡ Some row → is_free_number d w.free ≡ false → (of_side side row.descriptor.words ≡ Nil) ⊎ (of_side side row.descriptor.words ≡ Ready) → WellFormed (with_row d (reworded row (with_side side Nil row.descriptor.words)) w)
@@ -200,17 +144,3 @@ cleared w d side row h row_at is_open either =
       | inl nil ↦ unblocked_quietly w d row side Nil Nil h row_at is_open nil (λ k e. cc) refl (if_clear false)
       | inr ready ↦ unblocked_quietly w d row side Ready Nil h row_at is_open ready (λ k e. cc) refl (if_clear false)
     ]
-
-reset : (w next : World) (d : ℕ) (side : Side) (row : DescriptorRow) (zero : Bool) → WellFormed w → slice_get w.descriptors d ≡ Some row → is_free_number d w.free ≡ false → (zero && is_waited d side w.goroutines) ≡ false → (if zero then with_row d (reworded row (with_side side Nil row.descriptor.words)) w else w) ≡ next → WellFormed next
-reset w next d side row false h row_at is_open nobody is = subst WellFormed is h
-reset w next d side row true h row_at is_open nobody is =
-    subst WellFormed is
-    (cleared w d side row h row_at is_open (word_at_rest w d side _ h nobody (word_has w d side row _ row_at refl)))
-
-pub pollreset_keeps : (w next : World) (answer : Answer) (g d : ℕ) (side : Side) → WellFormed w → pollreset g d side w ≡ Ok (answer, next) → WellFormed next
-pollreset_keeps w next answer g d side h e =
-    let a = then_ok (idle g w) _ _ e in
-    bound_then _ (open_row_of d w) _ _ a.1 λ row found e.
-    let c = then_ok _ _ _ e in
-    let f = open_row_ok d w row found in
-    reset w next d side row _ h f.0 f.1 (if_ok _ _ c.0) (next_is _ _ _ _ c.1)

@@ -1,37 +1,37 @@
 -- A deadline is set: each side's timer follows it, and sides that are past are unblocked.
-use Rattle.std.proofs.Common.{◌≡◌, ◌≢◌, ℕ, ◌+◌, ◌^◌, ◌<◌, ◌≤◌, ℤ, int_eq, Bool, true, false, not, ◌&&◌, List, [], ◌∷◌, ◌++◌, Option, Some, None, Ok, ◌⊎◌, inl, inr, refl, sym, ap, ap₂, subst, ◌∙◌, arith, true≢false}
+use Rattle.std.proofs.Common.{lit<, pos, negsuc, ◌≡◌, ◌≢◌, ℕ, ◌+◌, ◌^◌, ◌<◌, ◌≤◌, ℤ, int_eq, Bool, true, false, not, ◌&&◌, List, [], ◌∷◌, ◌++◌, Option, Some, None, Ok, ◌⊎◌, inl, inr, refl, sym, ap, ap₂, subst, ◌∙◌, arith, true≢false}
 use Rattle.std.proofs.lemmas.Option.{same_Some, none-some}
-use Rattle.std.specs.Prelude.{slice_get, if◌then◌else◌, ◌==◌}
+use Rattle.std.specs.Prelude.{slice_get, if◌then◌else◌, ◌==◌, ◌≤ℤ◌, ◌-◌, nat_lt}
+use Rattle.std.specs.Int.{int_min}
+use Rattle.std.proofs.lemmas.Bool.{ltb-false}
 use Rattle.nr_rev.specs.declared.sides.Side.{Side}
 use Rattle.nr_rev.specs.declared.sides.Side.TheVariants.{Read, Write}
-use Rattle.nr_rev.specs.declared.answer.Answer.{Answer}
 use Rattle.nr_rev.specs.declared.sides.Sides.{Sides}
-use Rattle.nr_rev.specs.Sides.{of_side, with_side}
-use Rattle.nr_rev.specs.Refusing.{raised_sequence}
+use Rattle.nr_rev.specs.Sides.{of_side, with_side, names_side}
+use Rattle.nr_rev.specs.Refusing.{raised_sequence, ◌>>=◌}
 use Rattle.nr_rev.specs.declared.descriptor.DescriptorRow.{DescriptorRow}
 use Rattle.nr_rev.specs.World.{World}
 use Rattle.nr_rev.specs.WellFormed.{WellFormed, RowFits}
-use Rattle.nr_rev.proofs.Reasons.{bound_then, then_ok, same_ok, next_is, either_then}
+use Rattle.nr_rev.proofs.Reasons.{bound_then, same_ok, either_then}
 use Rattle.nr_rev.proofs.Found.{open_row_ok}
 use Rattle.nr_rev.specs.declared.sides.Mode.{Mode}
 use Rattle.nr_rev.specs.declared.timer.TimerFunction.{TimerFunction}
-use Rattle.nr_rev.specs.Refusing.{◌>>=◌}
 use Rattle.nr_rev.specs.declared.timer.Timer.{Timer}
+use Rattle.nr_rev.specs.Timer.{IsTime}
 use Rattle.nr_rev.specs.declared.timer.TimerOrder.{TimerOrder}
 use Rattle.nr_rev.specs.declared.timer.TimerOrder.TheVariants.{Arm, Stop}
 use Rattle.nr_rev.specs.declared.descriptor.Descriptor.{Descriptor}
 use Rattle.nr_rev.specs.Descriptor.{Change, timer_function, quiet, is_combo, is_positive, is_expired, wants_timer, timer_reset, timer_follows, with_deadlines, deadline_from, deadline_set, and_then}
-use Rattle.nr_rev.specs.Step.{changed, obeyed, all_obeyed, idle, open_row_of}
+use Rattle.nr_rev.specs.Step.{changed, obeyed, all_obeyed, idle, open_row_of, setdeadline}
 use Rattle.nr_rev.proofs.Retimed.{Retimed, SideStays, SideBegins}
-use Rattle.nr_rev.proofs.SideAfter
 use Rattle.nr_rev.proofs.SideAfter.{SideAfter, entry_fits, firing_fits, none_current, combo_fits}
-use Rattle.nr_rev.proofs.Follows
-use Rattle.nr_rev.proofs.Follows.{Followed, timer_followed, both_true, not_true}
+use Rattle.nr_rev.proofs.Follows.{Followed, timer_followed}
 use Rattle.nr_rev.proofs.Reworded.{of_side-with_side_same, of_side-with_side_other}
-use Rattle.nr_rev.proofs.Changes.{changed_keeps, retimed_still, old_number}
-use Rattle.nr_rev.specs.Step.{setdeadline}
-use Rattle.nr_rev.proofs.EvictKeeps.{raised_range}
+use Rattle.nr_rev.proofs.Changes.{changed_keeps, retimed_still, old_number, raised_range, Spares-changed}
 use Rattle.nr_rev.specs.Lock.{bit}
+use Rattle.nr_rev.proofs.Outcomes.{KeepsFor, Spares, Spares-ok, Ends-ok, Ends-bind, Ends-then, Ends-either, Spares-idle, Spares-open_row_of, Spares-raised_sequence}
+use Rattle.nr_rev.proofs.Follows
+use Rattle.nr_rev.proofs.SideAfter
 
 -- what a side's timer leaves of the descriptor when it follows its deadline
 pub record Frame (side : Side) (d : Descriptor) (change : Change) : Type 0 where
@@ -254,8 +254,8 @@ module _ (w : World) (d : ℕ) (row : DescriptorRow) (new : Descriptor) (first l
   apart_of Read Write a b is_a is_b n same = let lower = numbers_apart a b is_a is_b n (omega arith) in absurd (omega arith)
   apart_of Write Read a b is_a is_b n same = let lower = numbers_apart b a is_b is_a (omega arith) n in absurd (omega arith)
 
-  pub both_followed : new.closing ≡ false → ((side : Side) → of_side side new.sequences < 2 ^ 64) → new.fdseq < 2 ^ 64 → Retimed w.firings d row (record { descriptor = new; timers = last }) w.next_arming m
-  both_followed still_open bounds fdseq =
+  pub both_followed : new.closing ≡ false → ((side : Side) → of_side side new.sequences < 2 ^ 64) → new.fdseq < 2 ^ 64 → ((side : Side) → IsTime (of_side side new.deadlines)) → Retimed w.firings d row (record { descriptor = new; timers = last }) w.next_arming m
+  both_followed still_open bounds fdseq times =
       let fits : RowFits row = h.timers.entries_fit d row at in
       let r = read.rises in
       let c = write.rises in
@@ -267,6 +267,7 @@ module _ (w : World) (d : ℕ) (row : DescriptorRow) (new : Descriptor) (first l
               closing = λ e. absurd (true≢false (sym e ∙ still_open));
               sequences = bounds;
               fdseq = fdseq;
+              times = times;
             };
         firing = λ i e _ _ f. firing_fits e row.descriptor new (of_side e.side row.timers) (of_side e.side last) (after_of e.side) f;
         sides = side_of;
@@ -279,15 +280,49 @@ sides_bounded : (a b : ℕ) → a < 2 ^ 64 → b < 2 ^ 64 → (both : Sides ℕ)
 sides_bounded a b p q both e f Read = subst (λ n. n < 2 ^ 64) (sym e) p
 sides_bounded a b p q both e f Write = subst (λ n. n < 2 ^ 64) (sym f) q
 
-pub setdeadline_keeps : (w next : World) (answer : Answer) (g d : ℕ) (mode : Mode) (t : ℤ) → WellFormed w → setdeadline g d mode t w ≡ Ok (answer, next) → WellFormed next
-setdeadline_keeps w next answer g d mode t h e =
-    let i = then_ok (idle g w) _ _ e in
-    bound_then _ (open_row_of d w) _ _ i.1 λ row found e.
-    bound_then _ (deadline_set w.clock mode t row.descriptor) _ _ e λ change sets e.
-    bound_then _ (changed d row change w) _ _ e λ after does e.
+-- the earlier of some time and the last one there is
+min_is_time : (n : ℕ) → IsTime (int_min (pos n) (pos (2 ^ 63 - 1)))
+min_is_time n = go (nat_lt (2 ^ 63 - 1) n) refl
+  where
+    go : (b : Bool) → nat_lt (2 ^ 63 - 1) n ≡ b → IsTime (if b then pos (2 ^ 63 - 1) else pos n)
+    go true e = record { sfits = lit< tt }
+    go false e = let most : n ≤ 2 ^ 63 - 1 = ltb-false (2 ^ 63 - 1) n e in record { sfits = omega arith }
+
+either_time : (b : Bool) (s t : ℤ) → IsTime s → IsTime t → IsTime (if b then s else t)
+either_time true s t first second = first
+either_time false s t first second = second
+
+-- a deadline is a time, set or not
+deadline_is_time : (clock t : ℤ) → pos 0 ≤ℤ clock → IsTime t → IsTime (deadline_from clock t)
+deadline_is_time (pos c) (pos k) begun is_time = either_time (is_positive (pos k)) _ (pos k) (min_is_time (c + k)) is_time
+deadline_is_time (pos c) (negsuc k) begun is_time = is_time
+deadline_is_time (negsuc c) t begun is_time = absurd begun.le
+
+set_times : (mode : Mode) (t : ℤ) (d : Descriptor) → IsTime t → ((side : Side) → IsTime (of_side side d.deadlines)) → (side : Side) → IsTime (of_side side (with_deadlines mode t d).deadlines)
+set_times mode t d is_time old Read = either_time (names_side mode Read) t d.deadlines.read is_time (old Read)
+set_times mode t d is_time old Write = either_time (names_side mode Write) t d.deadlines.write is_time (old Write)
+
+Spares-timer_follows : (side : Side) (old d : Descriptor) → Spares (timer_follows side old d)
+Spares-timer_follows side old d =
+    Ends-either _ (not (of_side side d.running)) _ _ (λ _. Spares-ok _) (λ _.
+    Ends-either _ (int_eq (of_side side old.deadlines) (of_side side d.deadlines) && (bit (is_combo old) == bit (is_combo d))) _ _ (λ _. Spares-ok _) (λ _.
+    Ends-bind _ (raised_sequence (of_side side d.sequences)) _ (Spares-raised_sequence _) (λ n _. Spares-ok _)))
+
+Spares-deadline_set : (clock : ℤ) (mode : Mode) (t : ℤ) (old : Descriptor) → Spares (deadline_set clock mode t old)
+Spares-deadline_set clock mode t old =
+    Ends-either _ old.closing _ _ (λ _. Spares-ok _) (λ _.
+    Ends-bind _ (timer_follows Read old (with_deadlines mode (deadline_from clock t) old)) _ (Spares-timer_follows Read old (with_deadlines mode (deadline_from clock t) old)) (λ read _.
+    Ends-bind _ (timer_follows Write old read.descriptor) _ (Spares-timer_follows Write old read.descriptor) (λ write _. Spares-ok _)))
+
+pub setdeadline_sound : (w : World) (g d : ℕ) (mode : Mode) (t : ℤ) → WellFormed w → KeepsFor (IsTime t) (setdeadline g d mode t w)
+setdeadline_sound w g d mode t h =
+    Ends-then _ (idle g w) _ (Spares-idle g w) λ _.
+    Ends-bind _ (open_row_of d w) _ (Spares-open_row_of d w) λ row found.
+    Ends-bind _ (deadline_set w.clock mode t row.descriptor) _ (Spares-deadline_set w.clock mode t row.descriptor) λ change sets.
+    Ends-bind _ (changed d row change w) _ (Spares-changed d row change w) λ after does.
     let f = open_row_ok d w row found in
     let fits : RowFits row = h.timers.entries_fit d row f.0 in
-    subst WellFormed (next_is Answer.Done answer _ _ e)
+    Ends-ok _ _ λ is_time.
     (either_then _ row.descriptor.closing _ _ _ sets
     (λ closing is.
     changed_keeps w after d row (quiet row.descriptor) false false false h f.0 f.1 refl refl
@@ -318,7 +353,10 @@ setdeadline_keeps w next answer g d mode t h e =
     (orders_obeyed Write row.descriptor write.descriptor o.0.0 timers o.0.1 m write.orders write_follows o.2)
     (b.closing ∙ a.closing ∙ still_open)
     (sides_bounded _ _ (a.bound (fits.sequences Read)) (b.bound (subst (λ n. n < 2 ^ 64) (sym (a.sequences Write (λ e. cc))) (fits.sequences Write))) write.descriptor.sequences (b.sequences Read (λ e. cc)) refl)
-    (subst (λ n. n < 2 ^ 64) (sym (b.fdseq ∙ a.fdseq)) fits.fdseq))
+    (subst (λ n. n < 2 ^ 64) (sym (b.fdseq ∙ a.fdseq)) fits.fdseq)
+    (λ side.
+    subst (λ (both : Sides ℤ). IsTime (of_side side both)) (sym (b.deadlines ∙ a.deadlines))
+    (set_times mode (deadline_from w.clock t) row.descriptor (deadline_is_time w.clock t h.clock.begun is_time) fits.times side)))
     (ap (λ c. changed d row c w) (same_ok _ _ is) ∙ does)))
   where
     still : (w : World) (d : ℕ) (row : DescriptorRow) (timers : Sides (Option Timer)) (m : ℕ) → WellFormed w → slice_get w.descriptors d ≡ Some row → row.timers ≡ timers → w.next_arming ≡ m → Retimed w.firings d row (record { descriptor = row.descriptor; timers = timers }) w.next_arming m

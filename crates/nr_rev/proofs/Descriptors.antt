@@ -1,47 +1,126 @@
--- A descriptor is taken from the free ones, or goes to them.
-use Rattle.std.proofs.Common.{◌≡◌, ◌≢◌, ℕ, ◌+◌, ◌^◌, ◌<◌, ◌≤◌, pos, Bool, true, false, ◌||◌, List, [], ◌∷◌, ◌++◌, Option, Some, None, Ok, ◌⊎◌, inl, inr, refl, sym, ap, ap₂, subst, ◌∙◌, set, length, length-set, length-append, arith, true≢false, All}
-use Rattle.std.proofs.lemmas.Option.{same_Some, none-some, slice_get_within}
-use Rattle.std.specs.Prelude.{slice_get, if◌then◌else◌, ◌==◌, count_by, sum_by, option_map}
-use Rattle.std.specs.Option.{option_and_then}
+-- Descriptors are opened, evicted and closed, and the poller tells of events.
+use Rattle.std.proofs.Common.{◌≡◌, ℕ, ◌^◌, ◌<◌, Bool, true, not, ◌||◌, Option, Some, Ok, refl, subst, ◌+◌, false, [], ◌++◌, None, Result, inr, sym, ap, ◌∙◌, arith, true≢false, lit<, ◌≢◌, ◌≤◌, pos, List, ◌∷◌, ◌⊎◌, inl, ap₂, set, length, length-set, length-append, All}
+use Rattle.std.specs.Prelude.{slice_get, ◌==◌, if◌then◌else◌, count_by, sum_by, option_map}
 use Rattle.nr_rev.specs.declared.sides.Side.{Side}
 use Rattle.nr_rev.specs.declared.sides.Side.TheVariants.{Read, Write}
-use Rattle.nr_rev.specs.declared.descriptor.Word.{Word}
-use Rattle.nr_rev.specs.declared.descriptor.Word.TheVariants.{Nil, Ready, Held}
-use Rattle.nr_rev.specs.declared.answer.Answer.{Answer}
 use Rattle.nr_rev.specs.declared.sides.Sides.{Sides}
-use Rattle.nr_rev.specs.Sides.{of_side, with_side, twice}
-use Rattle.nr_rev.specs.Refusing.{raised_sequence}
 use Rattle.nr_rev.specs.declared.descriptor.DescriptorRow.{DescriptorRow}
-use Rattle.nr_rev.specs.World.{World, with_row, with_descriptor, is_free_number, is_waited}
-use Rattle.nr_rev.specs.WellFormed.{WellFormed, TimersFit, RowFits, EntryFits, IsInside, HasWord, held_count}
-use Rattle.nr_rev.proofs.Lists.{slice_get-set_unseen, slice_get-set_cases, slice_get-set_here, slice_get-push_cases, slice_get-push_kept, slice_get-push_unseen}
-use Rattle.nr_rev.proofs.Reasons.{bound_then, then_ok, unless_ok, if_ok, same_ok, next_is, below_of}
-use Rattle.nr_rev.proofs.Found.{row_ok, open_row_ok, nobody_inside, neither_of}
+use Rattle.nr_rev.specs.World.{World, is_free_number, with_row, with_descriptor, is_waited}
+use Rattle.nr_rev.specs.WellFormed.{WellFormed, RowFits, EntryFits, FiringFits, IsDueFor, TimersFit, IsInside, HasWord, held_count, Stand, ArmedAt, FiringAt, standing, armed_at, IsCurrent}
+use Rattle.nr_rev.proofs.Reasons.{bound_then, same_ok, then_ok, unless_ok, below_of, if_ok}
+use Rattle.nr_rev.proofs.Found.{row_ok, neither_of, open_row_ok, nobody_inside}
+use Rattle.nr_rev.specs.declared.sides.Mode.{Mode}
+use Rattle.nr_rev.specs.declared.timer.TimerFunction.{TimerFunction}
+use Rattle.nr_rev.specs.Sides.{names_side, of_side, twice, with_side}
 use Rattle.nr_rev.specs.declared.timer.Timer.{Timer}
 use Rattle.nr_rev.specs.declared.timer.Entry.{Entry}
+use Rattle.nr_rev.specs.Descriptor.{timer_function, quiet, event_seen, Change, both_raised, stop_if, evicted, opened_for, closed}
+use Rattle.nr_rev.specs.Step.{pollevent, row_of, changed, all_obeyed, idle, open_row_of, evict, pollopen, pollclose, taken, new_row, socket_of}
+use Rattle.nr_rev.proofs.Changes.{changed_keeps, retimed_still, raised_range, both_range, none_at_rest, set_set, Spares-changed}
+use Rattle.nr_rev.proofs.Retimed.{Retimed, TimersFit-retimed, armed_names}
+use Rattle.std.proofs.lemmas.Option.{none-some, same_Some, slice_get_within}
+use Rattle.nr_rev.specs.declared.refusal.Refusal.{Refusal}
+use Rattle.nr_rev.specs.Refusing.{raised_sequence}
+use Rattle.nr_rev.proofs.SideAfter.{SideAfter, firing_fits, none_current}
+use Rattle.std.specs.Option.{option_and_then}
+use Rattle.nr_rev.specs.declared.descriptor.Word.{Word}
+use Rattle.nr_rev.specs.declared.descriptor.Word.TheVariants.{Nil, Ready, Held}
+use Rattle.nr_rev.proofs.Lists.{slice_get-set_unseen, slice_get-set_cases, slice_get-set_here, slice_get-push_cases, slice_get-push_kept, slice_get-push_unseen}
+use Rattle.nr_rev.specs.Timer.{IsTime}
 use Rattle.nr_rev.specs.declared.descriptor.Descriptor.{Descriptor}
-use Rattle.nr_rev.specs.Descriptor.{both_raised}
-use Rattle.nr_rev.specs.Step.{idle, open_row_of, row_of}
-use Rattle.nr_rev.proofs.Retimed.{Retimed}
-use Rattle.nr_rev.proofs.RetimedKeeps.{retimed_keeps}
-use Rattle.nr_rev.proofs.SideAfter.{none_current}
-use Rattle.nr_rev.proofs.Changes.{retimed_still}
+use Rattle.nr_rev.proofs.RetimedKeeps.{retimed_keeps, WordsFit-rows}
 use Rattle.std.proofs.lemmas.List.Sums.{sum_by-append}
 use Rattle.std.proofs.lemmas.List.Elements.{All-cons, All-tail, All-nil}
 use Rattle.nr_rev.specs.Lock.{bit}
-use Rattle.nr_rev.specs.Descriptor.{opened_for, closed}
-use Rattle.nr_rev.specs.WellFormed.{Stand, ArmedAt, FiringAt, standing, armed_at, IsCurrent}
-use Rattle.nr_rev.specs.Step.{pollopen, pollclose, taken, new_row, socket_of}
 use Rattle.nr_rev.proofs.Reworded.{reworded}
-use Rattle.nr_rev.proofs.Retimed.{TimersFit-retimed, armed_names}
-use Rattle.nr_rev.proofs.RetimedKeeps.{WordsFit-rows}
-use Rattle.nr_rev.proofs.EventKeeps.{marked, RowFits-marked, FiringFits-marked}
-use Rattle.nr_rev.proofs.EvictKeeps.{raised_range, both_range, none_at_rest}
-use Rattle.nr_rev.proofs.Worded.{word_at_rest, word_has, cleared}
-use Rattle.nr_rev.proofs.QueueKeeps.{count_front, number_same, number_apart}
-use Rattle.nr_rev.proofs.SockopenKeeps.{same_number}
+use Rattle.nr_rev.proofs.WordSet.{word_at_rest, word_has, cleared}
+use Rattle.nr_rev.proofs.Numbers.{count_front, number_same, number_apart, same_number}
 use Rattle.nr_rev.proofs.Restood.{TimersFit-restood}
-use Rattle.nr_rev.proofs.Changes.{set_set}
+use Rattle.nr_rev.proofs.Outcomes.{Keeps, Spares, Spares-ok, Ends-ok, Ends-bind, Ends-then, Spares-then, Ends-either, Spares-refused_if, Spares-refused_unless, Spares-idle, Spares-socket_of, Spares-row_of, Spares-open_row_of, Spares-raised_sequence, Spares-both_raised}
+
+abbrev pub marked : DescriptorRow → Bool → ℕ → DescriptorRow
+marked row error fdseq = record row { descriptor = record row.descriptor { event_error = error; fdseq = fdseq } }
+
+pub RowFits-marked : (row : DescriptorRow) (error : Bool) (fdseq : ℕ) → fdseq < 2 ^ 64 → RowFits row → RowFits (marked row error fdseq)
+RowFits-marked row error fdseq small h =
+    record {
+      entries = λ side timer at.
+          let fits : EntryFits row.descriptor side timer = h.entries side timer at in
+          record { sequence = fits.sequence; running = fits.running; positive = fits.positive; due = fits.due; function = function_same side fits.function };
+      combo = h.combo;
+      closing = h.closing;
+      sequences = h.sequences;
+      fdseq = small;
+      times = h.times;
+    }
+  where
+    function_same : (side : Side) {f : TimerFunction} → f ≡ timer_function side row.descriptor → f ≡ timer_function side (marked row error fdseq).descriptor
+    function_same Read e = e
+    function_same Write e = e
+
+pub FiringFits-marked : (row : DescriptorRow) (error : Bool) (fdseq : ℕ) (firing : Entry) → FiringFits row.descriptor firing → FiringFits (marked row error fdseq).descriptor firing
+FiringFits-marked row error fdseq firing h =
+    record {
+      side = h.side;
+      sequence = h.sequence;
+      due = h.due;
+      current = λ e.
+          let due : IsDueFor row.descriptor firing = h.current e in
+          record { positive = due.positive; running = due.running; function = function_same firing.side due.function };
+    }
+  where
+    function_same : (side : Side) {f : TimerFunction} → f ≡ timer_function side row.descriptor → f ≡ timer_function side (marked row error fdseq).descriptor
+    function_same Read e = e
+    function_same Write e = e
+
+stopped_timers : (r c : Bool) (before after : Sides (Option Timer)) (n m : ℕ) → (r ≡ false → before.read ≡ None) → (c ≡ false → before.write ≡ None) → all_obeyed (stop_if r Read ++ stop_if c Write) (before, n) ≡ Ok (after, m) → ((side : Side) → of_side side after ≡ None) × (n ≡ m)
+stopped_timers r c before after n m read write e = go r c read write e
+  where
+    both : (x y : Option Timer) → x ≡ None → y ≡ None → (side : Side) → of_side side (record { read = x; write = y }) ≡ None
+    both x y a b Read = a
+    both x y a b Write = b
+
+    done : (x y : Option Timer) → x ≡ None → y ≡ None → ◌≡◌ {A = Result (Sides (Option Timer) × ℕ) Refusal} (Ok (record { read = x; write = y }, n)) (Ok (after, m)) → ((side : Side) → of_side side after ≡ None) × (n ≡ m)
+    done x y a b e =
+        let p = same_ok {A = Sides (Option Timer) × ℕ} (record { read = x; write = y }, n) (after, m) e in
+        (λ side. sym (ap (λ (q : Sides (Option Timer) × ℕ). of_side side q.0) p) ∙ both x y a b side, ap (λ (q : Sides (Option Timer) × ℕ). q.1) p)
+
+    go : (r c : Bool) → (r ≡ false → before.read ≡ None) → (c ≡ false → before.write ≡ None) → all_obeyed (stop_if r Read ++ stop_if c Write) (before, n) ≡ Ok (after, m) → ((side : Side) → of_side side after ≡ None) × (n ≡ m)
+    go true true read write e = done None None refl refl e
+    go true false read write e = done None before.write refl (write refl) e
+    go false true read write e = done before.read None (read refl) refl e
+    go false false read write e = done before.read before.write (read refl) (write refl) e
+
+abbrev stopped : DescriptorRow → Sides ℕ → Sides (Option Timer) → DescriptorRow
+stopped row sequences timers = record { descriptor = record row.descriptor { closing = true; sequences = sequences; running = twice false }; timers = timers }
+
+off : (side : Side) → of_side side (twice false) ≡ false
+off Read = refl
+off Write = refl
+
+stopped_retimed : (w : World) (d : ℕ) (row : DescriptorRow) (sequences : Sides ℕ) (timers : Sides (Option Timer)) → WellFormed w → slice_get w.descriptors d ≡ Some row → ((side : Side) → (of_side side sequences ≡ of_side side row.descriptor.sequences + 1) × (of_side side sequences < 2 ^ 64)) → ((side : Side) → of_side side timers ≡ None) → Retimed w.firings d row (stopped row sequences timers) w.next_arming w.next_arming
+stopped_retimed w d row sequences timers h at raised none =
+    record {
+      fits =
+          record {
+            entries = λ side timer is. absurd (none-some _ (sym (none side) ∙ is));
+            combo = λ _. refl;
+            closing = λ _. refl;
+            sequences = λ side. (raised side).1;
+            fdseq = (h.timers.entries_fit d row at).fdseq;
+            times = (h.timers.entries_fit d row at).times;
+          };
+      firing = λ i e _ _ f. firing_fits e row.descriptor (stopped row sequences timers).descriptor None None (SideAfter.Stopped (raised e.side).0 (off e.side) refl) f;
+      sides = λ side.
+          inr (record {
+            stale = λ e same f now.
+                none_current e row.descriptor (stopped row sequences timers).descriptor (inr (raised e.side).0) f (now ∙ ap (λ s. of_side s sequences) (sym same));
+            number = λ timer is. absurd (none-some _ (sym (none side) ∙ is));
+          });
+      apart = λ s t a b is_a is_b new_number same. absurd (none-some _ (sym (none s) ∙ is_a));
+      rises = omega arith;
+      in_range = h.timers.in_range;
+    }
 
 swap_equal : (a b : ℕ) → (a == b) ≡ (b == a)
 swap_equal a b = go (a == b) refl
@@ -151,23 +230,6 @@ freed w d row fdseq h at is_open closing nobody small =
             omega arith
         go false is a b = let e : bit (d == k) ≡ 0 = ap bit is in omega arith
 
-pub pollclose_keeps : (w next : World) (answer : Answer) (g d : ℕ) → WellFormed w → pollclose g d w ≡ Ok (answer, next) → WellFormed next
-pollclose_keeps w next answer g d h e =
-    let i = then_ok (idle g w) _ _ e in
-    bound_then _ (open_row_of d w) _ _ i.1 λ row found e.
-    let a = then_ok _ _ _ e in
-    let b = then_ok _ _ _ a.1 in
-    bound_then _ (closed row.descriptor) _ _ b.1 λ descriptor closes e.
-    bound_then _ (raised_sequence row.descriptor.fdseq) _ _ closes λ fdseq raised is.
-    let f = open_row_ok d w row found in
-    let n = neither_of (is_waited d Read w.goroutines) (is_waited d Write w.goroutines) (if_ok _ _ b.0) in
-    subst WellFormed (ap (λ (x : Descriptor). record (with_descriptor d row x w) { free = d ∷ w.free }) (same_ok _ _ is) ∙ next_is Answer.Done answer _ _ e)
-    (freed w d row fdseq h f.0 f.1 (unless_ok _ _ a.0) (nobody n.0 n.1) (raised_range _ _ raised).1)
-  where
-    nobody : is_waited d Read w.goroutines ≡ false → is_waited d Write w.goroutines ≡ false → (side : Side) → is_waited d side w.goroutines ≡ false
-    nobody r c Read = r
-    nobody r c Write = c
-
 -- the world with a descriptor taken, and its row
 pub record Taken (next : World) (d : ℕ) : Type 0 where
   pub fits : WellFormed next
@@ -242,8 +304,13 @@ new_fits =
       closing = λ e. refl;
       sequences = sequences;
       fdseq = omega arith;
+      times = times;
     }
   where
+    times : (side : Side) → IsTime (of_side side new_row.descriptor.deadlines)
+    times Read = record { sfits = lit< tt }
+    times Write = record { sfits = lit< tt }
+
     entries : (side : Side) (timer : Timer) → of_side side new_row.timers ≡ Some timer → EntryFits new_row.descriptor side timer
     entries Read timer e = cc
     entries Write timer e = cc
@@ -394,11 +461,12 @@ begun_retimed w d s row sequences h at rests raised =
             closing = λ e. cc;
             sequences = λ side. (raised side).1;
             fdseq = fdseq (row.descriptor.fdseq == 0);
+            times = times;
           };
       firing = λ i e _ _ f.
           let most = f.sequence in
           let up = (raised e.side).0 in
-          record { side = f.side; sequence = omega arith; current = λ now. absurd (omega arith) };
+          record { side = f.side; sequence = omega arith; due = f.due; current = λ now. absurd (omega arith) };
       sides = λ side.
           inr (record {
             stale = λ e same f now. none_current e row.descriptor (begun_row row s sequences).descriptor (inr (raised e.side).0) f (now ∙ ap (λ s. of_side s sequences) (sym same));
@@ -415,6 +483,10 @@ begun_retimed w d s row sequences h at rests raised =
 
     none : (side : Side) → of_side side row.timers ≡ None
     none side = none_at_rest row side (h.timers.entries_fit d row at) (ap (of_side side) rests ∙ off side)
+
+    times : (side : Side) → IsTime (of_side side (twice (pos 0)))
+    times Read = record { sfits = lit< tt }
+    times Write = record { sfits = lit< tt }
 
     fdseq : (b : Bool) → (if b then 1 else row.descriptor.fdseq) < 2 ^ 64
     fdseq true = omega arith
@@ -455,14 +527,84 @@ begins w d s row sequences t at raised =
         ap (λ rows. record w { descriptors = rows })
         (set_set (set w.descriptors d row1) d row2 (begun_row row2 s sequences) ∙ set_set w.descriptors d row1 (begun_row row2 s sequences))
 
-pub pollopen_keeps : (w next : World) (answer : Answer) (g s : ℕ) → WellFormed w → pollopen g s w ≡ Ok (answer, next) → WellFormed next
-pollopen_keeps w next answer g s h e =
-    let i = then_ok (idle g w) _ _ e in
-    bound_then _ (socket_of s w) _ _ i.1 λ socket socket_found e.
-    bound_then _ (taken w.free w) _ _ e λ took takes_it e.
-    bound_then _ (row_of took.0 took.1) _ _ e λ row found e.
-    bound_then _ (opened_for s row.descriptor) _ _ e λ descriptor opens e.
+Spares-taken : (free : List ℕ) (w : World) → Spares (taken free w)
+Spares-taken (d ∷ free) w = Spares-ok _
+Spares-taken [] w = Spares-then _ _ (Spares-refused_unless _ Refusal.TableFull refl) (Spares-ok _)
+
+pub pollopen_sound : (w : World) (g s : ℕ) → WellFormed w → Keeps (pollopen g s w)
+pollopen_sound w g s h =
+    Ends-then _ (idle g w) _ (Spares-idle g w) λ _.
+    Ends-bind _ (socket_of s w) _ (Spares-socket_of s w) λ socket _.
+    Ends-bind _ (taken w.free w) _ (Spares-taken w.free w) λ took takes_it.
+    Ends-bind _ (row_of took.0 took.1) _ (Spares-row_of took.0 took.1) λ row found.
+    Ends-bind _ (opened_for s row.descriptor) _
+    (Ends-bind _ (both_raised row.descriptor.sequences) _ (Spares-both_raised row.descriptor.sequences) (λ sequences _. Spares-ok _)) λ descriptor opens.
     bound_then _ (both_raised row.descriptor.sequences) _ _ opens λ sequences raised is.
-    subst WellFormed (ap (λ (x : Descriptor). with_descriptor took.0 row x took.1) (same_ok _ _ is) ∙ next_is (Answer.Number took.0) answer _ _ e)
+    Ends-ok _ _
+    (subst WellFormed (ap (λ (x : Descriptor). with_descriptor took.0 row x took.1) (same_ok _ _ is))
     (begins took.1 took.0 s row sequences (takes w took.1 took.0 w.free h refl takes_it) (row_ok took.0 took.1 row found)
-    (both_range row.descriptor.sequences sequences raised))
+    (both_range row.descriptor.sequences sequences raised)))
+
+pub pollclose_sound : (w : World) (g d : ℕ) → WellFormed w → Keeps (pollclose g d w)
+pollclose_sound w g d h =
+    Ends-then _ (idle g w) _ (Spares-idle g w) λ _.
+    Ends-bind _ (open_row_of d w) _ (Spares-open_row_of d w) λ row found.
+    Ends-then _ _ _ (Spares-refused_unless _ Refusal.CloseWithoutUnblock refl) λ closing.
+    Ends-then _ _ _ (Spares-refused_if _ Refusal.WaiterInside refl) λ nobody.
+    Ends-bind _ (closed row.descriptor) _
+    (Ends-bind _ (raised_sequence row.descriptor.fdseq) _ (Spares-raised_sequence row.descriptor.fdseq) (λ fdseq _. Spares-ok _)) λ descriptor closes.
+    bound_then _ (raised_sequence row.descriptor.fdseq) _ _ closes λ fdseq raised is.
+    let f = open_row_ok d w row found in
+    let n = neither_of (is_waited d Read w.goroutines) (is_waited d Write w.goroutines) (if_ok _ _ nobody) in
+    Ends-ok _ _
+    (subst WellFormed (ap (λ (x : Descriptor). record (with_descriptor d row x w) { free = d ∷ w.free }) (same_ok _ _ is))
+    (freed w d row fdseq h f.0 f.1 (unless_ok _ _ closing) (alone n.0 n.1) (raised_range _ _ raised).1))
+  where
+    alone : is_waited d Read w.goroutines ≡ false → is_waited d Write w.goroutines ≡ false → (side : Side) → is_waited d side w.goroutines ≡ false
+    alone r c Read = r
+    alone r c Write = c
+
+Spares-evicted : (d : Descriptor) → Spares (evicted d)
+Spares-evicted d =
+    Ends-then _ _ _ (Spares-refused_if d.closing Refusal.AlreadyClosing refl) (λ _.
+    Ends-bind _ (both_raised d.sequences) _ (Spares-both_raised d.sequences) (λ sequences _. Spares-ok _))
+
+pub evict_sound : (w : World) (g d : ℕ) → WellFormed w → Keeps (evict g d w)
+evict_sound w g d h =
+    Ends-then _ (idle g w) _ (Spares-idle g w) λ _.
+    Ends-bind _ (open_row_of d w) _ (Spares-open_row_of d w) λ row found.
+    Ends-bind _ (evicted row.descriptor) _ (Spares-evicted row.descriptor) λ change evicts.
+    Ends-bind _ (changed d row change w) _ (Spares-changed d row change w) λ after does.
+    let c = then_ok _ _ _ evicts in
+    bound_then _ (both_raised row.descriptor.sequences) _ _ c.1 λ sequences raised change_is.
+    let f = open_row_ok d w row found in
+    let fits : RowFits row = h.timers.entries_fit d row f.0 in
+    let base : Change = record {
+      descriptor = record row.descriptor { closing = true; sequences = sequences; running = twice false };
+      orders = stop_if row.descriptor.running.read Read ++ stop_if row.descriptor.running.write Write;
+      woken = [];
+    }
+    in
+    Ends-ok _ _
+    (changed_keeps w after d row base true true false h f.0 f.1 refl refl
+    (λ timers m obeys.
+    let s = stopped_timers row.descriptor.running.read row.descriptor.running.write row.timers timers w.next_arming m (λ off. none_at_rest row Read fits off) (λ off. none_at_rest row Write fits off) obeys in
+    subst (λ n. Retimed w.firings d row (stopped row sequences timers) w.next_arming n) s.1
+    (stopped_retimed w d row sequences timers h f.0 (both_range row.descriptor.sequences sequences raised) s.0))
+    (ap (λ c. changed d row c w) (same_ok _ _ change_is) ∙ does))
+
+pub pollevent_sound : (w : World) (d tag : ℕ) (mode : Mode) (error : Bool) → WellFormed w → Keeps (pollevent d tag mode error w)
+pollevent_sound w d tag mode error h =
+    Ends-bind _ (row_of d w) _ (Spares-row_of d w) λ row found.
+    Ends-either _ (is_free_number d w.free || not (tag == row.descriptor.fdseq)) _ _ (λ _. Ends-ok _ _ h) λ fresh.
+    let at : slice_get w.descriptors d ≡ Some row = row_ok d w row found in
+    let fits : RowFits row = h.timers.entries_fit d row at in
+    Ends-bind _ (changed d row (event_seen mode error row.descriptor) w) _ (Spares-changed d row (event_seen mode error row.descriptor) w) λ after does.
+    Ends-ok _ _
+    (changed_keeps w after d row (quiet (record row.descriptor { event_error = error })) (names_side mode Read) (names_side mode Write) true h at (neither_of _ _ fresh).0 refl refl
+    (λ timers m obeys.
+    let same = same_ok _ _ obeys in
+    subst (λ (x : Sides (Option Timer) × ℕ). Retimed w.firings d row (record { descriptor = record row.descriptor { event_error = error }; timers = x.0 }) w.next_arming x.1) same
+    (retimed_still w d row (marked row error row.descriptor.fdseq) h at refl refl (RowFits-marked row error row.descriptor.fdseq fits.fdseq fits)
+    (λ i f _ _ h. FiringFits-marked row error row.descriptor.fdseq f h)))
+    does)

@@ -1,37 +1,128 @@
--- A firing is run.
-use Rattle.std.proofs.Common.{◌≡◌, ◌≢◌, ℕ, ◌+◌, ◌≤◌, ℤ, pos, negsuc, int_eq, Bool, true, false, not, ◌&&◌, Option, Some, None, Ok, refl, sym, ap, subst, ◌∙◌, arith, true≢false}
-use Rattle.std.proofs.lemmas.Option.{same_Some, none-some, slice_get_within}
-use Rattle.std.specs.Prelude.{slice_get, if◌then◌else◌, ◌==◌, option_map, remove}
+-- The clock goes on, timers go off, and firings are run.
+use Rattle.std.proofs.Common.{◌≡◌, ℕ, ℤ, pos, negsuc, ◌≤ℤ◌, int_lt, Bool, true, false, Some, None, refl, sym, ap, subst, ◌∙◌, length-set, arith, suc, ◌+◌, ◌*◌, ◌<◌, List, [], ◌∷◌, ◌++◌, Option, ◌⊎◌, inl, inr, length, length-append, true≢false, lit<, ◌≢◌, ◌≤◌, int_eq, not, ◌&&◌, ap₂}
+use Rattle.std.proofs.lemmas.Option.{none-some, same_Some, slice_get_within}
+use Rattle.std.specs.Prelude.{slice_get, if◌then◌else◌, map, ◌==◌, option_map, remove, int_le, nat_lt}
 use Rattle.std.specs.Option.{option_and_then}
 use Rattle.nr_rev.specs.declared.sides.Side.{Side}
-use Rattle.nr_rev.specs.declared.sides.Side.TheVariants.{Read, Write}
-use Rattle.nr_rev.specs.declared.answer.Answer.{Answer}
-use Rattle.nr_rev.specs.declared.refusal.Refusal.{Refusal}
 use Rattle.nr_rev.specs.declared.sides.Sides.{Sides}
-use Rattle.nr_rev.specs.Sides.{of_side, with_side, twice, same_side}
-use Rattle.nr_rev.specs.Refusing.{found_or}
-use Rattle.nr_rev.specs.declared.descriptor.DescriptorRow.{DescriptorRow}
-use Rattle.nr_rev.specs.World.{World}
-use Rattle.nr_rev.specs.WellFormed.{WellFormed, RowFits, EntryFits, FiringFits, IsDueFor}
-use Rattle.nr_rev.proofs.Reasons.{bound_then, then_ok, found_ok, same_ok, next_is, either_then}
+use Rattle.nr_rev.specs.World.{World, with_row, is_free_number, least_entry}
+use Rattle.nr_rev.specs.Timer.{IsTime, least_of, earlier_of, is_before, entries_from, entries_at, entry_of}
+use Rattle.nr_rev.specs.WellFormed.{WellFormed, RowFits, EntryFits, FiringFits, IsDueFor, ArmedAt, FiringAt, armed_at, IsCurrent}
+use Rattle.nr_rev.proofs.Reasons.{then_ok, if_ok, same_ok, unless_ok, found_ok, below_of, either_then}
 use Rattle.nr_rev.proofs.Found.{row_ok}
-use Rattle.nr_rev.specs.declared.timer.TimerFunction.{TimerFunction}
-use Rattle.nr_rev.specs.Sides.{covers_side, side_of_function}
+use Rattle.nr_rev.specs.Step.{tick, row_of, pop, changed, fire, fired_with}
+use Rattle.std.proofs.lemmas.Int.{ints}
+use Rattle.nr_rev.specs.declared.sides.Side.TheVariants.{Read, Write}
+use Rattle.nr_rev.specs.declared.refusal.Refusal.{Refusal}
+use Rattle.nr_rev.specs.Sides.{of_side, twice, with_side, same_side, covers_side, side_of_function}
+use Rattle.nr_rev.specs.Refusing.{found_or, refused_unless}
+use Rattle.nr_rev.specs.declared.descriptor.DescriptorRow.{DescriptorRow}
 use Rattle.nr_rev.specs.declared.timer.Timer.{Timer}
 use Rattle.nr_rev.specs.declared.timer.Entry.{Entry}
+use Rattle.nr_rev.proofs.Reworded.{GoroutinesFit-rows}
+use Rattle.nr_rev.proofs.RetimedKeeps.{WordsFit-rows, FreeFits-open}
+use Rattle.nr_rev.proofs.Restood.{TimersFit-popped, unarmed, TimersFit-removed, slice_get-remove, skip, skip_apart, same_firing}
+use Rattle.nr_rev.specs.declared.timer.TimerFunction.{TimerFunction}
 use Rattle.nr_rev.specs.declared.descriptor.Descriptor.{Descriptor}
-use Rattle.nr_rev.specs.Descriptor.{Change, timer_function, quiet, is_combo, is_positive, and_if, unblocked, fired, expire, is_current}
-use Rattle.nr_rev.specs.Step.{changed, row_of}
+use Rattle.nr_rev.specs.Descriptor.{Change, timer_function, quiet, is_combo, is_positive, and_if, unblocked, fired, expire, is_current, is_timed}
 use Rattle.nr_rev.proofs.Retimed.{Retimed}
-use Rattle.nr_rev.proofs.SideAfter
-use Rattle.nr_rev.proofs.SideAfter.{SideAfter, entry_fits, firing_fits, none_current, combo_fits}
-use Rattle.nr_rev.proofs.Changes.{changed_keeps, retimed_still}
+use Rattle.nr_rev.proofs.SideAfter.{SideAfter, combo_of_both}
+use Rattle.nr_rev.proofs.Changes.{changed_keeps, retimed_still, Spares-changed}
 use Rattle.std.proofs.lemmas.List.Edits.{length-remove}
-use Rattle.nr_rev.specs.Step.{fire, fired_with}
-use Rattle.nr_rev.specs.WellFormed.{ArmedAt, FiringAt, armed_at, IsCurrent}
-use Rattle.nr_rev.proofs.Restood.{TimersFit-removed, slice_get-remove, skip, skip_apart, same_firing}
-use Rattle.nr_rev.proofs.PopKeeps.{running_open}
-use Rattle.nr_rev.proofs.SideAfter.{combo_of_both}
+use Rattle.nr_rev.proofs.Outcomes.{Keeps, KeepsFor, Spares, Spares-ok, Ends-ok, Ends-bind, Ends-then, Ends-either, Spares-refused_if, Spares-refused_unless, Spares-found_or, Spares-row_of}
+use Rattle.nr_rev.proofs.SideAfter
+
+not_negative : (t c : ℤ) → int_lt t c ≡ false → pos 0 ≤ℤ c → pos 0 ≤ℤ t
+not_negative (pos n) c e h = omega (arith, ints)
+not_negative (negsuc n) (pos m) e h = cc
+not_negative (negsuc n) (negsuc m) e h = absurd h.le
+
+-- an entry is among others
+abbrev In : Entry → List Entry → Type 0
+In e [] = ⊥
+In e (x ∷ xs) = (x ≡ e) ⊎ In e xs
+
+in_append : (e : Entry) (xs ys : List Entry) → In e (xs ++ ys) → In e xs ⊎ In e ys
+in_append e [] ys p = inr p
+in_append e (x ∷ xs) ys (inl p) = inl (inl p)
+in_append e (x ∷ xs) ys (inr p) = elim (in_append e xs ys p) [ inl q ↦ inl (inr q) | inr q ↦ inr q ]
+
+least_in : (es : List Entry) (e : Entry) → least_of es ≡ Some e → In e es
+least_in [] e is = cc
+least_in (x ∷ es) e is = go (least_of es) refl (same_Some _ _ is) (λ at. least_in es e at)
+  where
+    go : (o : Option Entry) → least_of es ≡ o → earlier_of x o ≡ e → (least_of es ≡ Some e → In e es) → In e (x ∷ es)
+    go None at p among = inl p
+    go (Some other) at p among = by (is_before other.timer x.timer) p
+      where
+        by : (b : Bool) → (if b then other else x) ≡ e → In e (x ∷ es)
+        by true p = inr (among (at ∙ ap Some p))
+        by false p = inl p
+
+entry_in : (d : ℕ) (side : Side) (o : Option Timer) (e : Entry) → In e (entry_of d side o) → (o ≡ Some e.timer) × (e.descriptor ≡ d) × (e.side ≡ side)
+entry_in d side None e p = absurd p
+entry_in d side (Some timer) e (inl p) = (ap (λ (x : Entry). Some x.timer) p, sym (ap (λ (x : Entry). x.descriptor) p), sym (ap (λ (x : Entry). x.side) p))
+entry_in d side (Some timer) e (inr p) = absurd p
+
+entries_in : (rows : List DescriptorRow) (d : ℕ) (e : Entry) → In e (entries_from d (map (λ row. row.timers) rows)) → (k : ℕ) × (e.descriptor ≡ d + k) × ((row : DescriptorRow) × (slice_get rows k ≡ Some row) × (of_side e.side row.timers ≡ Some e.timer))
+entries_in [] d e p = absurd p
+entries_in (row ∷ rows) d e p =
+    elim (in_append e (entries_at d row.timers) (entries_from (d + 1) (map (λ row. row.timers) rows)) p) [
+      | inl here ↦
+          elim (in_append e (entry_of d Read row.timers.read) (entry_of d Write row.timers.write) here) [
+            | inl q ↦ let r = entry_in d Read row.timers.read e q in (0, at_zero r.1, (row, refl, ap (λ s. of_side s row.timers) r.2 ∙ r.0))
+            | inr q ↦ let r = entry_in d Write row.timers.write e q in (0, at_zero r.1, (row, refl, ap (λ s. of_side s row.timers) r.2 ∙ r.0))
+          ]
+      | inr there ↦
+          let r = entries_in rows (d + 1) e there in
+          let n : e.descriptor ≡ d + 1 + r.0 = r.1 in
+          (suc r.0, later r.0 n, r.2)
+    ]
+  where
+    at_zero : e.descriptor ≡ d → e.descriptor ≡ d + 0
+    at_zero q = omega arith
+
+    later : (k : ℕ) → e.descriptor ≡ d + 1 + k → e.descriptor ≡ d + suc k
+    later k q = omega arith
+
+least_stands : (w : World) (e : Entry) → least_entry w ≡ Some e → (row : DescriptorRow) × (slice_get w.descriptors e.descriptor ≡ Some row) × (of_side e.side row.timers ≡ Some e.timer)
+least_stands w e is =
+    let r = entries_in w.descriptors 0 e (least_in _ e is) in
+    let n : e.descriptor ≡ r.0 = zero_more r.0 r.1 in
+    (r.2.0, ap (slice_get w.descriptors) n ∙ r.2.1, r.2.2)
+  where
+    zero_more : (k : ℕ) → e.descriptor ≡ 0 + k → e.descriptor ≡ k
+    zero_more k q = omega arith
+
+off : (side : Side) → of_side side (twice false) ≡ false
+off Read = refl
+off Write = refl
+
+-- a descriptor of which a side runs isn't free
+pub running_open : (w : World) (d : ℕ) (row : DescriptorRow) (side : Side) → WellFormed w → slice_get w.descriptors d ≡ Some row → of_side side row.descriptor.running ≡ true → is_free_number d w.free ≡ false
+running_open w d row side h at runs = go (is_free_number d w.free) refl
+  where
+    go : (b : Bool) → is_free_number d w.free ≡ b → is_free_number d w.free ≡ false
+    go false is = is
+    go true is =
+        let fits : RowFits row = h.timers.entries_fit d row at in
+        absurd (true≢false (sym runs ∙ ap (of_side side) (fits.closing (h.free.closing d row is at)) ∙ off side))
+
+popped : (w : World) (e : Entry) (row : DescriptorRow) → WellFormed w → slice_get w.descriptors e.descriptor ≡ Some row → of_side e.side row.timers ≡ Some e.timer → length w.firings < 2 * w.limits.descriptors → WellFormed (record (with_row e.descriptor (unarmed row e.side) w) { firings = w.firings ++ e ∷ [] })
+popped w e row h at is room =
+    record {
+      goroutines = GoroutinesFit-rows _ w.sockets w.descriptors _ w.free (length-set _ e.descriptor _) h.goroutines;
+      words = WordsFit-rows w.goroutines w.descriptors w.waiters e.descriptor row (unarmed row e.side) at refl h.words;
+      queues = h.queues;
+      timers = TimersFit-popped w.descriptors w.firings w.next_arming row e at is h.timers;
+      free = FreeFits-open w.descriptors w.free e.descriptor row (unarmed row e.side) at (running_open w e.descriptor row e.side h at ((h.timers.entries_fit e.descriptor row at).entries e.side e.timer is).running) h.free;
+      sockets = h.sockets;
+      goroutines_limited = h.goroutines_limited;
+      sockets_limited = h.sockets_limited;
+      descriptors_limited = rw length-set h.descriptors_limited;
+      firings_limited = rw length-append (omega arith);
+      clock = h.clock;
+    }
 
 -- the deadlines that a function covers are past
 abbrev past : TimerFunction → Sides ℤ → Sides ℤ
@@ -90,8 +181,17 @@ passed_fits row f may none =
       closing = may.fits.closing;
       sequences = may.fits.sequences;
       fdseq = may.fits.fdseq;
+      times = times f;
     }
   where
+    times : (f : TimerFunction) (side : Side) → IsTime (of_side side (past f row.descriptor.deadlines))
+    times TimerFunction.Read Read = record { sfits = lit< tt }
+    times TimerFunction.Read Write = may.fits.times Write
+    times TimerFunction.Write Read = may.fits.times Read
+    times TimerFunction.Write Write = record { sfits = lit< tt }
+    times TimerFunction.Both Read = record { sfits = lit< tt }
+    times TimerFunction.Both Write = record { sfits = lit< tt }
+
     entries : (f : TimerFunction) → MayFire row f → of_side (side_of_function f) row.timers ≡ None → (side : Side) (timer : Timer) → of_side side row.timers ≡ Some timer → EntryFits (passed row f).descriptor side timer
     entries TimerFunction.Read may none Read timer is = absurd (none-some _ (sym none ∙ is))
     entries TimerFunction.Read may none Write timer is =
@@ -112,7 +212,7 @@ passed_fits row f may none =
 
 passed_firing : (row : DescriptorRow) (f : TimerFunction) (e : Entry) → MayFire row f → (e.side ≡ side_of_function f → e.timer.sequence ≢ of_side (side_of_function f) row.descriptor.sequences) → FiringFits row.descriptor e → FiringFits (passed row f).descriptor e
 passed_firing row f e may stale h =
-    record { side = h.side; sequence = h.sequence; current = λ now. due f may stale e.side refl (h.current now) now }
+    record { side = h.side; sequence = h.sequence; due = h.due; current = λ now. due f may stale e.side refl (h.current now) now }
   where
     write_only : (g : TimerFunction) → g ≡ TimerFunction.Write → covers_side g Read ≡ true → ⊥
     write_only g is covers = true≢false (sym covers ∙ ap (λ x. covers_side x Read) is)
@@ -229,33 +329,63 @@ current_is f n d e = number (n) (of_side (side_of_function f) d.sequences) (posi
     number : (a b : ℕ) → (a == b) ≡ true → a ≡ b
     number a b e = grind (arith, e)
 
-pub fire_keeps : (w next : World) (answer : Answer) (i : ℕ) → WellFormed w → fire i w ≡ Ok (answer, next) → WellFormed next
-fire_keeps w next answer i h e =
-    bound_then _ (found_or (slice_get w.firings i) Refusal.NoSuchFiring) _ _ e λ entry found e.
-    bound_then _ (row_of entry.descriptor w) _ _ e λ row row_found e.
-    bound_then _ (fired entry.timer.function entry.timer.sequence row.descriptor) _ _ e λ change fires e.
-    let at : slice_get w.firings i ≡ Some entry = found_ok _ _ _ found in
-    let row_at : slice_get w.descriptors entry.descriptor ≡ Some row = row_ok entry.descriptor w row row_found in
+pub tick_sound : (w : World) (t : ℤ) → WellFormed w → KeepsFor (IsTime t) (tick t w)
+tick_sound w t h =
+    Ends-then _ _ _ (Spares-refused_if _ Refusal.ClockGoesBack refl) λ later.
+    Ends-ok _ _ (λ is_time. record {
+      goroutines = h.goroutines;
+      words = h.words;
+      queues = h.queues;
+      timers = h.timers;
+      free = h.free;
+      sockets = h.sockets;
+      goroutines_limited = h.goroutines_limited;
+      sockets_limited = h.sockets_limited;
+      descriptors_limited = h.descriptors_limited;
+      firings_limited = h.firings_limited;
+      clock = record { begun = not_negative t w.clock (if_ok _ _ later) h.clock.begun; time = is_time };
+    })
+
+pub pop_sound : (w : World) → WellFormed w → Keeps (pop w)
+pop_sound w h =
+    Ends-bind _ (found_or (least_entry w) Refusal.NoTimerDue) _ (Spares-found_or _ Refusal.NoTimerDue refl) λ entry found.
+    Ends-then _ (refused_unless (int_le entry.timer.due w.clock) Refusal.NoTimerDue) _ (Spares-refused_unless _ Refusal.NoTimerDue refl) λ _.
+    Ends-then _ (refused_unless (nat_lt (length w.firings) (2 * w.limits.descriptors)) Refusal.FiringsFull) _ (Spares-refused_unless _ Refusal.FiringsFull refl) λ room.
+    Ends-bind _ (row_of entry.descriptor w) _ (Spares-row_of entry.descriptor w) λ row row_found.
+    let s = least_stands w entry (found_ok _ _ _ found) in
+    let at : slice_get w.descriptors entry.descriptor ≡ Some row = row_ok entry.descriptor w row row_found in
+    let same : s.0 ≡ row = same_Some _ _ (sym s.1 ∙ at) in
+    Ends-ok _ _
+    (popped w entry row h at (ap (λ (r : DescriptorRow). of_side entry.side r.timers) (sym same) ∙ s.2) (below_of _ _ (unless_ok _ _ room)))
+
+timed : (row : DescriptorRow) (f : TimerFunction) → MayFire row f → is_timed f row.descriptor ≡ true
+timed row TimerFunction.Read may = ap₂ (λ x y. x && y) (may.positive Read refl) may.running
+timed row TimerFunction.Write may = ap₂ (λ x y. x && y) (may.positive Write refl) may.running
+timed row TimerFunction.Both may = ap₂ (λ x y. x && y) (ap₂ (λ x y. x && y) (may.positive Read refl) may.running) (may.positive Write refl)
+
+unless_so : (test : Bool) (reason : Refusal) → test ≡ true → Spares (refused_unless test reason)
+unless_so true reason so = Spares-ok tt
+unless_so false reason so = cc
+
+-- a firing of a well-formed world finds no descriptor that contradicts itself
+Spares-fired : (w : World) (i : ℕ) (e : Entry) (row : DescriptorRow) → WellFormed w → slice_get w.firings i ≡ Some e → slice_get w.descriptors e.descriptor ≡ Some row → Spares (fired e.timer.function e.timer.sequence row.descriptor)
+Spares-fired w i e row h at row_at =
+    Ends-either _ (not (is_current e.timer.function e.timer.sequence row.descriptor)) _ _ (λ _. Spares-ok _) (λ fresh.
+    Ends-then _ _ _
+    (unless_so _ Refusal.CorruptedDescriptor
+    (timed row e.timer.function (may_fire w i e row h at row_at (current_is e.timer.function e.timer.sequence row.descriptor fresh))))
+    (λ _. Spares-ok _))
+
+-- a current firing, whose change is made
+fires_now : (w : World) (i : ℕ) (entry : Entry) (row : DescriptorRow) → WellFormed w → slice_get w.firings i ≡ Some entry → slice_get w.descriptors entry.descriptor ≡ Some row → not (is_current entry.timer.function entry.timer.sequence row.descriptor) ≡ false → Keeps (fired_with entry.descriptor row (Some (and_if (covers_side entry.timer.function Write) (expire Write) (and_if (covers_side entry.timer.function Read) (expire Read) (quiet row.descriptor)))) (record w { firings = remove w.firings i }))
+fires_now w i entry row h at row_at fresh =
     let rest : WellFormed (record w { firings = remove w.firings i }) = removed_keeps w i entry h at in
-    either_then _ (not (is_current entry.timer.function entry.timer.sequence row.descriptor)) _ _ _ fires
-    (λ stale is.
-    let gives : fired_with entry.descriptor row None (record w { firings = remove w.firings i }) ≡ Ok (answer, next) =
-    ap (λ c. fired_with entry.descriptor row c (record w { firings = remove w.firings i })) (same_ok _ _ is) ∙ e
-    in
-    subst WellFormed (next_is _ _ _ _ gives) rest)
-    (λ fresh is.
-    let t = then_ok _ _ _ is in
     let base : Change = quiet (record row.descriptor { deadlines = past entry.timer.function row.descriptor.deadlines }) in
-    let gives : fired_with entry.descriptor row (Some (and_if (covers_side entry.timer.function Write) (unblocked false Write) (and_if (covers_side entry.timer.function Read) (unblocked false Read) base))) (record w { firings = remove w.firings i }) ≡ Ok (answer, next) =
-    ap (λ c. fired_with entry.descriptor row (Some c) (record w { firings = remove w.firings i })) (sym (fired_change entry.timer.function row.descriptor))
-    ∙ ap (λ c. fired_with entry.descriptor row c (record w { firings = remove w.firings i })) (same_ok _ _ t.1)
-    ∙ e
-    in
     let now = current_is entry.timer.function entry.timer.sequence row.descriptor fresh in
     let may = may_fire w i entry row h at row_at now in
-    bound_then _ (changed entry.descriptor row (and_if (covers_side entry.timer.function Write) (unblocked false Write) (and_if (covers_side entry.timer.function Read) (unblocked false Read) base)) (record w { firings = remove w.firings i })) _ _ gives
-    λ after does e.
-    subst WellFormed (next_is Answer.Done answer _ _ e)
+    subst (λ (c : Change). Keeps (fired_with entry.descriptor row (Some c) (record w { firings = remove w.firings i }))) (sym (fired_change entry.timer.function row.descriptor))
+    (Ends-bind _ (changed entry.descriptor row (and_if (covers_side entry.timer.function Write) (unblocked false Write) (and_if (covers_side entry.timer.function Read) (unblocked false Read) base)) (record w { firings = remove w.firings i })) _ (Spares-changed entry.descriptor row (and_if (covers_side entry.timer.function Write) (unblocked false Write) (and_if (covers_side entry.timer.function Read) (unblocked false Read) base)) (record w { firings = remove w.firings i })) λ after does.
+    Ends-ok _ _
     (changed_keeps (record w { firings = remove w.firings i }) after entry.descriptor row base (covers_side entry.timer.function Read) (covers_side entry.timer.function Write) false rest row_at
     (running_open w entry.descriptor row (side_of_function entry.timer.function) h row_at may.running) refl refl
     (λ timers m obeys.
@@ -265,3 +395,18 @@ fire_keeps w next answer i h e =
     (passed_fits row entry.timer.function may (unarmed_side w i entry row h at row_at now))
     (λ j f f_is same_d f_fits. passed_firing row entry.timer.function f may (λ same_side. others_stale w i entry row h at row_at now j f f_is same_d same_side) f_fits)))
     does))
+
+pub fire_sound : (w : World) (i : ℕ) → WellFormed w → Keeps (fire i w)
+fire_sound w i h =
+    Ends-bind _ (found_or (slice_get w.firings i) Refusal.NoSuchFiring) _ (Spares-found_or _ Refusal.NoSuchFiring refl) λ entry found.
+    Ends-bind _ (row_of entry.descriptor w) _ (Spares-row_of entry.descriptor w) λ row row_found.
+    let at : slice_get w.firings i ≡ Some entry = found_ok _ _ _ found in
+    let row_at : slice_get w.descriptors entry.descriptor ≡ Some row = row_ok entry.descriptor w row row_found in
+    Ends-bind _ (fired entry.timer.function entry.timer.sequence row.descriptor) _ (Spares-fired w i entry row h at row_at) λ change fires.
+    either_then _ (not (is_current entry.timer.function entry.timer.sequence row.descriptor)) _ _ _ fires
+    (λ stale is.
+    subst (λ (c : Option Change). Keeps (fired_with entry.descriptor row c (record w { firings = remove w.firings i }))) (same_ok _ _ is)
+    (Ends-ok _ _ (removed_keeps w i entry h at)))
+    (λ fresh is.
+    subst (λ (c : Option Change). Keeps (fired_with entry.descriptor row c (record w { firings = remove w.firings i }))) (same_ok _ _ (then_ok _ _ _ is).1)
+    (fires_now w i entry row h at row_at fresh))

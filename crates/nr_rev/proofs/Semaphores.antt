@@ -1,5 +1,5 @@
--- A socket's queue changes together with a goroutine's status.
-use Rattle.std.proofs.Common.{◌≡◌, ◌≢◌, ℕ, ◌+◌, ◌-◌, ◌^◌, ◌<◌, Bool, true, false, ◌&&◌, cond, List, [], ◌∷◌, ◌++◌, Option, Some, None, Result, Ok, inl, inr, refl, sym, ap, subst, ◌∙◌, set, length, length-set, arith, drop}
+-- Goroutines acquire semaphores, queue at them and release them.
+use Rattle.std.proofs.Common.{◌≡◌, ◌≢◌, ℕ, ◌+◌, ◌-◌, ◌^◌, ◌<◌, Bool, true, false, ◌&&◌, List, [], ◌∷◌, ◌++◌, Option, Some, None, Ok, inl, inr, refl, sym, ap, subst, ◌∙◌, set, length, length-set, arith, drop}
 use Rattle.std.proofs.lemmas.Option.{same_Some, none-some, slice_get_within}
 use Rattle.std.specs.Prelude.{slice_get, if◌then◌else◌, ◌==◌, nat_lt, count_by}
 use Rattle.std.specs.Option.{option_and_then}
@@ -13,69 +13,18 @@ use Rattle.nr_rev.specs.declared.sides.Sides.{Sides}
 use Rattle.nr_rev.specs.Sides.{of_side, with_side, same_side}
 use Rattle.nr_rev.specs.World.{World, wait_of, with_status, with_socket}
 use Rattle.nr_rev.specs.Socket.{Socket}
-use Rattle.nr_rev.specs.WellFormed.{WellFormed, GoroutinesFit, SocketFits, IsField, socket_named, owed_of, parked_of, awaiting_of, is_queued}
-use Rattle.nr_rev.proofs.Lists.{slice_get-set_unseen, slice_get-set_cases}
-use Rattle.nr_rev.proofs.Reasons.{bound_then, then_ok, unless_ok, found_ok, same_ok, next_is, below_of}
-use Rattle.nr_rev.proofs.Found.{status_ok}
-use Rattle.nr_rev.proofs.SameViews.{WordsFit-same}
-use Rattle.nr_rev.proofs.Moved.{MayMove, GoroutinesFit-moved}
-use Rattle.std.proofs.lemmas.List.Sums.{sum_by-append}
+use Rattle.nr_rev.specs.WellFormed.{WellFormed, SocketFits, IsField, socket_named, owed_of, is_queued}
+use Rattle.nr_rev.proofs.Lists.{slice_get-set_cases}
+use Rattle.nr_rev.proofs.Reasons.{then_ok, unless_ok, found_ok, same_ok, below_of}
+use Rattle.nr_rev.proofs.Found.{status_ok, acquiring_ok, owing_ok}
+use Rattle.nr_rev.proofs.StatusSet.{MayMove, IsOutside, moved_outside, comes_to_owe}
 use Rattle.nr_rev.specs.Lock.{bit}
 use Rattle.nr_rev.specs.Semaphore.{Semaphore, is_free, acquired, front_of, released}
 use Rattle.nr_rev.specs.Step.{acquire, release, status_of, socket_of, acquiring_of, owing_of, with_semaphore, tries_again}
-use Rattle.nr_rev.proofs.RwlockKeeps.{resocketed}
-use Rattle.nr_rev.proofs.Outside.{IsOutside, moved_outside}
-use Rattle.nr_rev.proofs.Moving.{acquiring_ok, owing_ok}
-use Rattle.nr_rev.proofs.SocketKeeps.{comes_to_owe}
-use Rattle.nr_rev.proofs.SockopenKeeps.{same_number}
+use Rattle.nr_rev.proofs.SocketSet.{resocketed, requeued}
+use Rattle.nr_rev.proofs.Numbers.{same_number, count_push, count_front, number_same, number_apart}
 use Rattle.nr_rev.proofs.Follows.{both_true}
-
--- a socket's semaphores and a goroutine's status change, and the queues say the new status
-pub requeued : (w : World) (g s : ℕ) (old new : Status) (socket socket' : Socket) → WellFormed w → slice_get w.goroutines g ≡ Some old → slice_get w.sockets s ≡ Some socket → MayMove w.goroutines w.sockets w.descriptors w.free g new → parked_of new ≡ parked_of old → awaiting_of new ≡ awaiting_of old → ((k : ℕ) (side : Side) → k ≢ s → is_queued k side (Some new) ≡ is_queued k side (Some old)) → ((k : ℕ) (side : Side) → count_by (λ h. h == k) (of_side side socket'.semaphores).queue ≡ bit (is_queued s side (slice_get (set w.goroutines g new) k))) → SocketFits w.limits.buffer socket' → WellFormed (with_status g new (with_socket s socket' w))
-requeued w g s old new socket socket' h at there may parked awaits elsewhere counts fits =
-    record {
-      goroutines = sockets_set (GoroutinesFit-moved _ w.sockets w.descriptors w.free g old new at may h.goroutines);
-      words =
-          WordsFit-same w.goroutines _ w.descriptors w.waiters
-          (λ k. slice_get-set_unseen (option_and_then parked_of) w.goroutines g old new k at parked)
-          (λ k. slice_get-set_unseen (option_and_then awaiting_of) w.goroutines g old new k at awaits)
-          h.words;
-      queues =
-          record {
-            queued = λ k t side other is.
-                elim (slice_get-set_cases w.sockets s socket socket' t there) [
-                  | inl here ↦
-                      let other_is : socket' ≡ other = same_Some _ _ (sym here.1 ∙ is) in
-                      ap (λ (x : Socket). count_by (λ h. h == k) (of_side side x.semaphores).queue) (sym other_is)
-                      ∙ counts k side
-                      ∙ ap (λ n. bit (is_queued n side (slice_get (set w.goroutines g new) k))) (sym here.0)
-                  | inr apart ↦
-                      h.queues.queued k t side other (sym apart.1 ∙ is)
-                      ∙ sym (ap bit (slice_get-set_unseen (is_queued t side) w.goroutines g old new k at (elsewhere t side apart.0)))
-                ];
-          };
-      timers = h.timers;
-      free = h.free;
-      sockets = λ k other is.
-          elim (slice_get-set_cases w.sockets s socket socket' k there) [
-            | inl here ↦ subst (SocketFits w.limits.buffer) (same_Some _ _ (sym here.1 ∙ is)) fits
-            | inr apart ↦ h.sockets k other (sym apart.1 ∙ is)
-          ];
-      goroutines_limited = rw length-set h.goroutines_limited;
-      sockets_limited = rw length-set h.sockets_limited;
-      descriptors_limited = h.descriptors_limited;
-      firings_limited = h.firings_limited;
-      clock = h.clock;
-    }
-  where
-    sockets_set : {gs : List Status} → GoroutinesFit gs w.sockets w.descriptors w.free → GoroutinesFit gs (set w.sockets s socket') w.descriptors w.free
-    sockets_set f =
-        record {
-          one_inside = f.one_inside;
-          inside_open = f.inside_open;
-          sockets_named = λ g k p. rw length-set (f.sockets_named g k p);
-          owed = f.owed;
-        }
+use Rattle.nr_rev.proofs.Outcomes.{Keeps, Spares, Spares-ok, Ends-ok, Ends-bind, Spares-then, Spares-refused_unless, Spares-status_of, Spares-acquiring_of, Spares-owing_of, Spares-socket_of}
 
 may_name : (w : World) (g s : ℕ) (new : Status) → s < length w.sockets → wait_of new ≡ None → socket_named new ≡ Some s → owed_of new ≡ None → MayMove w.goroutines w.sockets w.descriptors w.free g new
 may_name w g s new within none named owes_none =
@@ -85,22 +34,6 @@ may_name w g s new within none named owes_none =
       named = λ k e. subst (λ (n : ℕ). n < length w.sockets) (same_Some _ _ (sym named ∙ e)) within;
       owes = λ reads writes e. absurd (none-some _ (sym owes_none ∙ e));
     }
-
-cond_bit : (b : Bool) → cond b 1 0 ≡ bit b
-cond_bit true = refl
-cond_bit false = refl
-
-count_push : (g k : ℕ) (q : List ℕ) → count_by (λ h. h == k) (q ++ g ∷ []) ≡ count_by (λ h. h == k) q + bit (g == k)
-count_push g k q = let a = sum_by-append (λ h. cond (h == k) 1 0) q (g ∷ []) in let b = cond_bit (g == k) in omega arith
-
-pub count_front : (g k : ℕ) (q : List ℕ) → count_by (λ h. h == k) (g ∷ q) ≡ bit (g == k) + count_by (λ h. h == k) q
-count_front g k q = let a = sum_by-append (λ h. cond (h == k) 1 0) (g ∷ []) q in let b = cond_bit (g == k) in omega arith
-
-pub number_same : (a : ℕ) → (a == a) ≡ true
-number_same a = grind arith
-
-pub number_apart : (a b : ℕ) → a ≢ b → (a == b) ≡ false
-number_apart a b apart = grind arith
 
 -- the fields of the socket with a semaphore of a side new
 abbrev resemaphored : Side → Socket → Semaphore → Socket
@@ -221,18 +154,6 @@ acquires w g s side socket false h at there is =
     (sym (ap (λ b. if b then record (of_side side socket.semaphores) { count = (of_side side socket.semaphores).count - 1 } else record (of_side side socket.semaphores) { queue = (of_side side socket.semaphores).queue ++ g ∷ [] }) is))
     (queues w g s side socket h at there)
 
-pick : (w1 w2 next : World) (a b answer : Answer) (c : Bool) → ◌≡◌ {A = Result (Answer × World) Refusal} (Ok (if c then (a, w1) else (b, w2))) (Ok (answer, next)) → (if c then w1 else w2) ≡ next
-pick w1 w2 next a b answer true e = next_is _ _ _ _ e
-pick w1 w2 next a b answer false e = next_is _ _ _ _ e
-
-pub acquire_keeps : (w next : World) (answer : Answer) (g : ℕ) → WellFormed w → acquire g w ≡ Ok (answer, next) → WellFormed next
-acquire_keeps w next answer g h e =
-    bound_then _ (status_of g w) _ _ e λ status has e.
-    bound_then _ (acquiring_of status) _ _ e λ place is e.
-    bound_then _ (socket_of place.0 w) _ _ e λ socket found e.
-    subst WellFormed (pick _ _ _ _ _ _ (is_free (of_side place.1 socket.semaphores)) e)
-    (acquires w g place.0 place.1 socket _ h (status_ok g w status has ∙ ap Some (acquiring_ok status place is)) (found_ok _ _ _ found) refl)
-
 -- the front of a queue is queued
 front_queued : (w : World) (s f : ℕ) (side : Side) (socket : Socket) (q : List ℕ) → WellFormed w → slice_get w.sockets s ≡ Some socket → (of_side side socket.semaphores).queue ≡ f ∷ q → slice_get w.goroutines f ≡ Some (Queued s side)
 front_queued w s f side socket q h there is = go (slice_get w.goroutines f) refl
@@ -309,17 +230,33 @@ releases w s side socket left h there e =
               ];
         })
 
-pub release_keeps : (w next : World) (answer : Answer) (g : ℕ) → WellFormed w → release g w ≡ Ok (answer, next) → WellFormed next
-release_keeps w next answer g h e =
-    bound_then _ (status_of g w) _ _ e λ status has e.
-    bound_then _ (owing_of status) _ _ e λ debt is e.
-    bound_then _ (socket_of debt.0 w) _ _ e λ socket found e.
-    bound_then _ (released (of_side (if nat_lt 0 debt.1.read then Read else Write) socket.semaphores)) _ _ e λ left raised e.
+picked : (a b : Answer × World) (c : Bool) → WellFormed (if c then a.1 else b.1) → WellFormed (if c then a else b).1
+picked a b true h = h
+picked a b false h = h
+
+pub acquire_sound : (w : World) (g : ℕ) → WellFormed w → Keeps (acquire g w)
+acquire_sound w g h =
+    Ends-bind _ (status_of g w) _ (Spares-status_of g w) λ status has.
+    Ends-bind _ (acquiring_of status) _ (Spares-acquiring_of status) λ place is.
+    Ends-bind _ (socket_of place.0 w) _ (Spares-socket_of place.0 w) λ socket found.
+    Ends-ok _ _
+    (picked _ _ (is_free (of_side place.1 socket.semaphores))
+    (acquires w g place.0 place.1 socket _ h (status_ok g w status has ∙ ap Some (acquiring_ok status place is)) (found_ok _ _ _ found) refl))
+
+Spares-released : (semaphore : Semaphore) → Spares (released semaphore)
+Spares-released semaphore = Spares-then _ _ (Spares-refused_unless _ Refusal.FieldOverflow refl) (Spares-ok _)
+
+pub release_sound : (w : World) (g : ℕ) → WellFormed w → Keeps (release g w)
+release_sound w g h =
+    Ends-bind _ (status_of g w) _ (Spares-status_of g w) λ status has.
+    Ends-bind _ (owing_of status) _ (Spares-owing_of status) λ debt is.
+    Ends-bind _ (socket_of debt.0 w) _ (Spares-socket_of debt.0 w) λ socket found.
+    Ends-bind _ (released (of_side (if nat_lt 0 debt.1.read then Read else Write) socket.semaphores)) _ (Spares-released (of_side (if nat_lt 0 debt.1.read then Read else Write) socket.semaphores)) λ left raised.
     let at : slice_get w.goroutines g ≡ Some (Owing debt.0 debt.1.read debt.1.write) = status_ok g w status has ∙ ap Some (owing_ok status debt is) in
     let there : slice_get w.sockets debt.0 ≡ Some socket = found_ok _ _ _ found in
     let r = releases w debt.0 (if nat_lt 0 debt.1.read then Read else Write) socket left h there raised in
     let small = h.goroutines.owed g debt.1.read debt.1.write (ap (option_and_then owed_of) at) in
-    subst WellFormed (next_is _ _ _ _ e)
+    Ends-ok _ _
     (comes_to_owe _ g debt.0 (Owing debt.0 debt.1.read debt.1.write) _ r.fits (r.owes g debt.0 debt.1.read debt.1.write at)
     (record { waits = refl; parked = refl; awaits = refl; queued = λ _ _. refl }) (rw r.sockets (slice_get_within _ _ _ there))
     (lowered (if nat_lt 0 debt.1.read then Read else Write) debt.1 small.0 small.1))

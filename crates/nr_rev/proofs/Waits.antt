@@ -1,0 +1,213 @@
+-- A wait of a descriptor and side, from its reset to its end.
+use Rattle.std.proofs.Common.{◌≡◌, ℕ, ◌&&◌, if◌then◌else◌, Bool, true, false, Some, refl, sym, subst, ◌∙◌, Option, inl, inr, ap, set, length-set, arith, ◌+◌, get_or}
+use Rattle.std.proofs.lemmas.Option.{some_pair_parts, slice_get_within, get_or_from_slice_get}
+use Rattle.std.specs.Prelude.{slice_get, if◌then◌else◌, sum_by}
+use Rattle.nr_rev.specs.declared.sides.Side.{Side}
+use Rattle.nr_rev.specs.declared.status.Status.TheVariants.{Idle, Entering, Armed, Parking, Parked, Swapping, Checking}
+use Rattle.nr_rev.specs.World.{World, is_waited, with_status, wait_of, with_row, is_free_number}
+use Rattle.nr_rev.specs.Step.{waitbegin, idle, open_row_of, blockarm, blockswap, pollreset, with_wait, armed_by, swapped_by, entering_of, swapping_of, status_of, row_of, parkcommit, parking_of, committed_by, blockcheck, waitcheck, armed_of, checking_of}
+use Rattle.nr_rev.specs.WellFormed.{WellFormed, IsOpen, WordsFit, Shows, HasWord, parked_of, awaiting_of, is_queued, held_count}
+use Rattle.nr_rev.proofs.Reasons.{if_ok}
+use Rattle.nr_rev.proofs.StatusSet.{moved, shown_cases, shown_kept, may_leave, may_stay, stays_inside}
+use Rattle.nr_rev.proofs.Found.{idle_ok, open_made, nobody_inside, status_ok, row_ok, open_row_ok, entering_ok, swapping_ok, parking_ok, armed_ok, checking_ok}
+use Rattle.std.specs.Option.{option_and_then}
+use Rattle.nr_rev.specs.declared.descriptor.Word.{Word}
+use Rattle.nr_rev.specs.declared.descriptor.Word.TheVariants.{Nil, Ready, Held}
+use Rattle.nr_rev.specs.Sides.{of_side, with_side}
+use Rattle.nr_rev.specs.declared.descriptor.DescriptorRow.{DescriptorRow}
+use Rattle.nr_rev.proofs.Lists.{slice_get-set_unseen, slice_get-set_here}
+use Rattle.nr_rev.proofs.SameViews.{QueuesFit-same}
+use Rattle.nr_rev.proofs.Reworded.{reworded, with_word_at, word_at_cases, word_kept, TimersFit-reworded, FreeFits-reworded, GoroutinesFit-rows, word_here}
+use Rattle.std.proofs.lemmas.List.Sums.{sum_by-set}
+use Rattle.nr_rev.specs.declared.sides.Side.TheVariants.{Read, Write}
+use Rattle.nr_rev.specs.declared.refusal.Refusal.{Refusal}
+use Rattle.nr_rev.proofs.Outcomes.{Keeps, Ends-ok, Ends-bind, Ends-then, Ends-refused, Spares-refused_if, Spares-idle, Spares-status_of, Spares-row_of, Spares-open_row_of, Spares-entering_of, Spares-armed_of, Spares-parking_of, Spares-swapping_of, Spares-checking_of}
+use Rattle.nr_rev.proofs.WordSet.{IsUnheld, worded, word_has, word_at_swap, word_at_rest, nil_unheld, ready_unheld, wait_unheld, cleared}
+
+entered : (w : World) (g d : ℕ) (side : Side) → WellFormed w → slice_get w.goroutines g ≡ Some Idle → IsOpen w.descriptors w.free d → is_waited d side w.goroutines ≡ false → WellFormed (with_status g (Entering d side) w)
+entered w g d side h at_g is_open nobody =
+    moved w g Idle (Entering d side) h at_g
+    (record {
+      is_open = λ d' side' e. let p = some_pair_parts d d' side side' e in subst (IsOpen w.descriptors w.free) p.0 is_open;
+      alone = λ d' side' k e apart inside. nobody_inside _ d side k nobody (inside ∙ sym e);
+      named = λ s e. cc;
+      owes = λ reads writes e. cc;
+    })
+    refl refl (λ _ _. refl)
+
+swapped : (w : World) (g d : ℕ) (side : Side) (row : DescriptorRow) (word : Word) → WellFormed w → slice_get w.goroutines g ≡ Some (Swapping d side) → slice_get w.descriptors d ≡ Some row → of_side side row.descriptor.words ≡ word → WellFormed (swapped_by g d side word row w).1
+swapped w g d side row word h at row_at is = go word is
+  where
+    only : (k : ℕ) (s : Side) → awaiting_of (Swapping d side) ≡ Some (k, s) → (k ≡ d) × (s ≡ side)
+    only k s e = let p = some_pair_parts d k side s e in (sym p.0, sym p.1)
+
+    is_open : is_free_number d w.free ≡ false
+    is_open = (h.goroutines.inside_open g d side (ap (option_and_then wait_of) at)).1
+
+    checks : (was : Word) → of_side side row.descriptor.words ≡ was → IsUnheld was → WellFormed (with_wait g (Checking d side) d side Nil row w)
+    checks was is unheld =
+        worded w g d side row (Swapping d side) (Checking d side) was Nil h at row_at is_open is unheld nil_unheld
+        (record { unparked = (refl, refl); awaits = λ e. cc; only = only; unqueued = λ _ _. refl })
+        (may_stay w g _ _ (d, side) h at refl refl refl refl)
+
+    go : (was : Word) → of_side side row.descriptor.words ≡ was → WellFormed (swapped_by g d side was row w).1
+    go Ready is =
+        worded w g d side row (Swapping d side) Idle Ready Nil h at row_at is_open is ready_unheld nil_unheld
+        (record { unparked = (refl, refl); awaits = λ e. cc; only = only; unqueued = λ _ _. refl })
+        (may_leave w g Idle refl refl refl)
+    go Nil is = checks Nil is nil_unheld
+    go Word.Wait is = checks Word.Wait is wait_unheld
+    go (Held k) is = absurd (word_at_swap w g k d side h at (word_has w d side row (Held k) row_at is))
+
+swapping : (w : World) (g d : ℕ) (side : Side) → WellFormed w → slice_get w.goroutines g ≡ Some (Parking d side) → WellFormed (with_status g (Swapping d side) w)
+swapping w g d side h at = moved w g _ _ h at (may_stay w g _ _ (d, side) h at refl refl refl refl) refl refl (λ _ _. refl)
+
+held_more : (side : Side) (g : ℕ) (row : DescriptorRow) → of_side side row.descriptor.words ≡ Word.Wait → held_count (reworded row (with_side side (Held g) row.descriptor.words)) ≡ held_count row + 1
+held_more Read g row e = rw e (omega arith)
+held_more Write g row e = rw e (omega arith)
+
+parked_words : (w : World) (g d : ℕ) (side : Side) (row : DescriptorRow) → WellFormed w → slice_get w.goroutines g ≡ Some (Parking d side) → slice_get w.descriptors d ≡ Some row → of_side side row.descriptor.words ≡ Word.Wait → WordsFit (set w.goroutines g (Parked d side)) (with_word_at w.descriptors d row side (Held g)) (w.waiters + 1)
+parked_words w g d side row h at row_at waits =
+    record {
+      held = λ k e s. (to_parked k e s, to_held k e s);
+      waited = λ e s word.
+          elim (word_at_cases w.descriptors d row side (Held g) e s Word.Wait row_at word) [
+            | inl here ↦ cc
+            | inr there ↦
+                let before = h.words.waited e s there.1 in
+                (before.0, shown_kept awaiting_of w.goroutines g (Parking d side) _ before.0 (e, s) at (λ same. there.0 (elsewhere e s same)) before.1)
+          ];
+      counted =
+          let changed : sum_by held_count (with_word_at w.descriptors d row side (Held g)) + held_count (get_or w.descriptors d row) ≡ sum_by held_count w.descriptors + held_count (reworded row (with_side side (Held g) row.descriptor.words)) =
+          sum_by-set held_count w.descriptors d _ row (slice_get_within _ _ _ row_at)
+          in
+          let old : held_count (get_or w.descriptors d row) ≡ held_count row = ap held_count (get_or_from_slice_get w.descriptors d row row row_at) in
+          let counted : w.waiters ≡ sum_by held_count w.descriptors = h.words.counted in
+          let more : held_count (reworded row (with_side side (Held g) row.descriptor.words)) ≡ held_count row + 1 = held_more side g row waits in
+          omega arith;
+    }
+  where
+    elsewhere : (e : ℕ) (s : Side) → ◌≡◌ {A = Option (ℕ × Side)} (Some (d, side)) (Some (e, s)) → (e ≡ d) × (s ≡ side)
+    elsewhere e s same = let p = some_pair_parts d e side s same in (sym p.0, sym p.1)
+
+    to_parked : (k e : ℕ) (s : Side) → HasWord (with_word_at w.descriptors d row side (Held g)) e s (Held k) → Shows parked_of (set w.goroutines g (Parked d side)) k (e, s)
+    to_parked k e s has =
+        elim (word_at_cases w.descriptors d row side (Held g) e s (Held k) row_at has) [
+          | inl here ↦
+              let k_is : k ≡ g = cc in
+              rw (k_is, here.0, here.1) (ap (option_and_then parked_of) (slice_get-set_here w.goroutines g _ (Parked d side) at))
+          | inr there ↦ shown_kept parked_of w.goroutines g (Parking d side) _ k (e, s) at (λ same. cc) ((h.words.held k e s).0 there.1)
+        ]
+
+    to_held : (k e : ℕ) (s : Side) → Shows parked_of (set w.goroutines g (Parked d side)) k (e, s) → HasWord (with_word_at w.descriptors d row side (Held g)) e s (Held k)
+    to_held k e s parked =
+        elim (shown_cases parked_of w.goroutines g (Parking d side) (Parked d side) k (e, s) at parked) [
+          | inl here ↦
+              let p = elsewhere e s here.1 in
+              rw (here.0, p.0, p.1) (word_here w.descriptors d row side (Held g) row_at)
+          | inr there ↦ word_kept w.descriptors d row side (Held g) e s (Held k) row_at (λ same. cc) ((h.words.held k e s).1 there.1)
+        ]
+
+parked : (w : World) (g d : ℕ) (side : Side) (row : DescriptorRow) → WellFormed w → slice_get w.goroutines g ≡ Some (Parking d side) → slice_get w.descriptors d ≡ Some row → of_side side row.descriptor.words ≡ Word.Wait → WellFormed (committed_by g d side Word.Wait row w).1
+parked w g d side row h at row_at waits =
+    record {
+      goroutines = GoroutinesFit-rows _ w.sockets w.descriptors _ w.free (length-set _ d _) (stays_inside w g d side _ _ h at refl refl refl refl);
+      words = parked_words w g d side row h at row_at waits;
+      queues = QueuesFit-same w.goroutines _ w.sockets (λ s side k. slice_get-set_unseen (is_queued s side) w.goroutines g _ _ k at refl) h.queues;
+      timers = TimersFit-reworded w.descriptors w.firings w.next_arming d row _ row_at h.timers;
+      free = FreeFits-reworded w.descriptors w.free d row _ row_at (h.goroutines.inside_open g d side (ap (option_and_then wait_of) at)).1 h.free;
+      sockets = h.sockets;
+      goroutines_limited = rw length-set h.goroutines_limited;
+      sockets_limited = h.sockets_limited;
+      descriptors_limited = rw length-set h.descriptors_limited;
+      firings_limited = h.firings_limited;
+      clock = h.clock;
+    }
+
+committed : (w : World) (g d : ℕ) (side : Side) (word : Word) (row : DescriptorRow) → WellFormed w → slice_get w.goroutines g ≡ Some (Parking d side) → slice_get w.descriptors d ≡ Some row → of_side side row.descriptor.words ≡ word → WellFormed (committed_by g d side word row w).1
+committed w g d side Word.Wait row h at row_at is = parked w g d side row h at row_at is
+committed w g d side _ row h at row_at is = swapping w g d side h at
+
+checked : (w : World) (g d : ℕ) (side : Side) (zero : Bool) → WellFormed w → slice_get w.goroutines g ≡ Some (Armed d side) → WellFormed (with_status g (if zero then Parking d side else Swapping d side) w)
+checked w g d side true h at = moved w g _ _ h at (may_stay w g _ _ (d, side) h at refl refl refl refl) refl refl (λ _ _. refl)
+checked w g d side false h at = moved w g _ _ h at (may_stay w g _ _ (d, side) h at refl refl refl refl) refl refl (λ _ _. refl)
+
+rechecked : (w : World) (g d : ℕ) (side : Side) (zero : Bool) → WellFormed w → slice_get w.goroutines g ≡ Some (Checking d side) → WellFormed (with_status g (if zero then Entering d side else Idle) w)
+rechecked w g d side true h at = moved w g _ _ h at (may_stay w g _ _ (d, side) h at refl refl refl refl) refl refl (λ _ _. refl)
+rechecked w g d side false h at = moved w g _ _ h at (may_leave w g Idle refl refl refl) refl refl (λ _ _. refl)
+
+reset : (w : World) (d : ℕ) (side : Side) (row : DescriptorRow) (zero : Bool) → WellFormed w → slice_get w.descriptors d ≡ Some row → is_free_number d w.free ≡ false → (zero && is_waited d side w.goroutines) ≡ false → WellFormed (if zero then with_row d (reworded row (with_side side Nil row.descriptor.words)) w else w)
+reset w d side row false h row_at is_open nobody = h
+reset w d side row true h row_at is_open nobody =
+    cleared w d side row h row_at is_open (word_at_rest w d side _ h nobody (word_has w d side row _ row_at refl))
+
+pub pollreset_sound : (w : World) (g d : ℕ) (side : Side) → WellFormed w → Keeps (pollreset g d side w)
+pollreset_sound w g d side h =
+    Ends-then _ (idle g w) _ (Spares-idle g w) λ _.
+    Ends-bind _ (open_row_of d w) _ (Spares-open_row_of d w) λ row found.
+    Ends-then _ _ _ (Spares-refused_if _ Refusal.WaiterInside refl) λ nobody.
+    let f = open_row_ok d w row found in
+    Ends-ok _ _ (reset w d side row _ h f.0 f.1 (if_ok _ _ nobody))
+
+-- with code 0 the goroutine enters
+enters : (w : World) (g d : ℕ) (side : Side) (zero : Bool) → WellFormed w → slice_get w.goroutines g ≡ Some Idle → IsOpen w.descriptors w.free d → (zero && is_waited d side w.goroutines) ≡ false → WellFormed (if zero then with_status g (Entering d side) w else w)
+enters w g d side true h at is_open nobody = entered w g d side h at is_open nobody
+enters w g d side false h at is_open nobody = h
+
+pub waitbegin_sound : (w : World) (g d : ℕ) (side : Side) → WellFormed w → Keeps (waitbegin g d side w)
+waitbegin_sound w g d side h =
+    Ends-then _ (idle g w) _ (Spares-idle g w) λ at.
+    Ends-bind _ (open_row_of d w) _ (Spares-open_row_of d w) λ row found.
+    Ends-then _ _ _ (Spares-refused_if _ Refusal.DoubleWait refl) λ nobody.
+    Ends-ok _ _ (enters w g d side _ h (idle_ok g w at) (open_made d w row found) (if_ok _ _ nobody))
+
+arms : (w : World) (g d : ℕ) (side : Side) (row : DescriptorRow) (word : Word) → WellFormed w → slice_get w.goroutines g ≡ Some (Entering d side) → slice_get w.descriptors d ≡ Some row → of_side side row.descriptor.words ≡ word → Keeps (armed_by g d side word row w)
+arms w g d side row Nil h at row_at is =
+    Ends-ok _ _
+    (worded w g d side row (Entering d side) (Armed d side) Nil Word.Wait h at row_at (h.goroutines.inside_open g d side (ap (option_and_then wait_of) at)).1 is nil_unheld wait_unheld
+    (record { unparked = (refl, refl); awaits = λ _. refl; only = λ k s e. cc; unqueued = λ _ _. refl })
+    (may_stay w g _ _ (d, side) h at refl refl refl refl))
+arms w g d side row Ready h at row_at is =
+    Ends-ok _ _
+    (worded w g d side row (Entering d side) Idle Ready Nil h at row_at (h.goroutines.inside_open g d side (ap (option_and_then wait_of) at)).1 is ready_unheld nil_unheld
+    (record { unparked = (refl, refl); awaits = λ e. cc; only = λ k s e. cc; unqueued = λ _ _. refl })
+    (may_leave w g Idle refl refl refl))
+arms w g d side row Word.Wait h at row_at is = Ends-refused _ Refusal.DoubleWait refl
+arms w g d side row (Held k) h at row_at is = Ends-refused _ Refusal.DoubleWait refl
+
+pub blockarm_sound : (w : World) (g : ℕ) → WellFormed w → Keeps (blockarm g w)
+blockarm_sound w g h =
+    Ends-bind _ (status_of g w) _ (Spares-status_of g w) λ status has.
+    Ends-bind _ (entering_of status) _ (Spares-entering_of status) λ place is.
+    Ends-bind _ (row_of place.0 w) _ (Spares-row_of place.0 w) λ row found.
+    arms w g place.0 place.1 row _ h (status_ok g w status has ∙ ap Some (entering_ok status place is)) (row_ok place.0 w row found) refl
+
+pub blockcheck_sound : (w : World) (g : ℕ) → WellFormed w → Keeps (blockcheck g w)
+blockcheck_sound w g h =
+    Ends-bind _ (status_of g w) _ (Spares-status_of g w) λ status has.
+    Ends-bind _ (armed_of status) _ (Spares-armed_of status) λ place is.
+    Ends-bind _ (row_of place.0 w) _ (Spares-row_of place.0 w) λ row found.
+    Ends-ok _ _ (checked w g place.0 place.1 _ h (status_ok g w status has ∙ ap Some (armed_ok status place is)))
+
+pub parkcommit_sound : (w : World) (g : ℕ) → WellFormed w → Keeps (parkcommit g w)
+parkcommit_sound w g h =
+    Ends-bind _ (status_of g w) _ (Spares-status_of g w) λ status has.
+    Ends-bind _ (parking_of status) _ (Spares-parking_of status) λ place is.
+    Ends-bind _ (row_of place.0 w) _ (Spares-row_of place.0 w) λ row found.
+    Ends-ok _ _
+    (committed w g place.0 place.1 _ row h (status_ok g w status has ∙ ap Some (parking_ok status place is)) (row_ok place.0 w row found) refl)
+
+pub blockswap_sound : (w : World) (g : ℕ) → WellFormed w → Keeps (blockswap g w)
+blockswap_sound w g h =
+    Ends-bind _ (status_of g w) _ (Spares-status_of g w) λ status has.
+    Ends-bind _ (swapping_of status) _ (Spares-swapping_of status) λ place is.
+    Ends-bind _ (row_of place.0 w) _ (Spares-row_of place.0 w) λ row found.
+    Ends-ok _ _
+    (swapped w g place.0 place.1 row _ h (status_ok g w status has ∙ ap Some (swapping_ok status place is)) (row_ok place.0 w row found) refl)
+
+pub waitcheck_sound : (w : World) (g : ℕ) → WellFormed w → Keeps (waitcheck g w)
+waitcheck_sound w g h =
+    Ends-bind _ (status_of g w) _ (Spares-status_of g w) λ status has.
+    Ends-bind _ (checking_of status) _ (Spares-checking_of status) λ place is.
+    Ends-bind _ (row_of place.0 w) _ (Spares-row_of place.0 w) λ row found.
+    Ends-ok _ _ (rechecked w g place.0 place.1 _ h (status_ok g w status has ∙ ap Some (checking_ok status place is)))
