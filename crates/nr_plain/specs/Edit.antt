@@ -1,18 +1,15 @@
 -- The primitive changes of a world: what each leaves, and what undoing it leaves.
 use Rattle.std.specs.Prelude.{◌≡◌, ℕ, ◌+◌, ◌-◌, ◌*◌, ◌<◌, ◌≤◌, List, [], ◌∷◌, ◌++◌, length, take, drop, insert, remove, slice_get, slice_set, Option, Some, None, option_map, IfSome}
-use Rattle.nr_rev.specs.declared.descriptor.DescriptorRow.{DescriptorRow}
-use Rattle.nr_rev.specs.declared.descriptor.Word.{Word}
-use Rattle.nr_rev.specs.declared.descriptor.Word.TheVariants as word
-use Rattle.nr_rev.specs.declared.status.Status.{Status}
 use Rattle.nr_rev.specs.declared.status.Status.TheVariants as status
 use Rattle.nr_rev.specs.Socket.{new_socket}
 use Rattle.nr_rev.specs.Step.{new_row, all_woken}
+use Rattle.nr_rev.specs.Weight.{entry_words, number_words, row_words, status_words, time_words, variant_words}
 use Rattle.nr_rev.specs.World.{World, with_row, with_status}
 use Rattle.nr_plain.specs.declared.edit.Edit.{Edit}
 use Rattle.nr_plain.specs.declared.edit.Edit.TheVariants as edit
 use Rattle.nr_plain.specs.declared.edit.Undo.{Undo}
 use Rattle.nr_plain.specs.declared.edit.Undo.TheVariants as undo
-use Rattle.nr_plain.specs.SocketEdit.{CanEditSocket, CanUndoSocket, option_words, socket_edit_words, socket_edited, socket_reverted, socket_undo_words}
+use Rattle.nr_plain.specs.SocketEdit.{CanEditSocket, CanUndoSocket, socket_edit_words, socket_edited, socket_reverted, socket_undo_words}
 
 -- a list with another element at a place, where there is one
 abbrev pub written : {X : Type 0} → ℕ → Option X → List X → List X
@@ -85,37 +82,21 @@ abbrev pub Undoes : Undo → World → World → Type 0
 Undoes undo new old = CanUndo undo new × (old ≡ reverted undo new)
 
 -- how many words an undo holds
-abbrev pub status_words : Status → ℕ
-status_words status.Idle = 1
-status_words status.Gone = 1
-status_words (status.Owing s reads writes) = 4
-status_words _ = 3
-
-abbrev pub word_words : Word → ℕ
-word_words (word.Held g) = 2
-word_words _ = 1
-
-abbrev pub row_words : DescriptorRow → ℕ
-row_words row =
-    word_words row.descriptor.words.read + word_words row.descriptor.words.write + 10
-    + option_words 4 row.timers.read
-    + option_words 4 row.timers.write
-
 abbrev pub undo_words : Undo → ℕ
-undo_words (undo.Status g status) = 2 + status_words status
-undo_words undo.RemoveGoroutine = 1
-undo_words undo.RemoveSocket = 1
-undo_words (undo.Socket s change) = 2 + socket_undo_words change
-undo_words (undo.Row d row) = 2 + row_words row
-undo_words undo.RemoveRow = 1
-undo_words (undo.ReturnFree d) = 2
-undo_words undo.RemoveFree = 1
-undo_words (undo.Sleep g status waiters) = 3 + status_words status
-undo_words (undo.Waiters count) = 2
-undo_words (undo.Arming number) = 2
-undo_words (undo.Clock time) = 2
-undo_words undo.RemoveFiring = 1
-undo_words (undo.ReturnFiring place entry) = 8
+undo_words (undo.Status g status) = variant_words + number_words g + status_words status
+undo_words undo.RemoveGoroutine = variant_words
+undo_words undo.RemoveSocket = variant_words
+undo_words (undo.Socket s change) = variant_words + number_words s + socket_undo_words change
+undo_words (undo.Row d row) = variant_words + number_words d + row_words row
+undo_words undo.RemoveRow = variant_words
+undo_words (undo.ReturnFree d) = variant_words + number_words d
+undo_words undo.RemoveFree = variant_words
+undo_words (undo.Sleep g status waiters) = variant_words + number_words g + status_words status + number_words waiters
+undo_words (undo.Waiters count) = variant_words + number_words count
+undo_words (undo.Arming number) = variant_words + number_words number
+undo_words (undo.Clock time) = variant_words + time_words time
+undo_words undo.RemoveFiring = variant_words
+undo_words (undo.ReturnFiring place entry) = variant_words + number_words place + entry_words entry
 
 -- how many the undo of a change holds at most
 abbrev pub edit_words : Edit → ℕ

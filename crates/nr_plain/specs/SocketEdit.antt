@@ -1,9 +1,10 @@
 -- The primitive changes of a socket: what each leaves, and what undoing it leaves.
-use Rattle.std.specs.Prelude.{◌≡◌, ℕ, ◌+◌, ◌-◌, ◌<◌, ◌≤◌, ◌^◌, ◌/◌, true, false, Option, Some, None, List, [], ◌∷◌, ◌++◌, length, take, drop, option_to_list}
+use Rattle.std.specs.Prelude.{◌≡◌, ℕ, ◌+◌, ◌-◌, ◌<◌, ◌≤◌, ◌^◌, true, false, List, [], ◌∷◌, ◌++◌, length, take, drop, option_to_list}
 use Rattle.nr_rev.specs.declared.sides.Side.{Side}
 use Rattle.nr_rev.specs.Sides.{of_side, with_side}
 use Rattle.nr_rev.specs.Semaphore.{Semaphore}
 use Rattle.nr_rev.specs.Socket.{Socket}
+use Rattle.nr_rev.specs.Weight.{bytes_words, lock_words, number_words, option_words, side_words, variant_words}
 use Rattle.nr_plain.specs.declared.socket_edit.SocketEdit.{SocketEdit}
 use Rattle.nr_plain.specs.declared.socket_edit.SocketEdit.TheVariants as edit
 use Rattle.nr_plain.specs.declared.socket_edit.SocketUndo.{SocketUndo}
@@ -69,28 +70,18 @@ abbrev pub UndoesSocket : ℕ → ℕ → SocketUndo → Socket → Socket → T
 UndoesSocket queue_room byte_room undo new old = CanUndoSocket queue_room byte_room undo new × (old ≡ socket_reverted undo new)
 
 -- how many words the undo of a change holds
-abbrev pub lock_words : ℕ
-lock_words = 6
-
-abbrev pub bytes_words : List ℕ → ℕ
-bytes_words bytes = (length bytes + 7) / 8
-
-abbrev pub option_words : {A : Type 0} → ℕ → Option A → ℕ
-option_words words None = 1
-option_words words (Some a) = 1 + words
-
 abbrev pub socket_undo_words : SocketUndo → ℕ
-socket_undo_words (undo.Lock lock) = 1 + lock_words
-socket_undo_words (undo.Count side count) = 3
-socket_undo_words (undo.LeaveQueue side) = 2
-socket_undo_words (undo.Requeue side front) = 2 + option_words 1 front
-socket_undo_words (undo.Cut side len) = 3
-socket_undo_words (undo.Restore side bytes) = 2 + bytes_words bytes
-socket_undo_words undo.OpenPeer = 1
+socket_undo_words (undo.Lock lock) = variant_words + lock_words lock
+socket_undo_words (undo.Count side count) = variant_words + side_words side + number_words count
+socket_undo_words (undo.LeaveQueue side) = variant_words + side_words side
+socket_undo_words (undo.Requeue side front) = variant_words + side_words side + option_words number_words front
+socket_undo_words (undo.Cut side len) = variant_words + side_words side + number_words len
+socket_undo_words (undo.Restore side bytes) = variant_words + side_words side + bytes_words bytes
+socket_undo_words undo.OpenPeer = variant_words
 
 -- how many the undo of a change holds at most
 abbrev pub socket_edit_words : SocketEdit → ℕ
-socket_edit_words (edit.Lock lock) = 1 + lock_words
+socket_edit_words (edit.Lock lock) = variant_words + lock_words lock
 socket_edit_words (edit.Count side count) = 3
 socket_edit_words (edit.Enqueue side g) = 2
 socket_edit_words (edit.Release side) = 4

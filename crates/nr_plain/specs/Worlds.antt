@@ -5,7 +5,7 @@ use Rattle.nr_rev.specs.declared.step.Step.{Step}
 use Rattle.nr_rev.specs.Step.{StepTo, outcome}
 use Rattle.nr_rev.specs.WellFormed.{WellFormed}
 use Rattle.nr_rev.specs.World.{World}
-use Rattle.nr_rev.specs.Worlds.{KeepsBytes, bytes_left, refusal_of}
+use Rattle.nr_rev.specs.Worlds.{LosesBytes, bytes_left, refusal_of}
 use Rattle.nr_plain.specs.Plan.{world_reason}
 
 -- it means itself
@@ -18,8 +18,8 @@ steps_are old step answer new leads = leads
 pub reasons_are : (old : World) (step : Step) → world_reason old step ≡ refusal_of (outcome old step)
 reasons_are old step = λ _. world_reason old step
 
-pub memory_is_for_bytes : (step : Step) → KeepsBytes step → KeepsBytes step
-memory_is_for_bytes step keeps = keeps
+pub memory_is_for_bytes : (old : World) (step : Step) → LosesBytes old step → LosesBytes old step
+memory_is_for_bytes old step loses = loses
 
 pub bytes_out_are : (step : Step) (answer : Answer) → bytes_left step answer ≡ bytes_left step answer
 bytes_out_are step answer = λ _. bytes_left step answer

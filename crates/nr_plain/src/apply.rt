@@ -1,6 +1,7 @@
 //! Steps applied and undone.
 
 ghost use Rattle.std.specs.Prelude.{◌≡◌, ◌≤◌, ◌+◌, length, sum_by};
+ghost use Rattle.nr_rev.specs.Step.{IsTimely};
 ghost use Rattle.nr_rev.specs.Transaction.{LeadsBack};
 ghost use Rattle.nr_rev.specs.WellFormed.{WellFormed};
 ghost use Rattle.nr_plain.specs.Edit.{Undoes, undo_words};
@@ -18,7 +19,8 @@ impl PlainWorld {
     #[tactic(auto, using(crate::proofs::PlanLemmas::unless_memory))]
     fn plan<'a>(&self, step: &'a Step) -> Result<Plan<'a>, Refusal>
         requires { WellFormed self.now }
-        ensures { PlansUnlessMemory step.now self.now result }
+        ensures plans { PlansUnlessMemory step.now self.now result }
+        ensures timely { IsTimely step.now }
     {
         match step {
             Step::Spawn => self.spawn(),
@@ -111,7 +113,7 @@ impl PlainWorld {
 
     /// Makes the changes, in order, and gives what undoes them.
     fn perform_all(&mut self, mut edits: ArrayVec<Edit, MOST_EDITS>) -> ArrayVec<Undo, MOST_EDITS>
-        requires few { length edits.items ≤ 5 }
+        requires few { length edits.items ≤ MOST_EDITS }
         requires can { CanEditAll edits.items self.old }
         ensures after { self.new ≡ all_edited edits.entry.items self.old }
         ensures back { LeadsBack Undoes result.items self.new self.old }
@@ -130,9 +132,9 @@ impl PlainWorld {
 impl Reversible for PlainWorld {
     ghost use Rattle.nr_rev.specs.Step.{StepTo};
     ghost use Rattle.nr_rev.specs.WellFormed.{WellFormed};
-    ghost use Rattle.nr_rev.specs.Worlds.{KeepsBytes, bytes_left};
+    ghost use Rattle.nr_rev.specs.Worlds.{LosesBytes, bytes_left};
     ghost use Rattle.nr_plain.specs.Delta.{PlainBack, PlainBack-unique, delta_words};
-    ghost use Rattle.nr_plain.specs.Plan.{world_reason, refused_has_no_step, sixty_four_is_within};
+    ghost use Rattle.nr_plain.specs.Plan.{memory_is_no_reason, world_reason, refused_has_no_step, steps_unique, sixty_four_is_within};
 
     type Op = Step;
 
@@ -150,7 +152,7 @@ impl Reversible for PlainWorld {
 
     ghost reason = { world_reason };
 
-    ghost takes_memory = { KeepsBytes };
+    ghost takes_memory = { LosesBytes };
 
     ghost back = { PlainBack };
 
@@ -176,6 +178,10 @@ impl Reversible for PlainWorld {
     ghost back_is_unique = { PlainBack-unique };
 
     ghost refused_has_no_step = { refused_has_no_step };
+
+    ghost memory_is_no_reason = { memory_is_no_reason };
+
+    ghost steps_unique = { steps_unique };
 
     ghost allowance_is_within = { sixty_four_is_within };
 }

@@ -6,7 +6,7 @@ ghost use Rattle.nr_rev.specs.Lock.{bit, lock_number};
 ghost use Rattle.nr_rev.specs.Sides.{of_side};
 ghost use Rattle.nr_rev.specs.WellFormed.{LockFits, WellFormed};
 ghost use Rattle.nr_rev.specs.World.{entries_of};
-ghost use Rattle.nr_rev.specs.declared.cell.CellValue.TheVariants as value;
+ghost use Rattle.nr_rev.specs.declared.cell_value.CellValue.TheVariants as value;
 ghost use Rattle.nr_rev.specs.declared.descriptor.DescriptorRow.{DescriptorRow as Row};
 
 use crate::descriptor::summary;

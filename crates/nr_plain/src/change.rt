@@ -1,7 +1,7 @@
 //! What an operation leaves of a descriptor: its fields, orders to its timers, and who is woken. At most
 //! one order and one goroutine a side, reading first.
 
-ghost use Rattle.std.specs.Prelude.{◌≡◌, ◌==◌, ◌&&◌, IfOk, None, negsuc, option_map, option_to_list};
+ghost use Rattle.std.specs.Prelude.{◌≡◌, ◌==◌, ◌&&◌, IfOk, IsTrue, None, negsuc, option_map, option_to_list};
 ghost use Rattle.std.specs.Ordering.{int_eq};
 ghost use Rattle.nr_rev.specs.Descriptor as spec;
 ghost use Rattle.nr_rev.specs.Lock as lock;
@@ -69,29 +69,18 @@ fn unblock(word: Word, ioready: bool) -> Unblocked
 }
 
 impl PlainChange {
-    /// The read side unblocked, before the write side is.
-    fn unblock_read(self, ioready: bool) -> PlainChange
-        requires { self.woken ≡ sides.twice None }
-        ensures shown { change_shown result ≡ spec.and_then (change_shown self) (spec.unblocked ioready Read) }
-        ensures write { result.woken.write ≡ None }
+    /// A side unblocked. Reading comes before writing, so that those woken stand in that order.
+    fn unblock(self, side: Side, ioready: bool) -> PlainChange
+        requires none { sides.of_side side self.woken ≡ None }
+        requires first { self.woken.write ≡ None }
+        ensures shown { change_shown result
+            ≡ spec.and_then (change_shown self) (spec.unblocked ioready side) }
+        ensures rest { IsTrue (sides.is_read side) → result.woken.write ≡ None }
     {
-        let left = unblock(self.descriptor.words.read, ioready);
+        let left = unblock(self.descriptor.words.of(side), ioready);
         PlainChange {
-            descriptor: with_word(Side::Read, left.word, self.descriptor),
-            woken: self.woken.with(Side::Read, left.woken),
-            ..self
-        }
-    }
-
-    /// The write side unblocked.
-    fn unblock_write(self, ioready: bool) -> PlainChange
-        requires { self.woken.write ≡ None }
-        ensures { change_shown result ≡ spec.and_then (change_shown self) (spec.unblocked ioready Write) }
-    {
-        let left = unblock(self.descriptor.words.write, ioready);
-        PlainChange {
-            descriptor: with_word(Side::Write, left.word, self.descriptor),
-            woken: self.woken.with(Side::Write, left.woken),
+            descriptor: with_word(side, left.word, self.descriptor),
+            woken: self.woken.with(side, left.woken),
             ..self
         }
     }
@@ -184,10 +173,10 @@ impl PlainChange {
     {
         let mut change = self;
         if is_expired(Side::Read, self.descriptor) {
-            change = change.unblock_read(false);
+            change = change.unblock(Side::Read, false);
         }
         if is_expired(Side::Write, change.descriptor) {
-            change = change.unblock_write(false);
+            change = change.unblock(Side::Write, false);
         }
         change
     }
@@ -268,7 +257,11 @@ pub(crate) fn evicted(descriptor: Descriptor) -> Result<PlainChange, Refusal>
         },
         woken: Sides::twice(None),
     };
-    Ok(stopped.unblock_read(false).unblock_write(false))
+    Ok(
+        stopped
+            .unblock(Side::Read, false)
+            .unblock(Side::Write, false),
+    )
 }
 
 /// The descriptor with a side's deadline past.
@@ -290,11 +283,11 @@ impl PlainChange {
         let mut change = self;
         if covers_side(function, Side::Read) {
             change.descriptor = with_past(Side::Read, change.descriptor);
-            change = change.unblock_read(false);
+            change = change.unblock(Side::Read, false);
         }
         if covers_side(function, Side::Write) {
             change.descriptor = with_past(Side::Write, change.descriptor);
-            change = change.unblock_write(false);
+            change = change.unblock(Side::Write, false);
         }
         change
     }
@@ -339,10 +332,10 @@ pub(crate) fn event_seen(mode: Mode, error: bool, descriptor: Descriptor) -> Pla
         ..descriptor
     });
     if names_side(mode, Side::Read) {
-        change = change.unblock_read(true);
+        change = change.unblock(Side::Read, true);
     }
     if names_side(mode, Side::Write) {
-        change = change.unblock_write(true);
+        change = change.unblock(Side::Write, true);
     }
     change
 }

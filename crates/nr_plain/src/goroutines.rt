@@ -1,4 +1,4 @@
-//! The steps that make goroutines and sockets, or end a goroutine.
+//! The steps that make goroutines and end them.
 
 ghost use Rattle.nr_rev.specs.declared.step.Step.TheVariants as steps;
 ghost use Rattle.nr_plain.specs.Plan.{Plans};
@@ -28,26 +28,6 @@ impl PlainWorld {
         Ok(Plan::new(Answer::Done).then(Edit::Status {
             goroutine,
             status: Status::Gone,
-        }))
-    }
-
-    /// The plan of `sockopen`.
-    pub(crate) fn sockopen<'a>(
-        &self,
-        read_capacity: u32,
-        write_capacity: u32,
-    ) -> Result<Plan<'a>, Refusal>
-        ensures { Plans (steps.SockOpen read_capacity write_capacity) self.now result }
-    {
-        let opened = self.sockets.len();
-        if opened >= self.limits.sockets as usize {
-            return Err(Refusal::TableFull);
-        }
-        self.sized(read_capacity)?;
-        self.sized(write_capacity)?;
-        Ok(Plan::new(Answer::Number(opened as u32)).then(Edit::AddSocket {
-            read_capacity,
-            write_capacity,
         }))
     }
 }

@@ -42,7 +42,7 @@ impl<'a> Plan<'a> {
 
     /// One change more.
     pub(crate) fn then(mut self, edit: Edit<'a>) -> Plan<'a>
-        requires { length self.edits.items < 5 }
+        requires { length self.edits.items < MOST_EDITS }
         ensures answer { result.answer ≡ self.entry.answer }
         ensures edits { result.edits.items ≡ self.entry.edits.items ++ edit.entry ∷ [] }
     {

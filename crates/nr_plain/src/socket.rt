@@ -1,10 +1,10 @@
 //! A socket: a lock, two semaphores, two buffers and the peer's mark.
 
-ghost use Rattle.std.specs.Prelude.{◌≡◌, ℕ, IfOk};
+ghost use Rattle.std.specs.Prelude.{◌≡◌, ℕ, IfOk, drop};
 ghost use Rattle.nr_rev.specs.Sides.{of_side};
 ghost use Rattle.nr_rev.specs.Socket.{new_socket};
 ghost use Rattle.nr_plain.specs.Buffer.{buffer_shown};
-ghost use Rattle.nr_plain.specs.SocketEdit.{CanEditSocket, CanUndoSocket, socket_reverted};
+ghost use Rattle.nr_plain.specs.SocketEdit.{CanEditSocket, CanUndoSocket, on_bytes, socket_reverted};
 ghost use Rattle.nr_plain.specs.declared.socket_edit.SocketEdit.TheVariants.{Count, Enqueue, Release, Append, Take};
 ghost use Rattle.nr_plain.specs.Semaphore.{semaphore_shown};
 ghost use Rattle.nr_plain.specs.Socket.{Edits, HasRoom, socket_shown};
@@ -13,7 +13,7 @@ use crate::buffer::PlainBuffer;
 use crate::lock::open_lock;
 use crate::semaphore::PlainSemaphore;
 use crate::socket_edit::{SocketEdit, SocketUndo};
-use nr_rev::{Bytes, Lock, Side};
+use nr_rev::{KeptBytes, Lock, Side};
 use std::alloc::{AllocError, Global};
 
 /// A socket over lists.
@@ -196,7 +196,13 @@ impl PlainSocket {
     }
 
     #[tactic(auto, using(crate::proofs::ListLemmas::front_restored))]
-    fn take(&mut self, side: Side, bytes: Bytes, queue_room: usize, byte_room: usize) -> SocketUndo
+    fn take(
+        &mut self,
+        side: Side,
+        bytes: KeptBytes,
+        queue_room: usize,
+        byte_room: usize,
+    ) -> SocketUndo
         requires room { HasRoom queue_room byte_room self.old }
         requires can { CanEditSocket queue_room byte_room (Take side bytes) (socket_shown self.old) }
         ensures { Edits queue_room byte_room (Take side bytes) result self.old self.new }
@@ -206,6 +212,17 @@ impl PlainSocket {
             Side::Write => self.output.drop_front(bytes.len()),
         }
         SocketUndo::Restore { side, bytes }
+    }
+
+    /// So many bytes leave the front of a buffer, and nothing keeps them.
+    pub(crate) fn lose(&mut self, side: Side, count: usize)
+        ensures after { socket_shown self.new ≡ on_bytes side (λ held. drop count held) (socket_shown self.old) }
+        ensures room { (queue_room byte_room : ℕ) → HasRoom queue_room byte_room self.old → HasRoom queue_room byte_room self.new }
+    {
+        match side {
+            Side::Read => self.input.drop_front(count),
+            Side::Write => self.output.drop_front(count),
+        }
     }
 
     /// Undoes a change.

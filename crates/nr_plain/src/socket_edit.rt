@@ -1,6 +1,6 @@
 //! The primitive changes of a socket, and what undoes each.
 
-use nr_rev::{Bytes, Lock, Side};
+use nr_rev::{KeptBytes, Lock, Side};
 
 /// A change of a socket.
 #[derive(Drop)]
@@ -16,7 +16,7 @@ pub(crate) enum SocketEdit<'a> {
     /// Appends bytes to a buffer.
     Append { side: Side, bytes: &'a [u8] },
     /// Takes these bytes, which stand at its front, out of a buffer.
-    Take { side: Side, bytes: Bytes },
+    Take { side: Side, bytes: KeptBytes },
     /// Marks that the peer closed.
     ClosePeer,
 }
@@ -33,6 +33,6 @@ pub enum SocketUndo {
     /// The buffer has so many bytes.
     Cut { side: Side, len: usize },
     /// The bytes stand at the front of the buffer again.
-    Restore { side: Side, bytes: Bytes },
+    Restore { side: Side, bytes: KeptBytes },
     OpenPeer,
 }

@@ -1,13 +1,14 @@
 //! The sockets of a world, all rows of which are made at once.
 
-ghost use Rattle.std.specs.Prelude.{◌≡◌, ◌+◌, ◌-◌, ◌<◌, ◌≤◌, ◌∷◌, ◌++◌, [], length, take, slice_get, option_map, IfSome, IfOk};
+ghost use Rattle.std.specs.Prelude.{◌≡◌, ◌+◌, ◌-◌, ◌<◌, ◌≤◌, ◌∷◌, ◌++◌, [], length, drop, take, slice_get, option_map, IfSome, IfOk};
 ghost use Rattle.nr_rev.specs.Socket.{new_socket};
 ghost use Rattle.nr_plain.specs.Edit.{altered};
-ghost use Rattle.nr_plain.specs.SocketEdit.{CanEditSocket, CanUndoSocket, socket_edit_words, socket_edited, socket_reverted, socket_undo_words};
+ghost use Rattle.nr_plain.specs.SocketEdit.{CanEditSocket, CanUndoSocket, on_bytes, socket_edit_words, socket_edited, socket_reverted, socket_undo_words};
 ghost use Rattle.nr_plain.specs.Socket.{HasRoom, socket_shown};
 
 use crate::socket::PlainSocket;
 use crate::socket_edit::{SocketEdit, SocketUndo};
+use nr_rev::Side;
 use std::alloc::{AllocError, Global};
 use std::marker::Model;
 
@@ -129,6 +130,17 @@ impl Sockets {
         }
         let row = &mut self.opened[socket];
         row.edit(edit, self.queue_room, self.byte_room)
+    }
+
+    /// So many bytes leave the front of a socket's buffer, and nothing keeps them.
+    pub(crate) fn lose(&mut self, socket: usize, side: Side, count: usize)
+        ensures { self.new ≡ record self.old { sockets = altered socket (on_bytes side (λ held. drop count held)) self.old.sockets } }
+    {
+        if socket >= self.opened.len() {
+            return;
+        }
+        let row = &mut self.opened[socket];
+        row.lose(side, count);
     }
 
     /// Undoes a change of a socket.

@@ -1,23 +1,43 @@
-//! The steps that move bytes into a socket's buffers and out of them.
+//! The steps that open sockets, and move bytes into their buffers and out of them.
 
-ghost use Rattle.std.specs.Prelude.{◌≡◌, ◌^◌, ◌<◌, IfOk, if◌then◌else◌, length, min, nat_lt, take};
+ghost use Rattle.std.specs.Prelude.{◌≡◌, ◌^◌, ◌<◌, IfOk, OnErr, if◌then◌else◌, length, min, nat_lt, take};
 ghost use Rattle.nr_rev.specs.declared.answer.Answer.TheVariants.{Put, Again};
 ghost use Rattle.nr_rev.specs.declared.step.Step.TheVariants as steps;
 ghost use Rattle.nr_rev.specs.Socket.{room_of};
 ghost use Rattle.nr_rev.specs.Step as step;
 ghost use Rattle.nr_rev.specs.WellFormed.{WellFormed};
 ghost use Rattle.nr_plain.specs.Buffer.{buffer_shown};
-ghost use Rattle.nr_plain.specs.Plan.{Plans, PlansUnlessMemory};
+ghost use Rattle.nr_plain.specs.Plan.{Advances, Plans, PlansUnlessMemory};
 
 use crate::buffer::PlainBuffer;
 use crate::edit::Edit;
 use crate::plan::Plan;
 use crate::socket_edit::SocketEdit;
 use crate::world::PlainWorld;
-use nr_rev::{Answer, Bytes, Refusal, Side};
+use nr_rev::{Answer, Bytes, KeptBytes, Refusal, Side};
 use std::alloc::{AllocError, Global};
 
 impl PlainWorld {
+    /// The plan of `sockopen`.
+    pub(crate) fn sockopen<'a>(
+        &self,
+        read_capacity: u32,
+        write_capacity: u32,
+    ) -> Result<Plan<'a>, Refusal>
+        ensures { Plans (steps.SockOpen read_capacity write_capacity) self.now result }
+    {
+        let opened = self.sockets.len();
+        if opened >= self.limits.sockets as usize {
+            return Err(Refusal::TableFull);
+        }
+        self.sized(read_capacity)?;
+        self.sized(write_capacity)?;
+        Ok(Plan::new(Answer::Number(opened as u32)).then(Edit::AddSocket {
+            read_capacity,
+            write_capacity,
+        }))
+    }
+
     /// The plan of `arrive`.
     #[tactic(auto, using(crate::proofs::BufferLemmas::capacity_within))]
     pub(crate) fn arrive<'a>(&self, socket: u32, bytes: &'a Bytes) -> Result<Plan<'a>, Refusal>
@@ -123,14 +143,50 @@ impl PlainWorld {
     }
 }
 
+impl PlainWorld {
+    /// `sysread` with no way back.
+    pub(crate) fn sysread_away(
+        &mut self,
+        goroutine: u32,
+        socket: u32,
+        count: u32,
+    ) -> Result<Answer, Refusal>
+        ensures { Advances (steps.SysRead goroutine socket count) self.old result self.new }
+    {
+        self.idle(goroutine)?;
+        let row = self.socket_of(socket)?;
+        self.sized(count)?;
+        let taken = (count as usize).min(row.input.bytes.len());
+        let answer = read_answer(taken as u32, row.peer_closed);
+        self.sockets.lose(socket as usize, Side::Read, taken);
+        Ok(answer)
+    }
+
+    /// `drain` with no way back.
+    pub(crate) fn drain_away(&mut self, socket: u32, count: u32) -> Result<Answer, Refusal>
+        ensures { Advances (steps.Drain socket count) self.old result self.new }
+    {
+        let row = self.socket_of(socket)?;
+        if count == 0 {
+            return Err(Refusal::SizeOutOfRange);
+        }
+        if row.output.bytes.len() < count as usize {
+            return Err(Refusal::TooFewBytes);
+        }
+        self.sockets
+            .lose(socket as usize, Side::Write, count as usize);
+        Ok(Answer::Done)
+    }
+}
+
 /// A copy of so many bytes at the front, or of all where there are fewer.
-fn front(alloc: Global, buffer: &PlainBuffer, count: u32) -> Result<Bytes, AllocError>
+fn front(alloc: Global, buffer: &PlainBuffer, count: u32) -> Result<KeptBytes, AllocError>
     ensures bytes { IfOk result (λ bytes. bytes ≡ take count buffer.now.bytes.items) }
     ensures len { IfOk result (λ bytes. length bytes ≡ min count (length buffer.now.bytes.items)) }
+    ensures err { OnErr result (0 < min count (length buffer.now.bytes.items)) }
 {
     let count = (count as usize).min(buffer.bytes.len());
-    let bytes = Vec::from_slice(alloc, &buffer.bytes.as_slice()[..count])?;
-    Ok(Bytes::new(bytes))
+    KeptBytes::copy_of(alloc, &buffer.bytes.as_slice()[..count])
 }
 
 /// The answer of `sysread` that got so many bytes.

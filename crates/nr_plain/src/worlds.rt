@@ -1,8 +1,9 @@
 //! The world over lists as a world.
 
-ghost use Rattle.std.specs.Prelude.{◌≡◌, ◌<◌, IfOk};
+ghost use Rattle.std.specs.Prelude.{◌≡◌, ◌<◌, length, IfOk, OnErr};
 ghost use Rattle.nr_rev.specs.Cell.{bytes_of, queue_of};
 ghost use Rattle.nr_rev.specs.World.{empty_world};
+ghost use Rattle.nr_rev.specs.Worlds.{HasItems};
 
 use crate::sockets::Sockets;
 use crate::table::Table;
@@ -60,25 +61,38 @@ impl PlainWorld {
 
     /// A copy of the bytes that a buffer holds.
     fn bytes_copy(&self, socket: u32, side: Side) -> Result<Option<Bytes>, AllocError>
-        ensures { IfOk result (λ bytes. bytes ≡ bytes_of self.now socket side) }
+        ensures ok { IfOk result (λ bytes. bytes ≡ bytes_of self.now socket side) }
+        ensures some { OnErr result (HasItems (bytes_of self.now socket side)) }
     {
         let Some(row) = self.sockets.get(socket as usize) else {
             return Ok(None);
         };
-        let bytes = Vec::from_slice(self.alloc, row.buffer(side).bytes.as_slice())?;
+        let bytes = copy_of(self.alloc, row.buffer(side).bytes.as_slice())?;
         Ok(Some(Bytes::new(bytes)))
     }
 
     /// A copy of a semaphore's queue.
     fn queue_copy(&self, socket: u32, side: Side) -> Result<Option<Queue>, AllocError>
-        ensures { IfOk result (λ queue. queue ≡ queue_of self.now socket side) }
+        ensures ok { IfOk result (λ queue. queue ≡ queue_of self.now socket side) }
+        ensures some { OnErr result (HasItems (queue_of self.now socket side)) }
     {
         let Some(row) = self.sockets.get(socket as usize) else {
             return Ok(None);
         };
-        let queue = Vec::from_slice(self.alloc, row.semaphore(side).queue.as_slice())?;
+        let queue = copy_of(self.alloc, row.semaphore(side).queue.as_slice())?;
         Ok(Some(Queue::new(queue)))
     }
+}
+
+/// A copy of the items. Of none it takes no memory.
+fn copy_of<T: Copy + Drop>(alloc: Global, items: &[T]) -> Result<Vec<T>, AllocError>
+    ensures ok { IfOk result (λ copy. copy.items ≡ items.now) }
+    ensures some { OnErr result (0 < length items.now) }
+{
+    if items.is_empty() {
+        return Ok(Vec::new(alloc));
+    }
+    Vec::from_slice(alloc, items)
 }
 
 impl Worlds for PlainWorld {
@@ -95,9 +109,20 @@ impl Worlds for PlainWorld {
         self.copy().map_err(|_| Refusal::Memory)
     }
 
+    #[tactic(auto, using(crate::proofs::PlanLemmas::advances_keeps))]
     fn advance(&mut self, step: &Step) -> Result<Answer, Refusal> {
-        let (answer, _) = self.apply(step)?;
-        Ok(answer)
+        match step {
+            Step::SysRead {
+                goroutine,
+                socket,
+                count,
+            } => self.sysread_away(*goroutine, *socket, *count),
+            Step::Drain { socket, count } => self.drain_away(*socket, *count),
+            _ => {
+                let (answer, _) = self.apply(step)?;
+                Ok(answer)
+            }
+        }
     }
 
     fn cell(&self, what: Cell) -> CellValue {

@@ -6,4 +6,4 @@ pub returns-clause-well_formed : goal.returns-clause-well_formed
 returns-clause-well_formed c =
     let plan = c.in_ok-answer.field-0 in
     rw (c.perform_all-undos.ensures.after)
-    (step_keeps c.args.self.now c.args.step.now plan.answer (all_edited plan.edits.items c.args.self.now) c.requires c.in_ok-answer.ensures.answer)
+    (step_keeps c.args.self.now c.args.step.now plan.answer (all_edited plan.edits.items c.args.self.now) c.in_ok-answer.ensures.timely c.requires c.in_ok-answer.ensures.plans.answer)

@@ -4,6 +4,7 @@ use Rattle.std.specs.Prelude.{sum_by}
 use Rattle.nr_rev.specs.Transaction.{LeadsBack}
 use Rattle.nr_plain.specs.Edit.{Undoes, undo_words}
 use Rattle.nr_plain.specs.Plan.{CanEditAll, all_edited, all_words}
+use Rattle.nr_plain.specs.declared.plan.TheConstants.{MOST_EDITS}
 use Rattle.nr_plain.proofs.world.PlainWorld.perform_all.Given as goal
 
 abbrev pub invariant-loop-edit : goal.invariant-loop-edit
@@ -12,7 +13,7 @@ invariant-loop-edit l = record {
   can : CanEditAll l.edits.items l.self;
   back : LeadsBack Undoes l.undos.items l.self l.fn.self;
   light : sum_by undo_words l.undos.items + all_words l.edits.items ≤ all_words l.fn.edits.items;
-  few : length l.undos.items + length l.edits.items ≤ 5;
+  few : length l.undos.items + length l.edits.items ≤ MOST_EDITS;
 }
 
 abbrev pub decreases-loop-edit : goal.decreases-loop-edit

@@ -1,4 +1,5 @@
-//! The steps that open a descriptor and close it: Go's `poll_runtime_pollOpen` and `poll_runtime_pollClose`.
+//! The steps that open a descriptor, evict and close it, and tell it of events: Go's `poll_runtime_pollOpen`,
+//! `poll_runtime_pollUnblock`, `poll_runtime_pollClose` and `netpollready`.
 
 ghost use Rattle.std.specs.Prelude.{◌≡◌, ◌<◌, ◌∷◌, [], List, MatchOption, ℕ, OnOk, length};
 ghost use Rattle.nr_rev.specs.declared.step.Step.TheVariants as steps;
@@ -6,11 +7,12 @@ ghost use Rattle.nr_rev.specs.Step as step;
 ghost use Rattle.nr_rev.specs.WellFormed.{WellFormed};
 ghost use Rattle.nr_plain.specs.Plan.{Plans};
 
+use crate::change::{event_seen, evicted};
 use crate::descriptor::{closed, never_opened, opened_for};
 use crate::edit::Edit;
 use crate::plan::Plan;
 use crate::world::PlainWorld;
-use nr_rev::{Answer, DescriptorRow, Refusal, Side, Sides};
+use nr_rev::{Answer, DescriptorRow, Mode, Refusal, Side, Sides};
 
 impl PlainWorld {
     /// The plan of `pollopen`.
@@ -87,5 +89,33 @@ impl PlainWorld {
         ensures room { OnOk result (length self.now.free < self.now.limits.descriptors) }
     {
         self.open_row_of(descriptor)
+    }
+
+    /// The plan of `evict`.
+    pub(crate) fn evict<'a>(&self, goroutine: u32, descriptor: u32) -> Result<Plan<'a>, Refusal>
+        ensures { Plans (steps.Evict goroutine descriptor) self.now result }
+    {
+        self.idle(goroutine)?;
+        let row = self.open_row_of(descriptor)?;
+        let change = evicted(row.descriptor)?;
+        self.then_changed(Plan::new(Answer::Done), descriptor, row, change)
+    }
+
+    /// The plan of `pollevent`.
+    pub(crate) fn pollevent<'a>(
+        &self,
+        descriptor: u32,
+        tag: u64,
+        mode: Mode,
+        error: bool,
+    ) -> Result<Plan<'a>, Refusal>
+        ensures { Plans (steps.PollEvent descriptor tag mode error) self.now result }
+    {
+        let row = self.row_of(descriptor)?;
+        if self.is_free(descriptor) || tag != row.descriptor.fdseq {
+            return Ok(Plan::new(Answer::Stale));
+        }
+        let change = event_seen(mode, error, row.descriptor);
+        self.then_changed(Plan::new(Answer::Done), descriptor, row, change)
     }
 }

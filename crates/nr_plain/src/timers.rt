@@ -1,4 +1,4 @@
-//! The step that takes the timer that is due out of those armed.
+//! The steps of the clock and of timers: time goes on, a timer that is due goes off, a firing is run.
 
 ghost use Rattle.std.specs.Prelude.{◌≡◌, ◌^◌, ◌<◌, ◌++◌, List, length};
 ghost use Rattle.nr_rev.specs.declared.step.Step.TheVariants as steps;
@@ -7,12 +7,23 @@ ghost use Rattle.nr_rev.specs.Timer.{entry_of, is_before, least_of};
 ghost use Rattle.nr_rev.specs.World as world;
 ghost use Rattle.nr_plain.specs.Plan.{Plans};
 
+use crate::change::fired;
 use crate::edit::Edit;
 use crate::plan::Plan;
 use crate::world::PlainWorld;
 use nr_rev::{Answer, DescriptorRow, Entry, Refusal, Side, Timer};
 
 impl PlainWorld {
+    /// The plan of `tick`.
+    pub(crate) fn tick<'a>(&self, time: i64) -> Result<Plan<'a>, Refusal>
+        ensures { Plans (steps.Tick time) self.now result }
+    {
+        if time < self.clock {
+            return Err(Refusal::ClockGoesBack);
+        }
+        Ok(Plan::new(Answer::Done).then(Edit::Clock { time }))
+    }
+
     /// The plan of `pop`.
     pub(crate) fn pop<'a>(&self) -> Result<Plan<'a>, Refusal>
         ensures { Plans steps.Pop self.now result }
@@ -35,6 +46,28 @@ impl PlainWorld {
                 .then(Edit::Row { descriptor, row })
                 .then(Edit::AddFiring { entry }),
         )
+    }
+
+    /// The plan of `fire`.
+    pub(crate) fn fire<'a>(&self, place: u32) -> Result<Plan<'a>, Refusal>
+        ensures { Plans (steps.Fire place) self.now result }
+    {
+        let entry = self
+            .firings
+            .get(place as usize)
+            .ok_or(Refusal::NoSuchFiring)?;
+        let row = self.row_of(entry.descriptor)?;
+        let change = fired(entry.timer.function, entry.timer.sequence, row.descriptor)?;
+        let edit = Edit::TakeFiring { place };
+        match change {
+            None => Ok(Plan::new(Answer::Stale).then(edit)),
+            Some(change) => self.then_changed(
+                Plan::new(Answer::Done).then(edit),
+                entry.descriptor,
+                row,
+                change,
+            ),
+        }
     }
 
     /// The entry that is due before all others.

@@ -1,7 +1,7 @@
 -- the least of the rows from number d on
 use Rattle.std.proofs.Common.{◌≡◌, ◌≤◌, length, map, drop}
 use Rattle.nr_rev.specs.Timer.{entries_from, least_of}
-use Rattle.nr_plain.proofs.popping.least_of_rows.Given as goal
+use Rattle.nr_plain.proofs.timers.least_of_rows.Given as goal
 
 abbrev pub invariant-loop-d : goal.invariant-loop-d
 invariant-loop-d l = record {
