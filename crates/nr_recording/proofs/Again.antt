@@ -10,9 +10,11 @@ use Rattle.nr_rev.specs.declared.sides.Mode.{Mode}
 use Rattle.nr_rev.specs.declared.sides.Mode.TheVariants as modes
 use Rattle.nr_rev.specs.declared.step.Step.{Step}
 use Rattle.nr_rev.specs.declared.step.Step.TheVariants.{Spawn, Exit, SockOpen, Arrive, PeerClose, SysRead, SysWrite, Drain, Incref, IncrefClose, Decref, RwLock, RwUnlock, Acquire, Release, PollOpen, PollClose, PollReset, WaitBegin, BlockArm, BlockCheck, ParkCommit, BlockSwap, WaitCheck, SetDeadline, Evict, PollEvent, Tick, Pop, Fire}
-use Rattle.nr_recording.specs.Recording.{AreInRange, is_writable}
+use Rattle.nr_rev.specs.Limits.{AreInRange}
+use Rattle.nr_recording.specs.declared.version.Version.TheVariants.{One}
+use Rattle.nr_recording.specs.Recording.{is_writable}
 use Rattle.nr_recording.specs.Arguments.{number_of, side_of, mode_of, bit_of, bytes_of, moment_of, from_zero}
-use Rattle.nr_recording.specs.Header.{limit_of, limits_of, header_of}
+use Rattle.nr_recording.specs.Header.{version_of, limit_of, limits_of, header_of}
 use Rattle.nr_recording.specs.Steps.{step_of}
 use Rattle.nr_recording.specs.Writing.{numeral, time, side, mode, bit, digits, argument_data, IsMoment, step_data, IsTyped, limits_data}
 
@@ -46,7 +48,7 @@ bytes_again bytes below few =
     let short : ltb 131072 (length (encode_lower bytes)) ≡ false = le-ltb _ _ (omega (arith, length-encode_with lower_digits bytes)) in
     rw (short, decode_of-encode_lower bytes below) refl
 
-pub step_again : (s : Step) → IsTyped s → is_writable s ≡ true → step_of (step_data s) ≡ Ok s
+pub step_again : (s : Step) → IsTyped s → is_writable s ≡ true → step_of One (step_data s) ≡ Ok s
 unfolding step_of
 step_again Spawn h w = refl
 step_again (Exit g) h w = rw (number_again g h.0) refl
@@ -82,6 +84,9 @@ step_again (Fire i) h w = rw (number_again i h.0) refl
 limit_again : (most n : ℕ) → 0 < n → n ≤ most → limit_of most n ≡ Ok n
 limit_again most n low high = rw (lt-ltb 0 n low, le-leb n most high) refl
 
-pub header_again : (l : Limits) → AreInRange l → header_of (limits_data l) ≡ Ok l
+pub header_again : (l : Limits) → AreInRange l → header_of One (limits_data l) ≡ Ok l
 unfolding header_of limits_of
 header_again l h = rw (limit_again 4096 l.goroutines h.goroutines h.goroutines_most, limit_again 256 l.sockets h.sockets h.sockets_most, limit_again 256 l.descriptors h.descriptors h.descriptors_most, limit_again 65536 l.buffer h.buffer h.buffer_most) refl
+
+pub version_again : (l : Limits) → version_of (limits_data l) ≡ Ok One
+version_again l = refl

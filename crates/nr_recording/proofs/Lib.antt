@@ -1,4 +1,4 @@
-pub mod Values
+pub mod Rests
 pub mod Lines
 pub mod Members
 pub mod Loop

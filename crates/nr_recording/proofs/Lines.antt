@@ -1,10 +1,16 @@
 -- The value of a line, from what the reader of JSON says.
-use Rattle.std.proofs.Common.{◌≡◌, ℕ, Bool, true, false, List, Some, None, Ok, Err, refl}
+use Rattle.std.proofs.Common.{◌≡◌, ℕ, Bool, true, false, List, Some, None, Result, Ok, Err, refl}
 use Rattle.std.specs.Str.{IsUtf8, is_utf8}
 use Rattle.std.proofs.lemmas.Str.{IsUtf8-from_is_utf8, is_utf8-from_IsUtf8}
 use Rattle.serde_json.specs.Data.{Data}
+use Rattle.serde_json.specs.Errors.{IsMemory, category}
+use Rattle.serde_json.specs.declared.error.Category.{Category}
+use Rattle.serde_json.specs.declared.error.Category.TheVariants as categories
+use Rattle.serde_json.specs.declared.error.Error.{Error}
 use Rattle.serde_json.specs.Read.{read}
+use Rattle.nr_recording.specs.declared.fault.Fault.{Fault}
 use Rattle.nr_recording.specs.declared.fault.Fault.TheVariants as fault
+use Rattle.nr_recording.specs.Faults.{Fails, of_category, of_json}
 use Rattle.nr_recording.specs.Reading.{value_of}
 
 pub value_of_valid : (line : List ℕ) (d : Data) → IsUtf8 line × (read line ≡ Some d) → value_of line ≡ Ok d
@@ -18,3 +24,14 @@ value_of_refused line h =
       | true ↦ λ e. rw (e, h (IsUtf8-from_is_utf8 line e)) refl
       | false ↦ λ e. rw e refl
     ]) refl
+
+-- an error that is not of memory is told as this fault
+told : {Y : Type 0} (category : Category) (read : Result Y Fault) → (¬ (category ≡ categories.Memory) → read ≡ Err fault.NotJson) → Fails (of_category category) read
+told categories.Io read h = h (λ e. cc)
+told categories.Syntax read h = h (λ e. cc)
+told categories.Data read h = h (λ e. cc)
+told categories.Eof read h = h (λ e. cc)
+told categories.Memory read h = tt
+
+pub json_told : (line : List ℕ) (e : Error) → (¬ IsMemory e → IsUtf8 line → read line ≡ None) → Fails (of_json e) (value_of line)
+json_told line e h = told (category e) (value_of line) (λ other. value_of_refused line (h (λ memory. other (rw memory refl))))

@@ -1,13 +1,17 @@
 -- Reading one line after the other, as a loop does.
-use Rattle.std.proofs.Common.{◌≡◌, ℕ, suc, ◌+◌, ◌≤◌, ◌<◌, List, length, get_or, drop, Result, Ok, Err, refl, sym, ◌∙◌, arith}
+use Rattle.std.proofs.Common.{◌≡◌, ℕ, suc, ◌+◌, ◌≤◌, ◌<◌, true, List, length, get_or, drop, Option, Some, None, Result, Ok, Err, refl, sym, ◌∙◌, arith}
 use Rattle.std.proofs.lemmas.List.{drop_more}
+use Rattle.std.proofs.lemmas.List.Folds.{list_any_at}
 use Rattle.std.proofs.Math.ListN.{drop_of_length-le}
+use Rattle.nr_rev.specs.declared.step.Step.{Step}
+use Rattle.nr_rev.specs.Run.{Recording}
+use Rattle.nr_recording.specs.declared.reading.Header.{Header}
 use Rattle.nr_recording.specs.declared.fault.LineError.{LineError}
 use Rattle.nr_recording.specs.declared.fault.LineError.TheVariants as errors
 use Rattle.nr_recording.specs.declared.fault.ReadFault.{ReadFault}
 use Rattle.nr_recording.specs.declared.fault.ReadFault.TheVariants as faults
 use Rattle.nr_recording.specs.Faults.{◌>>=◌, Fails}
-use Rattle.nr_recording.specs.Reading.{Seen, at_line, placed, nothing, lines, with_line, with_lines, finished, reading, Refuses}
+use Rattle.nr_recording.specs.Reading.{Seen, at_line, placed, nothing, lines, with_line, with_lines, with_header, finished, reading, line_takes_memory, text_takes_memory, Refuses, Answers}
 
 at_step : (all : List (List ℕ)) (seen : Seen) (line : List ℕ) (i : ℕ) → i < length all → line ≡ get_or all i line
     → with_lines (suc i) seen (drop i all) ≡ (at_line (suc i) (with_line seen line) >>= λ next. with_lines (suc (suc i)) next (drop (i + 1) all))
@@ -35,3 +39,18 @@ ends bytes seen i is so_far =
     let past : length (lines bytes) ≤ i = omega arith in
     let one : with_lines (suc i) seen (drop i (lines bytes)) ≡ Ok seen = rw (drop_of_length-le (lines bytes) past) refl in
     rw (sym so_far ∙ one, ← is) refl
+
+-- a line for which there was no memory takes memory
+pub wanted : (bytes line : List ℕ) (i n : ℕ) (e : LineError) → i < length (lines bytes) → line ≡ get_or (lines bytes) i line → (e ≡ errors.Memory → line_takes_memory line ≡ true) → placed n e ≡ faults.Memory → text_takes_memory bytes ≡ true
+wanted bytes line i n errors.Memory lt is h told = list_any_at line_takes_memory (lines bytes) i line lt (rw (← is) (h refl))
+wanted bytes line i n (errors.Fault f) lt is h told = absurd cc
+
+-- what is behind the last line takes no memory
+pub never_wanted : (n : ℕ) (header : Option Header) (steps : List Step) → ¬ (with_header n header steps ≡ Err faults.Memory)
+never_wanted n None steps = λ e. cc
+never_wanted n (Some header) steps = λ e. cc
+
+pub itself : (r read : Result Recording ReadFault) → r ≡ read → Answers r read
+itself (Ok x) read e = sym e
+itself (Err (faults.Line n f)) read e = sym e
+itself (Err faults.Memory) read e = tt

@@ -1,6 +1,6 @@
 -- What was read keeps the ranges of a recording.
-use Rattle.std.proofs.Common.{◌≡◌, ◌<◌, ◌≤◌, ℕ, ℤ, pos, negsuc, true, false, ltb, leb, ◌&&◌, List, [], ◌∷◌, length, Option, Some, Result, Ok, Err, refl, subst, inl, inr, arith}
-use Rattle.std.specs.Prelude.{option_map, option_and_then, codes, ◌==◌}
+use Rattle.std.proofs.Common.{◌≡◌, ◌<◌, ◌≤◌, ℕ, ℤ, pos, negsuc, true, false, ltb, leb, List, [], ◌∷◌, length, Option, Some, Result, Ok, Err, refl, ap, ◌∙◌, subst, inl, inr, arith}
+use Rattle.std.specs.Prelude.{option_and_then, codes, ◌==◌}
 use Rattle.std.specs.List.{AllByRecursion}
 use Rattle.std.specs.Str.{bytes_eq}
 use Rattle.std.specs.Result.{result_ok}
@@ -15,9 +15,13 @@ use Rattle.nr_rev.specs.declared.step.Step.{Step}
 use Rattle.nr_rev.specs.declared.step.Step.TheVariants.{Tick}
 use Rattle.nr_recording.specs.declared.fault.Fault.TheVariants as fault
 use Rattle.nr_recording.specs.Faults.{or_fault}
-use Rattle.nr_recording.specs.Recording.{is_limit, are_limits, AreInRange, is_writable, are_writable, recording_of}
-use Rattle.nr_recording.specs.Arguments.{number_of, bytes_named, bytes_of, moment_of, from_zero, none_of, one_of, pair_of, triple_of, sided_of, arrival_of, transfer_of, deadline_of, event_of, time_of}
-use Rattle.nr_recording.specs.Steps.{kinds, first_of, step_among, step_of}
+use Rattle.nr_rev.specs.Limits.{is_limit, are_in_range, AreInRange}
+use Rattle.nr_recording.specs.Recording.{is_writable, are_writable, recording_of}
+use Rattle.nr_recording.specs.declared.version.Version.{Version}
+use Rattle.nr_recording.specs.declared.version.Version.TheVariants.{One}
+use Rattle.nr_recording.specs.Version.{may_end_with}
+use Rattle.nr_recording.specs.Arguments.{number_of, bytes_named, bytes_of, moment_of, from_zero, time_of, first_by, arrival_in, transfer_in}
+use Rattle.nr_recording.specs.Steps.{made, bare, kinds, first_of, step_among, step_named, step_of}
 use Rattle.nr_recording.specs.Header.{limit_of, limits_of, unsigned_at, member_count, header_of}
 use Rattle.nr_recording.proofs.Binds.{bind_ok, passed_ok, choice, found_ok, map_some, then_some, kept_some}
 
@@ -26,35 +30,15 @@ use Rattle.nr_recording.proofs.Binds.{bind_ok, passed_ok, choice, found_ok, map_
 limit_fits : (most n : ℕ) → is_limit most n ≡ true → (0 < n) × (n ≤ most)
 limit_fits most n h = let p = and_parts (ltb 0 n) (leb n most) h in (ltb-true 0 n p.0, leb-true n most p.1)
 
-pub limits_fit : (l : Limits) → are_limits l ≡ true → AreInRange l
-limits_fit l h =
-    let r = and_parts (is_limit 4096 l.goroutines && is_limit 256 l.sockets && is_limit 256 l.descriptors) (is_limit 65536 l.buffer) h in
-    let q = and_parts (is_limit 4096 l.goroutines && is_limit 256 l.sockets) (is_limit 256 l.descriptors) r.0 in
-    let p = and_parts (is_limit 4096 l.goroutines) (is_limit 256 l.sockets) q.0 in
-    let g = limit_fits 4096 l.goroutines p.0 in
-    let s = limit_fits 256 l.sockets p.1 in
-    let d = limit_fits 256 l.descriptors q.1 in
-    let b = limit_fits 65536 l.buffer r.1 in
-    record {
-      goroutines = g.0;
-      goroutines_most = g.1;
-      sockets = s.0;
-      sockets_most = s.1;
-      descriptors = d.0;
-      descriptors_most = d.1;
-      buffer = b.0;
-      buffer_most = b.1;
-    }
-
 limit_ok : (most n m : ℕ) → limit_of most n ≡ Ok m → (0 < m) × (m ≤ most)
 limit_ok most n m e =
     let p = passed_ok (is_limit most n) fault.Limit (Ok n) m e in
     let same : n ≡ m = cc (p.1) in
     subst (λ (k : ℕ). (0 < k) × (k ≤ most)) same (limit_fits most n p.0)
 
-limits_ok : (gor sock desc buf : ℕ) (l : Limits) → limits_of gor sock desc buf ≡ Ok l → AreInRange l
+limits_ok : (version : Version) (gor sock desc buf : ℕ) (l : Limits) → limits_of version gor sock desc buf ≡ Ok l → AreInRange l
 unfolding limits_of
-limits_ok gor sock desc buf l e =
+limits_ok One gor sock desc buf l e =
     let g = bind_ok (limit_of 4096 gor) _ l e in
     let s = bind_ok (limit_of 256 sock) _ l g.2 in
     let d = bind_ok (limit_of 256 desc) _ l s.2 in
@@ -76,16 +60,15 @@ limits_ok gor sock desc buf l e =
       buffer_most = bs.1;
     })
 
-pub header_fits : (d : Data) (l : Limits) → header_of d ≡ Ok l → AreInRange l
+pub header_fits : (version : Version) (d : Data) (l : Limits) → header_of version d ≡ Ok l → AreInRange l
 unfolding header_of
-header_fits d l e =
+header_fits version d l e =
     let count = bind_ok (or_fault fault.Header (member_count d)) _ l e in
-    let version = bind_ok (unsigned_at (codes "netrev") d) _ l count.2 in
-    let gor = bind_ok (unsigned_at (codes "gor") d) _ l version.2 in
+    let gor = bind_ok (unsigned_at (codes "gor") d) _ l count.2 in
     let sock = bind_ok (unsigned_at (codes "sock") d) _ l gor.2 in
     let desc = bind_ok (unsigned_at (codes "desc") d) _ l sock.2 in
     let buf = bind_ok (unsigned_at (codes "buf") d) _ l desc.2 in
-    limits_ok gor.0 sock.0 desc.0 buf.0 l (passed_ok ((count.0 == 5) && (version.0 == 1)) fault.Header (limits_of gor.0 sock.0 desc.0 buf.0) l buf.2).1
+    limits_ok version gor.0 sock.0 desc.0 buf.0 l (passed_ok (count.0 == 5) fault.Header (limits_of version gor.0 sock.0 desc.0 buf.0) l buf.2).1
 
 -- ---- steps
 
@@ -102,31 +85,33 @@ bytes_few d bytes e =
     from_ok (Ok x) h = cc
     from_ok (Err x) h = absurd cc
 
-arrival_few : (ds : Items) (p : ℕ × List ℕ) → arrival_of ds ≡ Some p → leb (length p.1) 65536 ≡ true
-arrival_few no_items p e = absurd cc
-arrival_few (item a no_items) p e = absurd cc
-arrival_few (item a (item b no_items)) p e =
-    let s = then_some (λ x. option_map (λ y. (x, y)) (bytes_of b)) (number_of a) p e in
-    let bytes = map_some (λ y. (s.0, y)) (bytes_of b) p s.2 in
-    subst (λ (q : ℕ × List ℕ). leb (length q.1) 65536 ≡ true) bytes.2 (bytes_few b bytes.0 bytes.1)
-arrival_few (item a (item b (item c ds))) p e = absurd cc
+-- the first argument is what it is read as
+first_ok : {A : Type 0} (read : Data → Option A) (ds : Items) (p : A × Items) → first_by read ds ≡ Some p → (d : Data) × (read d ≡ Some p.0)
+first_ok read no_items p e = absurd cc
+first_ok read (item d ds) p e =
+    let m = map_some (λ x. (x, ds)) (read d) p e in
+    (d, m.1 ∙ ap Some (ap (λ q. q.0) m.2))
 
-transfer_few : (ds : Items) (p : ℕ × ℕ × List ℕ) → transfer_of ds ≡ Some p → leb (length p.2) 65536 ≡ true
-transfer_few no_items p e = absurd cc
-transfer_few (item a no_items) p e = absurd cc
-transfer_few (item a (item b no_items)) p e = absurd cc
-transfer_few (item a (item b (item c no_items))) p e =
-    let g = then_some (λ x. option_and_then (λ y. option_map (λ z. (x, y, z)) (bytes_of c)) (number_of b)) (number_of a) p e in
-    let s = then_some (λ y. option_map (λ z. (g.0, y, z)) (bytes_of c)) (number_of b) p g.2 in
-    let bytes = map_some (λ z. (g.0, s.0, z)) (bytes_of c) p s.2 in
-    subst (λ (q : ℕ × ℕ × List ℕ). leb (length q.2) 65536 ≡ true) bytes.2 (bytes_few c bytes.0 bytes.1)
-transfer_few (item a (item b (item c (item d ds)))) p e = absurd cc
+arrival_few : (ds : Items) (p : (ℕ × List ℕ) × Items) → arrival_in ds ≡ Some p → leb (length p.0.1) 65536 ≡ true
+arrival_few ds p e =
+    let s = then_some _ (first_by number_of ds) p e in
+    let bytes = then_some _ (first_by bytes_of s.0.1) p s.2 in
+    let d = first_ok bytes_of s.0.1 bytes.0 bytes.1 in
+    subst (λ (q : (ℕ × List ℕ) × Items). leb (length q.0.1) 65536 ≡ true) (same_Some ((s.0.0, bytes.0.0), bytes.0.1) p bytes.2) (bytes_few d.0 bytes.0.0 d.1)
 
-time_least : (ds : Items) (t : ℤ) → time_of ds ≡ Some t → is_writable (Tick t) ≡ true
-time_least no_items t e = absurd cc
-time_least (item a no_items) t e =
-    let moment = then_some from_zero (moment_of a) t e in
-    from moment.0 t moment.2
+transfer_few : (ds : Items) (p : (ℕ × ℕ × List ℕ) × Items) → transfer_in ds ≡ Some p → leb (length p.0.2) 65536 ≡ true
+transfer_few ds p e =
+    let g = then_some _ (first_by number_of ds) p e in
+    let s = then_some _ (first_by number_of g.0.1) p g.2 in
+    let bytes = then_some _ (first_by bytes_of s.0.1) p s.2 in
+    let d = first_ok bytes_of s.0.1 bytes.0 bytes.1 in
+    subst (λ (q : (ℕ × ℕ × List ℕ) × Items). leb (length q.0.2) 65536 ≡ true) (same_Some ((g.0.0, s.0.0, bytes.0.0), bytes.0.1) p bytes.2) (bytes_few d.0 bytes.0.0 d.1)
+
+time_least : (ds : Items) (p : ℤ × Items) → first_by time_of ds ≡ Some p → is_writable (Tick p.0) ≡ true
+time_least ds p e =
+    let d = first_ok time_of ds p e in
+    let moment = then_some from_zero (moment_of d.0) p.0 d.1 in
+    from moment.0 p.0 moment.2
   where
     from : (z t : ℤ) → from_zero z ≡ Some t → is_writable (Tick t) ≡ true
     from (pos n) t h =
@@ -134,131 +119,47 @@ time_least (item a no_items) t e =
         let same : pos n ≡ t = same_Some (pos n) t kept.1 in
         subst (λ (x : ℤ). is_writable (Tick x) ≡ true) same (rw (le-leb 0 n (omega arith)) refl)
     from (negsuc n) t h = absurd cc
-time_least (item a (item b ds)) t e = absurd cc
 
 -- a way to make steps makes none that could not be written
-abbrev MakesWritable : (Items → Option Step) → Type 0
-MakesWritable make = (ds : Items) (step : Step) → make ds ≡ Some step → is_writable step ≡ true
+abbrev MakesWritable : (Items → Option (Step × Items)) → Type 0
+MakesWritable make = (ds : Items) (p : Step × Items) → make ds ≡ Some p → is_writable p.0 ≡ true
 
-made : {A : Type 0} (step : A → Step) (of : Items → Option A) → ((ds : Items) (x : A) → of ds ≡ Some x → is_writable (step x) ≡ true) → MakesWritable (λ ds. option_map step (of ds))
-made step of h ds s e =
-    let m = map_some step (of ds) s e in
-    subst (λ (t : Step). is_writable t ≡ true) m.2 (h ds m.0 m.1)
+of_found : {A : Type 0} (step : A → Step) (found : Items → Option (A × Items)) → ((ds : Items) (p : A × Items) → found ds ≡ Some p → is_writable (step p.0) ≡ true) → MakesWritable (λ ds. made step (found ds))
+of_found step found h ds p e =
+    let m = map_some (λ q. (step q.0, q.1)) (found ds) p e in
+    subst (λ (q : Step × Items). is_writable q.0 ≡ true) m.2 (h ds m.0 m.1)
 
-usual : {A : Type 0} (of : Items → Option A) (ds : Items) (x : A) → of ds ≡ Some x → true ≡ true
-usual of ds x e = refl
+-- a kind that always makes steps that can be written
+usual : {A : Type 0} (step : A → Step) (found : Items → Option (A × Items)) → ((x : A) → is_writable (step x) ≡ true) → MakesWritable (λ ds. made step (found ds))
+usual step found h = of_found step found (λ ds p e. h p.0)
 
-all_made : AllByRecursion (λ kind. MakesWritable kind.1) kinds
-all_made = (
-  made _ _ (usual none_of),
-  (
-    made _ _ (usual one_of),
-    (
-      made _ _ (usual pair_of),
-      (
-        made _ _ arrival_few,
-        (
-          made _ _ (usual one_of),
-          (
-            made _ _ (usual triple_of),
-            (
-              made _ _ transfer_few,
-              (
-                made _ _ (usual pair_of),
-                (
-                  made _ _ (usual pair_of),
-                  (
-                    made _ _ (usual pair_of),
-                    (
-                      made _ _ (usual pair_of),
-                      (
-                        made _ _ (usual sided_of),
-                        (
-                          made _ _ (usual sided_of),
-                          (
-                            made _ _ (usual one_of),
-                            (
-                              made _ _ (usual one_of),
-                              (
-                                made _ _ (usual pair_of),
-                                (
-                                  made _ _ (usual pair_of),
-                                  (
-                                    made _ _ (usual sided_of),
-                                    (
-                                      made _ _ (usual sided_of),
-                                      (
-                                        made _ _ (usual one_of),
-                                        (
-                                          made _ _ (usual one_of),
-                                          (
-                                            made _ _ (usual one_of),
-                                            (
-                                              made _ _ (usual one_of),
-                                              (
-                                                made _ _ (usual one_of),
-                                                (
-                                                  made _ _ (usual deadline_of),
-                                                  (
-                                                    made _ _ (usual pair_of),
-                                                    (
-                                                      made _ _ (usual event_of),
-                                                      (
-                                                        made _ _ time_least,
-                                                        (
-                                                          made _ _ (usual none_of),
-                                                          (
-                                                            made _ _ (usual one_of),
-                                                            tt,
-                                                          ),
-                                                        ),
-                                                      ),
-                                                    ),
-                                                  ),
-                                                ),
-                                              ),
-                                            ),
-                                          ),
-                                        ),
-                                      ),
-                                    ),
-                                  ),
-                                ),
-                              ),
-                            ),
-                          ),
-                        ),
-                      ),
-                    ),
-                  ),
-                ),
-              ),
-            ),
-          ),
-        ),
-      ),
-    ),
-  ),
-)
+bare_made : (step : Step) → is_writable step ≡ true → MakesWritable (bare step)
+bare_made step h ds p e = subst (λ (q : Step × Items). is_writable q.0 ≡ true) (same_Some (step, ds) p e) h
 
-among_writable : (some : List (List ℕ × (Items → Option Step))) → AllByRecursion (λ kind. MakesWritable kind.1) some → (name : List ℕ) (ds : Items) (step : Step) → step_among some name ds ≡ Ok step → is_writable step ≡ true
-among_writable [] all name ds step e = absurd cc
-among_writable (kind ∷ more) all name ds step e =
-    elim (choice (bytes_eq name kind.0) (or_fault fault.Arguments (kind.1 ds)) (step_among more name ds) (Ok step) e) [
-      | inl this ↦ all.0 ds step (found_ok fault.Arguments (kind.1 ds) step this.1)
-      | inr other ↦ among_writable more all.1 name ds step other.1
+all_made : (version : Version) → AllByRecursion (λ kind. MakesWritable kind.1) (kinds version)
+all_made One = (bare_made _ refl, (usual _ _ (λ x. refl), (usual _ _ (λ x. refl), (of_found _ _ arrival_few, (usual _ _ (λ x. refl), (usual _ _ (λ x. refl), (of_found _ _ transfer_few, (usual _ _ (λ x. refl), (usual _ _ (λ x. refl), (usual _ _ (λ x. refl), (usual _ _ (λ x. refl), (usual _ _ (λ x. refl), (usual _ _ (λ x. refl), (usual _ _ (λ x. refl), (usual _ _ (λ x. refl), (usual _ _ (λ x. refl), (usual _ _ (λ x. refl), (usual _ _ (λ x. refl), (usual _ _ (λ x. refl), (usual _ _ (λ x. refl), (usual _ _ (λ x. refl), (usual _ _ (λ x. refl), (usual _ _ (λ x. refl), (usual _ _ (λ x. refl), (usual _ _ (λ x. refl), (usual _ _ (λ x. refl), (usual _ _ (λ x. refl), (of_found _ _ time_least, (bare_made _ refl, (usual _ _ (λ x. refl), tt))))))))))))))))))))))))))))))
+
+among_writable : (some : List (List ℕ × (Items → Option (Step × Items)))) → AllByRecursion (λ kind. MakesWritable kind.1) some → (name : List ℕ) (ds : Items) (p : Step × Items) → step_among some name ds ≡ Ok p → is_writable p.0 ≡ true
+among_writable [] all name ds p e = absurd cc
+among_writable (kind ∷ more) all name ds p e =
+    elim (choice (bytes_eq name kind.0) (or_fault fault.Arguments (kind.1 ds)) (step_among more name ds) (Ok p) e) [
+      | inl this ↦ all.0 ds p (found_ok fault.Arguments (kind.1 ds) p this.1)
+      | inr other ↦ among_writable more all.1 name ds p other.1
     ]
 
-pub step_writable : (d : Data) (step : Step) → step_of d ≡ Ok step → is_writable step ≡ true
+pub step_writable : (version : Version) (d : Data) (step : Step) → step_of version d ≡ Ok step → is_writable step ≡ true
 unfolding step_of
-step_writable d step e =
+step_writable version d step e =
     let parts = bind_ok (or_fault fault.UnknownStep (option_and_then first_of (as_array d))) _ step e in
     let name = bind_ok (or_fault fault.UnknownStep (as_str parts.0.0)) _ step parts.2 in
-    among_writable kinds all_made name.0 parts.0.1 step name.2
+    let found = bind_ok (step_named version name.0 parts.0.1) _ step name.2 in
+    let ended = passed_ok (may_end_with version found.0.1) fault.Arguments (Ok found.0.0) step found.2 in
+    let same : found.0.0 ≡ step = cc (ended.1) in
+    subst (λ (s : Step). is_writable s ≡ true) same (among_writable (kinds version) (all_made version) name.0 parts.0.1 found.0 found.1)
 
 -- ---- what is made
 
-pub recording_made : (l : Limits) (steps : List Step) → are_limits l ≡ true → length steps ≤ 1000000 → are_writable steps ≡ true → recording_of l steps ≡ Ok (record { limits = l; steps = steps })
+pub recording_made : (l : Limits) (steps : List Step) → are_in_range l ≡ true → length steps ≤ 1000000 → are_writable steps ≡ true → recording_of l steps ≡ Ok (record { limits = l; steps = steps })
 recording_made l steps limits few writable =
     let short : ltb 1000000 (length steps) ≡ false = le-ltb _ _ few in
     rw (limits, short, writable) refl

@@ -7,12 +7,13 @@ use Rattle.serde_json.specs.Data.{Data}
 use Rattle.nr_recording.specs.declared.fault.Fault.{Fault}
 use Rattle.nr_recording.specs.declared.fault.Fault.TheVariants as fault
 use Rattle.nr_recording.specs.declared.fault.ReadFault.{ReadFault}
-use Rattle.nr_rev.specs.declared.limits.Limits.{Limits}
+use Rattle.nr_recording.specs.declared.reading.Header.{Header}
+use Rattle.nr_recording.specs.declared.version.Version.{Version}
 use Rattle.nr_rev.specs.declared.step.Step.{Step}
 use Rattle.nr_rev.specs.Run.{Recording}
 use Rattle.nr_recording.specs.Faults.{◌>>=◌}
 use Rattle.nr_recording.proofs.Binds.{bind_ok, guard_ok, choice}
-use Rattle.nr_recording.specs.Header.{header_of}
+use Rattle.nr_recording.specs.Header.{version_of, header_of}
 use Rattle.nr_recording.specs.Steps.{step_of}
 use Rattle.nr_recording.specs.Reading.{Seen, nothing, lines, is_blank, value_of, with_value, with_line, at_line, with_lines, finished, reading, Answers}
 use Rattle.nr_recording.specs.Text.{IsSkipped, IsValueLine, AreSteps, AreLinesOf, IsTextOf}
@@ -29,19 +30,19 @@ ok_is x y e = cc
 
 -- what a line that is no fault leaves
 abbrev Passes : Seen → List ℕ → Seen → Type 0
-Passes seen line next = (IsSkipped line × (seen ≡ next)) ⊎ ((d : Data) × IsValueLine line d × (with_value seen seen.limits d ≡ Ok next))
+Passes seen line next = (IsSkipped line × (seen ≡ next)) ⊎ ((d : Data) × IsValueLine line d × (with_value seen seen.header d ≡ Ok next))
 
 with_line_ok : (seen : Seen) (line : List ℕ) (next : Seen) → with_line seen line ≡ Ok next → Passes seen line next
 unfolding with_line
 with_line_ok seen line next e =
-    let g = guard_ok (ltb 200000 (length line)) fault.Limit (cond (is_blank line) (Ok seen) (value_of line >>= λ d. with_value seen seen.limits d)) next e in
+    let g = guard_ok (ltb 200000 (length line)) fault.Limit (cond (is_blank line) (Ok seen) (value_of line >>= λ d. with_value seen seen.header d)) next e in
     let short : length line ≤ 200000 = ltb-false _ _ g.0 in
-    elim (choice (is_blank line) (Ok seen) (value_of line >>= λ d. with_value seen seen.limits d) (Ok next) g.1) [
+    elim (choice (is_blank line) (Ok seen) (value_of line >>= λ d. with_value seen seen.header d) (Ok next) g.1) [
       | inl p ↦ inl (record { short = short; blank = p.0 }, ok_is seen next p.1)
-      | inr p ↦ (let b = bind_ok (value_of line) (λ d. with_value seen seen.limits d) next p.1 in inr (b.0, record { short = short; shown = p.0; value = b.1 }, b.2))
+      | inr p ↦ (let b = bind_ok (value_of line) (λ d. with_value seen seen.header d) next p.1 in inr (b.0, record { short = short; shown = p.0; value = b.1 }, b.2))
     ]
 
-value_then : (line : List ℕ) (d : Data) (seen next : Seen) → IsValueLine line d → with_value seen seen.limits d ≡ Ok next → with_line seen line ≡ Ok next
+value_then : (line : List ℕ) (d : Data) (seen next : Seen) → IsValueLine line d → with_value seen seen.header d ≡ Ok next → with_line seen line ≡ Ok next
 unfolding with_line
 value_then line d seen next is e =
     let long : ltb 200000 (length line) ≡ false = le-ltb _ _ is.short in
@@ -65,65 +66,69 @@ first_ok n seen last line rest e =
 
 -- ---- what is read
 
-abbrev after_header : Limits → List Step → Seen
-after_header limits steps = record { limits = Some limits; steps = steps }
+abbrev after_header : Header → List Step → Seen
+after_header header steps = record { header = Some header; steps = steps }
 
-with_step_ok : (limits : Limits) (steps : List Step) (d : Data) (next : Seen) → with_value (after_header limits steps) (Some limits) d ≡ Ok next
-    → (eqb (length steps) 1000000 ≡ false) × ((e : Step) × (step_of d ≡ Ok e) × (after_header limits (steps ++ e ∷ []) ≡ next))
-with_step_ok limits steps d next h =
-    let g = guard_ok (eqb (length steps) 1000000) fault.TooManySteps (step_of d >>= λ e. Ok (after_header limits (steps ++ e ∷ []))) next h in
-    let b = bind_ok (step_of d) (λ e. Ok (after_header limits (steps ++ e ∷ []))) next g.1 in
-    (g.0, (b.0, b.1, ok_is (after_header limits (steps ++ b.0 ∷ [])) next b.2))
+with_step_ok : (header : Header) (steps : List Step) (d : Data) (next : Seen) → with_value (after_header header steps) (Some header) d ≡ Ok next
+    → (eqb (length steps) 1000000 ≡ false) × ((e : Step) × (step_of header.version d ≡ Ok e) × (after_header header (steps ++ e ∷ []) ≡ next))
+with_step_ok header steps d next h =
+    let g = guard_ok (eqb (length steps) 1000000) fault.TooManySteps (step_of header.version d >>= λ e. Ok (after_header header (steps ++ e ∷ []))) next h in
+    let b = bind_ok (step_of header.version d) (λ e. Ok (after_header header (steps ++ e ∷ []))) next g.1 in
+    (g.0, (b.0, b.1, ok_is (after_header header (steps ++ b.0 ∷ [])) next b.2))
 
-skip_more : (line : List ℕ) (rest : List (List ℕ)) (es : List Step) → IsSkipped line → AreSteps rest es → AreSteps (line ∷ rest) es
-skip_more line rest [] s more = (s, more)
-skip_more line rest (e ∷ es) s more = inl (s, more)
+skip_more : (version : Version) (line : List ℕ) (rest : List (List ℕ)) (es : List Step) → IsSkipped line → AreSteps version rest es → AreSteps version (line ∷ rest) es
+skip_more version line rest [] s more = (s, more)
+skip_more version line rest (e ∷ es) s more = inl (s, more)
 
 -- the steps of some lines, behind the steps before them
-record Continues (limits : Limits) (steps : List Step) (rest : List (List ℕ)) (last : Seen) : Type 0 where
+record Continues (header : Header) (steps : List Step) (rest : List (List ℕ)) (last : Seen) : Type 0 where
   es : List Step
-  are : AreSteps rest es
-  ends : last ≡ after_header limits (steps ++ es)
+  are : AreSteps header.version rest es
+  ends : last ≡ after_header header (steps ++ es)
   fits : length (steps ++ es) ≤ 1000000
 
-steps_found : (rest : List (List ℕ)) (n : ℕ) (limits : Limits) (steps : List Step) (last : Seen) → length steps ≤ 1000000 → with_lines n (after_header limits steps) rest ≡ Ok last → Continues limits steps rest last
+steps_found : (rest : List (List ℕ)) (n : ℕ) (header : Header) (steps : List Step) (last : Seen) → length steps ≤ 1000000 → with_lines n (after_header header steps) rest ≡ Ok last → Continues header steps rest last
 unfolding with_lines
-steps_found [] n limits steps last le h = record { es = []; are = tt; ends = rw (append-nil steps) (sym (ap_ok (after_header limits steps) last h)); fits = rw (append-nil steps) le }
+steps_found [] n header steps last le h = record { es = []; are = tt; ends = rw (append-nil steps) (sym (ap_ok (after_header header steps) last h)); fits = rw (append-nil steps) le }
   where
     ap_ok : (x y : Seen) → done {E = ReadFault} x ≡ done y → x ≡ y
     ap_ok x y e = cc
-steps_found (line ∷ rest) n limits steps last le h =
-    let f = first_ok n (after_header limits steps) last line rest h in
-    elim (with_line_ok (after_header limits steps) line f.0 f.1) [
+steps_found (line ∷ rest) n header steps last le h =
+    let f = first_ok n (after_header header steps) last line rest h in
+    elim (with_line_ok (after_header header steps) line f.0 f.1) [
       | inl s ↦ (
-          let more = steps_found rest (suc n) limits steps last le (subst (λ (x : Seen). with_lines (suc n) x rest ≡ Ok last) (sym s.1) f.2) in
-          record { es = more.es; are = skip_more line rest more.es s.0 more.are; ends = more.ends; fits = more.fits })
+          let more = steps_found rest (suc n) header steps last le (subst (λ (x : Seen). with_lines (suc n) x rest ≡ Ok last) (sym s.1) f.2) in
+          record { es = more.es; are = skip_more header.version line rest more.es s.0 more.are; ends = more.ends; fits = more.fits })
       | inr v ↦ (
-          let one = with_step_ok limits steps v.0 f.0 v.2 in
+          let one = with_step_ok header steps v.0 f.0 v.2 in
           let e = one.1.0 in
           let few : length (steps ++ e ∷ []) ≤ 1000000 = grind (arith, length-append steps (e ∷ []), one.0) in
-          let more = steps_found rest (suc n) limits (steps ++ e ∷ []) last few (subst (λ (x : Seen). with_lines (suc n) x rest ≡ Ok last) (sym one.1.2) f.2) in
+          let more = steps_found rest (suc n) header (steps ++ e ∷ []) last few (subst (λ (x : Seen). with_lines (suc n) x rest ≡ Ok last) (sym one.1.2) f.2) in
           record { es = e ∷ more.es; are = inr ((v.0, v.1, one.1.1), more.are); ends = rw (← append_assoc steps (e ∷ []) more.es) more.ends; fits = rw (← append_assoc steps (e ∷ []) more.es) more.fits })
     ]
 
 whole_is : {A : Type 0} (x y : A) → done {E = ReadFault} x ≡ done y → x ≡ y
 whole_is x y e = cc
 
-lines_found : (rest : List (List ℕ)) (n m : ℕ) (last : Seen) (w : Recording) → with_lines n nothing rest ≡ Ok last → finished m last ≡ Ok w → AreLinesOf rest w
+lines_found : (rest : List (List ℕ)) (n m : ℕ) (last : Seen) (w : Recording) → with_lines n nothing rest ≡ Ok last → finished m last ≡ Ok w → (version : Version) × AreLinesOf version rest w
 unfolding with_lines
 lines_found [] n m last w h done_is =
     absurd (let e : nothing ≡ last = whole_is nothing last h in let f : finished m nothing ≡ Ok w = subst (λ (x : Seen). finished m x ≡ Ok w) (sym e) done_is in cc)
 lines_found (line ∷ rest) n m last w h done_is =
     let f = first_ok n nothing last line rest h in
     elim (with_line_ok nothing line f.0 f.1) [
-      | inl s ↦ inl (s.0, lines_found rest (suc n) m last w (subst (λ (x : Seen). with_lines (suc n) x rest ≡ Ok last) (sym s.1) f.2) done_is)
+      | inl s ↦ (
+          let more = lines_found rest (suc n) m last w (subst (λ (x : Seen). with_lines (suc n) x rest ≡ Ok last) (sym s.1) f.2) done_is in
+          (more.0, inl (s.0, more.1)))
       | inr v ↦ (
-          let b = bind_ok (header_of v.0) (λ limits. Ok (after_header limits [])) f.0 v.2 in
-          let next = ok_is (after_header b.0 []) f.0 b.2 in
-          let more = steps_found rest (suc n) b.0 [] last (omega arith) (subst (λ (x : Seen). with_lines (suc n) x rest ≡ Ok last) (sym next) f.2) in
-          let made : Recording = record { limits = b.0; steps = more.es } in
+          let version = bind_ok (version_of v.0) _ f.0 v.2 in
+          let limits = bind_ok (header_of version.0 v.0) (λ limits. Ok (after_header (record { version = version.0; limits = limits }) [])) f.0 version.2 in
+          let header : Header = record { version = version.0; limits = limits.0 } in
+          let next = ok_is (after_header header []) f.0 limits.2 in
+          let more = steps_found rest (suc n) header [] last (omega arith) (subst (λ (x : Seen). with_lines (suc n) x rest ≡ Ok last) (sym next) f.2) in
+          let made : Recording = record { limits = limits.0; steps = more.es } in
           let is : made ≡ w = whole_is made w (subst (λ (x : Seen). finished m x ≡ Ok w) more.ends done_is) in
-          subst (λ (x : Recording). AreLinesOf (line ∷ rest) x) is (inr ((v.0, v.1, b.1), more.are, more.fits)))
+          (version.0, subst (λ (x : Recording). AreLinesOf version.0 (line ∷ rest) x) is (inr ((v.0, v.1, version.1, limits.1), more.are, more.fits))))
     ]
 
 pub reading_found : (bytes : List ℕ) (w : Recording) → reading bytes ≡ Ok w → IsTextOf bytes w
@@ -134,35 +139,36 @@ reading_found bytes w h =
 
 -- ---- what is in the grammar
 
-steps_again : (rest : List (List ℕ)) (es : List Step) (n : ℕ) (limits : Limits) (steps : List Step) → AreSteps rest es → length steps + length es ≤ 1000000
-    → with_lines n (after_header limits steps) rest ≡ Ok (after_header limits (steps ++ es))
+steps_again : (rest : List (List ℕ)) (es : List Step) (n : ℕ) (header : Header) (steps : List Step) → AreSteps header.version rest es → length steps + length es ≤ 1000000
+    → with_lines n (after_header header steps) rest ≡ Ok (after_header header (steps ++ es))
 unfolding with_lines
-steps_again [] [] n limits steps are le = rw (append-nil steps) refl
-steps_again [] (e ∷ es) n limits steps are le = absurd are
-steps_again (line ∷ rest) [] n limits steps are le = first_then n _ _ line rest (skipped_then line (after_header limits steps) are.0) ∙ steps_again rest [] (suc n) limits steps are.1 le
-steps_again (line ∷ rest) (e ∷ es) n limits steps are le =
+steps_again [] [] n header steps are le = rw (append-nil steps) refl
+steps_again [] (e ∷ es) n header steps are le = absurd are
+steps_again (line ∷ rest) [] n header steps are le = first_then n _ _ line rest (skipped_then line (after_header header steps) are.0) ∙ steps_again rest [] (suc n) header steps are.1 le
+steps_again (line ∷ rest) (e ∷ es) n header steps are le =
     elim are [
-      | inl s ↦ first_then n _ _ line rest (skipped_then line (after_header limits steps) s.0) ∙ steps_again rest (e ∷ es) (suc n) limits steps s.1 le
+      | inl s ↦ first_then n _ _ line rest (skipped_then line (after_header header steps) s.0) ∙ steps_again rest (e ∷ es) (suc n) header steps s.1 le
       | inr v ↦ (
           let few : eqb (length steps) 1000000 ≡ false = grind arith in
-          let one : with_value (after_header limits steps) (Some limits) v.0.0 ≡ Ok (after_header limits (steps ++ e ∷ [])) = rw (few, v.0.2) refl in
+          let one : with_value (after_header header steps) (Some header) v.0.0 ≡ Ok (after_header header (steps ++ e ∷ [])) = rw (few, v.0.2) refl in
           let room : length (steps ++ e ∷ []) + length es ≤ 1000000 = omega (arith, length-append steps (e ∷ [])) in
-          first_then n _ _ line rest (value_then line v.0.0 (after_header limits steps) _ v.0.1 one) ∙ steps_again rest es (suc n) limits (steps ++ e ∷ []) v.1 room ∙ rw (append_assoc steps (e ∷ []) es) refl)
+          first_then n _ _ line rest (value_then line v.0.0 (after_header header steps) _ v.0.1 one) ∙ steps_again rest es (suc n) header (steps ++ e ∷ []) v.1 room ∙ rw (append_assoc steps (e ∷ []) es) refl)
     ]
 
-lines_again : (rest : List (List ℕ)) (n : ℕ) (w : Recording) → AreLinesOf rest w → with_lines n nothing rest ≡ Ok (after_header w.limits w.steps)
-lines_again [] n w are = absurd are
-lines_again (line ∷ rest) n w are =
+lines_again : (version : Version) (rest : List (List ℕ)) (n : ℕ) (w : Recording) → AreLinesOf version rest w → with_lines n nothing rest ≡ Ok (after_header (record { version = version; limits = w.limits }) w.steps)
+lines_again version [] n w are = absurd are
+lines_again version (line ∷ rest) n w are =
+    let header : Header = record { version = version; limits = w.limits } in
     elim are [
-      | inl s ↦ first_then n _ _ line rest (skipped_then line nothing s.0) ∙ lines_again rest (suc n) w s.1
+      | inl s ↦ first_then n _ _ line rest (skipped_then line nothing s.0) ∙ lines_again version rest (suc n) w s.1
       | inr v ↦ (
-          let one : with_value nothing None v.0.0 ≡ Ok (after_header w.limits []) = rw v.0.2 refl in
-          first_then n _ _ line rest (value_then line v.0.0 nothing _ v.0.1 one) ∙ steps_again rest w.steps (suc n) w.limits [] v.1 (omega (arith, v.2)))
+          let one : with_value nothing None v.0.0 ≡ Ok (after_header header []) = rw (v.0.2, v.0.3) refl in
+          first_then n _ _ line rest (value_then line v.0.0 nothing _ v.0.1 one) ∙ steps_again rest w.steps (suc n) header [] v.1 (omega (arith, v.2)))
     ]
 
 pub reading_again : (bytes : List ℕ) (w : Recording) → IsTextOf bytes w → reading bytes ≡ Ok w
 unfolding reading
-reading_again bytes w are = rw (lines_again (lines bytes) 1 w are) refl
+reading_again bytes w are = rw (lines_again are.0 (lines bytes) 1 w are.1) refl
 
 pub answer_found : (bytes : List ℕ) (r : Result Recording ReadFault) → Answers r (reading bytes) → IfOk r (λ x. IsTextOf bytes x)
 answer_found bytes (Ok x) h = reading_found bytes x h

@@ -1,13 +1,14 @@
 -- Writing one line after the other, as a loop does.
-use Rattle.std.proofs.Common.{◌≡◌, ℕ, ◌+◌, ◌<◌, List, ◌++◌, length, get_or, take, Option, refl, sym, ap, ◌∙◌, add-one, append-nil, arith}
+use Rattle.std.proofs.Common.{◌≡◌, ℕ, suc, ◌+◌, ◌<◌, List, ◌++◌, length, get_or, take, drop, Option, refl, sym, ap, subst, ◌∙◌, add-one, append-nil, take-append-drop, drop-cons, length-append, arith}
 use Rattle.std.specs.List.{concat}
 use Rattle.std.specs.Io.KnownBytes.{Appends}
-use Rattle.std.proofs.KnownBytes.{Appends-trans}
-use Rattle.std.proofs.lemmas.List.{take_more, get_or-map, length-map}
+use Rattle.std.proofs.KnownBytes.{Appends-nil, Appends-trans}
+use Rattle.std.proofs.Math.Seq.{take-append-add}
+use Rattle.std.proofs.lemmas.List.{take_more, get_or-map, length-map, take-append-le}
 use Rattle.std.proofs.lemmas.List.Folds.{concat-append}
 use Rattle.nr_rev.specs.declared.step.Step.{Step}
 use Rattle.nr_rev.specs.Run.{Recording}
-use Rattle.nr_recording.specs.Writing.{step_data, line_of, line_texts}
+use Rattle.nr_recording.specs.Writing.{step_data, limits_data, line_of, line_texts, text, AppendsPart}
 
 one_more_text : (all : List (List ℕ)) (line : List ℕ) (i : ℕ) (a b c : Option (List ℕ)) → i < length all → line ≡ get_or all i line → Appends a b (concat (take i all)) → Appends b c line → Appends a c (concat (take (i + 1) all))
 one_more_text all line i a b c lt is before one =
@@ -15,9 +16,43 @@ one_more_text all line i a b c lt is before one =
     rw (take_more all i line lt, concat-append, ← is) (ap (λ (x : List ℕ). concat (take i all) ++ x) (append-nil line)) in
     rw e (Appends-trans a b c (concat (take i all)) line before one)
 
+-- the i-th step's line stands behind the header's
+line_there : (w : Recording) (e : Step) (i : ℕ) → i < length w.steps → e ≡ get_or w.steps i e → line_of (step_data e) ≡ get_or (line_texts w) (i + 1) (line_of (step_data e))
+line_there w e i lt is =
+    let f : Step → List ℕ = λ x. line_of (step_data x) in
+    ap f is ∙ sym (get_or-map f w.steps i e (f e) lt) ∙ rw (add-one) refl
+
 pub one_more_line : (w : Recording) (e : Step) (i : ℕ) (a b c : Option (List ℕ)) → i < length w.steps → e ≡ get_or w.steps i e
     → Appends a b (concat (take (i + 1) (line_texts w))) → Appends b c (line_of (step_data e)) → Appends a c (concat (take (i + 1 + 1) (line_texts w)))
 one_more_line w e i a b c lt is before one =
     let f : Step → List ℕ = λ x. line_of (step_data x) in
-    let there : f e ≡ get_or (line_texts w) (i + 1) (f e) = ap f is ∙ sym (get_or-map f w.steps i e (f e) lt) ∙ rw (add-one) refl in
-    one_more_text (line_texts w) (f e) (i + 1) a b c (simp length-map (omega arith)) there before one
+    one_more_text (line_texts w) (f e) (i + 1) a b c (simp length-map (omega arith)) (line_there w e i lt is) before one
+
+-- the lines before the i-th, the i-th, and those after it
+concat_at : (all : List (List ℕ)) (line : List ℕ) (i : ℕ) → i < length all → line ≡ get_or all i line
+    → concat all ≡ concat (take i all) ++ (line ++ concat (drop (suc i) all))
+concat_at all line i lt is =
+    ap concat (sym (take-append-drop i all)) ∙ concat-append (take i all) (drop i all) ∙ rw (drop-cons all i line lt, ← is) refl
+
+part_of_text : (all : List (List ℕ)) (line : List ℕ) (i : ℕ) (a b c : Option (List ℕ)) → i < length all → line ≡ get_or all i line → Appends a b (concat (take i all)) → AppendsPart b c line → AppendsPart a c (concat all)
+part_of_text all line i a b c lt is before part =
+    let front = concat (take i all) in
+    let rest = concat (drop (suc i) all) in
+    let n = part.0 in
+    let short = part.1 in
+    let whole = concat_at all line i lt is in
+    let lens : length (concat all) ≡ length front + (length line + length rest) = ap length whole ∙ length-append front (line ++ rest) ∙ ap (λ (k : ℕ). length front + k) (length-append line rest) in
+    let taken : take (length front + n) (concat all) ≡ front ++ take n line =
+    ap (take (length front + n)) whole ∙ take-append-add front (line ++ rest) n ∙ ap (λ (t : List ℕ). front ++ t) (take-append-le n line rest (omega (arith, short))) in
+    (length front + n, omega (arith, lens, short), subst (Appends a c) (sym taken) (Appends-trans a b c front (take n line) before part.2))
+
+-- a step's line that went out in part
+pub part_of_line : (w : Recording) (e : Step) (i : ℕ) (a b c : Option (List ℕ)) → i < length w.steps → e ≡ get_or w.steps i e
+    → Appends a b (concat (take (i + 1) (line_texts w))) → AppendsPart b c (line_of (step_data e)) → AppendsPart a c (text w)
+part_of_line w e i a b c lt is before part =
+    let f : Step → List ℕ = λ x. line_of (step_data x) in
+    part_of_text (line_texts w) (f e) (i + 1) a b c (simp length-map (omega arith)) (line_there w e i lt is) before part
+
+-- the header's line that went out in part
+pub part_of_header : (w : Recording) (a c : Option (List ℕ)) → AppendsPart a c (line_of (limits_data w.limits)) → AppendsPart a c (text w)
+part_of_header w a c part = part_of_text (line_texts w) (line_of (limits_data w.limits)) 0 a a c (omega arith) refl (Appends-nil a) part

@@ -8,11 +8,12 @@ use Rattle.serde_json.specs.Written.{compact_text}
 use Rattle.nr_rev.specs.declared.step.Step.{Step}
 use Rattle.nr_rev.specs.declared.step.Step.TheVariants.{Spawn, Exit, SockOpen, Arrive, PeerClose, SysRead, SysWrite, Drain, Incref, IncrefClose, Decref, RwLock, RwUnlock, Acquire, Release, PollOpen, PollClose, PollReset, WaitBegin, BlockArm, BlockCheck, ParkCommit, BlockSwap, WaitCheck, SetDeadline, Evict, PollEvent, Tick, Pop, Fire}
 use Rattle.nr_rev.specs.Run.{Recording}
+use Rattle.nr_recording.specs.declared.version.Version.TheVariants.{One}
 use Rattle.nr_recording.specs.Recording.{is_writable, are_writable, IsRecording}
 use Rattle.nr_recording.specs.Reading.{lines, value_of, reading}
 use Rattle.nr_recording.specs.Text.{AreSteps, AreLinesOf, IsTextOf}
 use Rattle.nr_recording.specs.Writing.{Argument, spelled, step_data, IsTyped, limits_data, line_of, text}
-use Rattle.nr_recording.proofs.Again.{step_again, header_again}
+use Rattle.nr_recording.proofs.Again.{step_again, version_again, header_again}
 use Rattle.nr_recording.proofs.ReadBack.{line_read, header_read}
 use Rattle.nr_recording.proofs.Shown.{are_shown, are_plain, widths, line_shown, line_short, header_shown, header_short, utf8_shown, lines-line_of}
 use Rattle.nr_recording.proofs.TextLaws.{reading_again}
@@ -60,7 +61,7 @@ value_read : (bytes : List ℕ) (d : Data) → are_shown bytes ≡ true → read
 unfolding value_of
 value_read bytes d shown e = rw (utf8_shown bytes shown, e) refl
 
-steps_text : (steps : List Step) → are_writable steps ≡ true → All IsTyped steps → AreSteps (lines (concat (map (λ s. line_of (step_data s)) steps))) steps
+steps_text : (steps : List Step) → are_writable steps ≡ true → All IsTyped steps → AreSteps One (lines (concat (map (λ s. line_of (step_data s)) steps))) steps
 steps_text [] writable typed = (record { short = lit≤ tt; blank = refl }, tt)
 steps_text (s ∷ steps) writable typed =
     let w = and_parts (is_writable s) (are_writable steps) writable in
@@ -72,15 +73,17 @@ steps_text (s ∷ steps) writable typed =
     let rest = fits.narrow in
     let read_again = value_read (compact_text (step_data s)) (step_data s) shown (line_read (spelled s) own) in
     let more = steps_text steps w.1 (λ k d lt. typed (suc k) d (omega arith)) in
-    subst (λ (ls : List (List ℕ)). AreSteps ls (s ∷ steps)) (sym (lines-line_of (step_data s) (concat (map (λ x. line_of (step_data x)) steps)) shown))
+    subst (λ (ls : List (List ℕ)). AreSteps One ls (s ∷ steps)) (sym (lines-line_of (step_data s) (concat (map (λ x. line_of (step_data x)) steps)) shown))
     (inr ((step_data s, record { short = omega arith; shown = refl; value = read_again }, step_again s own w.0), more))
 
 pub text_is_text : (r : Recording) → IsRecording r → All IsTyped r.steps → IsTextOf (text r) r
 text_is_text r is typed =
     let shown = header_shown r.limits in
-    let read_again = value_read (compact_text (limits_data r.limits)) (limits_data r.limits) shown (header_read r.limits is.limits) in
-    subst (λ (ls : List (List ℕ)). AreLinesOf ls r) (sym (lines-line_of (limits_data r.limits) (concat (map (λ x. line_of (step_data x)) r.steps)) shown))
-    (inr ((limits_data r.limits, record { short = header_short r.limits; shown = refl; value = read_again }, header_again r.limits is.limits), steps_text r.steps is.writable typed, is.few))
+    let read_again = value_read (compact_text (limits_data r.limits)) (limits_data r.limits) shown (header_read r.limits is.limits) in (
+      One,
+      subst (λ (ls : List (List ℕ)). AreLinesOf One ls r) (sym (lines-line_of (limits_data r.limits) (concat (map (λ x. line_of (step_data x)) r.steps)) shown))
+          (inr ((limits_data r.limits, record { short = header_short r.limits; shown = refl; value = read_again }, version_again r.limits, header_again r.limits is.limits), steps_text r.steps is.writable typed, is.few)),
+    )
 
 pub text_read_again : (r : Recording) → IsRecording r → All IsTyped r.steps → reading (text r) ≡ Ok r
 text_read_again r is typed = reading_again (text r) r (text_is_text r is typed)

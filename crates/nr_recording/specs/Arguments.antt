@@ -1,10 +1,16 @@
 -- The arguments of a step, by their shapes.
-use Rattle.std.specs.Prelude.{ℕ, ◌^◌, ◌==◌, List, length, Bool, true, false, ℤ, pos, int_lt, Option, Some, None, option_map, option_and_then, nat_lt, if◌then◌else◌, codes}
+use Rattle.std.specs.Prelude.{ℕ, ◌^◌, ◌*◌, ◌%◌, ◌==◌, List, length, Bool, true, false, not, ◌&&◌, ℤ, pos, int_lt, Option, Some, None, option_map, option_and_then, nat_lt, if◌then◌else◌, codes}
+use Rattle.std.specs.Option.{option_map_or}
 use Rattle.std.specs.Str.{bytes_eq}
 use Rattle.std.specs.Result.{result_ok}
+use Rattle.std.specs.Slice.Iter.{iter_rest}
+use Rattle.std.specs.declared.slice.Iter.{Iter}
 use Rattle.hex.specs.Hex.{decode_of}
 use Rattle.serde_json.specs.Data.{Data, Items, no_items, item}
+use Rattle.serde_json.specs.View.{items_view}
+use Rattle.serde_json.specs.declared.value.Value.{Value}
 use Rattle.serde_json.specs.Find.{as_number, as_u64, as_i64, as_str}
+use Rattle.nr_recording.specs.declared.recording.TheConstants.{MOST_BYTES}
 use Rattle.nr_rev.specs.declared.sides.Side.{Side}
 use Rattle.nr_rev.specs.declared.sides.Side.TheVariants as side
 use Rattle.nr_rev.specs.declared.sides.Mode.{Mode}
@@ -36,6 +42,10 @@ moment_of d = option_and_then as_i64 (as_number d)
 abbrev pub from_zero : ℤ → Option ℤ
 from_zero z = if int_lt z (pos 0) then None else Some z
 
+-- a time that is not below 0
+abbrev pub time_of : Data → Option ℤ
+time_of d = option_and_then from_zero (moment_of d)
+
 -- one side
 abbrev pub side_named : List ℕ → Option Side
 side_named text = if bytes_eq text (codes "r") then Some side.Read else (if bytes_eq text (codes "w") then Some side.Write else None)
@@ -50,61 +60,108 @@ mode_named text = if bytes_eq text (codes "r") then Some mode.Read else (if byte
 abbrev pub mode_of : Data → Option Mode
 mode_of d = option_and_then mode_named (as_str d)
 
--- an even number of hexadecimal digits, at most 131,072
+-- the most hexadecimal digits that an argument may have, two for each byte: 131,072
+abbrev pub most_digits : ℕ
+most_digits = 2 * MOST_BYTES
+
+-- an even number of hexadecimal digits, not too many
 abbrev pub bytes_named : List ℕ → Option (List ℕ)
-bytes_named text = if nat_lt 131072 (length text) then None else result_ok (decode_of text)
+bytes_named text = if nat_lt most_digits (length text) then None else result_ok (decode_of text)
 
 abbrev pub bytes_of : Data → Option (List ℕ)
 bytes_of d = option_and_then bytes_named (as_str d)
 
--- ---- all arguments of a step
+-- the bytes of a text take memory to read where it has an even number of digits, not too many
+abbrev pub digits_take_memory : List ℕ → Bool
+digits_take_memory text = not (nat_lt most_digits (length text)) && (length text % 2 == 0)
 
--- no arguments
-abbrev pub none_of : Items → Option (Unit {0})
-none_of no_items = Some tt
-none_of (item a ds) = None
+-- so do the bytes of such an argument
+abbrev pub argument_takes_memory : Data → Bool
+argument_takes_memory d = option_map_or digits_take_memory (as_str d) false
 
--- a number
-abbrev pub one_of : Items → Option ℕ
-one_of (item a no_items) = number_of a
-one_of _ = None
+-- ---- the arguments at the front of a list
 
--- two numbers
-abbrev pub pair_of : Items → Option (ℕ × ℕ)
-pair_of (item a (item b no_items)) = option_and_then (λ x. option_map (λ y. (x, y)) (number_of b)) (number_of a)
-pair_of _ = None
+infixl 10 ◌>>=◌
+-- goes on with what was found
+abbrev pub ◌>>=◌ : {A B : Type 0} → Option A → (A → Option B) → Option B
+found >>= f = option_and_then f found
 
--- three numbers
-abbrev pub triple_of : Items → Option (ℕ × ℕ × ℕ)
-triple_of (item a (item b (item c no_items))) = option_and_then (λ x. option_and_then (λ y. option_map (λ z. (x, y, z)) (number_of c)) (number_of b)) (number_of a)
-triple_of _ = None
+-- the arguments of a line that are still to be read
+abbrev pub left : Iter Value → Items
+left arguments = items_view (iter_rest arguments)
 
--- two numbers and a side
-abbrev pub sided_of : Items → Option (ℕ × ℕ × Side)
-sided_of (item a (item b (item c no_items))) = option_and_then (λ x. option_and_then (λ y. option_map (λ z. (x, y, z)) (side_of c)) (number_of b)) (number_of a)
-sided_of _ = None
+-- the first argument, and those behind it
+abbrev pub first_by : {A : Type 0} → (Data → Option A) → Items → Option (A × Items)
+first_by read no_items = None
+first_by read (item d ds) = option_map (λ x. (x, ds)) (read d)
 
--- a number and bytes
-abbrev pub arrival_of : Items → Option (ℕ × List ℕ)
-arrival_of (item a (item b no_items)) = option_and_then (λ x. option_map (λ y. (x, y)) (bytes_of b)) (number_of a)
-arrival_of _ = None
+-- two numbers, and what is left
+abbrev pub pair_in : Items → Option ((ℕ × ℕ) × Items)
+pair_in ds = do
+  x ← first_by number_of ds
+  y ← first_by number_of x.1
+  Some ((x.0, y.0), y.1)
 
--- two numbers and bytes
-abbrev pub transfer_of : Items → Option (ℕ × ℕ × List ℕ)
-transfer_of (item a (item b (item c no_items))) = option_and_then (λ x. option_and_then (λ y. option_map (λ z. (x, y, z)) (bytes_of c)) (number_of b)) (number_of a)
-transfer_of _ = None
+-- three numbers, and what is left
+abbrev pub triple_in : Items → Option ((ℕ × ℕ × ℕ) × Items)
+triple_in ds = do
+  x ← first_by number_of ds
+  y ← first_by number_of x.1
+  z ← first_by number_of y.1
+  Some ((x.0, y.0, z.0), z.1)
 
--- two numbers, a mode and a time
-abbrev pub deadline_of : Items → Option (ℕ × ℕ × Mode × ℤ)
-deadline_of (item a (item b (item c (item d no_items)))) = option_and_then (λ x. option_and_then (λ y. option_and_then (λ z. option_map (λ w. (x, y, z, w)) (moment_of d)) (mode_of c)) (number_of b)) (number_of a)
-deadline_of _ = None
+-- two numbers and a side, and what is left
+abbrev pub sided_in : Items → Option ((ℕ × ℕ × Side) × Items)
+sided_in ds = do
+  x ← first_by number_of ds
+  y ← first_by number_of x.1
+  z ← first_by side_of y.1
+  Some ((x.0, y.0, z.0), z.1)
 
--- a number, a tag, a mode and a bit
-abbrev pub event_of : Items → Option (ℕ × ℕ × Mode × Bool)
-event_of (item a (item b (item c (item d no_items)))) = option_and_then (λ x. option_and_then (λ y. option_and_then (λ z. option_map (λ w. (x, y, z, w)) (bit_of d)) (mode_of c)) (tag_of b)) (number_of a)
-event_of _ = None
+-- a number and bytes, and what is left
+abbrev pub arrival_in : Items → Option ((ℕ × List ℕ) × Items)
+arrival_in ds = do
+  x ← first_by number_of ds
+  y ← first_by bytes_of x.1
+  Some ((x.0, y.0), y.1)
 
--- a time that is not below 0
-abbrev pub time_of : Items → Option ℤ
-time_of (item a no_items) = option_and_then from_zero (moment_of a)
-time_of _ = None
+-- two numbers and bytes, and what is left
+abbrev pub transfer_in : Items → Option ((ℕ × ℕ × List ℕ) × Items)
+transfer_in ds = do
+  x ← first_by number_of ds
+  y ← first_by number_of x.1
+  z ← first_by bytes_of y.1
+  Some ((x.0, y.0, z.0), z.1)
+
+-- two numbers, a mode and a time, and what is left
+abbrev pub deadline_in : Items → Option ((ℕ × ℕ × Mode × ℤ) × Items)
+deadline_in ds = do
+  x ← first_by number_of ds
+  y ← first_by number_of x.1
+  z ← first_by mode_of y.1
+  w ← first_by moment_of z.1
+  Some ((x.0, y.0, z.0, w.0), w.1)
+
+-- a number, a tag, a mode and a bit, and what is left
+abbrev pub event_in : Items → Option ((ℕ × ℕ × Mode × Bool) × Items)
+event_in ds = do
+  x ← first_by number_of ds
+  y ← first_by tag_of x.1
+  z ← first_by mode_of y.1
+  w ← first_by bit_of z.1
+  Some ((x.0, y.0, z.0, w.0), w.1)
+
+-- ---- what takes memory to read
+
+-- the first argument does
+abbrev pub first_takes_memory : Items → Bool
+first_takes_memory no_items = false
+first_takes_memory (item d ds) = argument_takes_memory d
+
+-- a number and bytes do
+abbrev pub arrival_takes_memory : Items → Bool
+arrival_takes_memory ds = option_map_or (λ socket. first_takes_memory socket.1) (first_by number_of ds) false
+
+-- two numbers and bytes do
+abbrev pub transfer_takes_memory : Items → Bool
+transfer_takes_memory ds = option_map_or (λ numbers. first_takes_memory numbers.1) (pair_in ds) false

@@ -1,9 +1,23 @@
 -- Reading that may meet a fault.
-use Rattle.std.specs.Prelude.{◌≡◌, ℕ, List, Option, Some, None, Result, Ok, Err, codes}
+use Rattle.std.specs.Prelude.{◌≡◌, ℕ, List, ◌++◌, Option, Some, None, Result, Ok, Err, codes, decimal}
+use Rattle.hex.specs.declared.error.FromHexError.{FromHexError}
+use Rattle.hex.specs.declared.error.FromHexError.TheVariants.{OutOfMemory}
+use Rattle.serde_json.specs.declared.error.Category.{Category}
+use Rattle.serde_json.specs.declared.error.Category.TheVariants as categories
+use Rattle.serde_json.specs.declared.error.Error.{Error}
+use Rattle.serde_json.specs.Errors.{category}
 use Rattle.nr_recording.specs.declared.fault.Fault.{Fault}
 use Rattle.nr_recording.specs.declared.fault.Fault.TheVariants as fault
 use Rattle.nr_recording.specs.declared.fault.LineError.{LineError}
 use Rattle.nr_recording.specs.declared.fault.LineError.TheVariants as errors
+use Rattle.nr_recording.specs.declared.fault.ReadFault.{ReadFault}
+use Rattle.nr_recording.specs.declared.fault.ReadFault.TheVariants as reads
+use Rattle.nr_recording.specs.declared.fault.MakeFault.{MakeFault}
+use Rattle.nr_recording.specs.declared.fault.MakeFault.TheVariants as makes
+use Rattle.nr_recording.specs.declared.fault.WriteFault.{WriteFault}
+use Rattle.nr_recording.specs.declared.fault.WriteFault.TheVariants as writes
+
+-- ---- texts
 
 -- a fault's number and text
 abbrev pub fault_text : Fault → List ℕ
@@ -13,6 +27,39 @@ fault_text fault.UnknownStep = codes "103 unknown step"
 fault_text fault.Arguments = codes "104 arguments"
 fault_text fault.Limit = codes "105 limit"
 fault_text fault.TooManySteps = codes "106 too many steps"
+
+-- why a text was not read
+abbrev pub read_fault_text : ReadFault → List ℕ
+read_fault_text (reads.Line n f) = codes "line " ++ decimal n ++ codes ": fault " ++ fault_text f
+read_fault_text reads.Memory = codes "fault 108 memory"
+
+-- why limits and steps make no recording
+abbrev pub make_fault_text : MakeFault → List ℕ
+make_fault_text makes.Limit = codes "a limit is out of its range"
+make_fault_text makes.TooManySteps = codes "more than 1,000,000 steps"
+make_fault_text makes.Step = codes "a step carries too many bytes or sets the clock below 0"
+
+-- why a recording was not written
+abbrev pub write_fault_text : WriteFault → List ℕ
+write_fault_text writes.Memory = codes "memory"
+write_fault_text writes.Device = codes "device"
+
+-- ---- errors of the libraries
+
+-- a text that is no hexadecimal is a faulty argument
+abbrev pub of_hex : FromHexError → LineError
+of_hex OutOfMemory = errors.Memory
+of_hex _ = errors.Fault fault.Arguments
+
+abbrev pub of_category : Category → LineError
+of_category categories.Memory = errors.Memory
+of_category _ = errors.Fault fault.NotJson
+
+-- a text that the reader of JSON refuses is none
+abbrev pub of_json : Error → LineError
+of_json e = of_category (category e)
+
+-- ---- reading
 
 infixl 10 ◌>>=◌
 -- goes on with a value, or stops at its fault

@@ -1,12 +1,15 @@
--- What limits the value of the header's line gives.
-use Rattle.std.specs.Prelude.{ℕ, suc, ◌==◌, List, ◌&&◌, Option, option_map, option_and_then, Result, Ok, Err, if◌then◌else◌, codes}
+-- What version and limits the value of the header's line gives.
+use Rattle.std.specs.Prelude.{ℕ, suc, ◌==◌, List, option_map, Option, option_and_then, Result, Ok, Err, if◌then◌else◌, codes}
 use Rattle.serde_json.specs.Data.{Data, Members, no_members, member}
 use Rattle.serde_json.specs.Find.{get, as_number, as_u64, as_object}
 use Rattle.nr_rev.specs.declared.limits.Limits.{Limits}
 use Rattle.nr_recording.specs.declared.fault.Fault.{Fault}
 use Rattle.nr_recording.specs.declared.fault.Fault.TheVariants as fault
+use Rattle.nr_recording.specs.declared.version.Version.{Version}
 use Rattle.nr_recording.specs.Faults.{◌>>=◌, or_fault}
-use Rattle.nr_recording.specs.Recording.{is_limit}
+use Rattle.nr_recording.specs.Version.{version_numbered, most_buffer}
+use Rattle.nr_rev.specs.Limits.{is_limit}
+use Rattle.nr_rev.specs.declared.limits.TheConstants.{MOST_GOROUTINES, MOST_SOCKETS, MOST_DESCRIPTORS}
 
 -- the unsigned number at a key
 abbrev pub unsigned_at : List ℕ → Data → Result ℕ Fault
@@ -21,26 +24,31 @@ members_len (member k d ms) = suc (members_len ms)
 abbrev pub member_count : Data → Option ℕ
 member_count d = option_map members_len (as_object d)
 
+-- the version of the number that the object names
+abbrev pub version_of : Data → Result Version Fault
+version_of d = do
+  number ← unsigned_at (codes "netrev") d
+  or_fault fault.Header (version_numbered number)
+
 -- a limit, from 1 to the most
 abbrev pub limit_of : ℕ → ℕ → Result ℕ Fault
 limit_of most n = if is_limit most n then Ok n else Err fault.Limit
 
 -- the four limits
-unfoldable pub limits_of : ℕ → ℕ → ℕ → ℕ → Result Limits Fault
-limits_of gor sock desc buf = do
-  goroutines ← limit_of 4096 gor
-  sockets ← limit_of 256 sock
-  descriptors ← limit_of 256 desc
-  buffer ← limit_of 65536 buf
+unfoldable pub limits_of : Version → ℕ → ℕ → ℕ → ℕ → Result Limits Fault
+limits_of version gor sock desc buf = do
+  goroutines ← limit_of MOST_GOROUTINES gor
+  sockets ← limit_of MOST_SOCKETS sock
+  descriptors ← limit_of MOST_DESCRIPTORS desc
+  buffer ← limit_of (most_buffer version) buf
   Ok (record { goroutines = goroutines; sockets = sockets; descriptors = descriptors; buffer = buffer })
 
--- the limits of an object of the five keys and no other: its form is tested before the ranges
-unfoldable pub header_of : Data → Result Limits Fault
-header_of d = do
+-- the limits of an object of this version, of the five keys and no other: its form is tested before the ranges
+unfoldable pub header_of : Version → Data → Result Limits Fault
+header_of version d = do
   count ← or_fault fault.Header (member_count d)
-  version ← unsigned_at (codes "netrev") d
   gor ← unsigned_at (codes "gor") d
   sock ← unsigned_at (codes "sock") d
   desc ← unsigned_at (codes "desc") d
   buf ← unsigned_at (codes "buf") d
-  if (count == 5) && (version == 1) then limits_of gor sock desc buf else Err fault.Header
+  if count == 5 then limits_of version gor sock desc buf else Err fault.Header

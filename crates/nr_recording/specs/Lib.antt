@@ -1,4 +1,5 @@
 pub mod Faults
+pub mod Version
 pub mod Recording
 pub mod Arguments
 pub mod Steps

@@ -1,10 +1,9 @@
 -- The recording that bytes stand for, or the first fault.
-use Rattle.std.specs.Prelude.{◌≡◌, ℕ, suc, ◌==◌, ◌≤◌, true, List, [], ◌∷◌, ◌++◌, length, Bool, ◌||◌, Option, Some, None, Result, Ok, Err, IfSome, nat_lt, if◌then◌else◌}
-use Rattle.std.specs.List.{slice_split, list_all}
+use Rattle.std.specs.Prelude.{◌≡◌, ℕ, suc, ◌==◌, ◌≤◌, true, false, List, [], ◌∷◌, ◌++◌, length, Bool, not, ◌&&◌, ◌||◌, Option, Some, None, Result, Ok, Err, IfSome, is_ok, nat_lt, if◌then◌else◌}
+use Rattle.std.specs.List.{slice_split, list_all, list_any}
 use Rattle.std.specs.Str.{is_utf8}
 use Rattle.serde_json.specs.Data.{Data}
 use Rattle.serde_json.specs.Read.{read}
-use Rattle.nr_rev.specs.declared.limits.Limits.{Limits}
 use Rattle.nr_rev.specs.declared.step.Step.{Step}
 use Rattle.nr_rev.specs.Run.{Recording}
 use Rattle.nr_recording.specs.declared.fault.Fault.{Fault}
@@ -13,10 +12,12 @@ use Rattle.nr_recording.specs.declared.fault.LineError.{LineError}
 use Rattle.nr_recording.specs.declared.fault.LineError.TheVariants as line
 use Rattle.nr_recording.specs.declared.fault.ReadFault.{ReadFault}
 use Rattle.nr_recording.specs.declared.fault.ReadFault.TheVariants as errors
+use Rattle.nr_recording.specs.declared.reading.Header.{Header}
 use Rattle.nr_recording.specs.Faults.{◌>>=◌, or_fault}
-use Rattle.nr_recording.specs.Recording.{AreInRange, are_writable}
-use Rattle.nr_recording.specs.Header.{header_of}
-use Rattle.nr_recording.specs.Steps.{step_of}
+use Rattle.nr_rev.specs.Limits.{AreInRange}
+use Rattle.nr_recording.specs.Recording.{are_writable}
+use Rattle.nr_recording.specs.Header.{version_of, header_of}
+use Rattle.nr_recording.specs.Steps.{step_of, step_takes_memory}
 
 -- ---- one line
 
@@ -40,29 +41,35 @@ value_of line = if is_utf8 line then or_fault fault.NotJson (read line) else Err
 
 -- what was read of some lines
 pub record Seen : Type 0 where
-  pub limits : Option Limits
+  pub header : Option Header
   pub steps : List Step
 
 -- what holds of what was seen
 pub record IsSeen (seen : Seen) : Type 0 where
-  pub limits : IfSome seen.limits AreInRange
+  pub limits : IfSome seen.header (λ header. AreInRange header.limits)
   pub few : length seen.steps ≤ 1000000
   pub writable : are_writable seen.steps ≡ true
 
 -- before the first line
 abbrev pub nothing : Seen
-nothing = record { limits = None; steps = [] }
+nothing = record { header = None; steps = [] }
 
 -- what was seen, and the value of one more line
-abbrev pub with_value : Seen → Option Limits → Data → Result Seen Fault
+abbrev pub with_value : Seen → Option Header → Data → Result Seen Fault
 with_value seen None d = do
-  limits ← header_of d
-  Ok (record seen { limits = Some limits })
-with_value seen (Some limits) d =
+  version ← version_of d
+  limits ← header_of version d
+  Ok (record seen { header = Some (record { version = version; limits = limits }) })
+with_value seen (Some header) d =
     if length seen.steps == 1000000 then Err fault.TooManySteps
     else do
-      step ← step_of d
+      step ← step_of header.version d
       Ok (record seen { steps = seen.steps ++ step ∷ [] })
+
+-- one more value takes memory: for the bytes of a step, or to keep a right step
+abbrev pub value_takes_memory : Seen → Option Header → Data → Bool
+value_takes_memory seen None d = false
+value_takes_memory seen (Some header) d = not (length seen.steps == 1000000) && (step_takes_memory d || is_ok (step_of header.version d))
 
 -- what was seen, and one more line
 unfoldable pub with_line : Seen → List ℕ → Result Seen Fault
@@ -71,7 +78,11 @@ with_line seen line =
     else (if is_blank line then Ok seen
     else do
       d ← value_of line
-      with_value seen seen.limits d)
+      with_value seen seen.header d)
+
+-- a line takes memory to read, unless it is too long or blank
+abbrev pub line_takes_memory : List ℕ → Bool
+line_takes_memory line = not (nat_lt 200000 (length line)) && not (is_blank line)
 
 -- a fault is that of line n
 abbrev pub at_line : {A : Type 0} → ℕ → Result A Fault → Result A ReadFault
@@ -91,13 +102,13 @@ with_lines n seen (line ∷ rest) = at_line n (with_line seen line) >>= λ next.
 -- ---- the whole text
 
 -- without a header line the fault is that of line n
-abbrev pub with_limits : ℕ → Option Limits → List Step → Result Recording ReadFault
-with_limits n None steps = Err (errors.Line n fault.Header)
-with_limits n (Some limits) steps = Ok (record { limits = limits; steps = steps })
+abbrev pub with_header : ℕ → Option Header → List Step → Result Recording ReadFault
+with_header n None steps = Err (errors.Line n fault.Header)
+with_header n (Some header) steps = Ok (record { limits = header.limits; steps = steps })
 
 -- what stands after the last line, whose number is n
 abbrev pub finished : ℕ → Seen → Result Recording ReadFault
-finished n seen = with_limits n seen.limits seen.steps
+finished n seen = with_header n seen.header seen.steps
 
 -- the recording, or the fault of the first faulty line
 unfoldable pub reading : List ℕ → Result Recording ReadFault
@@ -112,3 +123,7 @@ Refuses (errors.Line n f) read = read ≡ Err (errors.Line n f)
 abbrev pub Answers : {X : Type 0} → Result X ReadFault → Result X ReadFault → Type 0
 Answers (Ok x) read = read ≡ Ok x
 Answers (Err e) read = Refuses e read
+
+-- some line takes memory to read
+abbrev pub text_takes_memory : List ℕ → Bool
+text_takes_memory bytes = list_any line_takes_memory (lines bytes)

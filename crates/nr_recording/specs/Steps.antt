@@ -1,5 +1,6 @@
 -- What step the value of a line is.
-use Rattle.std.specs.Prelude.{ℕ, ℤ, List, [], ◌∷◌, Bool, Option, Some, None, option_map, option_and_then, Result, Err, if◌then◌else◌, codes}
+use Rattle.std.specs.Prelude.{ℕ, ℤ, List, [], ◌∷◌, Bool, false, ◌&&◌, ◌||◌, Option, Some, None, option_map, option_and_then, Result, Ok, Err, if◌then◌else◌, codes}
+use Rattle.std.specs.Option.{option_map_or}
 use Rattle.std.specs.Str.{bytes_eq}
 use Rattle.serde_json.specs.Data.{Data, Items, no_items, item}
 use Rattle.serde_json.specs.Find.{as_str, as_array}
@@ -9,46 +10,53 @@ use Rattle.nr_rev.specs.declared.step.Step.{Step}
 use Rattle.nr_rev.specs.declared.step.Step.TheVariants.{Spawn, Exit, SockOpen, Arrive, PeerClose, SysRead, SysWrite, Drain, Incref, IncrefClose, Decref, RwLock, RwUnlock, Acquire, Release, PollOpen, PollClose, PollReset, WaitBegin, BlockArm, BlockCheck, ParkCommit, BlockSwap, WaitCheck, SetDeadline, Evict, PollEvent, Tick, Pop, Fire}
 use Rattle.nr_recording.specs.declared.fault.Fault.{Fault}
 use Rattle.nr_recording.specs.declared.fault.Fault.TheVariants as fault
+use Rattle.nr_recording.specs.declared.version.Version.{Version}
+use Rattle.nr_recording.specs.declared.version.Version.TheVariants.{One}
 use Rattle.nr_recording.specs.Faults.{◌>>=◌, or_fault}
-use Rattle.nr_recording.specs.Arguments.{none_of, one_of, pair_of, triple_of, sided_of, arrival_of, transfer_of, deadline_of, event_of, time_of}
+use Rattle.nr_recording.specs.Arguments.{number_of, time_of, first_by, pair_in, triple_in, sided_in, arrival_in, transfer_in, deadline_in, event_in, arrival_takes_memory, transfer_takes_memory}
+use Rattle.nr_recording.specs.Version.{may_end_with}
 
--- ---- the step that arguments of a shape make
+-- ---- the step that the arguments at the front of a list make, and what is left
 
-abbrev pub bare : Step → Items → Option Step
-bare step ds = option_map (λ _. step) (none_of ds)
+-- of these arguments the step, and what is left
+abbrev pub made : {A : Type 0} → (A → Step) → Option (A × Items) → Option (Step × Items)
+made step found = option_map (λ p. (step p.0, p.1)) found
 
-abbrev pub one : (ℕ → Step) → Items → Option Step
-one step ds = option_map step (one_of ds)
+abbrev pub bare : Step → Items → Option (Step × Items)
+bare step ds = Some (step, ds)
 
-abbrev pub pair : (ℕ → ℕ → Step) → Items → Option Step
-pair step ds = option_map (λ p. step p.0 p.1) (pair_of ds)
+abbrev pub one : (ℕ → Step) → Items → Option (Step × Items)
+one step ds = made step (first_by number_of ds)
 
-abbrev pub triple : (ℕ → ℕ → ℕ → Step) → Items → Option Step
-triple step ds = option_map (λ p. step p.0 p.1 p.2) (triple_of ds)
+abbrev pub pair : (ℕ → ℕ → Step) → Items → Option (Step × Items)
+pair step ds = made (λ p. step p.0 p.1) (pair_in ds)
 
-abbrev pub sided : (ℕ → ℕ → Side → Step) → Items → Option Step
-sided step ds = option_map (λ p. step p.0 p.1 p.2) (sided_of ds)
+abbrev pub triple : (ℕ → ℕ → ℕ → Step) → Items → Option (Step × Items)
+triple step ds = made (λ p. step p.0 p.1 p.2) (triple_in ds)
 
-abbrev pub arrival : (ℕ → List ℕ → Step) → Items → Option Step
-arrival step ds = option_map (λ p. step p.0 p.1) (arrival_of ds)
+abbrev pub sided : (ℕ → ℕ → Side → Step) → Items → Option (Step × Items)
+sided step ds = made (λ p. step p.0 p.1 p.2) (sided_in ds)
 
-abbrev pub transfer : (ℕ → ℕ → List ℕ → Step) → Items → Option Step
-transfer step ds = option_map (λ p. step p.0 p.1 p.2) (transfer_of ds)
+abbrev pub arrival : (ℕ → List ℕ → Step) → Items → Option (Step × Items)
+arrival step ds = made (λ p. step p.0 p.1) (arrival_in ds)
 
-abbrev pub deadline : (ℕ → ℕ → Mode → ℤ → Step) → Items → Option Step
-deadline step ds = option_map (λ p. step p.0 p.1 p.2 p.3) (deadline_of ds)
+abbrev pub transfer : (ℕ → ℕ → List ℕ → Step) → Items → Option (Step × Items)
+transfer step ds = made (λ p. step p.0 p.1 p.2) (transfer_in ds)
 
-abbrev pub event : (ℕ → ℕ → Mode → Bool → Step) → Items → Option Step
-event step ds = option_map (λ p. step p.0 p.1 p.2 p.3) (event_of ds)
+abbrev pub deadline : (ℕ → ℕ → Mode → ℤ → Step) → Items → Option (Step × Items)
+deadline step ds = made (λ p. step p.0 p.1 p.2 p.3) (deadline_in ds)
 
-abbrev pub time : (ℤ → Step) → Items → Option Step
-time step ds = option_map step (time_of ds)
+abbrev pub event : (ℕ → ℕ → Mode → Bool → Step) → Items → Option (Step × Items)
+event step ds = made (λ p. step p.0 p.1 p.2 p.3) (event_in ds)
+
+abbrev pub time : (ℤ → Step) → Items → Option (Step × Items)
+time step ds = made step (first_by time_of ds)
 
 -- ---- the kinds
 
 -- each kind's name, and the steps of that kind
-abbrev pub kinds : List (List ℕ × (Items → Option Step))
-kinds =
+abbrev pub kinds : Version → List (List ℕ × (Items → Option (Step × Items)))
+kinds One =
     (codes "spawn", bare Spawn) ∷
     (codes "exit", one Exit) ∷
     (codes "sockopen", pair SockOpen) ∷
@@ -81,23 +89,34 @@ kinds =
     (codes "fire", one Fire) ∷
     []
 
--- the step of this name among some kinds: an unknown name is found before faulty arguments
-abbrev pub step_among : List (List ℕ × (Items → Option Step)) → List ℕ → Items → Result Step Fault
+-- the step of this name among some kinds, and what is left: an unknown name is found before faulty arguments
+abbrev pub step_among : List (List ℕ × (Items → Option (Step × Items))) → List ℕ → Items → Result (Step × Items) Fault
 step_among [] name ds = Err fault.UnknownStep
 step_among (kind ∷ more) name ds = if bytes_eq name kind.0 then or_fault fault.Arguments (kind.1 ds) else step_among more name ds
 
--- the step of this name among all kinds
-abbrev pub step_named : List ℕ → Items → Result Step Fault
-step_named name ds = step_among kinds name ds
+-- the step of this name among all kinds of the version
+abbrev pub step_named : Version → List ℕ → Items → Result (Step × Items) Fault
+step_named version name ds = step_among (kinds version) name ds
 
 -- the first of some values, and the others
 abbrev pub first_of : Items → Option (Data × Items)
 first_of no_items = None
 first_of (item d ds) = Some (d, ds)
 
--- the step that the value of a line is: an array of a kind's name and its arguments
-unfoldable pub step_of : Data → Result Step Fault
-step_of d = do
+-- the step that the value of a line is: an array of a kind's name, its arguments, and what the version lets stand behind them
+unfoldable pub step_of : Version → Data → Result Step Fault
+step_of version d = do
   parts ← or_fault fault.UnknownStep (option_and_then first_of (as_array d))
   name ← or_fault fault.UnknownStep (as_str parts.0)
-  step_named name parts.1
+  found ← step_named version name parts.1
+  if may_end_with version found.1 then Ok found.0 else Err fault.Arguments
+
+-- the arguments of this kind take memory to read: only those with bytes do
+abbrev pub named_takes_memory : List ℕ → Items → Bool
+named_takes_memory name ds =
+    (bytes_eq name (codes "arrive") && arrival_takes_memory ds) || (bytes_eq name (codes "syswrite") && transfer_takes_memory ds)
+
+-- the value of a line does
+abbrev pub step_takes_memory : Data → Bool
+step_takes_memory d =
+    option_map_or (λ parts. option_map_or (λ name. named_takes_memory name parts.1) (as_str parts.0) false) (option_and_then first_of (as_array d)) false

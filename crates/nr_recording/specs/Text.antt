@@ -4,7 +4,8 @@ use Rattle.serde_json.specs.Data.{Data}
 use Rattle.nr_rev.specs.declared.limits.Limits.{Limits}
 use Rattle.nr_rev.specs.declared.step.Step.{Step}
 use Rattle.nr_rev.specs.Run.{Recording}
-use Rattle.nr_recording.specs.Header.{header_of}
+use Rattle.nr_recording.specs.declared.version.Version.{Version}
+use Rattle.nr_recording.specs.Header.{version_of, header_of}
 use Rattle.nr_recording.specs.Steps.{step_of}
 use Rattle.nr_recording.specs.Reading.{lines, is_blank, value_of}
 
@@ -19,26 +20,29 @@ pub record IsValueLine (line : List ℕ) (d : Data) : Type 0 where
   pub shown : is_blank line ≡ false
   pub value : value_of line ≡ Ok d
 
--- the line is a header with these limits
-abbrev pub IsHeaderLine : List ℕ → Limits → Type 0
-IsHeaderLine line limits = (d : Data) × IsValueLine line d × (header_of d ≡ Ok limits)
+-- the line is a header of this version with these limits
+abbrev pub IsHeaderLine : Version → List ℕ → Limits → Type 0
+IsHeaderLine version line limits = (d : Data) × IsValueLine line d × (version_of d ≡ Ok version) × (header_of version d ≡ Ok limits)
 
 -- the line is this step
-abbrev pub IsStepLine : List ℕ → Step → Type 0
-IsStepLine line step = (d : Data) × IsValueLine line d × (step_of d ≡ Ok step)
+abbrev pub IsStepLine : Version → List ℕ → Step → Type 0
+IsStepLine version line step = (d : Data) × IsValueLine line d × (step_of version d ≡ Ok step)
 
 -- a line for each step, and skipped lines
-abbrev pub AreSteps : List (List ℕ) → List Step → Type 0
-AreSteps [] [] = ⊤
-AreSteps [] (step ∷ steps) = ⊥
-AreSteps (line ∷ rest) [] = IsSkipped line × AreSteps rest []
-AreSteps (line ∷ rest) (step ∷ steps) = (IsSkipped line × AreSteps rest (step ∷ steps)) ⊎ (IsStepLine line step × AreSteps rest steps)
+abbrev pub AreSteps : Version → List (List ℕ) → List Step → Type 0
+AreSteps version [] [] = ⊤
+AreSteps version [] (step ∷ steps) = ⊥
+AreSteps version (line ∷ rest) [] = IsSkipped line × AreSteps version rest []
+AreSteps version (line ∷ rest) (step ∷ steps) =
+    (IsSkipped line × AreSteps version rest (step ∷ steps)) ⊎ (IsStepLine version line step × AreSteps version rest steps)
 
 -- skipped lines, a header, and the steps
-abbrev pub AreLinesOf : List (List ℕ) → Recording → Type 0
-AreLinesOf [] r = ⊥
-AreLinesOf (line ∷ rest) r = (IsSkipped line × AreLinesOf rest r) ⊎ (IsHeaderLine line r.limits × AreSteps rest r.steps × (length r.steps ≤ 1000000))
+abbrev pub AreLinesOf : Version → List (List ℕ) → Recording → Type 0
+AreLinesOf version [] r = ⊥
+AreLinesOf version (line ∷ rest) r =
+    (IsSkipped line × AreLinesOf version rest r)
+    ⊎ (IsHeaderLine version line r.limits × AreSteps version rest r.steps × (length r.steps ≤ 1000000))
 
--- the bytes are a text of the recording
+-- the bytes are a text of the recording, in some version
 abbrev pub IsTextOf : List ℕ → Recording → Type 0
-IsTextOf bytes r = AreLinesOf (lines bytes) r
+IsTextOf bytes r = (version : Version) × AreLinesOf version (lines bytes) r

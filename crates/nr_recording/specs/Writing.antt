@@ -1,6 +1,7 @@
 -- The one text that is written of a recording.
-use Rattle.std.specs.Prelude.{◌≡◌, ℕ, ◌<◌, ◌^◌, ℤ, pos, negsuc, Bool, true, false, List, [], ◌∷◌, ◌++◌, slice_index, map, codes, ⊤}
+use Rattle.std.specs.Prelude.{◌≡◌, ℕ, ◌<◌, ◌^◌, ℤ, pos, negsuc, Bool, true, false, List, [], ◌∷◌, ◌++◌, slice_index, length, take, map, Option, codes, ⊤}
 use Rattle.std.specs.List.{concat}
+use Rattle.std.specs.Io.KnownBytes.{Appends}
 use Rattle.hex.specs.Hex.{encode_lower}
 use Rattle.serde_json.specs.Data.{Data, number, unsigned, string, array, object, no_items, item, Items, no_members, member}
 use Rattle.serde_json.specs.Find.{of_integer}
@@ -13,6 +14,8 @@ use Rattle.nr_rev.specs.declared.sides.Mode.TheVariants as modes
 use Rattle.nr_rev.specs.declared.step.Step.{Step}
 use Rattle.nr_rev.specs.declared.step.Step.TheVariants.{Spawn, Exit, SockOpen, Arrive, PeerClose, SysRead, SysWrite, Drain, Incref, IncrefClose, Decref, RwLock, RwUnlock, Acquire, Release, PollOpen, PollClose, PollReset, WaitBegin, BlockArm, BlockCheck, ParkCommit, BlockSwap, WaitCheck, SetDeadline, Evict, PollEvent, Tick, Pop, Fire}
 use Rattle.nr_rev.specs.Run.{Recording}
+use Rattle.nr_recording.specs.declared.version.Version.TheVariants.{One}
+use Rattle.nr_recording.specs.Version.{version_number}
 
 -- ---- arguments
 
@@ -129,9 +132,9 @@ pub record IsSpelling (d : Data) (line : List ℕ × List Argument) : Type 0 whe
 
 -- ---- the whole text
 
--- the JSON of the header
+-- the JSON of the header, in version 1
 abbrev pub limits_data : Limits → Data
-limits_data l = object (member (codes "buf") (number (unsigned l.buffer)) (member (codes "desc") (number (unsigned l.descriptors)) (member (codes "gor") (number (unsigned l.goroutines)) (member (codes "netrev") (number (unsigned 1)) (member (codes "sock") (number (unsigned l.sockets)) no_members)))))
+limits_data l = object (member (codes "buf") (number (unsigned l.buffer)) (member (codes "desc") (number (unsigned l.descriptors)) (member (codes "gor") (number (unsigned l.goroutines)) (member (codes "netrev") (number (unsigned (version_number One))) (member (codes "sock") (number (unsigned l.sockets)) no_members)))))
 
 -- a value in compact form, and a line feed
 unfoldable pub line_of : Data → List ℕ
@@ -144,3 +147,13 @@ line_texts r = line_of (limits_data r.limits) ∷ map (λ step. line_of (step_da
 -- the text that is written
 abbrev pub text : Recording → List ℕ
 text r = concat (line_texts r)
+
+-- ---- what an error leaves written
+
+-- just a first part of the text, and not all
+abbrev pub AppendsPart : Option (List ℕ) → Option (List ℕ) → List ℕ → Type 0
+AppendsPart old new bytes = (n : ℕ) × (n < length bytes) × Appends old new (take n bytes)
+
+-- just some first lines, whole, and not all
+abbrev pub AppendsLines : Option (List ℕ) → Option (List ℕ) → List (List ℕ) → Type 0
+AppendsLines old new texts = (n : ℕ) × (n < length texts) × Appends old new (concat (take n texts))

@@ -1,23 +1,24 @@
-//! The arguments of a step, by their shapes.
+//! The arguments of a step, read from the front of what is left of its line.
 
-ghost use Rattle.std.specs.Prelude.{◌≡◌};
-ghost use Rattle.serde_json.specs.View.{view, items_view};
+ghost use Rattle.std.specs.Prelude.{◌≡◌, true, option_map};
 ghost use Rattle.nr_recording.specs.declared.fault.Fault.TheVariants.{Arguments};
-ghost use Rattle.nr_recording.specs.Faults.{Gives, or_fault};
-ghost use Rattle.nr_recording.specs.Arguments.{number_of, side_named, side_of, bytes_of, mode_named, mode_of, tag_of, bit_of, moment_of, none_of, one_of, pair_of, triple_of, sided_of, arrival_of, transfer_of, deadline_of, event_of, time_of};
+ghost use Rattle.nr_recording.specs.Faults.{GivesBy, or_fault};
+ghost use Rattle.nr_recording.specs.Arguments.{number_of, side_named, side_of, bytes_of, mode_named, mode_of, tag_of, bit_named, bit_of, moment_of, time_of, left, first_by, pair_in, triple_in, sided_in, arrival_in, transfer_in, deadline_in, event_in, first_takes_memory, arrival_takes_memory, transfer_takes_memory};
 
 use crate::fault::{Fault, LineError};
-use hex::FromHexError;
+use crate::recording::MOST_BYTES;
 use nr_rev::{Bytes, Mode, Side};
 use serde_json::Value;
 use std::alloc::Global;
+use std::slice::Iter;
 
-const MOST_DIGITS: usize = 131_072;
+const MOST_DIGITS: usize = 2 * MOST_BYTES;
 
-fn number(value: &Value) -> Option<u32>
-    ensures { result ≡ number_of (view value.now) }
+pub(crate) fn number(arguments: &mut Iter<'_, Value>) -> Option<u32>
+    ensures { first_by number_of (left arguments.old)
+        ≡ option_map (λ n. (n, left arguments.new)) result }
 {
-    u32::try_from(value.as_u64()?).ok()
+    u32::try_from(arguments.next()?.as_u64()?).ok()
 }
 
 fn side_named(name: &str) -> Option<Side>
@@ -30,10 +31,11 @@ fn side_named(name: &str) -> Option<Side>
     }
 }
 
-fn side(value: &Value) -> Option<Side>
-    ensures { result ≡ side_of (view value.now) }
+fn side(arguments: &mut Iter<'_, Value>) -> Option<Side>
+    ensures { first_by side_of (left arguments.old)
+        ≡ option_map (λ side. (side, left arguments.new)) result }
 {
-    side_named(value.as_str()?)
+    side_named(arguments.next()?.as_str()?)
 }
 
 fn mode_named(name: &str) -> Option<Mode>
@@ -47,153 +49,135 @@ fn mode_named(name: &str) -> Option<Mode>
     }
 }
 
-fn mode(value: &Value) -> Option<Mode>
-    ensures { result ≡ mode_of (view value.now) }
+fn mode(arguments: &mut Iter<'_, Value>) -> Option<Mode>
+    ensures { first_by mode_of (left arguments.old)
+        ≡ option_map (λ mode. (mode, left arguments.new)) result }
 {
-    mode_named(value.as_str()?)
+    mode_named(arguments.next()?.as_str()?)
 }
 
-fn tag(value: &Value) -> Option<u64>
-    ensures { result ≡ tag_of (view value.now) }
+fn tag(arguments: &mut Iter<'_, Value>) -> Option<u64>
+    ensures { first_by tag_of (left arguments.old)
+        ≡ option_map (λ n. (n, left arguments.new)) result }
 {
-    value.as_u64()
+    arguments.next()?.as_u64()
 }
 
-fn bit(value: &Value) -> Option<bool>
-    ensures { result ≡ bit_of (view value.now) }
+fn bit_named(number: u64) -> Option<bool>
+    ensures { result ≡ bit_named number }
 {
-    match value.as_u64()? {
+    match number {
         0 => Some(false),
         1 => Some(true),
         _ => None,
     }
 }
 
-fn moment(value: &Value) -> Option<i64>
-    ensures { result ≡ moment_of (view value.now) }
+fn bit(arguments: &mut Iter<'_, Value>) -> Option<bool>
+    ensures { first_by bit_of (left arguments.old)
+        ≡ option_map (λ bit. (bit, left arguments.new)) result }
 {
-    value.as_i64()
+    bit_named(arguments.next()?.as_u64()?)
 }
 
-fn bytes(alloc: Global, value: &Value) -> Result<Bytes, LineError>
-    ensures { Gives result (or_fault Arguments (bytes_of (view value.now))) }
+fn moment(arguments: &mut Iter<'_, Value>) -> Option<i64>
+    ensures { first_by moment_of (left arguments.old)
+        ≡ option_map (λ time. (time, left arguments.new)) result }
 {
-    let text = value.as_str().ok_or(Fault::Arguments)?;
+    arguments.next()?.as_i64()
+}
+
+/// A time that is not below 0.
+pub(crate) fn time(arguments: &mut Iter<'_, Value>) -> Option<i64>
+    ensures { first_by time_of (left arguments.old)
+        ≡ option_map (λ time. (time, left arguments.new)) result }
+{
+    moment(arguments).filter(|time| *time >= 0)
+}
+
+fn bytes(alloc: Global, arguments: &mut Iter<'_, Value>) -> Result<Bytes, LineError>
+    ensures found { GivesBy (λ bytes. (bytes, left arguments.new)) result
+        (or_fault Arguments (first_by bytes_of (left arguments.old))) }
+    ensures memory { result ≡ Err LineError.Memory
+        → first_takes_memory (left arguments.old) ≡ true }
+{
+    let text = arguments
+        .next()
+        .and_then(Value::as_str)
+        .ok_or(Fault::Arguments)?;
     if text.len() > MOST_DIGITS {
         return Err(LineError::Fault(Fault::Arguments));
     }
-    match hex::decode(alloc, text) {
-        Ok(bytes) => Ok(Bytes::new(bytes)),
-        Err(FromHexError::OutOfMemory) => Err(LineError::Memory),
-        Err(_) => Err(LineError::Fault(Fault::Arguments)),
-    }
+    Ok(Bytes::new(hex::decode(alloc, text)?))
 }
 
-#[tactic(auto, using(crate::proofs::Values::none_of_more))]
-pub(crate) fn none(arguments: &[Value]) -> Option<()>
-    ensures { result ≡ none_of (items_view arguments.now) }
+pub(crate) fn pair(arguments: &mut Iter<'_, Value>) -> Option<(u32, u32)>
+    ensures { pair_in (left arguments.old)
+        ≡ option_map (λ found. (found, left arguments.new)) result }
 {
-    match arguments {
-        [] => Some(()),
-        _ => None,
-    }
+    Some((number(arguments)?, number(arguments)?))
 }
 
-#[tactic(auto, using(crate::proofs::Values::one_of_more))]
-pub(crate) fn one(arguments: &[Value]) -> Option<u32>
-    ensures { result ≡ one_of (items_view arguments.now) }
+pub(crate) fn triple(arguments: &mut Iter<'_, Value>) -> Option<(u32, u32, u32)>
+    ensures { triple_in (left arguments.old)
+        ≡ option_map (λ found. (found, left arguments.new)) result }
 {
-    match arguments {
-        [only] => number(only),
-        _ => None,
-    }
+    Some((number(arguments)?, number(arguments)?, number(arguments)?))
 }
 
-#[tactic(auto, using(crate::proofs::Values::pair_of_less, crate::proofs::Values::pair_of_more))]
-pub(crate) fn pair(arguments: &[Value]) -> Option<(u32, u32)>
-    ensures { result ≡ pair_of (items_view arguments.now) }
+pub(crate) fn sided(arguments: &mut Iter<'_, Value>) -> Option<(u32, u32, Side)>
+    ensures { sided_in (left arguments.old)
+        ≡ option_map (λ found. (found, left arguments.new)) result }
 {
-    match arguments {
-        [first, second] => Some((number(first)?, number(second)?)),
-        _ => None,
-    }
+    Some((number(arguments)?, number(arguments)?, side(arguments)?))
 }
 
-#[tactic(auto, using(crate::proofs::Values::triple_of_less, crate::proofs::Values::triple_of_more))]
-pub(crate) fn triple(arguments: &[Value]) -> Option<(u32, u32, u32)>
-    ensures { result ≡ triple_of (items_view arguments.now) }
+pub(crate) fn deadline(arguments: &mut Iter<'_, Value>) -> Option<(u32, u32, Mode, i64)>
+    ensures { deadline_in (left arguments.old)
+        ≡ option_map (λ found. (found, left arguments.new)) result }
 {
-    match arguments {
-        [first, second, third] => Some((number(first)?, number(second)?, number(third)?)),
-        _ => None,
-    }
+    Some((
+        number(arguments)?,
+        number(arguments)?,
+        mode(arguments)?,
+        moment(arguments)?,
+    ))
 }
 
-#[tactic(auto, using(crate::proofs::Values::sided_of_less, crate::proofs::Values::sided_of_more))]
-pub(crate) fn sided(arguments: &[Value]) -> Option<(u32, u32, Side)>
-    ensures { result ≡ sided_of (items_view arguments.now) }
+pub(crate) fn event(arguments: &mut Iter<'_, Value>) -> Option<(u32, u64, Mode, bool)>
+    ensures { event_in (left arguments.old)
+        ≡ option_map (λ found. (found, left arguments.new)) result }
 {
-    match arguments {
-        [first, second, which] => Some((number(first)?, number(second)?, side(which)?)),
-        _ => None,
-    }
+    Some((
+        number(arguments)?,
+        tag(arguments)?,
+        mode(arguments)?,
+        bit(arguments)?,
+    ))
 }
 
-#[tactic(auto, using(crate::proofs::Values::deadline_of_less, crate::proofs::Values::deadline_of_more))]
-pub(crate) fn deadline(arguments: &[Value]) -> Option<(u32, u32, Mode, i64)>
-    ensures { result ≡ deadline_of (items_view arguments.now) }
+pub(crate) fn arrival(
+    alloc: Global,
+    arguments: &mut Iter<'_, Value>,
+) -> Result<(u32, Bytes), LineError>
+    ensures found { GivesBy (λ found. (found, left arguments.new)) result
+        (or_fault Arguments (arrival_in (left arguments.old))) }
+    ensures memory { result ≡ Err LineError.Memory
+        → arrival_takes_memory (left arguments.old) ≡ true }
 {
-    match arguments {
-        [g, d, which, when] => Some((number(g)?, number(d)?, mode(which)?, moment(when)?)),
-        _ => None,
-    }
+    let socket = number(arguments).ok_or(Fault::Arguments)?;
+    Ok((socket, bytes(alloc, arguments)?))
 }
 
-#[tactic(auto, using(crate::proofs::Values::event_of_less, crate::proofs::Values::event_of_more))]
-pub(crate) fn event(arguments: &[Value]) -> Option<(u32, u64, Mode, bool)>
-    ensures { result ≡ event_of (items_view arguments.now) }
+pub(crate) fn transfer(
+    alloc: Global,
+    arguments: &mut Iter<'_, Value>,
+) -> Result<(u32, u32, Bytes), LineError>
+    ensures found { GivesBy (λ found. (found, left arguments.new)) result
+        (or_fault Arguments (transfer_in (left arguments.old))) }
+    ensures memory { result ≡ Err LineError.Memory
+        → transfer_takes_memory (left arguments.old) ≡ true }
 {
-    match arguments {
-        [d, mark, which, failed] => Some((number(d)?, tag(mark)?, mode(which)?, bit(failed)?)),
-        _ => None,
-    }
-}
-
-#[tactic(auto, using(crate::proofs::Values::time_of_more))]
-pub(crate) fn time(arguments: &[Value]) -> Option<i64>
-    ensures { result ≡ time_of (items_view arguments.now) }
-{
-    match arguments {
-        [only] => moment(only).filter(|when| *when >= 0),
-        _ => None,
-    }
-}
-
-#[tactic(auto, using(crate::proofs::Values::arrival_of_less, crate::proofs::Values::arrival_of_more))]
-pub(crate) fn arrival(alloc: Global, arguments: &[Value]) -> Result<(u32, Bytes), LineError>
-    ensures { Gives result
-        (or_fault Arguments (arrival_of (items_view arguments.now))) }
-{
-    match arguments {
-        [s, digits] => {
-            let s = number(s).ok_or(Fault::Arguments)?;
-            Ok((s, bytes(alloc, digits)?))
-        }
-        _ => Err(LineError::Fault(Fault::Arguments)),
-    }
-}
-
-#[tactic(auto, using(crate::proofs::Values::transfer_of_less, crate::proofs::Values::transfer_of_more))]
-pub(crate) fn transfer(alloc: Global, arguments: &[Value]) -> Result<(u32, u32, Bytes), LineError>
-    ensures { Gives result
-        (or_fault Arguments (transfer_of (items_view arguments.now))) }
-{
-    match arguments {
-        [g, s, digits] => {
-            let g = number(g).ok_or(Fault::Arguments)?;
-            let s = number(s).ok_or(Fault::Arguments)?;
-            Ok((g, s, bytes(alloc, digits)?))
-        }
-        _ => Err(LineError::Fault(Fault::Arguments)),
-    }
+    let (goroutine, socket) = pair(arguments).ok_or(Fault::Arguments)?;
+    Ok((goroutine, socket, bytes(alloc, arguments)?))
 }

@@ -1,11 +1,16 @@
 //! Why a recording could not be made, read or written.
 
-ghost use Rattle.std.specs.Prelude.{◌≡◌};
+ghost use Rattle.std.specs.Prelude.{◌≡◌, Some};
 ghost use Rattle.nr_recording.specs.declared.fault.LineError.TheVariants.{Memory, Fault as AFault};
+ghost use Rattle.nr_recording.specs.declared.fault.WriteFault.TheVariants.{Memory as NoMemory};
+ghost use Rattle.nr_recording.specs.Faults.{fault_text, read_fault_text, make_fault_text, write_fault_text, of_hex, of_json};
 
+use hex::FromHexError;
+use serde_json::Category;
 use std::alloc::{AllocError, AllocFailed};
+use std::error::Error;
+use std::fmt;
 use std::fmt::{Display, Formatter, Write};
-use thiserror::Error;
 
 /// What is wrong with a line.
 #[derive(Clone, Copy, Debug, PartialEq, Eq)]
@@ -26,8 +31,6 @@ pub enum Fault {
 }
 
 impl Fault {
-    ghost use Rattle.nr_recording.specs.Faults.{fault_text};
-
     /// The fault's number and text, as in `102 not JSON`.
     pub fn text(self) -> &'static str
         ensures { result.now ≡ fault_text self }
@@ -44,35 +47,59 @@ impl Fault {
 }
 
 impl Display for Fault {
-    fn fmt<W: Write>(&self, f: &mut Formatter<W>) -> Result<(), std::fmt::Error> {
+    ghost output = { λ fault. Some (fault_text fault) };
+
+    fn fmt<W: Write>(&self, f: &mut Formatter<W>) -> fmt::Result {
         f.write_str(self.text())
     }
 }
 
 /// Why a text was not read. Prints as `line 6: fault 102 not JSON` or `fault 108 memory`.
-#[derive(Clone, Copy, Debug, PartialEq, Eq, Error)]
+#[derive(Clone, Copy, Debug, PartialEq, Eq)]
 pub enum ReadFault {
     /// The first faulty line, counted from 1, and what is wrong with it.
-    #[error("line {line}: fault {fault}")]
     Line { line: usize, fault: Fault },
     /// Memory ran out.
-    #[error("fault 108 memory")]
     Memory,
 }
 
+impl Display for ReadFault {
+    ghost output = { λ fault. Some (read_fault_text fault) };
+
+    fn fmt<W: Write>(&self, f: &mut Formatter<W>) -> fmt::Result {
+        match self {
+            ReadFault::Line { line, fault } => write!(f, "line {line}: fault {fault}"),
+            ReadFault::Memory => f.write_str("fault 108 memory"),
+        }
+    }
+}
+
+impl Error for ReadFault {}
+
 /// Why limits and steps make no recording.
-#[derive(Clone, Copy, Debug, PartialEq, Eq, Error)]
+#[derive(Clone, Copy, Debug, PartialEq, Eq)]
 pub enum MakeFault {
     /// A limit is out of its range.
-    #[error("a limit is out of its range")]
     Limit,
     /// There are more than 1,000,000 steps.
-    #[error("more than 1,000,000 steps")]
     TooManySteps,
     /// A step carries more than 65,536 bytes, or sets the clock below 0.
-    #[error("a step carries too many bytes or sets the clock below 0")]
     Step,
 }
+
+impl Display for MakeFault {
+    ghost output = { λ fault. Some (make_fault_text fault) };
+
+    fn fmt<W: Write>(&self, f: &mut Formatter<W>) -> fmt::Result {
+        f.write_str(match self {
+            MakeFault::Limit => "a limit is out of its range",
+            MakeFault::TooManySteps => "more than 1,000,000 steps",
+            MakeFault::Step => "a step carries too many bytes or sets the clock below 0",
+        })
+    }
+}
+
+impl Error for MakeFault {}
 
 /// Why a line could not be read.
 #[derive(Debug, Drop)]
@@ -86,6 +113,30 @@ impl From<Fault> for LineError {
 
     fn from(fault: Fault) -> LineError {
         LineError::Fault(fault)
+    }
+}
+
+/// Digits that are none are a faulty argument.
+impl From<FromHexError> for LineError {
+    ghost from_gives = { λ error e. e ≡ of_hex error };
+
+    fn from(error: FromHexError) -> LineError {
+        match error {
+            FromHexError::OutOfMemory => LineError::Memory,
+            _ => LineError::Fault(Fault::Arguments),
+        }
+    }
+}
+
+/// A line that the reader of JSON refuses is no JSON.
+impl From<serde_json::Error> for LineError {
+    ghost from_gives = { λ error e. e ≡ of_json error };
+
+    fn from(error: serde_json::Error) -> LineError {
+        match error.classify() {
+            Category::Memory => LineError::Memory,
+            _ => LineError::Fault(Fault::NotJson),
+        }
     }
 }
 
@@ -120,19 +171,28 @@ impl LineError {
 }
 
 /// Why a recording was not written.
-#[derive(Clone, Copy, Debug, PartialEq, Eq, Error)]
+#[derive(Clone, Copy, Debug, PartialEq, Eq)]
 pub enum WriteFault {
-    /// Memory ran out. Just some first lines went out, whole.
-    #[error("memory")]
+    /// Memory ran out. Just some first lines went out, whole, and not all.
     Memory,
-    /// A write failed. How much went out is not known.
-    #[error("device")]
+    /// A write failed or took nothing. Just a first part of the text went out, and not all.
     Device,
 }
 
-impl From<AllocError> for WriteFault {
-    ghost use Rattle.nr_recording.specs.declared.fault.WriteFault.TheVariants.{Memory as NoMemory};
+impl Display for WriteFault {
+    ghost output = { λ fault. Some (write_fault_text fault) };
 
+    fn fmt<W: Write>(&self, f: &mut Formatter<W>) -> fmt::Result {
+        f.write_str(match self {
+            WriteFault::Memory => "memory",
+            WriteFault::Device => "device",
+        })
+    }
+}
+
+impl Error for WriteFault {}
+
+impl From<AllocError> for WriteFault {
     ghost from_gives = { λ _ e. e ≡ NoMemory };
 
     fn from(_e: AllocError) -> WriteFault {
@@ -141,8 +201,6 @@ impl From<AllocError> for WriteFault {
 }
 
 impl<T: Drop> From<AllocFailed<T>> for WriteFault {
-    ghost use Rattle.nr_recording.specs.declared.fault.WriteFault.TheVariants.{Memory as NoMemory};
-
     ghost from_gives = { λ _ e. e ≡ NoMemory };
 
     fn from(_e: AllocFailed<T>) -> WriteFault {

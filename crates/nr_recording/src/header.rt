@@ -1,11 +1,12 @@
-//! The limits that the value of the header's line says.
+//! The version and the limits that the value of the header's line says.
 
 ghost use Rattle.std.specs.Prelude.{◌≡◌};
 ghost use Rattle.serde_json.specs.View.{view};
-ghost use Rattle.nr_recording.specs.Header.{unsigned_at, member_count as count_of, limit_of, limits_of, header_of};
+ghost use Rattle.nr_recording.specs.Header.{unsigned_at, member_count as count_of, version_of, limit_of, limits_of, header_of};
 
 use crate::fault::Fault;
-use nr_rev::Limits;
+use crate::version::Version;
+use nr_rev::{Limits, MOST_DESCRIPTORS, MOST_GOROUTINES, MOST_SOCKETS, is_limit};
 use serde_json::Value;
 
 #[tactic(auto, using(crate::proofs::Members::members_len_of_view))]
@@ -21,39 +22,47 @@ fn unsigned(value: &Value, key: &str) -> Result<u64, Fault>
     value.get(key).and_then(Value::as_u64).ok_or(Fault::Header)
 }
 
+/// The version that the header names.
+pub(crate) fn version(value: &Value) -> Result<Version, Fault>
+    ensures { result ≡ version_of (view value.now) }
+{
+    let number = unsigned(value, "netrev")?;
+    Version::numbered(number).ok_or(Fault::Header)
+}
+
 fn limit(most: u32, number: u64) -> Result<u32, Fault>
     ensures { result ≡ limit_of most number }
 {
     match u32::try_from(number) {
-        Ok(number) if number > 0 && number <= most => Ok(number),
+        Ok(number) if is_limit(most, number) => Ok(number),
         _ => Err(Fault::Limit),
     }
 }
 
 #[tactic(auto, unfolding(crate::specs::Header::limits_of))]
-fn limits(gor: u64, sock: u64, desc: u64, buf: u64) -> Result<Limits, Fault>
-    ensures { result ≡ limits_of gor sock desc buf }
+fn limits(version: Version, gor: u64, sock: u64, desc: u64, buf: u64) -> Result<Limits, Fault>
+    ensures { result ≡ limits_of version gor sock desc buf }
 {
     Ok(Limits {
-        goroutines: limit(4096, gor)?,
-        sockets: limit(256, sock)?,
-        descriptors: limit(256, desc)?,
-        buffer: limit(65_536, buf)?,
+        goroutines: limit(MOST_GOROUTINES, gor)?,
+        sockets: limit(MOST_SOCKETS, sock)?,
+        descriptors: limit(MOST_DESCRIPTORS, desc)?,
+        buffer: limit(version.most_buffer(), buf)?,
     })
 }
 
+/// The limits that a header of this version says.
 #[tactic(auto, unfolding(crate::specs::Header::header_of))]
-pub(crate) fn header(value: &Value) -> Result<Limits, Fault>
-    ensures { result ≡ header_of (view value.now) }
+pub(crate) fn header(version: Version, value: &Value) -> Result<Limits, Fault>
+    ensures { result ≡ header_of version (view value.now) }
 {
     let count = member_count(value).ok_or(Fault::Header)?;
-    let version = unsigned(value, "netrev")?;
     let gor = unsigned(value, "gor")?;
     let sock = unsigned(value, "sock")?;
     let desc = unsigned(value, "desc")?;
     let buf = unsigned(value, "buf")?;
-    if count != 5 || version != 1 {
+    if count != 5 {
         return Err(Fault::Header);
     }
-    limits(gor, sock, desc, buf)
+    limits(version, gor, sock, desc, buf)
 }

@@ -16,7 +16,7 @@ pub fn what_is_written_is_read_again()
 {}
 
 /// A text is a text of at most one recording: the one that it is read as.
-#[tactic(auto, using(crate::proofs::TextLaws::reading_found, crate::proofs::TextLaws::reading_again))]
+#[tactic(auto, using(crate::proofs::TextLaws::reading_found))]
 pub fn a_text_is_of_what_it_is_read_as()
     ensures found { (bytes : List ℕ) (r : Recording) → reading bytes ≡ Ok r → IsTextOf bytes r }
     ensures only { (bytes : List ℕ) (r : Recording) → IsTextOf bytes r → reading bytes ≡ Ok r }

@@ -8,6 +8,7 @@ pub mod laws;
 mod reading;
 mod recording;
 mod steps;
+mod version;
 mod writing;
 
 pub use fault::{Fault, MakeFault, ReadFault, WriteFault};

@@ -1,35 +1,27 @@
 //! Reading a recording, line after line.
 
-ghost use Rattle.std.specs.Prelude.{◌≡◌, IfOk};
+ghost use Rattle.std.specs.Prelude.{◌≡◌, true, IfOk};
 ghost use Rattle.serde_json.specs.View.{view};
 ghost use Rattle.nr_rev.specs.Run.{Recording as Recorded};
 ghost use Rattle.nr_recording.specs.Faults.{GivesBy};
-ghost use Rattle.nr_recording.specs.Reading.{value_of, is_space, is_blank, nothing, with_value, with_line, finished, reading, Answers};
+ghost use Rattle.nr_recording.specs.Reading.{value_of, is_space, is_blank, nothing, with_value, value_takes_memory, with_line, line_takes_memory, finished, reading, Answers, text_takes_memory};
 ghost use Rattle.nr_recording.specs.Text.{IsTextOf};
 
 use crate::fault::{Fault, LineError, ReadFault};
-use crate::header::header;
+use crate::header::{header, version};
 use crate::recording::{MOST_STEPS, Recording};
 use crate::steps::step;
+use crate::version::Version;
 use nr_rev::{Limits, Step};
 use serde_json::Value;
 use std::alloc::Global;
 use std::marker::Model;
 
-#[tactic(auto, using(crate::proofs::Lines::value_of_valid, crate::proofs::Lines::value_of_refused))]
+#[tactic(auto, using(crate::proofs::Lines::value_of_valid, crate::proofs::Lines::json_told))]
 fn value(alloc: Global, line: &[u8]) -> Result<Value, LineError>
     ensures { GivesBy view result (value_of line.now) }
 {
-    match Value::from_slice(alloc, line) {
-        Ok(value) => Ok(value),
-        Err(e) => {
-            if e.is_memory() {
-                Err(LineError::Memory)
-            } else {
-                Err(LineError::Fault(Fault::NotJson))
-            }
-        }
-    }
+    Ok(Value::from_slice(alloc, line)?)
 }
 
 const MOST_LINE_BYTES: usize = 200_000;
@@ -46,10 +38,17 @@ fn is_blank(line: &[u8]) -> bool
     line.iter().all(|byte| is_space(*byte))
 }
 
+/// What the header's line says.
+#[derive(Clone, Copy)]
+struct Header {
+    version: Version,
+    limits: Limits,
+}
+
 /// What was read of the lines so far.
 #[derive(Drop)]
 struct Reader {
-    limits: Option<Limits>,
+    header: Option<Header>,
     steps: Vec<Step>,
 }
 
@@ -58,9 +57,9 @@ impl Model for Reader {
 
     ghost Value = { Seen };
 
-    ghost view = { λ r. record { limits = r.limits; steps = r.steps.items } };
+    ghost view = { λ r. record { header = r.header; steps = r.steps.items } };
 
-    ghost invariant = { λ r. IsSeen (record { limits = r.limits; steps = r.steps.items }) };
+    ghost invariant = { λ r. IsSeen (record { header = r.header; steps = r.steps.items }) };
 }
 
 impl Reader {
@@ -68,30 +67,35 @@ impl Reader {
         ensures { result ≡ nothing }
     {
         Reader {
-            limits: None,
+            header: None,
             steps: Vec::new(alloc),
         }
     }
 
     fn value(&mut self, alloc: Global, value: &Value) -> Result<(), LineError>
-        ensures { GivesBy (λ _. self.new) result
-            (with_value self.old self.old.limits (view value.now)) }
+        ensures seen { GivesBy (λ _. self.new) result
+            (with_value self.old self.old.header (view value.now)) }
+        ensures memory { result ≡ Err LineError.Memory
+            → value_takes_memory self.old self.old.header (view value.now) ≡ true }
     {
-        if self.limits.is_none() {
-            self.limits = Some(header(value)?);
+        let Some(begun) = self.header else {
+            let version = version(value)?;
+            let limits = header(version, value)?;
+            self.header = Some(Header { version, limits });
             return Ok(());
-        }
+        };
         if self.steps.len() == MOST_STEPS {
             return Err(LineError::Fault(Fault::TooManySteps));
         }
-        let step = step(alloc, value)?;
+        let step = step(begun.version, alloc, value)?;
         self.steps.push(step)?;
         Ok(())
     }
 
     #[tactic(auto, unfolding(crate::specs::Reading::with_line))]
     fn line(&mut self, alloc: Global, line: &[u8]) -> Result<(), LineError>
-        ensures { GivesBy (λ _. self.new) result (with_line self.old line.now) }
+        ensures seen { GivesBy (λ _. self.new) result (with_line self.old line.now) }
+        ensures memory { result ≡ Err LineError.Memory → line_takes_memory line.now ≡ true }
     {
         if line.len() > MOST_LINE_BYTES {
             return Err(LineError::Fault(Fault::Limit));
@@ -104,20 +108,21 @@ impl Reader {
     }
 
     fn finish(self, last: usize) -> Result<Recording, ReadFault>
-        ensures { Answers result (finished last self) }
+        ensures { result ≡ finished last self }
     {
-        match self.limits {
+        match self.header {
             None => Err(ReadFault::Line {
                 line: last,
                 fault: Fault::Header,
             }),
-            Some(limits) => Ok(Recording::checked(limits, self.steps)),
+            Some(header) => Ok(Recording::checked(header.limits, self.steps)),
         }
     }
 }
 
 fn read_lines(alloc: Global, bytes: &[u8]) -> Result<Recording, ReadFault>
-    ensures { Answers result (reading bytes.now) }
+    ensures exact { Answers result (reading bytes.now) }
+    ensures memory { result ≡ Err ReadFault.Memory → text_takes_memory bytes.now ≡ true }
 {
     let mut reader = Reader::new(alloc);
     let mut number = 0;
@@ -142,6 +147,9 @@ pub fn read(alloc: Global, bytes: &[u8]) -> Result<Recording, ReadFault>
 
     // Which fault it is, unless memory runs out.
     ensures exact { Answers result (reading bytes.now) }
+
+    // Memory runs out only where there is a line that isn't blank, nor too long.
+    ensures memory { result ≡ Err ReadFault.Memory → text_takes_memory bytes.now ≡ true }
 {
     read_lines(alloc, bytes)
 }

@@ -1,7 +1,7 @@
 //! A recording: limits and steps.
 
 ghost use Rattle.std.specs.Prelude.{◌≡◌};
-ghost use Rattle.nr_recording.specs.Recording.{is_limit, are_limits, is_writable, are_writable};
+ghost use Rattle.nr_recording.specs.Recording.{is_writable, are_writable};
 
 use crate::fault::MakeFault;
 use nr_rev::{Limits, Step};
@@ -25,24 +25,11 @@ impl Model for Recording {
     ghost invariant = { λ r. IsRecording (record { limits = r.limits; steps = r.steps.items }) };
 }
 
+/// The most steps that a recording may have.
 pub(crate) const MOST_STEPS: usize = 1_000_000;
 
-const MOST_BYTES: usize = 65_536;
-
-fn is_limit(most: u32, number: u32) -> bool
-    ensures { result ≡ is_limit most number }
-{
-    number > 0 && number <= most
-}
-
-fn are_in_range(limits: &Limits) -> bool
-    ensures { result ≡ are_limits limits.now }
-{
-    is_limit(4096, limits.goroutines)
-        && is_limit(256, limits.sockets)
-        && is_limit(256, limits.descriptors)
-        && is_limit(65_536, limits.buffer)
-}
+/// The most bytes that a step may carry.
+pub(crate) const MOST_BYTES: usize = 65_536;
 
 fn is_writable(step: &Step) -> bool
     ensures { result ≡ is_writable step.now }
@@ -63,7 +50,8 @@ fn are_all_writable(steps: &[Step]) -> bool
 impl Recording {
     ghost use Rattle.std.specs.Prelude.{◌==◌, ◌≤◌, length, slice_get, true};
     ghost use Rattle.std.specs.Option.{option_copied};
-    ghost use Rattle.nr_recording.specs.Recording.{IsRecording, AreInRange, recording_of};
+    ghost use Rattle.nr_rev.specs.Limits.{AreInRange};
+    ghost use Rattle.nr_recording.specs.Recording.{IsRecording, recording_of};
 
     /// The recording of these limits and steps. Fails for the first that holds: a limit is out of its
     /// range (goroutines 1 to 4,096, sockets and descriptors 1 to 256, buffer 1 to 65,536 bytes);
@@ -72,7 +60,7 @@ impl Recording {
     pub fn new(limits: Limits, steps: Vec<Step>) -> Result<Self, MakeFault>
         ensures { result ≡ recording_of limits steps.items }
     {
-        if !are_in_range(&limits) {
+        if !limits.are_in_range() {
             return Err(MakeFault::Limit);
         }
         if steps.len() > MOST_STEPS {

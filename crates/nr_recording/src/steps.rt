@@ -1,28 +1,58 @@
 //! The step that the value of a line says.
 
-ghost use Rattle.serde_json.specs.View.{view, items_view};
+ghost use Rattle.std.specs.Prelude.{◌≡◌, true, IfNone, IfSome};
+ghost use Rattle.serde_json.specs.View.{view};
 ghost use Rattle.nr_recording.specs.declared.fault.Fault.TheVariants.{Arguments};
-ghost use Rattle.nr_recording.specs.Faults.{Gives, or_fault};
-ghost use Rattle.nr_recording.specs.Steps.{step_named, step_of};
+ghost use Rattle.nr_recording.specs.declared.fault.LineError.TheVariants as errors;
+ghost use Rattle.nr_recording.specs.Arguments.{left};
+ghost use Rattle.nr_recording.specs.Faults.{Gives, GivesBy};
+ghost use Rattle.nr_recording.specs.Steps.{step_named, step_of, named_takes_memory, step_takes_memory};
 
-use crate::arguments::{arrival, deadline, event, none, one, pair, sided, time, transfer, triple};
+use crate::arguments::{arrival, deadline, event, number, pair, sided, time, transfer, triple};
 use crate::fault::{Fault, LineError};
+use crate::version::Version;
 use nr_rev::Step;
 use serde_json::Value;
 use std::alloc::Global;
+use std::slice::Iter;
 
 fn found(step: Option<Step>) -> Result<Step, LineError>
-    ensures { Gives result (or_fault Arguments step) }
+    ensures none { IfNone step (result ≡ Err (errors.Fault Arguments)) }
+    ensures some { IfSome step (λ step. result ≡ Ok step) }
 {
     step.ok_or(LineError::Fault(Fault::Arguments))
 }
 
-fn named(alloc: Global, name: &str, arguments: &[Value]) -> Result<Step, LineError>
-    ensures { Gives result (step_named name.now (items_view arguments.now)) }
+/// The step of this kind; what is behind its arguments is left.
+fn named(
+    version: Version,
+    alloc: Global,
+    name: &str,
+    arguments: &mut Iter<'_, Value>,
+) -> Result<Step, LineError>
+    ensures found { GivesBy (λ step. (step, left arguments.new)) result
+        (step_named version name.now (left arguments.old)) }
+    ensures memory { result ≡ Err LineError.Memory
+        → named_takes_memory name.now (left arguments.old) ≡ true }
+{
+    match version {
+        Version::One => named_in_one(alloc, name, arguments),
+    }
+}
+
+fn named_in_one(
+    alloc: Global,
+    name: &str,
+    arguments: &mut Iter<'_, Value>,
+) -> Result<Step, LineError>
+    ensures found { GivesBy (λ step. (step, left arguments.new)) result
+        (step_named Version.One name.now (left arguments.old)) }
+    ensures memory { result ≡ Err LineError.Memory
+        → named_takes_memory name.now (left arguments.old) ≡ true }
 {
     match name {
-        "spawn" => found(none(arguments).map(|()| Step::Spawn)),
-        "exit" => found(one(arguments).map(|goroutine| Step::Exit { goroutine })),
+        "spawn" => Ok(Step::Spawn),
+        "exit" => found(number(arguments).map(|goroutine| Step::Exit { goroutine })),
         "sockopen" => found(pair(arguments).map(|(read_capacity, write_capacity)| {
             Step::SockOpen {
                 read_capacity,
@@ -33,7 +63,7 @@ fn named(alloc: Global, name: &str, arguments: &[Value]) -> Result<Step, LineErr
             let (socket, bytes) = arrival(alloc, arguments)?;
             Ok(Step::Arrive { socket, bytes })
         }
-        "peerclose" => found(one(arguments).map(|socket| Step::PeerClose { socket })),
+        "peerclose" => found(number(arguments).map(|socket| Step::PeerClose { socket })),
         "sysread" => found(triple(arguments).map(|(goroutine, socket, count)| Step::SysRead {
             goroutine,
             socket,
@@ -70,8 +100,8 @@ fn named(alloc: Global, name: &str, arguments: &[Value]) -> Result<Step, LineErr
             socket,
             side,
         })),
-        "acquire" => found(one(arguments).map(|goroutine| Step::Acquire { goroutine })),
-        "release" => found(one(arguments).map(|goroutine| Step::Release { goroutine })),
+        "acquire" => found(number(arguments).map(|goroutine| Step::Acquire { goroutine })),
+        "release" => found(number(arguments).map(|goroutine| Step::Release { goroutine })),
         "pollopen" => found(pair(arguments).map(|(goroutine, socket)| Step::PollOpen {
             goroutine,
             socket,
@@ -94,11 +124,11 @@ fn named(alloc: Global, name: &str, arguments: &[Value]) -> Result<Step, LineErr
                 side,
             }
         })),
-        "blockarm" => found(one(arguments).map(|goroutine| Step::BlockArm { goroutine })),
-        "blockcheck" => found(one(arguments).map(|goroutine| Step::BlockCheck { goroutine })),
-        "parkcommit" => found(one(arguments).map(|goroutine| Step::ParkCommit { goroutine })),
-        "blockswap" => found(one(arguments).map(|goroutine| Step::BlockSwap { goroutine })),
-        "waitcheck" => found(one(arguments).map(|goroutine| Step::WaitCheck { goroutine })),
+        "blockarm" => found(number(arguments).map(|goroutine| Step::BlockArm { goroutine })),
+        "blockcheck" => found(number(arguments).map(|goroutine| Step::BlockCheck { goroutine })),
+        "parkcommit" => found(number(arguments).map(|goroutine| Step::ParkCommit { goroutine })),
+        "blockswap" => found(number(arguments).map(|goroutine| Step::BlockSwap { goroutine })),
+        "waitcheck" => found(number(arguments).map(|goroutine| Step::WaitCheck { goroutine })),
         "setdeadline" => found(deadline(arguments).map(|(goroutine, descriptor, mode, time)| {
             Step::SetDeadline {
                 goroutine,
@@ -120,18 +150,25 @@ fn named(alloc: Global, name: &str, arguments: &[Value]) -> Result<Step, LineErr
             }
         })),
         "tick" => found(time(arguments).map(|time| Step::Tick { time })),
-        "pop" => found(none(arguments).map(|()| Step::Pop)),
-        "fire" => found(one(arguments).map(|place| Step::Fire { place })),
+        "pop" => Ok(Step::Pop),
+        "fire" => found(number(arguments).map(|place| Step::Fire { place })),
         _ => Err(LineError::Fault(Fault::UnknownStep)),
     }
 }
 
 #[tactic(auto, unfolding(crate::specs::Steps::step_of))]
-pub(crate) fn step(alloc: Global, value: &Value) -> Result<Step, LineError>
-    ensures { Gives result (step_of (view value.now)) }
+pub(crate) fn step(version: Version, alloc: Global, value: &Value) -> Result<Step, LineError>
+    ensures found { Gives result (step_of version (view value.now)) }
+    ensures memory { result ≡ Err LineError.Memory → step_takes_memory (view value.now) ≡ true }
 {
-    let values = value.as_array().ok_or(Fault::UnknownStep)?;
-    let (first, arguments) = values.split_first().ok_or(Fault::UnknownStep)?;
-    let name = first.as_str().ok_or(Fault::UnknownStep)?;
-    named(alloc, name, arguments)
+    let mut parts = value.as_array().ok_or(Fault::UnknownStep)?.iter();
+    let name = parts
+        .next()
+        .and_then(Value::as_str)
+        .ok_or(Fault::UnknownStep)?;
+    let step = named(version, alloc, name, &mut parts)?;
+    if !version.may_end_with(parts.as_slice()) {
+        return Err(LineError::Fault(Fault::Arguments));
+    }
+    Ok(step)
 }

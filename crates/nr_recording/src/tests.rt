@@ -2,6 +2,8 @@
 
 use crate::{Fault, MakeFault, ReadFault, Recording, WriteFault, read, write};
 use nr_rev::{Limits, Step};
+use std::io;
+use std::io::{ErrorKind, Write};
 use std::test::Fail;
 
 const HEADER: &str = "{\"netrev\":1,\"gor\":4,\"sock\":2,\"desc\":2,\"buf\":16}\n";
@@ -53,6 +55,43 @@ fn expected(beginning: &[u8], next: Option<&u8>) -> Result<usize, ReadFault> {
         line: feeds.saturating_add(1),
         fault,
     })
+}
+
+fn written(rt: &HostRuntime, recording: &Recording) -> Result<Vec<u8>, Fail> {
+    let mut out = Vec::new(rt.alloc());
+    write(rt.alloc(), recording, &mut out)?;
+    Ok(out)
+}
+
+/// Takes one byte at every second call, is interrupted at the others, and fails once it holds `room` bytes.
+#[derive(Drop)]
+struct Cup {
+    held: Vec<u8>,
+    room: usize,
+    interrupted: bool,
+}
+
+impl Write for Cup {
+    fn write(&mut self, buf: &[u8]) -> io::Result<usize> {
+        self.interrupted = !self.interrupted;
+        if self.interrupted {
+            return Err(ErrorKind::Interrupted.into());
+        }
+        if self.held.len() >= self.room {
+            return Err(ErrorKind::Other.into());
+        }
+        match buf.split_first() {
+            Some((first, _)) => {
+                self.held.push(*first)?;
+                Ok(1)
+            }
+            None => Ok(0),
+        }
+    }
+
+    fn flush(&mut self) -> io::Result<()> {
+        Ok(())
+    }
 }
 
 #[test]
@@ -203,28 +242,55 @@ fn reads_as_many_bytes_as_may_be(rt: HostRuntime) -> Result<(), Fail> {
 }
 
 #[test]
-fn writes_what_is_read_again(rt: HostRuntime) -> Result<(), Fail> {
+fn writes_what_is_read(rt: HostRuntime) -> Result<(), Fail> {
     for steps in [WAITS, TAKES_TURNS, CLOSES, ALL_KINDS] {
         let text = format!(in rt.alloc(); "{HEADER}\n{steps}")?;
-        let written = format!(in rt.alloc(); "{WRITTEN_HEADER}{steps}")?;
+        let again = format!(in rt.alloc(); "{WRITTEN_HEADER}{steps}")?;
         let recording = read(rt.alloc(), text.as_bytes())?;
-        let mut out = Vec::new(rt.alloc());
-        assert_eq!(rt; write(rt.alloc(), &recording, &mut out), Ok(()));
-        assert_eq!(rt; out.as_slice(), written.as_bytes());
-        let again = read(rt.alloc(), &out)?;
-        assert_eq!(rt; again.len(), recording.len());
+        let out = written(&rt, &recording)?;
+        assert_eq!(rt; out.as_slice(), again.as_bytes());
     }
+    Ok(())
+}
+
+#[test]
+fn reads_and_writes_many_steps(rt: HostRuntime) -> Result<(), Fail> {
+    let mut text = String::from_str(rt.alloc(), WRITTEN_HEADER)?;
+    for _ in 0..40 {
+        text.push_str(ALL_KINDS)?;
+    }
+    let recording = read(rt.alloc(), text.as_bytes())?;
+    assert_eq!(rt; recording.len(), 1_200);
+    let out = written(&rt, &recording)?;
+    assert_eq!(rt; out.as_slice(), text.as_bytes());
+    Ok(())
+}
+
+#[test]
+fn reads_and_writes_more_than_a_megabyte(rt: HostRuntime) -> Result<(), Fail> {
+    let mut text = String::from_str(rt.alloc(), WRITTEN_HEADER)?;
+    for _ in 0..9 {
+        text.push_str("[\"arrive\",0,\"")?;
+        for _ in 0..65_536 {
+            text.push_str("6a")?;
+        }
+        text.push_str("\"]\n")?;
+    }
+    assert!(rt; text.len() > 1_048_576);
+    let recording = read(rt.alloc(), text.as_bytes())?;
+    assert_eq!(rt; recording.len(), 9);
+    let out = written(&rt, &recording)?;
+    assert_eq!(rt; out.as_slice(), text.as_bytes());
     Ok(())
 }
 
 #[test]
 fn writes_digits_in_lower_case(rt: HostRuntime) -> Result<(), Fail> {
     let text = format!(in rt.alloc(); "{HEADER}[\"syswrite\",0,1,\"AbCD\"]")?;
-    let written = format!(in rt.alloc(); "{WRITTEN_HEADER}[\"syswrite\",0,1,\"abcd\"]\n")?;
+    let again = format!(in rt.alloc(); "{WRITTEN_HEADER}[\"syswrite\",0,1,\"abcd\"]\n")?;
     let recording = read(rt.alloc(), text.as_bytes())?;
-    let mut out = Vec::new(rt.alloc());
-    assert_eq!(rt; write(rt.alloc(), &recording, &mut out), Ok(()));
-    assert_eq!(rt; out.as_slice(), written.as_bytes());
+    let out = written(&rt, &recording)?;
+    assert_eq!(rt; out.as_slice(), again.as_bytes());
     Ok(())
 }
 
@@ -232,48 +298,69 @@ fn writes_digits_in_lower_case(rt: HostRuntime) -> Result<(), Fail> {
 fn tells_a_failed_write(rt: HostRuntime) -> Result<(), Fail> {
     let text = format!(in rt.alloc(); "{WRITTEN_HEADER}{CLOSES}")?;
     let recording = read(rt.alloc(), text.as_bytes())?;
-    for taken in 0..text.len() {
-        let beginning = text.as_bytes().get(..taken).ok_or("a beginning")?;
-        let mut room = vec![in rt.alloc(); 0u8; taken]?;
-        let mut out = room.as_mut_slice();
-        assert_eq!(rt;
-            write(rt.alloc(), &recording, &mut out),
+    for room in 0..text.len() + 1 {
+        let beginning = text.as_bytes().get(..room).ok_or("a beginning")?;
+        let mut cup = Cup {
+            held: Vec::new(rt.alloc()),
+            room,
+            interrupted: false,
+        };
+        let told = if room < text.len() {
             Err(WriteFault::Device)
-        );
-        assert_eq!(rt; room.as_slice(), beginning);
+        } else {
+            Ok(())
+        };
+        assert_eq!(rt; write(rt.alloc(), &recording, &mut cup), told);
+        assert_eq!(rt; cup.held.as_slice(), beginning);
     }
     Ok(())
 }
 
-/// Passes too where any one allocation is refused.
+#[test]
+fn tells_a_writer_that_is_full(rt: HostRuntime) -> Result<(), Fail> {
+    let recording = read(rt.alloc(), WRITTEN_HEADER.as_bytes())?;
+    let mut room = [0u8; 7];
+    let mut out = room.as_mut_slice();
+    assert_eq!(rt;
+        write(rt.alloc(), &recording, &mut out),
+        Err(WriteFault::Device)
+    );
+    assert_eq!(rt; room.as_slice(), b"{\"buf\":".as_slice());
+    Ok(())
+}
+
+/// Passes too where any one allocation is refused: one of two tries has memory.
 #[test]
 fn tells_refused_memory(rt: HostRuntime) {
-    let mut text = [0u8; 600];
-    let mut rest = text.as_mut_slice();
-    let recording = match read(
-        rt.alloc(),
-        b"{\"netrev\":1,\"gor\":4,\"sock\":2,\"desc\":2,\"buf\":16}\n[\"arrive\",0,\"6869\"]\n[\"pollevent\",0,1,\"r\",0]\n[\"sysread\",0,0,8]",
-    ) {
-        Ok(recording) => recording,
-        Err(fault) => {
-            assert_eq!(rt; fault, ReadFault::Memory);
-            return;
-        }
-    };
-    let written =
+    let text =
         "{\"buf\":16,\"desc\":2,\"gor\":4,\"netrev\":1,\"sock\":2}\n[\"arrive\",0,\"6869\"]\n[\"pollevent\",0,1,\"r\",0]\n[\"sysread\",0,0,8]\n";
-    let result = write(rt.alloc(), &recording, &mut rest);
-    let left = rest.len();
-    let count = text.len().saturating_sub(left);
-    let out = text.get(..count).unwrap_or(&[]);
-    match result {
-        Ok(()) => assert_eq!(rt; out, written.as_bytes()),
-        Err(fault) => {
-            assert_eq!(rt; fault, WriteFault::Memory);
-            assert!(rt; written.as_bytes().starts_with(out));
-            assert!(rt; matches!(out.last(), None | Some(b'\n')));
+    let mut has_memory = false;
+    for _ in 0..2 {
+        let mut room = [0u8; 600];
+        let mut rest = room.as_mut_slice();
+        let result = match read(rt.alloc(), text.as_bytes()) {
+            Ok(recording) => write(rt.alloc(), &recording, &mut rest),
+            Err(fault) => {
+                assert_eq!(rt; fault, ReadFault::Memory);
+                Err(WriteFault::Memory)
+            }
+        };
+        let left = rest.len();
+        let count = room.len().saturating_sub(left);
+        let out = room.get(..count).unwrap_or(&[]);
+        match result {
+            Ok(()) => {
+                assert_eq!(rt; out, text.as_bytes());
+                has_memory = true;
+            }
+            Err(fault) => {
+                assert_eq!(rt; fault, WriteFault::Memory);
+                assert!(rt; text.as_bytes().starts_with(out));
+                assert!(rt; matches!(out.last(), None | Some(b'\n')));
+            }
         }
     }
+    assert!(rt; has_memory);
 }
 
 #[test]

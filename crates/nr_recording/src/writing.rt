@@ -1,20 +1,20 @@
 //! Writing a recording, a line for the header and one for each step.
 
-ghost use Rattle.std.specs.Prelude.{◌≡◌, ℕ, IfOk, OnOk, false, take, codes, [], ◌∷◌};
-ghost use Rattle.std.specs.List.{concat};
+ghost use Rattle.std.specs.Prelude.{◌≡◌, IfOk, IfErr, OnOk, false, codes, [], ◌∷◌};
 ghost use Rattle.std.specs.Io.KnownBytes.{Appends};
 ghost use Rattle.serde_json.specs.View.{view};
 ghost use Rattle.serde_json.specs.Written.{has_float};
 ghost use Rattle.nr_recording.specs.Reading.{reading};
 ghost use Rattle.nr_recording.specs.Text.{IsTextOf};
-ghost use Rattle.nr_recording.specs.Writing.{side_name, mode_name, numeral, digits, tag as tag_argument, time as time_argument, side as side_argument, mode as mode_argument, bit, spelled, IsSpelling, limits_data, line_of, line_texts, text};
+ghost use Rattle.nr_recording.specs.Writing.{side_name, mode_name, numeral, digits, tag as tag_argument, time as time_argument, side as side_argument, mode as mode_argument, bit, spelled, IsSpelling, limits_data, line_of, line_texts, text, AppendsPart, AppendsLines};
 
 use crate::fault::WriteFault;
 use crate::recording::Recording;
+use crate::version::Version;
 use nr_rev::{Limits, Mode, Side, Step};
 use serde_json::{Value, json};
 use std::alloc::{AllocError, Global};
-use std::io::Write;
+use std::io::{ErrorKind, Write};
 
 fn side_name(side: Side) -> &'static str
     ensures { result.now ≡ side_name side }
@@ -42,7 +42,7 @@ fn limits_value(alloc: Global, limits: Limits) -> Result<Value, AllocError>
         "buf": limits.buffer,
         "desc": limits.descriptors,
         "gor": limits.goroutines,
-        "netrev": 1u32,
+        "netrev": Version::One.number(),
         "sock": limits.sockets
     })
 }
@@ -225,24 +225,47 @@ fn step_value(alloc: Global, step: &Step) -> Result<Value, AllocError>
     }
 }
 
+/// Writes the bytes. Where that fails, just a first part of them went out, and not all.
+fn send<W: Write>(bytes: &[u8], out: &mut W) -> Result<(), WriteFault>
+    ensures ok { OnOk result (Appends (W.contents out.old) (W.contents out.new) bytes.now) }
+    ensures device { IfErr result (λ e. (e ≡ WriteFault.Device)
+        × AppendsPart (W.contents out.old) (W.contents out.new) bytes.now) }
+{
+    let mut sent = 0;
+    for _ in 0..u64::MAX {
+        if sent == bytes.len() {
+            break;
+        }
+        match out.write(&bytes[sent..]) {
+            Ok(0) => return Err(WriteFault::Device),
+            Ok(taken) => sent += taken,
+            Err(e) if e.kind() == ErrorKind::Interrupted => {}
+            Err(_) => return Err(WriteFault::Device),
+        }
+    }
+    if sent < bytes.len() {
+        return Err(WriteFault::Device);
+    }
+    Ok(())
+}
+
 #[tactic(auto, unfolding(crate::specs::Writing::line_of))]
 fn write_line<W: Write>(alloc: Global, value: &Value, out: &mut W) -> Result<(), WriteFault>
     requires { has_float (view value.now) ≡ false }
     ensures ok { OnOk result
         (Appends (W.contents out.old) (W.contents out.new) (line_of (view value.now))) }
     ensures memory { result ≡ Err WriteFault.Memory → out.new ≡ out.old }
+    ensures device { result ≡ Err WriteFault.Device
+        → AppendsPart (W.contents out.old) (W.contents out.new) (line_of (view value.now)) }
 {
     let mut line = value.to_vec(alloc)?;
     line.push(b'\n')?;
-    match out.write_all(&line) {
-        Ok(()) => Ok(()),
-        Err(_) => Err(WriteFault::Device),
-    }
+    send(&line, out)
 }
 
-/// Writes the recording's text: each value in compact form, keys in alphabetical order, hexadecimal in
-/// lower case, and a line feed after each line. One write is one line. Where memory runs out, just some
-/// first lines went out, whole; where a write fails, how much went out is not known.
+/// Writes the recording's text, in version 1: each value in compact form, keys in alphabetical order,
+/// hexadecimal in lower case, and a line feed after each line. What an error leaves written is told in
+/// `WriteFault`. A write that was interrupted is tried again.
 pub fn write<W: Write>(alloc: Global, recording: &Recording, out: &mut W) -> Result<(), WriteFault>
     ensures ok { OnOk result
         (Appends (W.contents out.old) (W.contents out.new) (text recording.now)) }
@@ -251,10 +274,13 @@ pub fn write<W: Write>(alloc: Global, recording: &Recording, out: &mut W) -> Res
     ensures again { OnOk result (IsTextOf (text recording.now) recording.now) }
     ensures read_again { OnOk result (reading (text recording.now) ≡ Ok recording.now) }
 
-    // Only whole lines went out.
-    ensures memory { result ≡ Err WriteFault.Memory → (n : ℕ)
-        × Appends (W.contents out.old) (W.contents out.new)
-        (concat (take n (line_texts recording.now))) }
+    // Only whole lines went out, and not all of them.
+    ensures memory { result ≡ Err WriteFault.Memory → AppendsLines
+        (W.contents out.old) (W.contents out.new) (line_texts recording.now) }
+
+    // Just a first part of the text went out, and not all of it.
+    ensures device { result ≡ Err WriteFault.Device
+        → AppendsPart (W.contents out.old) (W.contents out.new) (text recording.now) }
 {
     write_line(alloc, &limits_value(alloc, recording.limits())?, out)?;
     for step in recording.steps() {

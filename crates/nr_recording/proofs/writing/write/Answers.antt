@@ -1,9 +1,9 @@
-use Rattle.std.proofs.Common.{◌≡◌, ◌≤◌, ◌<◌, length, get_or}
+use Rattle.std.proofs.Common.{◌≡◌, ◌≤◌, ◌<◌, length, get_or, rules}
 use Rattle.std.proofs.lemmas.List.{take_all}
 use Rattle.std.proofs.lemmas.List.Elements.{All-more}
 use Rattle.nr_recording.specs.Recording.{IsRecording}
 use Rattle.nr_recording.specs.Writing.{IsTyped}
-use Rattle.nr_recording.proofs.Texts.{one_more_line}
+use Rattle.nr_recording.proofs.Texts.{one_more_line, part_of_line}
 use Rattle.nr_recording.proofs.TextLaws.{reading_again}
 use Rattle.nr_recording.proofs.Written.{text_is_text}
 use Rattle.nr_recording.proofs.writing.write.Goals as goal
@@ -20,6 +20,16 @@ loop-step-preserved g c =
       so_far = one_more_line c.args.recording.now step c.loop-step.step-index _ _ _ here is c.loop-step.invariant.so_far line.ok;
       typed = All-more IsTyped steps c.loop-step.step-index step here c.loop-step.invariant.typed (rw (← is) c.in_ok-step_value.ensures.typed);
     }
+
+pub returns-in_err-write_line-2-clause-device : goal.returns-in_err-write_line-2-clause-device
+returns-in_err-write_line-2-clause-device g c = λ failed.
+    let recording = c.args.recording.now in
+    let step = c.step-item.result in
+    let same = c.steps-step-items.ensures.value in
+    let here : c.loop-step.step-index < length recording.steps = rw (← same) c.loop-step-test.true in
+    let is : step ≡ get_or recording.steps c.loop-step.step-index step = rw (← same) c.step-item.is in
+    let line = rw c.in_ok-step_value.ensures.is at c.in_err-write_line-2.ensures in
+    part_of_line recording step c.loop-step.step-index _ _ _ here is c.loop-step.invariant.so_far (line.device (search rules))
 
 pub returns-clause-again : goal.returns-clause-again
 returns-clause-again g c =

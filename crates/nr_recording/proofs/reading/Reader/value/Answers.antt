@@ -7,14 +7,14 @@ use Rattle.nr_recording.proofs.reading.Reader.value.Goals as goal
 
 pub invariant_of-self : goal.invariant_of-self
 invariant_of-self c = record {
-  limits = header_fits _ _ (sym c.header.ensures ∙ c.in_ok-header.was);
+  limits = header_fits _ _ _ (sym c.header.ensures ∙ c.in_ok-limits.was);
   few = c.self.invariant.few;
   writable = c.self.invariant.writable;
 }
 
 pub invariant_of-self-2 : goal.invariant_of-self-2
 invariant_of-self-2 c =
-    let writable : is_writable c.in_ok-step.step ≡ true = step_writable _ _ c.in_ok-step.ensures in
+    let writable : is_writable c.in_ok-step.step ≡ true = step_writable _ _ _ c.in_ok-step.ensures.found in
     record {
       limits = c.self.invariant.limits;
       few = rw c.in_ok-push.ensures.items (omega (arith, length-append c.self.inside.steps.items (c.in_ok-step.step ∷ [])));

@@ -1,11 +1,11 @@
-use Rattle.std.proofs.Common.{◌≡◌, ◌≤◌, length, true, sym, ◌∙◌, arith}
+use Rattle.std.proofs.Common.{◌≡◌, ◌≤◌, length, true, sym, ◌∙◌, arith, rules}
 use Rattle.nr_recording.specs.Recording.{are_writable}
-use Rattle.nr_recording.proofs.Ranges.{limits_fit, recording_made}
+use Rattle.nr_recording.proofs.Ranges.{recording_made}
 use Rattle.nr_recording.proofs.recording.Recording.new.Goals as goal
 
 pub invariant_of-result : goal.invariant_of-result
 invariant_of-result c = record {
-  limits = limits_fit c.args.limits (sym c.are_in_range.ensures ∙ c.if-not-are_in_range.false);
+  limits = search rules;
   few = omega arith;
   writable = rw (← c.deref.ensures.value) (sym c.are_all_writable.ensures ∙ c.if-not-are_all_writable.false);
 }
@@ -14,4 +14,4 @@ pub returns : goal.returns
 returns c =
     let few : length c.args.steps.items ≤ 1000000 = omega arith in
     let writable : are_writable c.args.steps.items ≡ true = rw (← c.deref.ensures.value) (sym c.are_all_writable.ensures ∙ c.if-not-are_all_writable.false) in
-    sym (recording_made c.args.limits c.args.steps.items (sym c.are_in_range.ensures ∙ c.if-not-are_in_range.false) few writable)
+    sym (recording_made c.args.limits c.args.steps.items (sym c.are_in_range.ensures.value ∙ c.if-not-are_in_range.false) few writable)

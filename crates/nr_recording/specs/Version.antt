@@ -1,0 +1,23 @@
+-- The versions of the format: which number each has, and what it allows.
+use Rattle.std.specs.Prelude.{ℕ, ◌==◌, Bool, true, false, Option, Some, None, if◌then◌else◌}
+use Rattle.serde_json.specs.Data.{Items, no_items, item}
+use Rattle.nr_rev.specs.declared.limits.TheConstants.{MOST_BUFFER}
+use Rattle.nr_recording.specs.declared.version.Version.{Version}
+use Rattle.nr_recording.specs.declared.version.Version.TheVariants.{One}
+
+-- the number in the header
+abbrev pub version_number : Version → ℕ
+version_number One = 1
+
+-- the version of this number
+abbrev pub version_numbered : ℕ → Option Version
+version_numbered n = if n == version_number One then Some One else None
+
+-- the greatest buf
+abbrev pub most_buffer : Version → ℕ
+most_buffer One = MOST_BUFFER
+
+-- what is left of a step's line behind its arguments may stand there: in version 1 nothing may
+abbrev pub may_end_with : Version → Items → Bool
+may_end_with One no_items = true
+may_end_with One (item d ds) = false

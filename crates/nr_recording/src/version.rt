@@ -1,0 +1,55 @@
+//! The versions of the format: what may stand in the lines of each.
+
+ghost use Rattle.std.specs.Prelude.{◌≡◌};
+ghost use Rattle.serde_json.specs.View.{items_view};
+
+use nr_rev::MOST_BUFFER;
+use serde_json::Value;
+
+/// A version of the format. There is one so far.
+#[derive(Clone, Copy)]
+pub(crate) enum Version {
+    One,
+}
+
+impl Version {
+    ghost use Rattle.nr_recording.specs.Version.{version_number, version_numbered, most_buffer, may_end_with};
+
+    /// The version that a header of this number is of.
+    pub(crate) fn numbered(number: u64) -> Option<Self>
+        ensures { result ≡ version_numbered number }
+    {
+        match number {
+            1 => Some(Version::One),
+            _ => None,
+        }
+    }
+
+    /// The number in the header.
+    pub(crate) fn number(self) -> u32
+        ensures { result ≡ version_number self }
+    {
+        match self {
+            Version::One => 1,
+        }
+    }
+
+    /// The greatest `buf` that a header may have.
+    pub(crate) fn most_buffer(self) -> u32
+        ensures { result ≡ most_buffer self }
+    {
+        match self {
+            Version::One => MOST_BUFFER,
+        }
+    }
+
+    /// Whether this may stand behind a step's arguments.
+    #[tactic(auto, using(crate::proofs::Rests::one_ends_at_once))]
+    pub(crate) fn may_end_with(self, rest: &[Value]) -> bool
+        ensures { result ≡ may_end_with self (items_view rest.now) }
+    {
+        match self {
+            Version::One => rest.is_empty(),
+        }
+    }
+}
