@@ -1,8 +1,8 @@
 -- What is out of a text that goes out in parts.
-use Rattle.std.proofs.Common.{◌≡◌, ℕ, suc, ◌+◌, ◌<◌, ◌≤◌, List, [], ◌∷◌, ◌++◌, arith, length, get_or, take, drop, flat_map, refl, sym, ap, subst, ◌∙◌, append-nil, take-append-drop, drop-cons, length-append, Option, Err}
+use Rattle.std.proofs.Common.{◌≡◌, ℕ, suc, ◌+◌, ◌<◌, ◌≤◌, List, [], ◌∷◌, ◌++◌, arith, length, get_or, take, drop, flat_map, refl, sym, ap, subst, ◌∙◌, append-nil, take-append-drop, drop-cons, length-append, Option, Result, Ok, Err}
 use Rattle.std.proofs.lemmas.List.{take-append-le}
 use Rattle.std.proofs.lemmas.Grind.{flat_map-append}
-use Rattle.std.proofs.Math.Seq.{take-append-add}
+use Rattle.std.proofs.Math.Seq.{take-append-add, take-length}
 use Rattle.std.specs.Io.KnownBytes.{Appends}
 use Rattle.netrev.specs.declared.reply.Part.{Part}
 use Rattle.netrev.specs.ReplyText.{counted}
@@ -48,3 +48,8 @@ part_cut f xs i d u v w out part part' h so_far cut e =
     let count : part'.0 ≡ counted (length front + n) = omega (arith, e, told, tells) in
     let taken : take (length front + n) (flat_map f xs) ≡ front ++ take n text = take_in_part f xs i n d h (omega (arith, within)) in
     subst (λ t. Goes u w t (Err part')) (sym (joined_is f xs)) (length front + n, less, count, subst (Appends u w) (sym taken) (Appends-then u v w front (take n text) so_far.1 cut.3))
+
+-- a first part of the text went out, and nothing else
+pub goes_part : (old new : Option (List ℕ)) (text : List ℕ) (sent : Result ℕ Part) → Goes old new text sent → (n : ℕ) × Appends old new (take n text)
+goes_part old new text (Ok len) went = (length text, subst (Appends old new) (sym (take-length text)) went.1)
+goes_part old new text (Err part) went = (went.0, went.3)

@@ -95,7 +95,7 @@ abbrev pub nothing_after : List (List ℕ) → Result (Unit {0}) LineFault
 nothing_after [] = Ok tt
 nothing_after (word ∷ rest) = Err BadArgument
 
--- what the words of a line ask for
+-- What the words of a line ask for. There is nothing yet that `info` can show.
 abbrev pub meaning : List (List ℕ) → Result Line LineFault
 meaning [] = Ok Empty
 meaning (verb ∷ rest) =
@@ -104,6 +104,7 @@ meaning (verb ∷ rest) =
     else if bytes_eq verb (codes "print") || bytes_eq verb (codes "p") then (cell_of rest >>= λ c. Ok (Look (Print c)))
     else if bytes_eq verb (codes "dump") then (dump_of rest >>= λ q. Ok (Look q))
     else if bytes_eq verb (codes "quit") || bytes_eq verb (codes "q") then (nothing_after rest >>= λ _. Ok Quit)
+    else if bytes_eq verb (codes "info") then Err BadArgument
     else Err UnknownCommand
 
 -- what a line asks for, without its line feed

@@ -1,8 +1,9 @@
 -- What a command does to a debugger that stands at a position of a recording, and what a look shows.
-use Rattle.std.specs.Prelude.{◌≡◌, ◌<◌, ◌⊎◌, ℕ, Bool, true, false, ◌+◌, ◌-◌, min, nat_lt, length, if◌then◌else◌}
+use Rattle.std.specs.Prelude.{◌≡◌, ◌<◌, ◌⊎◌, ℕ, ◌+◌, ◌-◌, min, nat_lt, length, if◌then◌else◌}
 use Rattle.nr_rev.specs.Cell.{cell, bytes_of, queue_of}
 use Rattle.nr_rev.specs.Run.{Recording, world_at}
 use Rattle.nr_rev.specs.World.{World}
+use Rattle.nr_rev.specs.Worlds.{HasItems}
 use Rattle.netrev.specs.declared.command.Command.{Command}
 use Rattle.netrev.specs.declared.command.Command.TheVariants.{Step, ReverseStep}
 use Rattle.netrev.specs.declared.command.Query.{Query}
@@ -46,14 +47,14 @@ seen query r p = shown_in (world_at r p) query
 abbrev pub moved : Command → Recording → Place → Place
 moved command r place = record place { position = after command r place.position }
 
--- whether a look copies what it shows
-abbrev pub is_dump : Query → Bool
-is_dump (Print c) = false
-is_dump (DumpBytes side s) = true
-is_dump (DumpQueue side s) = true
+-- A look copies what it shows of a world: a dump does, where there are bytes or goroutines to show.
+abbrev pub Copies : World → Query → Type 0
+Copies w (Print c) = ⊥
+Copies w (DumpBytes side s) = HasItems (bytes_of w s side)
+Copies w (DumpQueue side s) = HasItems (queue_of w s side)
 
 -- Memory is wanting for a look, from one place to the next: on the way forwards, for the way back, and then
--- nothing has moved; or, the world being led there, for a dump's copy.
-abbrev pub WantsMemory : Query → Place → Place → Type 0
-WantsMemory query place place' =
-    ((place.reached < place.position) × (place' ≡ place)) ⊎ ((is_dump query ≡ true) × (place' ≡ looked place))
+-- nothing has moved; or, the world being led there, for the copy of what is shown.
+abbrev pub WantsMemory : Query → Recording → Place → Place → Type 0
+WantsMemory query r place place' =
+    ((place.reached < place.position) × (place' ≡ place)) ⊎ (Copies (world_at r place.position) query × (place' ≡ looked place))

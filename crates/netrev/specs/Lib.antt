@@ -8,5 +8,6 @@ pub mod Running
 pub mod Sending
 pub mod Serving
 pub mod Standing
+pub mod Starting
 pub mod Transcript
 pub mod Walk

@@ -2,6 +2,8 @@
 use Rattle.std.specs.Prelude.{◌≡◌, ◌==◌, List, [], ◌∷◌, Option, Some, None, codes, option_map, option_and_then, true, false}
 use Rattle.clap.specs.Words.{App, Row, Rule, Text, fault_of, first_of, new_app, new_rule, subcommand_of, with_rule, with_subcommand}
 use Rattle.clap.specs.Simple.{on_top}
+use Rattle.clap.specs.declared.error.kind.ErrorKind.{ErrorKind}
+use Rattle.clap.specs.declared.error.kind.ErrorKind.TheVariants as kind
 use Rattle.netrev.specs.declared.words.Program.{Program}
 use Rattle.netrev.specs.declared.words.Program.TheVariants as program
 use Rattle.netrev.specs.declared.words.WordsFault.{WordsFault}
@@ -35,6 +37,15 @@ pub record Ask (words : List Text) (program file : Text) : Type 0 where
 abbrev pub Asks : List Text → Program → Type 0
 Asks words (program.Run file) = Ask words (codes "run") file.now
 Asks words (program.Check file) = Ask words (codes "check") file.now
+
+abbrev pub file_of : Program → Text
+file_of (program.Run file) = file.now
+file_of (program.Check file) = file.now
+
+-- memory where the error is want of it, and usage where it is any other
+abbrev pub fault_of_kind : ErrorKind → WordsFault
+fault_of_kind kind.OutOfMemory = fault.Memory
+fault_of_kind _ = fault.Usage
 
 -- usage is told only of words that ask for no program
 abbrev pub IsWordsFault : List Text → WordsFault → Type 0

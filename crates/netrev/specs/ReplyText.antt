@@ -4,8 +4,8 @@ use Rattle.std.specs.Fmt.{signed_decimal}
 use Rattle.std.specs.Io.KnownBytes.{Appends}
 use Rattle.nr_rev.specs.declared.cell.Cell.{Cell}
 use Rattle.nr_rev.specs.declared.cell.Cell.TheVariants as cells
-use Rattle.nr_rev.specs.declared.cell.CellValue.{CellValue}
-use Rattle.nr_rev.specs.declared.cell.CellValue.TheVariants as values
+use Rattle.nr_rev.specs.declared.cell_value.CellValue.{CellValue}
+use Rattle.nr_rev.specs.declared.cell_value.CellValue.TheVariants as values
 use Rattle.nr_rev.specs.declared.descriptor.Word.{Word}
 use Rattle.nr_rev.specs.declared.descriptor.Word.TheVariants.{Nil, Ready, Wait, Held}
 use Rattle.nr_rev.specs.declared.status.Status.{Status}

@@ -32,7 +32,7 @@ lines_of true text = whole_from [] text ++ (if nat_lt 0 (length (rest_from [] te
 abbrev pub MayReply : Result Line LineFault → Recording → Place → Option Reply → Place → Type 0
 MayReply (Ok (Run command)) r p reply p' = (reply ≡ Some (reply_to command r p.position)) × (p' ≡ moved command r p)
 MayReply (Ok (Look query)) r p reply p' =
-    ((reply ≡ Some (seen query r p.position)) × (p' ≡ looked p)) ⊎ ((reply ≡ Some Memory) × WantsMemory query p p')
+    ((reply ≡ Some (seen query r p.position)) × (p' ≡ looked p)) ⊎ ((reply ≡ Some Memory) × WantsMemory query r p p')
 MayReply (Ok Quit) r p reply p' = (reply ≡ Some Bye) × (p' ≡ p)
 MayReply (Ok Empty) r p reply p' = (reply ≡ None) × (p' ≡ p)
 MayReply (Err fault) r p reply p' = (reply ≡ Some (Fault fault)) × (p' ≡ p)

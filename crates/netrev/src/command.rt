@@ -51,7 +51,8 @@ impl Command {
     /// `reverse-stepi` with how often, `print` with a cell, `dump` with a buffer or a queue, `quit`.
     ///
     /// A line of more than 256 bytes is too long whatever it holds. Where the first word is no
-    /// command that is the fault, else any other mistake is a bad argument.
+    /// command that is the fault, else any other mistake is a bad argument. GDB's `info` is known, and
+    /// there is nothing yet that it can show.
     pub(crate) fn parse(line: &[u8]) -> Result<Line, LineFault>
         ensures { result ≡ line_of line.now }
     {
@@ -74,6 +75,7 @@ impl Command {
                 end(rest)?;
                 Ok(Line::Quit)
             }
+            _ if is(verb, b"info") => Err(LineFault::BadArgument),
             _ => Err(LineFault::UnknownCommand),
         }
     }

@@ -1,7 +1,7 @@
 //! A debugger: where it stands in a film, and what it replies.
 
-ghost use Rattle.std.specs.Prelude.{◌≡◌, ◌≤◌, length, true, IfOk, OnErr};
-ghost use Rattle.netrev.specs.Debugging.{reply_to, after, shown_in, is_dump};
+ghost use Rattle.std.specs.Prelude.{◌≡◌, ◌≤◌, length, IfOk, OnErr};
+ghost use Rattle.netrev.specs.Debugging.{reply_to, after, shown_in, Copies};
 
 use crate::command::{Command, Query};
 use crate::film::Film;
@@ -54,11 +54,12 @@ impl Debugger {
     }
 }
 
-/// What a look shows in a world. Only a dump takes memory, for the copy of what it shows.
+/// What a look shows in a world. Only a dump takes memory, for the bytes or goroutines that it shows, so one that
+/// shows none isn't refused it.
 pub(crate) fn look<W: Worlds>(world: &W, query: Query) -> Result<Reply, AllocError>
     requires { W.is_well_formed world.now }
     ensures ok { IfOk result (λ reply. reply ≡ shown_in (W.world world.now) query) }
-    ensures err { OnErr result (is_dump query ≡ true) }
+    ensures err { OnErr result (Copies (W.world world.now) query) }
 {
     match query {
         Query::Print(cell) => {

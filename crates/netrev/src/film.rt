@@ -1,9 +1,11 @@
 //! A film: a recording whose steps all apply, and the world that it begins with.
 
-ghost use Rattle.std.specs.Prelude.{◌≡◌, ◌<◌, ◌≤◌, ◌+◌, length, IfOk, IfErr, OnOk, OnErr};
+ghost use Rattle.std.specs.Prelude.{◌≡◌, ◌≢◌, ◌<◌, ◌≤◌, ◌+◌, length, IfOk, IfErr, OnOk, OnErr};
 ghost use Rattle.nr_rev.specs.Run.{IsGood};
-ghost use Rattle.netrev.specs.Standing.{Stands, AppliesAt, IsGoodTo, KeepsBytesAt};
-ghost use Rattle.netrev.specs.LoadFaults.{IsRefusedFor, IsLoadFault};
+ghost use Rattle.netrev.specs.Standing.{Stands, AppliesAt, LosesBytesAt};
+ghost use Rattle.nr_rev.specs.declared.refusal.Refusal.TheVariants.{Memory};
+ghost use Rattle.netrev.specs.LoadFaults.{IsRefusedFor, IsStepFault, IsLoadFault};
+ghost use Rattle.netrev.specs.declared.film.LoadFault.TheVariants as faults;
 
 use nr_recording::Recording;
 use nr_rev::{Refusal, Worlds};
@@ -15,8 +17,16 @@ use std::marker::Model;
 pub(crate) enum LoadFault {
     /// The step of this number, counted from 1, does not apply after the ones before it.
     Refused { step: usize, reason: Refusal },
-    /// No memory.
+    /// No memory for the world that the steps are tried on, or for its copy.
     Memory,
+}
+
+impl From<AllocError> for LoadFault {
+    ghost from_gives = { λ _ fault. fault ≡ faults.Memory };
+
+    fn from(_error: AllocError) -> LoadFault {
+        LoadFault::Memory
+    }
 }
 
 /// A recording whose steps all apply, with a copy of its world at position 0. It never changes again.
@@ -37,13 +47,14 @@ impl<W: Worlds + Drop> Model for Film<W> {
     ghost invariant = { λ f. IsGood f.recording × Stands W.is_well_formed W.world f.recording 0 f.start };
 }
 
-// Applies the step after position n, and keeps no way back.
+// Applies the step after position n, and keeps no way back. It takes no memory.
 fn advance<W: Worlds>(world: &mut W, recording: &Recording, n: usize) -> Result<(), Refusal>
     requires stands { Stands W.is_well_formed W.world recording.now n world.old }
     requires below { n < length recording.now.steps }
     ensures applies { OnOk result (AppliesAt recording.now n) }
     ensures stands { OnOk result (Stands W.is_well_formed W.world recording.now (n + 1) world.new) }
     ensures refused { IfErr result (IsRefusedFor recording.now n) }
+    ensures no_memory { IfErr result (λ reason. reason ≢ Memory) }
     ensures unchanged { OnErr result (world.new ≡ world.old) }
 {
     let Some(step) = recording.step(n) else {
@@ -53,23 +64,35 @@ fn advance<W: Worlds>(world: &mut W, recording: &Recording, n: usize) -> Result<
     Ok(())
 }
 
-// The fault of the step after position n.
-fn fault_of(recording: &Recording, reason: Refusal, n: usize) -> LoadFault
-    requires good { IsGoodTo recording.now n }
-    requires below { n < 1000000 }
-    requires refused { IsRefusedFor recording.now n reason }
-    ensures { IsLoadFault recording.now result }
+// Applies all steps, one after the other. It takes no memory: the fault is a step's.
+fn replay<W: Worlds>(world: &mut W, recording: &Recording) -> Result<(), LoadFault>
+    requires { Stands W.is_well_formed W.world recording.now 0 world.old }
+    ensures good { OnOk result (IsGood recording.now) }
+    ensures fault { IfErr result (IsStepFault recording.now) }
 {
-    match reason {
-        Refusal::Memory => LoadFault::Memory,
-        _ => LoadFault::Refused {
-            step: n + 1,
-            reason,
-        },
+    for n in 0..recording.len() {
+        if let Err(reason) = advance(world, recording, n) {
+            return Err(LoadFault::Refused {
+                step: n + 1,
+                reason,
+            });
+        }
     }
+    Ok(())
+}
+
+// The world at position 0, twice.
+fn starts<W: Worlds + Drop>(alloc: Global, recording: &Recording) -> Result<(W, W), AllocError>
+    ensures { IfOk result (λ worlds. Stands W.is_well_formed W.world recording.now 0 worlds.0
+        × Stands W.is_well_formed W.world recording.now 0 worlds.1) }
+{
+    let world = W::fresh(alloc, recording.limits()).map_err(|_| AllocError)?;
+    let copy = world.try_copy().map_err(|_| AllocError)?;
+    Ok((world, copy))
 }
 
 /// Replays the recording once. A step that does not apply is refused with its number and its reason.
+/// Memory is wanted for the world at position 0 and for its copy, and for no step.
 pub(crate) fn load<W: Worlds + Drop>(
     alloc: Global,
     recording: Recording,
@@ -78,17 +101,8 @@ pub(crate) fn load<W: Worlds + Drop>(
     ensures good { OnOk result (IsGood recording) }
     ensures fault { IfErr result (IsLoadFault recording) }
 {
-    let Ok(mut world) = W::fresh(alloc, recording.limits()) else {
-        return Err(LoadFault::Memory);
-    };
-    let Ok(start) = world.try_copy() else {
-        return Err(LoadFault::Memory);
-    };
-    for n in 0..recording.len() {
-        if let Err(reason) = advance(&mut world, &recording, n) {
-            return Err(fault_of(&recording, reason, n));
-        }
-    }
+    let (start, mut world) = starts::<W>(alloc, &recording)?;
+    replay(&mut world, &recording)?;
     Ok(Film { recording, start })
 }
 
@@ -116,7 +130,7 @@ impl<W: Worlds + Drop> Film<W> {
         requires below { n < length self.now.steps }
         ensures stands { OnOk result (Stands W.is_well_formed W.world self.now (n + 1) world.new) }
         ensures back { IfOk result (λ delta. W.back delta world.new world.old) }
-        ensures refused { OnErr result (KeepsBytesAt self.now n) }
+        ensures refused { OnErr result (LosesBytesAt self.now n) }
         ensures unchanged { OnErr result (world.new ≡ world.old) }
     {
         let Some(step) = self.recording.step(n) else {

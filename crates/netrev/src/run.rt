@@ -1,6 +1,7 @@
 //! The programs `run` and `check`, over the bytes of the file and the streams.
 
 ghost use Rattle.std.specs.Prelude.{◌≡◌, ◌⊎◌};
+ghost use Rattle.std.specs.Process.{exit_status};
 ghost use Rattle.nr_rev.specs.Run.{Recording, IsGood};
 ghost use Rattle.nr_recording.specs.Text.{IsTextOf};
 ghost use Rattle.netrev.specs.Opening.{IsFirstFault, IsGoodText, fault_line};
@@ -16,6 +17,7 @@ use crate::session::Session;
 use nr_rev::Worlds;
 use std::alloc::Global;
 use std::io::{Read, Write};
+use std::process::ExitCode;
 use std::sync::Wait;
 
 /// How a program ended.
@@ -42,6 +44,14 @@ impl ExitStatus {
             ExitStatus::Usage => 2,
             ExitStatus::StreamFailed => 3,
         }
+    }
+}
+
+impl From<ExitStatus> for ExitCode {
+    ghost from_gives = { λ status code. exit_status code ≡ code_of status };
+
+    fn from(status: ExitStatus) -> ExitCode {
+        ExitCode::from(status.code())
     }
 }
 

@@ -1,12 +1,14 @@
 //! The program's words.
 
 ghost use Rattle.std.specs.Prelude.{◌≡◌, ℕ, List, [], ◌∷◌, IfOk, IfErr, map, codes, false};
+ghost use Rattle.clap.specs.Values.{kind_of};
 ghost use Rattle.clap.specs.Words.{app_of, subcommand_rows_of};
 ghost use Rattle.clap.specs.declared.builder.command.Command.TheViews.{out-Command};
-ghost use Rattle.netrev.specs.ProgramWords.{Ask, Asks, IsNamed, IsPlain, IsWordsFault, file_program, netrev};
+ghost use Rattle.netrev.specs.ProgramWords.{Ask, Asks, IsNamed, IsPlain, IsWordsFault, fault_of_kind, file_of, file_program, netrev};
+ghost use Rattle.netrev.specs.declared.words.WordsFault.TheVariants as faults;
 
 use clap::error::ErrorKind;
-use clap::{Arg, ArgMatches, Command};
+use clap::{Arg, ArgMatches, Command, Error};
 use std::alloc::{AllocError, Global};
 
 /// How the program is called.
@@ -21,6 +23,17 @@ pub enum Program<'a> {
     Check { file: &'a str },
 }
 
+impl<'a> Program<'a> {
+    /// The file that it is asked for on.
+    pub fn file(&self) -> &'a str
+        ensures { result.now ≡ file_of self.now }
+    {
+        match self {
+            Program::Run { file } | Program::Check { file } => file,
+        }
+    }
+}
+
 /// Why the words are not read.
 #[derive(Clone, Copy, Debug, PartialEq, Eq)]
 pub enum WordsFault {
@@ -28,6 +41,25 @@ pub enum WordsFault {
     Usage,
     /// No memory.
     Memory,
+}
+
+impl From<AllocError> for WordsFault {
+    ghost from_gives = { λ _ fault. fault ≡ faults.Memory };
+
+    fn from(_error: AllocError) -> WordsFault {
+        WordsFault::Memory
+    }
+}
+
+impl From<Error> for WordsFault {
+    ghost from_gives = { λ error fault. fault ≡ fault_of_kind (kind_of error) };
+
+    fn from(error: Error) -> WordsFault {
+        match error.kind() {
+            ErrorKind::OutOfMemory => WordsFault::Memory,
+            _ => WordsFault::Usage,
+        }
+    }
 }
 
 // A program of the name, with its file.
@@ -75,18 +107,11 @@ pub fn read_words<'a>(alloc: Global, words: &'a [&'a str]) -> Result<Program<'a>
     ensures ok { IfOk result (Asks (map (λ word. word.now) words.entry.now)) }
     ensures err { IfErr result (IsWordsFault (map (λ word. word.now) words.entry.now)) }
 {
-    let Ok(command) = command(alloc) else {
-        return Err(WordsFault::Memory);
-    };
-    match command.try_get_matches_from(words) {
-        Ok(matches) => match named_in(&matches) {
-            Some(program) => Ok(program),
-            None => Err(WordsFault::Usage),
-        },
-        Err(error) => match error.kind() {
-            ErrorKind::OutOfMemory => Err(WordsFault::Memory),
-            _ => Err(WordsFault::Usage),
-        },
+    let command = command(alloc)?;
+    let matches = command.try_get_matches_from(words)?;
+    match named_in(&matches) {
+        Some(program) => Ok(program),
+        None => Err(WordsFault::Usage),
     }
 }
 

@@ -8,11 +8,12 @@ netrev_is_simple : is_simple netrev ≡ true
 unfolding clap_on_literals
 netrev_is_simple = refl
 
-pub returns-in-Ok-try_get_matches_from-clause-err : goal.returns-in-Ok-try_get_matches_from-clause-err
-returns-in-Ok-try_get_matches_from-clause-err c =
-    let is : app_of c.in-Ok.command ≡ netrev = c.in-Ok.ensures in
+-- the matches that are there name no program
+pub returns-clause-err : goal.returns-clause-err
+returns-clause-err c =
+    let is : app_of c.in_ok-command.command ≡ netrev = c.in_ok-command.ensures in
     let words = map (λ word. word.now) c.args.words.now in
-    let found : subcommand_rows_of c.in-Ok-try_get_matches_from.matches ≡ subcommand_of netrev words = (c.in-Ok-try_get_matches_from.ensures.matches (ap is_simple is ∙ netrev_is_simple)).1 ∙ ap (λ (a : App). subcommand_of a words) is in
+    let found : subcommand_rows_of c.in_ok-matches.matches ≡ subcommand_of netrev words = (c.in_ok-matches.ensures.matches (ap is_simple is ∙ netrev_is_simple)).1 ∙ ap (λ (a : App). subcommand_of a words) is in
     λ file.
     let none = c.in-None.ensures file in
     ((λ ask. none.0 (ap asked_in found ∙ ask.is_asked)), (λ ask. none.1 (ap asked_in found ∙ ask.is_asked)))

@@ -4,10 +4,10 @@ use Rattle.netrev.specs.declared.reply.Reply.TheVariants as replies
 use Rattle.netrev.proofs.IdleTicks.{idle_ticks}
 use Rattle.netrev.proofs.line_tests.IdlerFront.look.Goals as goal
 
-pub returns-in-Print-query-clause-ok : goal.returns-in-Print-query-clause-ok
-returns-in-Print-query-clause-ok c =
+pub returns-in-Print-clause-ok : goal.returns-in-Print-clause-ok
+returns-in-Print-clause-ok c =
     let idle = sym (idle_ticks _ c.args.self.now.ticks c.args.self.now.position) in
-    rw c.in-Print-query.is (ap (replies.Printed c.in-Print-query.cell) (c.value_at_start-value.ensures ∙ ap (λ w. cell w c.in-Print-query.cell) idle), refl)
+    rw c.in-Print.is (ap (replies.Printed c.in-Print.cell) (c.value_at_start-value.ensures ∙ ap (λ w. cell w c.in-Print.cell) idle), refl)
 
 pub returns-in-DumpBytes-clause-ok : goal.returns-in-DumpBytes-clause-ok
 returns-in-DumpBytes-clause-ok c =

@@ -1,10 +1,10 @@
 use Rattle.netrev.specs.Standing.{Stands, IsGoodTo}
-use Rattle.netrev.proofs.film.load.Given as goal
+use Rattle.netrev.proofs.film.replay.Given as goal
 
 -- the steps so far apply, and the world stands behind them
 abbrev pub invariant-loop-n : goal.invariant-loop-n
 invariant-loop-n g l =
     record {
-      good : IsGoodTo l.fn.recording l.n;
-      stands : Stands g.W.Reversible.is_well_formed g.W.Worlds.world l.fn.recording l.n l.world;
+      good : IsGoodTo l.recording l.n;
+      stands : Stands g.W.Reversible.is_well_formed g.W.Worlds.world l.recording l.n l.world;
     }

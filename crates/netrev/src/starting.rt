@@ -1,0 +1,107 @@
+//! Starting a program: from its words and its file to the exit status.
+
+ghost use Rattle.std.specs.Prelude.{◌≡◌, IfOk, IfErr};
+ghost use Rattle.std.specs.IoError.{error_kind};
+ghost use Rattle.netrev.specs.Starting.{Plays, Tells, of_words, unstarted_by};
+ghost use Rattle.netrev.specs.declared.run.ExitStatus.{ExitStatus as Status};
+ghost use Rattle.netrev.specs.declared.starting.Unstarted.TheVariants as reasons;
+
+use crate::opening::OpenFault;
+use crate::reply::send;
+use crate::run::{ExitStatus, check_bytes, refuse, run_bytes};
+use crate::words::{Program, USAGE, WordsFault};
+use nr_rev::Worlds;
+use std::alloc::{AllocError, Global};
+use std::io;
+use std::io::{ErrorKind, Read, Write};
+use std::sync::Wait;
+
+/// Why no program ran.
+#[derive(Clone, Copy, Debug, PartialEq, Eq)]
+pub enum Unstarted {
+    /// The words ask for no program.
+    Usage,
+    /// There was no memory for the words or the file.
+    Memory,
+    /// The file could not be read.
+    File,
+}
+
+impl From<WordsFault> for Unstarted {
+    ghost from_gives = { λ fault unstarted. unstarted ≡ of_words fault };
+
+    fn from(fault: WordsFault) -> Unstarted {
+        match fault {
+            WordsFault::Usage => Unstarted::Usage,
+            WordsFault::Memory => Unstarted::Memory,
+        }
+    }
+}
+
+impl From<AllocError> for Unstarted {
+    ghost from_gives = { λ _ unstarted. unstarted ≡ reasons.Memory };
+
+    fn from(_error: AllocError) -> Unstarted {
+        Unstarted::Memory
+    }
+}
+
+impl Unstarted {
+    /// What an error of this kind is told as: as want of memory where it is that, and else as `other`.
+    pub fn of_kind(kind: ErrorKind, other: Unstarted) -> Unstarted
+        ensures { result ≡ unstarted_by kind other }
+    {
+        match kind {
+            ErrorKind::OutOfMemory => Unstarted::Memory,
+            _ => other,
+        }
+    }
+
+    /// Says why no program ran: how netrev is called goes to `errors`, want of memory to the output as
+    /// `fault 108 memory`, and of a file nothing is said.
+    ///
+    /// `Usage`, also where not all of that text could be written; `Refused` for want of memory;
+    /// `StreamFailed` for a file, or where the write to the output failed.
+    pub fn tell<O: Write, E: Write>(self, output: &mut O, errors: &mut E) -> ExitStatus
+        ensures { Tells O.contents E.contents self
+            output.old output.new errors.old errors.new result }
+    {
+        match self {
+            Unstarted::Usage => {
+                let _sent = send(USAGE.as_bytes(), errors);
+                ExitStatus::Usage
+            }
+            Unstarted::Memory => refuse(OpenFault::Memory, output),
+            Unstarted::File => ExitStatus::StreamFailed,
+        }
+    }
+}
+
+/// Runs the program over what reading its file gave. Where that is an error nothing is read or written.
+pub fn start<W: Worlds + Drop, I: Read, O: Write>(
+    rt: &impl Wait,
+    alloc: Global,
+    program: Program<'_>,
+    file: io::Result<Vec<u8>>,
+    input: &mut I,
+    output: &mut O,
+) -> Result<ExitStatus, Unstarted>
+where
+    W::Delta: Drop,
+    ensures plays { IfOk file (λ bytes. (status : Status) × (result ≡ Ok status)
+        × Plays I.remaining O.contents program.entry bytes.items
+        input.old input.new output.old output.new status) }
+    ensures no_file { IfErr file (λ error.
+        (result ≡ Err (unstarted_by (error_kind error) reasons.File))
+        × (input.new ≡ input.old) × (output.new ≡ output.old)) }
+{
+    let bytes = match file {
+        Ok(bytes) => bytes,
+        Err(error) => return Err(Unstarted::of_kind(error.kind(), Unstarted::File)),
+    };
+    let bytes = bytes.as_slice();
+    match program {
+        Program::Run { .. } => Ok(run_bytes::<W, _, _>(rt, alloc, bytes, input, output)),
+        Program::Check { .. } => Ok(check_bytes::<W, _>(alloc, bytes, output)),
+    }
+}
