@@ -2,16 +2,25 @@
 
 NETREV = crates/netrev/out/netrev
 
-.PHONY: run test netrev examples bench
+.PHONY: look run test refused netrev examples bench
+
+# Runs the first example without waiting for proofs. Nothing is proved by it.
+look:
+	@cd crates/netrev && rt try -- run "$(CURDIR)/examples/first.jsonl" < ../../examples/first.script
+	@echo "So it runs; nothing of this was proved. \`make run\` proves netrev first."
 
 # Builds netrev with its proofs, and replays the first example with its commands.
 run: netrev
 	@echo
 	@sh examples/play.sh first
 
-# The gate: every proof from nothing, the edits that must fail, the tests and the program.
+# The gate: every proof from nothing, the edits that must fail, the tests, the program, and the program refused memory.
 test:
-	rt ci
+	@sh scripts/gate.sh
+
+# The built program with each of its allocations refused in turn, a missing file and bad usage.
+refused: netrev
+	@sh scripts/refused.sh
 
 # Leaves the proved program at $(NETREV). With no change since, nothing is proved again.
 netrev:

@@ -1,0 +1,28 @@
+#!/bin/sh
+# The gate:  scripts/gate.sh
+#
+# First `rt ci`, whose log is kept in out/gate.log. Where it passes, no edit that must fail may have been refused only
+# because a proof file names what the edit takes away, which says nothing of the contract; and the program that was
+# built has to stand scripts/refused.sh. The last line is that of `rt ci`, with one more failed for each of these two
+# that fails.
+set -eu
+cd "$(dirname "$0")/.."
+mkdir -p out
+log=out/gate.log
+
+# (sh has no status of a pipe's first command but what that leaves behind)
+{ rt ci 2>&1 && echo 0 > out/gate.status || echo $? > out/gate.status; } | tee "$log"
+read -r status < out/gate.status
+[ "$status" = 0 ] || exit "$status"
+
+more=0
+if grep "only because a proof file names" "$log" >&2; then
+	echo "These edits are refused for a name alone: change a value and keep the names." >&2
+	more=$((more + 1))
+fi
+sh scripts/refused.sh || more=$((more + 1))
+
+last=$(tail -n 1 "$log")
+passed=${last%% passed*} failed=${last#*passed, }
+echo "$passed passed, $((${failed%% failed*} + more)) failed"
+[ "$more" = 0 ]
