@@ -6,6 +6,7 @@ pub mod EmptyWorld
 pub mod Follows
 pub mod Found
 pub mod Goroutines
+pub mod FoundNames
 pub mod Lists
 pub mod Locking
 pub mod Named

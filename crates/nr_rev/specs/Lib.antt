@@ -1,3 +1,4 @@
+pub mod Kind
 pub mod Limits
 pub mod Sides
 pub mod Refusing
@@ -9,6 +10,7 @@ pub mod Socket
 pub mod World
 pub mod Step
 pub mod Cell
+pub mod CellName
 pub mod Weight
 pub mod Run
 pub mod WellFormed

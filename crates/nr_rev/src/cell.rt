@@ -1,5 +1,9 @@
 //! What can be read of a world.
 
+ghost use Rattle.std.specs.Prelude.{◌≡◌, ◌≢◌, MatchBool, Some, find};
+ghost use Rattle.std.specs.Str.{bytes_eq};
+ghost use Rattle.nr_rev.specs.CellName.{cell_index, cell_name, cell_named, cell_number, cells_at};
+
 /// Something of a world that has a value, or none. The number is that of a goroutine, a socket or a descriptor; where
 /// nothing made so far has it, the value is absent. A descriptor that was closed keeps its values.
 #[derive(Clone, Copy, Debug, PartialEq, Eq)]
@@ -45,13 +49,138 @@ pub enum Cell {
     Info(u32),
 }
 
-impl Cell {
-    ghost use Rattle.std.specs.Prelude.{◌≡◌, ◌≢◌, MatchBool};
+// Those that there is one of.
+const CELLS: [Cell; 5] = [
+    Cell::Clock,
+    Cell::Waiters,
+    Cell::Timers,
+    Cell::Firings,
+    Cell::Least,
+];
 
+// Those of a goroutine, a socket or a descriptor, and its number.
+fn cells_of(index: u32) -> [Cell; 14]
+    ensures { result ≡ cells_at (Some index) }
+{
+    [
+        Cell::Goroutine(index),
+        Cell::Lock(index),
+        Cell::ReadSemaphore(index),
+        Cell::WriteSemaphore(index),
+        Cell::Input(index),
+        Cell::Output(index),
+        Cell::ReadWord(index),
+        Cell::WriteWord(index),
+        Cell::ReadDeadline(index),
+        Cell::WriteDeadline(index),
+        Cell::ReadSequence(index),
+        Cell::WriteSequence(index),
+        Cell::DescriptorSequence(index),
+        Cell::Info(index),
+    ]
+}
+
+fn first_named(cells: &[Cell], name: &[u8]) -> Option<Cell>
+    ensures { result ≡ find (λ cell. bytes_eq (cell_name cell) name.now) cells.now }
+{
+    cells
+        .iter()
+        .copied()
+        .find(|cell| cell.name().as_bytes() == name)
+}
+
+impl Cell {
     /// Whether it is the same cell as another.
     pub fn is(self, other: Cell) -> bool
         ensures { MatchBool result (self ≡ other) (self ≢ other) }
     {
         self == other
+    }
+
+    /// How it is spelled, without a number.
+    pub fn name(self) -> &'static str
+        ensures { result.now ≡ cell_name self }
+    {
+        match self {
+            Cell::Clock => "clock",
+            Cell::Waiters => "waiters",
+            Cell::Timers => "timers",
+            Cell::Firings => "firings",
+            Cell::Least => "least",
+            Cell::Goroutine(_) => "gor",
+            Cell::Lock(_) => "lock",
+            Cell::ReadSemaphore(_) => "rsem",
+            Cell::WriteSemaphore(_) => "wsem",
+            Cell::Input(_) => "in",
+            Cell::Output(_) => "out",
+            Cell::ReadWord(_) => "rg",
+            Cell::WriteWord(_) => "wg",
+            Cell::ReadDeadline(_) => "rd",
+            Cell::WriteDeadline(_) => "wd",
+            Cell::ReadSequence(_) => "rseq",
+            Cell::WriteSequence(_) => "wseq",
+            Cell::DescriptorSequence(_) => "fdseq",
+            Cell::Info(_) => "info",
+        }
+    }
+
+    /// The number of what it shows, from 1 on, whatever it shows it of.
+    pub fn number(self) -> u8
+        ensures { result ≡ cell_number self }
+    {
+        match self {
+            Cell::Clock => 1,
+            Cell::Waiters => 2,
+            Cell::Timers => 3,
+            Cell::Firings => 4,
+            Cell::Least => 5,
+            Cell::Goroutine(_) => 6,
+            Cell::Lock(_) => 7,
+            Cell::ReadSemaphore(_) => 8,
+            Cell::WriteSemaphore(_) => 9,
+            Cell::Input(_) => 10,
+            Cell::Output(_) => 11,
+            Cell::ReadWord(_) => 12,
+            Cell::WriteWord(_) => 13,
+            Cell::ReadDeadline(_) => 14,
+            Cell::WriteDeadline(_) => 15,
+            Cell::ReadSequence(_) => 16,
+            Cell::WriteSequence(_) => 17,
+            Cell::DescriptorSequence(_) => 18,
+            Cell::Info(_) => 19,
+        }
+    }
+
+    /// The number of its goroutine, socket or descriptor; none where there is one such cell.
+    pub fn index(self) -> Option<u32>
+        ensures { result ≡ cell_index self }
+    {
+        match self {
+            Cell::Clock | Cell::Waiters | Cell::Timers | Cell::Firings | Cell::Least => None,
+            Cell::Goroutine(goroutine) => Some(goroutine),
+            Cell::Lock(socket)
+            | Cell::ReadSemaphore(socket)
+            | Cell::WriteSemaphore(socket)
+            | Cell::Input(socket)
+            | Cell::Output(socket) => Some(socket),
+            Cell::ReadWord(descriptor)
+            | Cell::WriteWord(descriptor)
+            | Cell::ReadDeadline(descriptor)
+            | Cell::WriteDeadline(descriptor)
+            | Cell::ReadSequence(descriptor)
+            | Cell::WriteSequence(descriptor)
+            | Cell::DescriptorSequence(descriptor)
+            | Cell::Info(descriptor) => Some(descriptor),
+        }
+    }
+
+    /// The cell of this name, with a number where such cells have one.
+    pub fn named(name: &[u8], index: Option<u32>) -> Option<Cell>
+        ensures { result ≡ cell_named name.now index }
+    {
+        match index {
+            None => first_named(&CELLS, name),
+            Some(index) => first_named(&cells_of(index), name),
+        }
     }
 }

@@ -1,6 +1,6 @@
 //! Laws over the definitions: what a step leaves is well formed.
 
-ghost use Rattle.std.specs.Prelude.{All, ◌≡◌, ◌≢◌, ◌⊎◌, ℕ, Ok, Err, slice_get, Some, ◌<◌};
+ghost use Rattle.std.specs.Prelude.{All, ◌≡◌, ◌≢◌, ◌⊎◌, ℕ, Ok, Err, slice_get, Option, Some, ◌<◌, ◌-◌, List};
 ghost use Rattle.nr_rev.specs.declared.answer.Answer.{Answer};
 ghost use Rattle.nr_rev.specs.declared.limits.Limits.{Limits};
 ghost use Rattle.nr_rev.specs.declared.sides.Side.{Side};
@@ -20,6 +20,10 @@ ghost use Rattle.nr_rev.specs.declared.descriptor.Word.TheVariants.{Nil, Ready, 
 ghost use Rattle.nr_rev.specs.declared.status.Status.TheVariants.{Entering, Swapping};
 ghost use Rattle.nr_rev.specs.Run.{Recording, world_at};
 ghost use Rattle.nr_rev.specs.Step.{IsTimely, outcome};
+ghost use Rattle.nr_rev.specs.declared.cell.Cell.{Cell};
+ghost use Rattle.nr_rev.specs.CellName.{cell_index, cell_name, cell_named};
+ghost use Rattle.nr_rev.specs.declared.kind.Kind.{Kind};
+ghost use Rattle.nr_rev.specs.Kind.{kind_name, kind_named, kind_number, kinds};
 ghost use Rattle.nr_rev.specs.WellFormed.{WellFormed, HasWord, IsInside, Shows, socket_named, Stand, standing};
 
 /// The world that a recording begins with.
@@ -55,6 +59,21 @@ pub fn what_is_named_is_there()
     ensures place { (w : World) (g d : ℕ) (side : Side) → WellFormed w → IsInside w.goroutines g d side → (row : DescriptorRow) × (slice_get w.descriptors d ≡ Some row) }
     ensures socket { (w : World) (g s : ℕ) → WellFormed w → Shows socket_named w.goroutines g s → (socket : Socket) × (slice_get w.sockets s ≡ Some socket) }
     ensures entry { (w : World) (p : Stand) (e : Entry) → WellFormed w → standing w.descriptors w.firings p ≡ Some e → (row : DescriptorRow) × (slice_get w.descriptors e.descriptor ≡ Some row) }
+{}
+
+/// A kind's name is read as that kind, and nothing else is; and its number is its place in the list of all kinds.
+pub fn kinds_are_read_as_spelled()
+    ensures read { (kind : Kind) → kind_named (kind_name kind) ≡ Some kind }
+    ensures spelled { (name : List ℕ) (kind : Kind) → kind_named name ≡ Some kind
+        → name ≡ kind_name kind }
+    ensures numbered { (kind : Kind) → slice_get kinds (kind_number kind - 1) ≡ Some kind }
+{}
+
+/// A cell's name and number are read as that cell, and nothing else is.
+pub fn cells_are_read_as_spelled()
+    ensures read { (cell : Cell) → cell_named (cell_name cell) (cell_index cell) ≡ Some cell }
+    ensures spelled { (name : List ℕ) (index : Option ℕ) (cell : Cell)
+        → cell_named name index ≡ Some cell → (name ≡ cell_name cell) × (index ≡ cell_index cell) }
 {}
 
 /// What the weights of a way back count is all that there is: each type that they look into has just the

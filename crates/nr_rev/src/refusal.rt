@@ -1,5 +1,8 @@
 //! Why a step is refused.
 
+ghost use Rattle.std.specs.Prelude.{◌≡◌};
+ghost use Rattle.nr_rev.specs.Refusing.{refusal_number};
+
 /// Why a step does not apply. The number is what netrev prints. Of several reasons, that which the definition of the
 /// step tests first is told. Those that go with a panic or a throw of Go are from `internal/poll/fd_mutex.go` and
 /// `runtime/netpoll.go`; the others are rules of this machine.
@@ -51,4 +54,13 @@ pub enum Refusal {
     /// A current firing finds no deadline or no running timer; Go throws "runtime: inconsistent read deadline". Met in
     /// no well-formed world.
     CorruptedDescriptor = 21,
+}
+
+impl Refusal {
+    /// The number that it is printed as.
+    pub fn number(self) -> u8
+        ensures { result ≡ refusal_number self }
+    {
+        self as u8
+    }
 }

@@ -1,0 +1,172 @@
+//! The kinds of recorded steps: their names and numbers.
+
+ghost use Rattle.std.specs.Prelude.{◌≡◌};
+ghost use Rattle.nr_rev.specs.Kind.{kind_name, kind_named, kind_number, kind_of};
+
+use crate::step::Step;
+
+/// What a step does, without what it does it to.
+#[derive(Clone, Copy, Debug, PartialEq, Eq)]
+pub enum Kind {
+    Spawn = 1,
+    Exit = 2,
+    SockOpen = 3,
+    Arrive = 4,
+    PeerClose = 5,
+    SysRead = 6,
+    SysWrite = 7,
+    Drain = 8,
+    Incref = 9,
+    IncrefClose = 10,
+    Decref = 11,
+    RwLock = 12,
+    RwUnlock = 13,
+    Acquire = 14,
+    Release = 15,
+    PollOpen = 16,
+    PollClose = 17,
+    PollReset = 18,
+    WaitBegin = 19,
+    BlockArm = 20,
+    BlockCheck = 21,
+    ParkCommit = 22,
+    BlockSwap = 23,
+    WaitCheck = 24,
+    SetDeadline = 25,
+    Evict = 26,
+    PollEvent = 27,
+    Tick = 28,
+    Pop = 29,
+    Fire = 30,
+}
+
+/// All kinds, in the order of their numbers.
+const KINDS: [Kind; 30] = [
+    Kind::Spawn,
+    Kind::Exit,
+    Kind::SockOpen,
+    Kind::Arrive,
+    Kind::PeerClose,
+    Kind::SysRead,
+    Kind::SysWrite,
+    Kind::Drain,
+    Kind::Incref,
+    Kind::IncrefClose,
+    Kind::Decref,
+    Kind::RwLock,
+    Kind::RwUnlock,
+    Kind::Acquire,
+    Kind::Release,
+    Kind::PollOpen,
+    Kind::PollClose,
+    Kind::PollReset,
+    Kind::WaitBegin,
+    Kind::BlockArm,
+    Kind::BlockCheck,
+    Kind::ParkCommit,
+    Kind::BlockSwap,
+    Kind::WaitCheck,
+    Kind::SetDeadline,
+    Kind::Evict,
+    Kind::PollEvent,
+    Kind::Tick,
+    Kind::Pop,
+    Kind::Fire,
+];
+
+impl Kind {
+    /// The name that a recording's line begins with, in lower case.
+    pub fn name(self) -> &'static str
+        ensures { result.now ≡ kind_name self }
+    {
+        match self {
+            Kind::Spawn => "spawn",
+            Kind::Exit => "exit",
+            Kind::SockOpen => "sockopen",
+            Kind::Arrive => "arrive",
+            Kind::PeerClose => "peerclose",
+            Kind::SysRead => "sysread",
+            Kind::SysWrite => "syswrite",
+            Kind::Drain => "drain",
+            Kind::Incref => "incref",
+            Kind::IncrefClose => "increfclose",
+            Kind::Decref => "decref",
+            Kind::RwLock => "rwlock",
+            Kind::RwUnlock => "rwunlock",
+            Kind::Acquire => "acquire",
+            Kind::Release => "release",
+            Kind::PollOpen => "pollopen",
+            Kind::PollClose => "pollclose",
+            Kind::PollReset => "pollreset",
+            Kind::WaitBegin => "waitbegin",
+            Kind::BlockArm => "blockarm",
+            Kind::BlockCheck => "blockcheck",
+            Kind::ParkCommit => "parkcommit",
+            Kind::BlockSwap => "blockswap",
+            Kind::WaitCheck => "waitcheck",
+            Kind::SetDeadline => "setdeadline",
+            Kind::Evict => "evict",
+            Kind::PollEvent => "pollevent",
+            Kind::Tick => "tick",
+            Kind::Pop => "pop",
+            Kind::Fire => "fire",
+        }
+    }
+
+    /// The number, from 1 on.
+    pub fn number(self) -> u8
+        ensures { result ≡ kind_number self }
+    {
+        self as u8
+    }
+
+    /// The kind of this name, if there is one.
+    pub fn named(name: &[u8]) -> Option<Kind>
+        ensures { result ≡ kind_named name.now }
+    {
+        KINDS
+            .iter()
+            .copied()
+            .find(|kind| kind.name().as_bytes() == name)
+    }
+}
+
+impl Step {
+    /// Its kind.
+    pub fn kind(&self) -> Kind
+        ensures { result ≡ kind_of self.now }
+    {
+        match self {
+            Step::Spawn => Kind::Spawn,
+            Step::Exit { .. } => Kind::Exit,
+            Step::SockOpen { .. } => Kind::SockOpen,
+            Step::Arrive { .. } => Kind::Arrive,
+            Step::PeerClose { .. } => Kind::PeerClose,
+            Step::SysRead { .. } => Kind::SysRead,
+            Step::SysWrite { .. } => Kind::SysWrite,
+            Step::Drain { .. } => Kind::Drain,
+            Step::Incref { .. } => Kind::Incref,
+            Step::IncrefClose { .. } => Kind::IncrefClose,
+            Step::Decref { .. } => Kind::Decref,
+            Step::RwLock { .. } => Kind::RwLock,
+            Step::RwUnlock { .. } => Kind::RwUnlock,
+            Step::Acquire { .. } => Kind::Acquire,
+            Step::Release { .. } => Kind::Release,
+            Step::PollOpen { .. } => Kind::PollOpen,
+            Step::PollClose { .. } => Kind::PollClose,
+            Step::PollReset { .. } => Kind::PollReset,
+            Step::WaitBegin { .. } => Kind::WaitBegin,
+            Step::BlockArm { .. } => Kind::BlockArm,
+            Step::BlockCheck { .. } => Kind::BlockCheck,
+            Step::ParkCommit { .. } => Kind::ParkCommit,
+            Step::BlockSwap { .. } => Kind::BlockSwap,
+            Step::WaitCheck { .. } => Kind::WaitCheck,
+            Step::SetDeadline { .. } => Kind::SetDeadline,
+            Step::Evict { .. } => Kind::Evict,
+            Step::PollEvent { .. } => Kind::PollEvent,
+            Step::Tick { .. } => Kind::Tick,
+            Step::Pop => Kind::Pop,
+            Step::Fire { .. } => Kind::Fire,
+        }
+    }
+}
