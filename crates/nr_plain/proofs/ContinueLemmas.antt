@@ -14,10 +14,10 @@ use Rattle.nr_rev.specs.Step.{all_obeyed, all_woken, changed, obeyed}
 use Rattle.nr_rev.specs.World.{World, with_row}
 use Rattle.nr_plain.specs.declared.edit.Edit.{Edit}
 use Rattle.nr_plain.specs.declared.edit.Edit.TheVariants.{Row, Arming, Wake}
-use Rattle.nr_plain.specs.Edit.{edit_words, edited}
+use Rattle.nr_plain.specs.Edit.{edit_words, after_edit}
 use Rattle.nr_plain.specs.declared.plan.Plan.{Plan}
 use Rattle.nr_plain.specs.Continuing.{Continues}
-use Rattle.nr_plain.specs.Plan.{CanEditAll, all_edited, all_words}
+use Rattle.nr_plain.specs.Plan.{CanEditAll, after_edits, all_words}
 
 -- the orders to the two sides, one after the other
 pub both_obeyed : (a b : Option TimerOrder) (before : Sides (Option Timer) × ℕ) → all_obeyed (option_to_list a ++ option_to_list b) before ≡ (all_obeyed (option_to_list a) before >>= all_obeyed (option_to_list b))
@@ -26,22 +26,22 @@ both_obeyed (Some order) b before =
     elim (obeyed order before) as (λ (r : Result (Sides (Option Timer) × ℕ) Refusal). (r >>= all_obeyed (option_to_list b)) ≡ ((r >>= λ after. Ok after) >>= all_obeyed (option_to_list b))) [ Ok after ↦ refl | Err e ↦ refl ]
 
 -- changes behind others
-pub all_edited-append : (xs ys : List Edit) (w : World) → all_edited (xs ++ ys) w ≡ all_edited ys (all_edited xs w)
-all_edited-append [] ys w = refl
-all_edited-append (x ∷ xs) ys w = all_edited-append xs ys (edited x w)
+pub after_edits-append : (xs ys : List Edit) (w : World) → after_edits (xs ++ ys) w ≡ after_edits ys (after_edits xs w)
+after_edits-append [] ys w = refl
+after_edits-append (x ∷ xs) ys w = after_edits-append xs ys (after_edit x w)
 
-pub CanEditAll-append : (xs ys : List Edit) (w : World) → CanEditAll xs w → CanEditAll ys (all_edited xs w) → CanEditAll (xs ++ ys) w
+pub CanEditAll-append : (xs ys : List Edit) (w : World) → CanEditAll xs w → CanEditAll ys (after_edits xs w) → CanEditAll (xs ++ ys) w
 CanEditAll-append [] ys w first rest = rest
-CanEditAll-append (x ∷ xs) ys w first rest = (first.0, CanEditAll-append xs ys (edited x w) first.1 rest)
+CanEditAll-append (x ∷ xs) ys w first rest = (first.0, CanEditAll-append xs ys (after_edit x w) first.1 rest)
 
 -- those that a word held go on
-woken_edited : (gs : List ℕ) (w : World) → all_edited (map Wake gs) w ≡ all_woken gs w
-woken_edited [] w = refl
-woken_edited (g ∷ gs) w = woken_edited gs (edited (Wake g) w)
+after_wakes : (gs : List ℕ) (w : World) → after_edits (map Wake gs) w ≡ all_woken gs w
+after_wakes [] w = refl
+after_wakes (g ∷ gs) w = after_wakes gs (after_edit (Wake g) w)
 
 woken_can : (gs : List ℕ) (w : World) → CanEditAll (map Wake gs) w
 woken_can [] w = tt
-woken_can (g ∷ gs) w = (tt, woken_can gs (edited (Wake g) w))
+woken_can (g ∷ gs) w = (tt, woken_can gs (after_edit (Wake g) w))
 
 woken_words : (gs : List ℕ) → all_words (map Wake gs) ≡ 7 * length gs
 woken_words [] = refl
@@ -50,16 +50,16 @@ woken_words (g ∷ gs) = let one = sum_by-cons edit_words (Wake g) (map Wake gs)
 -- the world after some changes, with the descriptor changed so
 where_it_leads : (d : ℕ) (row : DescriptorRow) (change : Change) (w v : World) (after : Sides (Option Timer) × ℕ) → v.next_arming ≡ w.next_arming
     → all_obeyed change.orders (row.timers, w.next_arming) ≡ Ok after
-    → changed d row change v ≡ Ok (all_edited (Row d (record { descriptor = change.descriptor; timers = after.0 }) ∷ Arming after.1 ∷ map Wake change.woken) v)
+    → changed d row change v ≡ Ok (after_edits (Row d (record { descriptor = change.descriptor; timers = after.0 }) ∷ Arming after.1 ∷ map Wake change.woken) v)
 where_it_leads d row change w v after same are =
     let next : Sides (Option Timer) × ℕ → World = λ p. all_woken change.woken (record (with_row d (record { descriptor = change.descriptor; timers = p.0 }) v) { next_arming = p.1 }) in
     ap (λ (n : ℕ). all_obeyed change.orders (row.timers, n) >>= λ p. Ok (next p)) same
     ∙ ap (λ (r : Result (Sides (Option Timer) × ℕ) Refusal). r >>= λ p. Ok (next p)) are
-    ∙ ap Ok (sym (woken_edited change.woken (edited (Arming after.1) (edited (Row d (record { descriptor = change.descriptor; timers = after.0 })) v))))
+    ∙ ap Ok (sym (after_wakes change.woken (after_edit (Arming after.1) (after_edit (Row d (record { descriptor = change.descriptor; timers = after.0 })) v))))
 
 -- the plan that has the changes behind those it had
 pub continued : (d : ℕ) (row : DescriptorRow) (change : Change) (w : World) (before plan : Plan) (after : Sides (Option Timer) × ℕ)
-    → CanEditAll before.edits.items w → (all_edited before.edits.items w).next_arming ≡ w.next_arming → length change.woken ≤ 2
+    → CanEditAll before.edits.items w → (after_edits before.edits.items w).next_arming ≡ w.next_arming → length change.woken ≤ 2
     → all_obeyed change.orders (row.timers, w.next_arming) ≡ Ok after
     → plan.answer ≡ before.answer
     → plan.edits.items ≡ before.edits.items ++ (Row d (record { descriptor = change.descriptor; timers = after.0 }) ∷ Arming after.1 ∷ map Wake change.woken)
@@ -75,7 +75,7 @@ continued d row change w before plan after can same few are answer is =
     let wakes = length-map change.woken Wake in
     record {
       answer = answer;
-      leads = rw (is, all_edited-append xs new w) (where_it_leads d row change w (all_edited xs w) after same are);
+      leads = rw (is, after_edits-append xs new w) (where_it_leads d row change w (after_edits xs w) after same are);
       can = rw is (CanEditAll-append xs new w can (tt, (tt, woken_can change.woken _)));
       light = rw is (omega (arith, both, first, second, words));
       few = rw is (omega (arith, lengths, wakes));

@@ -1,5 +1,5 @@
 pub mod ListLemmas
-pub mod AlterLemmas
+pub mod ItemLemmas
 pub mod RoomLemmas
 pub mod BufferLemmas
 pub mod WaitLemmas
@@ -9,3 +9,4 @@ pub mod OpenLemmas
 pub mod PlanLemmas
 pub mod FreshLemmas
 pub mod LockLemmas
+pub mod SocketRoomLemmas

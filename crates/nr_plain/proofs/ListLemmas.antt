@@ -1,4 +1,4 @@
--- What a list holds at a place that is read and written back.
+-- What a list holds at a place that is read and with_item back.
 use Rattle.std.proofs.Common.{◌+◌, ◌-◌, ◌++◌, min, take, drop, arith, length-append, length-drop, take-append-drop, [], ◌∷◌, ◌≡◌, ℕ, zero, suc, ◌<◌, List, length, get_or, set, Some, sym, ap, ap₂, ◌∙◌, refl}
 use Rattle.std.proofs.lemmas.List.{length_push, set-set, set-get_or, take_at, drop_at, drop_min}
 use Rattle.std.proofs.lemmas.Option.{slice_get-get_or, unwrap_or-slice_get}

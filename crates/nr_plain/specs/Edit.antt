@@ -9,49 +9,49 @@ use Rattle.nr_plain.specs.declared.edit.Edit.{Edit}
 use Rattle.nr_plain.specs.declared.edit.Edit.TheVariants as edit
 use Rattle.nr_plain.specs.declared.edit.Undo.{Undo}
 use Rattle.nr_plain.specs.declared.edit.Undo.TheVariants as undo
-use Rattle.nr_plain.specs.SocketEdit.{CanEditSocket, CanUndoSocket, socket_edit_words, socket_edited, socket_reverted, socket_undo_words}
+use Rattle.nr_plain.specs.SocketEdit.{CanEditSocket, CanUndoSocket, socket_edit_words, after_socket_edit, after_socket_undo, socket_undo_words}
 
 -- a list with another element at a place, where there is one
-abbrev pub written : {X : Type 0} → ℕ → Option X → List X → List X
-written place None xs = xs
-written place (Some x) xs = slice_set xs place x
+abbrev pub with_item : {X : Type 0} → ℕ → Option X → List X → List X
+with_item place None xs = xs
+with_item place (Some x) xs = slice_set xs place x
 
-abbrev pub altered : {X : Type 0} → ℕ → (X → X) → List X → List X
-altered place change xs = written place (option_map change (slice_get xs place)) xs
+abbrev pub with_changed : {X : Type 0} → ℕ → (X → X) → List X → List X
+with_changed place change xs = with_item place (option_map change (slice_get xs place)) xs
 
 -- a change of the world
-abbrev pub edited : Edit → World → World
-edited (edit.Status g status) w = with_status g status w
-edited edit.AddGoroutine w = record w { goroutines = w.goroutines ++ status.Idle ∷ [] }
-edited (edit.AddSocket rc wc) w = record w { sockets = w.sockets ++ new_socket rc wc ∷ [] }
-edited (edit.Socket s change) w = record w { sockets = altered s (socket_edited change) w.sockets }
-edited (edit.Row d row) w = with_row d row w
-edited edit.AddRow w = record w { descriptors = w.descriptors ++ new_row ∷ [] }
-edited edit.TakeFree w = record w { free = drop 1 w.free }
-edited (edit.GiveFree d) w = record w { free = d ∷ w.free }
-edited (edit.Wake g) w = all_woken (g ∷ []) w
-edited (edit.Waiters count) w = record w { waiters = count }
-edited (edit.Arming number) w = record w { next_arming = number }
-edited (edit.Clock time) w = record w { clock = time }
-edited (edit.AddFiring entry) w = record w { firings = w.firings ++ entry ∷ [] }
-edited (edit.TakeFiring place) w = record w { firings = remove w.firings place }
+abbrev pub after_edit : Edit → World → World
+after_edit (edit.Status g status) w = with_status g status w
+after_edit edit.AddGoroutine w = record w { goroutines = w.goroutines ++ status.Idle ∷ [] }
+after_edit (edit.AddSocket rc wc) w = record w { sockets = w.sockets ++ new_socket rc wc ∷ [] }
+after_edit (edit.Socket s change) w = record w { sockets = with_changed s (after_socket_edit change) w.sockets }
+after_edit (edit.Row d row) w = with_row d row w
+after_edit edit.AddRow w = record w { descriptors = w.descriptors ++ new_row ∷ [] }
+after_edit edit.TakeFree w = record w { free = drop 1 w.free }
+after_edit (edit.GiveFree d) w = record w { free = d ∷ w.free }
+after_edit (edit.Wake g) w = all_woken (g ∷ []) w
+after_edit (edit.Waiters count) w = record w { waiters = count }
+after_edit (edit.Arming number) w = record w { next_arming = number }
+after_edit (edit.Clock time) w = record w { clock = time }
+after_edit (edit.AddFiring entry) w = record w { firings = w.firings ++ entry ∷ [] }
+after_edit (edit.TakeFiring place) w = record w { firings = remove w.firings place }
 
 -- what undoing a change of the world leaves
-abbrev pub reverted : Undo → World → World
-reverted (undo.Status g status) w = with_status g status w
-reverted undo.RemoveGoroutine w = record w { goroutines = take (length w.goroutines - 1) w.goroutines }
-reverted undo.RemoveSocket w = record w { sockets = take (length w.sockets - 1) w.sockets }
-reverted (undo.Socket s change) w = record w { sockets = altered s (socket_reverted change) w.sockets }
-reverted (undo.Row d row) w = with_row d row w
-reverted undo.RemoveRow w = record w { descriptors = take (length w.descriptors - 1) w.descriptors }
-reverted (undo.ReturnFree d) w = record w { free = d ∷ w.free }
-reverted undo.RemoveFree w = record w { free = drop 1 w.free }
-reverted (undo.Sleep g status waiters) w = record w { goroutines = slice_set w.goroutines g status; waiters = waiters }
-reverted (undo.Waiters count) w = record w { waiters = count }
-reverted (undo.Arming number) w = record w { next_arming = number }
-reverted (undo.Clock time) w = record w { clock = time }
-reverted undo.RemoveFiring w = record w { firings = take (length w.firings - 1) w.firings }
-reverted (undo.ReturnFiring place entry) w = record w { firings = insert w.firings place entry }
+abbrev pub after_undo : Undo → World → World
+after_undo (undo.Status g status) w = with_status g status w
+after_undo undo.RemoveGoroutine w = record w { goroutines = take (length w.goroutines - 1) w.goroutines }
+after_undo undo.RemoveSocket w = record w { sockets = take (length w.sockets - 1) w.sockets }
+after_undo (undo.Socket s change) w = record w { sockets = with_changed s (after_socket_undo change) w.sockets }
+after_undo (undo.Row d row) w = with_row d row w
+after_undo undo.RemoveRow w = record w { descriptors = take (length w.descriptors - 1) w.descriptors }
+after_undo (undo.ReturnFree d) w = record w { free = d ∷ w.free }
+after_undo undo.RemoveFree w = record w { free = drop 1 w.free }
+after_undo (undo.Sleep g status waiters) w = record w { goroutines = slice_set w.goroutines g status; waiters = waiters }
+after_undo (undo.Waiters count) w = record w { waiters = count }
+after_undo (undo.Arming number) w = record w { next_arming = number }
+after_undo (undo.Clock time) w = record w { clock = time }
+after_undo undo.RemoveFiring w = record w { firings = take (length w.firings - 1) w.firings }
+after_undo (undo.ReturnFiring place entry) w = record w { firings = insert w.firings place entry }
 
 -- there is room for the change, and there is what it takes away
 abbrev pub CanEdit : Edit → World → Type 0
@@ -79,7 +79,7 @@ CanUndo _ w = Unit {0}
 
 -- undoing leads from the new world back to the old one
 abbrev pub Undoes : Undo → World → World → Type 0
-Undoes undo new old = CanUndo undo new × (old ≡ reverted undo new)
+Undoes undo new old = CanUndo undo new × (old ≡ after_undo undo new)
 
 -- how many words an undo holds
 abbrev pub undo_words : Undo → ℕ

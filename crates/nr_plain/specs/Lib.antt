@@ -12,3 +12,4 @@ pub mod Change
 pub mod Continuing
 pub mod Delta
 pub mod Worlds
+pub mod ReversibleLaws

@@ -21,27 +21,27 @@ on_bytes side change socket =
     record socket { buffers = with_side side (record (of_side side socket.buffers) { bytes = change (of_side side socket.buffers).bytes }) socket.buffers }
 
 -- a change of a socket
-abbrev pub socket_edited : SocketEdit → Socket → Socket
-socket_edited (edit.Lock lock) socket = record socket { lock = lock }
-socket_edited (edit.Count side count) socket = on_semaphore side (λ semaphore. record semaphore { count = count }) socket
-socket_edited (edit.Enqueue side g) socket = on_semaphore side (λ semaphore. record semaphore { queue = semaphore.queue ++ g ∷ [] }) socket
-socket_edited (edit.Release side) socket =
+abbrev pub after_socket_edit : SocketEdit → Socket → Socket
+after_socket_edit (edit.Lock lock) socket = record socket { lock = lock }
+after_socket_edit (edit.Count side count) socket = on_semaphore side (λ semaphore. record semaphore { count = count }) socket
+after_socket_edit (edit.Enqueue side g) socket = on_semaphore side (λ semaphore. record semaphore { queue = semaphore.queue ++ g ∷ [] }) socket
+after_socket_edit (edit.Release side) socket =
     on_semaphore side (λ semaphore. record { count = semaphore.count + 1; queue = drop 1 semaphore.queue }) socket
-socket_edited (edit.Append side bytes) socket = on_bytes side (λ held. held ++ bytes.now) socket
-socket_edited (edit.Take side bytes) socket = on_bytes side (λ held. drop (length bytes) held) socket
-socket_edited edit.ClosePeer socket = record socket { peer_closed = true }
+after_socket_edit (edit.Append side bytes) socket = on_bytes side (λ held. held ++ bytes.now) socket
+after_socket_edit (edit.Take side bytes) socket = on_bytes side (λ held. drop (length bytes) held) socket
+after_socket_edit edit.ClosePeer socket = record socket { peer_closed = true }
 
 -- what undoing a change of a socket leaves
-abbrev pub socket_reverted : SocketUndo → Socket → Socket
-socket_reverted (undo.Lock lock) socket = record socket { lock = lock }
-socket_reverted (undo.Count side count) socket = on_semaphore side (λ semaphore. record semaphore { count = count }) socket
-socket_reverted (undo.LeaveQueue side) socket =
+abbrev pub after_socket_undo : SocketUndo → Socket → Socket
+after_socket_undo (undo.Lock lock) socket = record socket { lock = lock }
+after_socket_undo (undo.Count side count) socket = on_semaphore side (λ semaphore. record semaphore { count = count }) socket
+after_socket_undo (undo.LeaveQueue side) socket =
     on_semaphore side (λ semaphore. record semaphore { queue = take (length semaphore.queue - 1) semaphore.queue }) socket
-socket_reverted (undo.Requeue side front) socket =
+after_socket_undo (undo.Requeue side front) socket =
     on_semaphore side (λ semaphore. record { count = semaphore.count - 1; queue = option_to_list front ++ semaphore.queue }) socket
-socket_reverted (undo.Cut side len) socket = on_bytes side (λ held. take len held) socket
-socket_reverted (undo.Restore side bytes) socket = on_bytes side (λ held. bytes ++ held) socket
-socket_reverted undo.OpenPeer socket = record socket { peer_closed = false }
+after_socket_undo (undo.Cut side len) socket = on_bytes side (λ held. take len held) socket
+after_socket_undo (undo.Restore side bytes) socket = on_bytes side (λ held. bytes ++ held) socket
+after_socket_undo undo.OpenPeer socket = record socket { peer_closed = false }
 
 -- there is room for the change in queues and buffers of this room, and what leaves a buffer is what stands
 -- at its front
@@ -67,7 +67,7 @@ CanUndoSocket queue_room byte_room undo.OpenPeer socket = Unit {0}
 
 -- undoing leads from the new socket back to the old one
 abbrev pub UndoesSocket : ℕ → ℕ → SocketUndo → Socket → Socket → Type 0
-UndoesSocket queue_room byte_room undo new old = CanUndoSocket queue_room byte_room undo new × (old ≡ socket_reverted undo new)
+UndoesSocket queue_room byte_room undo new old = CanUndoSocket queue_room byte_room undo new × (old ≡ after_socket_undo undo new)
 
 -- how many words the undo of a change holds
 abbrev pub socket_undo_words : SocketUndo → ℕ

@@ -4,7 +4,7 @@ use Rattle.nr_rev.specs.World.{World}
 use Rattle.nr_plain.specs.declared.edit.Edit.{Edit}
 use Rattle.nr_plain.specs.declared.edit.Undo.{Undo}
 use Rattle.nr_plain.specs.declared.world.PlainWorld.TheInside.{Inside}
-use Rattle.nr_plain.specs.Edit.{Undoes, edit_words, edited, undo_words}
+use Rattle.nr_plain.specs.Edit.{Undoes, edit_words, after_edit, undo_words}
 
 abbrev pub world_shown : Inside → World
 world_shown p =
@@ -33,6 +33,6 @@ pub record HasRooms (p : Inside) : Type 0 where
 
 -- the change was made, and this undoes it and is no heavier than the change allows
 pub record Performs (edit : Edit) (undo : Undo) (old new : World) : Type 0 where
-  pub after : new ≡ edited edit old
+  pub after : new ≡ after_edit edit old
   pub back : Undoes undo new old
   pub light : undo_words undo ≤ edit_words edit

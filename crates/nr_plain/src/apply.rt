@@ -5,7 +5,7 @@ ghost use Rattle.nr_rev.specs.Step.{IsTimely};
 ghost use Rattle.nr_rev.specs.Transaction.{LeadsBack};
 ghost use Rattle.nr_rev.specs.WellFormed.{WellFormed};
 ghost use Rattle.nr_plain.specs.Edit.{Undoes, undo_words};
-ghost use Rattle.nr_plain.specs.Plan.{CanEditAll, PlansUnlessMemory, all_edited, all_words};
+ghost use Rattle.nr_plain.specs.Plan.{CanEditAll, PlansUnlessMemory, after_edits, all_words};
 
 use crate::delta::PlainDelta;
 use crate::edit::{Edit, Undo};
@@ -115,7 +115,7 @@ impl PlainWorld {
     fn perform_all(&mut self, mut edits: ArrayVec<Edit, MOST_EDITS>) -> ArrayVec<Undo, MOST_EDITS>
         requires few { length edits.items ≤ MOST_EDITS }
         requires can { CanEditAll edits.items self.old }
-        ensures after { self.new ≡ all_edited edits.entry.items self.old }
+        ensures after { self.new ≡ after_edits edits.entry.items self.old }
         ensures back { LeadsBack Undoes result.items self.new self.old }
         ensures light { sum_by undo_words result.items ≤ all_words edits.entry.items }
     {
@@ -133,8 +133,9 @@ impl Reversible for PlainWorld {
     ghost use Rattle.nr_rev.specs.Step.{StepTo};
     ghost use Rattle.nr_rev.specs.WellFormed.{WellFormed};
     ghost use Rattle.nr_rev.specs.Worlds.{LosesBytes, bytes_left};
-    ghost use Rattle.nr_plain.specs.Delta.{PlainBack, PlainBack-unique, delta_words};
-    ghost use Rattle.nr_plain.specs.Plan.{memory_is_no_reason, world_reason, refused_has_no_step, steps_unique, sixty_four_is_within};
+    ghost use Rattle.nr_plain.specs.Delta.{PlainBack, delta_words};
+    ghost use Rattle.nr_plain.specs.Plan.{world_reason};
+    ghost use Rattle.nr_plain.specs.ReversibleLaws.{PlainBack-unique, memory_is_no_reason, refused_has_no_step, sixty_four_is_within, steps_unique};
 
     type Op = Step;
 

@@ -5,7 +5,7 @@ ghost use Rattle.nr_rev.specs.Step as step;
 ghost use Rattle.nr_plain.specs.declared.edit.Edit.TheVariants.{Wake};
 ghost use Rattle.nr_plain.specs.Change.{change_shown};
 ghost use Rattle.nr_plain.specs.Continuing.{ContinuesOr};
-ghost use Rattle.nr_plain.specs.Plan.{CanEditAll, all_edited};
+ghost use Rattle.nr_plain.specs.Plan.{CanEditAll, after_edits};
 
 use crate::change::PlainChange;
 use crate::descriptor::raised_sequence;
@@ -26,7 +26,7 @@ impl PlainWorld {
     ) -> Result<Plan<'a>, Refusal>
         requires few { length plan.edits.items ≤ 1 }
         requires can { CanEditAll plan.edits.items self.now }
-        requires arming { (all_edited plan.edits.items self.now).next_arming ≡ self.now.next_arming }
+        requires arming { (after_edits plan.edits.items self.now).next_arming ≡ self.now.next_arming }
         ensures { ContinuesOr descriptor row (change_shown change) self.now plan.entry result }
     {
         let (timers, number) = obeyed(change.orders.read, row.timers, self.next_arming)?;

@@ -3,7 +3,7 @@
 ghost use Rattle.std.specs.Prelude.{◌≡◌};
 ghost use Rattle.nr_rev.specs.Step as step;
 ghost use Rattle.nr_plain.specs.declared.edit.Edit.TheVariants as edit;
-ghost use Rattle.nr_plain.specs.Edit.{CanEdit, CanUndo, reverted};
+ghost use Rattle.nr_plain.specs.Edit.{CanEdit, CanUndo, after_undo};
 ghost use Rattle.nr_plain.specs.World.{Performs};
 
 use crate::descriptor::never_opened;
@@ -140,7 +140,7 @@ impl PlainWorld {
     /// Undoes a change.
     pub(crate) fn revert(&mut self, undo: Undo)
         requires { CanUndo undo self.old }
-        ensures { self.new ≡ reverted undo self.old }
+        ensures { self.new ≡ after_undo undo self.old }
     {
         match undo {
             Undo::Status { goroutine, status } => {

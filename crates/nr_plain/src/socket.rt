@@ -4,10 +4,10 @@ ghost use Rattle.std.specs.Prelude.{◌≡◌, ℕ, IfOk, drop};
 ghost use Rattle.nr_rev.specs.Sides.{of_side};
 ghost use Rattle.nr_rev.specs.Socket.{new_socket};
 ghost use Rattle.nr_plain.specs.Buffer.{buffer_shown};
-ghost use Rattle.nr_plain.specs.SocketEdit.{CanEditSocket, CanUndoSocket, on_bytes, socket_reverted};
+ghost use Rattle.nr_plain.specs.SocketEdit.{on_bytes, after_socket_undo};
 ghost use Rattle.nr_plain.specs.declared.socket_edit.SocketEdit.TheVariants.{Count, Enqueue, Release, Append, Take};
 ghost use Rattle.nr_plain.specs.Semaphore.{semaphore_shown};
-ghost use Rattle.nr_plain.specs.Socket.{Edits, HasRoom, socket_shown};
+ghost use Rattle.nr_plain.specs.Socket.{CanEditPlain, CanUndoPlain, Edits, HasRoom, HasRoomOf, IsEven, socket_shown};
 
 use crate::buffer::PlainBuffer;
 use crate::lock::open_lock;
@@ -49,8 +49,9 @@ impl PlainSocket {
 
     /// Makes it a new socket with buffers of these capacities.
     pub(crate) fn reset(&mut self, read_capacity: u32, write_capacity: u32)
+        requires room { IsEven self.old }
         ensures after { socket_shown self.new ≡ new_socket read_capacity write_capacity }
-        ensures room { (queue_room byte_room : ℕ) → HasRoom queue_room byte_room self.old → HasRoom queue_room byte_room self.new }
+        ensures room { HasRoomOf self.old self.new }
     {
         self.lock = open_lock();
         self.read_semaphore.reset();
@@ -61,11 +62,11 @@ impl PlainSocket {
     }
 
     /// Makes it equal to another that has the same room.
-    pub(crate) fn assign(&mut self, other: &PlainSocket, queue_room: usize, byte_room: usize)
-        requires room { HasRoom queue_room byte_room self.old }
-        requires other { HasRoom queue_room byte_room other.now }
+    pub(crate) fn assign(&mut self, other: &PlainSocket)
+        requires even { IsEven self.old }
+        requires room { HasRoomOf self.old other.now }
         ensures after { socket_shown self.new ≡ socket_shown other.now }
-        ensures room { HasRoom queue_room byte_room self.new }
+        ensures room { HasRoomOf self.old self.new }
     {
         self.lock = other.lock;
         self.read_semaphore.assign(&other.read_semaphore);
@@ -96,15 +97,10 @@ impl PlainSocket {
     }
 
     /// Makes the change, and tells what undoes it.
-    pub(crate) fn edit(
-        &mut self,
-        edit: SocketEdit,
-        queue_room: usize,
-        byte_room: usize,
-    ) -> SocketUndo
-        requires room { HasRoom queue_room byte_room self.old }
-        requires can { CanEditSocket queue_room byte_room edit (socket_shown self.old) }
-        ensures { Edits queue_room byte_room edit.entry result self.old self.new }
+    pub(crate) fn edit(&mut self, edit: SocketEdit) -> SocketUndo
+        requires room { IsEven self.old }
+        requires can { CanEditPlain edit self.old }
+        ensures { Edits edit.entry result self.old self.new }
     {
         match edit {
             SocketEdit::Lock(lock) => {
@@ -112,13 +108,11 @@ impl PlainSocket {
                 self.lock = lock;
                 SocketUndo::Lock(old)
             }
-            SocketEdit::Count { side, count } => self.set_count(side, count, queue_room, byte_room),
-            SocketEdit::Enqueue { side, goroutine } => {
-                self.enqueue(side, goroutine, queue_room, byte_room)
-            }
-            SocketEdit::Release { side } => self.release(side, queue_room, byte_room),
-            SocketEdit::Append { side, bytes } => self.append(side, bytes, queue_room, byte_room),
-            SocketEdit::Take { side, bytes } => self.take(side, bytes, queue_room, byte_room),
+            SocketEdit::Count { side, count } => self.set_count(side, count),
+            SocketEdit::Enqueue { side, goroutine } => self.enqueue(side, goroutine),
+            SocketEdit::Release { side } => self.release(side),
+            SocketEdit::Append { side, bytes } => self.append(side, bytes),
+            SocketEdit::Take { side, bytes } => self.take(side, bytes),
             SocketEdit::ClosePeer => {
                 self.peer_closed = true;
                 SocketUndo::OpenPeer
@@ -126,15 +120,9 @@ impl PlainSocket {
         }
     }
 
-    fn set_count(
-        &mut self,
-        side: Side,
-        count: u32,
-        queue_room: usize,
-        byte_room: usize,
-    ) -> SocketUndo
-        requires { HasRoom queue_room byte_room self.old }
-        ensures { Edits queue_room byte_room (Count side count) result self.old self.new }
+    fn set_count(&mut self, side: Side, count: u32) -> SocketUndo
+        requires { IsEven self.old }
+        ensures { Edits (Count side count) result self.old self.new }
     {
         let count = match side {
             Side::Read => self.read_semaphore.set_count(count),
@@ -144,16 +132,10 @@ impl PlainSocket {
     }
 
     #[tactic(auto, using(crate::proofs::ListLemmas::last_pushed))]
-    fn enqueue(
-        &mut self,
-        side: Side,
-        goroutine: u32,
-        queue_room: usize,
-        byte_room: usize,
-    ) -> SocketUndo
-        requires room { HasRoom queue_room byte_room self.old }
-        requires can { CanEditSocket queue_room byte_room (Enqueue side goroutine) (socket_shown self.old) }
-        ensures { Edits queue_room byte_room (Enqueue side goroutine) result self.old self.new }
+    fn enqueue(&mut self, side: Side, goroutine: u32) -> SocketUndo
+        requires room { IsEven self.old }
+        requires can { CanEditPlain (Enqueue side goroutine) self.old }
+        ensures { Edits (Enqueue side goroutine) result self.old self.new }
     {
         match side {
             Side::Read => self.read_semaphore.enqueue(goroutine),
@@ -163,10 +145,10 @@ impl PlainSocket {
     }
 
     #[tactic(auto, using(crate::proofs::ListLemmas::front_and_rest, crate::proofs::ListLemmas::front_and_rest_len))]
-    fn release(&mut self, side: Side, queue_room: usize, byte_room: usize) -> SocketUndo
-        requires room { HasRoom queue_room byte_room self.old }
-        requires can { CanEditSocket queue_room byte_room (Release side) (socket_shown self.old) }
-        ensures { Edits queue_room byte_room (Release side) result self.old self.new }
+    fn release(&mut self, side: Side) -> SocketUndo
+        requires room { IsEven self.old }
+        requires can { CanEditPlain (Release side) self.old }
+        ensures { Edits (Release side) result self.old self.new }
     {
         let front = match side {
             Side::Read => self.read_semaphore.release(),
@@ -176,16 +158,10 @@ impl PlainSocket {
     }
 
     #[tactic(auto, using(crate::proofs::ListLemmas::appended_cut))]
-    fn append(
-        &mut self,
-        side: Side,
-        bytes: &[u8],
-        queue_room: usize,
-        byte_room: usize,
-    ) -> SocketUndo
-        requires room { HasRoom queue_room byte_room self.old }
-        requires can { CanEditSocket queue_room byte_room (Append side bytes) (socket_shown self.old) }
-        ensures { Edits queue_room byte_room (Append side bytes.entry) result self.old self.new }
+    fn append(&mut self, side: Side, bytes: &[u8]) -> SocketUndo
+        requires room { IsEven self.old }
+        requires can { CanEditPlain (Append side bytes) self.old }
+        ensures { Edits (Append side bytes.entry) result self.old self.new }
     {
         let len = self.buffer(side).bytes.len();
         match side {
@@ -196,16 +172,10 @@ impl PlainSocket {
     }
 
     #[tactic(auto, using(crate::proofs::ListLemmas::front_restored))]
-    fn take(
-        &mut self,
-        side: Side,
-        bytes: KeptBytes,
-        queue_room: usize,
-        byte_room: usize,
-    ) -> SocketUndo
-        requires room { HasRoom queue_room byte_room self.old }
-        requires can { CanEditSocket queue_room byte_room (Take side bytes) (socket_shown self.old) }
-        ensures { Edits queue_room byte_room (Take side bytes) result self.old self.new }
+    fn take(&mut self, side: Side, bytes: KeptBytes) -> SocketUndo
+        requires room { IsEven self.old }
+        requires can { CanEditPlain (Take side bytes) self.old }
+        ensures { Edits (Take side bytes) result self.old self.new }
     {
         match side {
             Side::Read => self.input.drop_front(bytes.len()),
@@ -216,8 +186,9 @@ impl PlainSocket {
 
     /// So many bytes leave the front of a buffer, and nothing keeps them.
     pub(crate) fn lose(&mut self, side: Side, count: usize)
+        requires room { IsEven self.old }
         ensures after { socket_shown self.new ≡ on_bytes side (λ held. drop count held) (socket_shown self.old) }
-        ensures room { (queue_room byte_room : ℕ) → HasRoom queue_room byte_room self.old → HasRoom queue_room byte_room self.new }
+        ensures room { HasRoomOf self.old self.new }
     {
         match side {
             Side::Read => self.input.drop_front(count),
@@ -226,16 +197,16 @@ impl PlainSocket {
     }
 
     /// Undoes a change.
-    pub(crate) fn undo(&mut self, undo: SocketUndo, queue_room: usize, byte_room: usize)
-        requires room { HasRoom queue_room byte_room self.old }
-        requires can { CanUndoSocket queue_room byte_room undo (socket_shown self.old) }
-        ensures after { socket_shown self.new ≡ socket_reverted undo (socket_shown self.old) }
-        ensures room { HasRoom queue_room byte_room self.new }
+    pub(crate) fn undo(&mut self, undo: SocketUndo)
+        requires room { IsEven self.old }
+        requires can { CanUndoPlain undo self.old }
+        ensures after { socket_shown self.new ≡ after_socket_undo undo (socket_shown self.old) }
+        ensures room { HasRoomOf self.old self.new }
     {
         match undo {
             SocketUndo::Lock(lock) => self.lock = lock,
             SocketUndo::Count { side, count } => {
-                let _ = self.set_count(side, count, queue_room, byte_room);
+                let _ = self.set_count(side, count);
             }
             SocketUndo::LeaveQueue { side } => match side {
                 Side::Read => self.read_semaphore.leave_back(),

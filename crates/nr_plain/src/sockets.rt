@@ -2,8 +2,8 @@
 
 ghost use Rattle.std.specs.Prelude.{◌≡◌, ◌+◌, ◌-◌, ◌<◌, ◌≤◌, ◌∷◌, ◌++◌, [], length, drop, take, slice_get, option_map, IfSome, IfOk};
 ghost use Rattle.nr_rev.specs.Socket.{new_socket};
-ghost use Rattle.nr_plain.specs.Edit.{altered};
-ghost use Rattle.nr_plain.specs.SocketEdit.{CanEditSocket, CanUndoSocket, on_bytes, socket_edit_words, socket_edited, socket_reverted, socket_undo_words};
+ghost use Rattle.nr_plain.specs.Edit.{with_changed};
+ghost use Rattle.nr_plain.specs.SocketEdit.{CanEditSocket, CanUndoSocket, on_bytes, socket_edit_words, after_socket_edit, after_socket_undo, socket_undo_words};
 ghost use Rattle.nr_plain.specs.Socket.{HasRoom, socket_shown};
 
 use crate::socket::PlainSocket;
@@ -78,7 +78,7 @@ impl Sockets {
         let Some(mut row) = self.spare.pop() else {
             unreachable!()
         };
-        row.assign(socket, self.queue_room, self.byte_room);
+        row.assign(socket);
         self.opened.push_reserved(row);
     }
 
@@ -120,21 +120,21 @@ impl Sockets {
     /// Changes a socket, if it is opened, and tells what undoes the change.
     pub(crate) fn edit(&mut self, socket: usize, edit: SocketEdit) -> SocketUndo
         requires { IfSome (slice_get self.old.sockets socket) (CanEditSocket self.old.queue_room self.old.byte_room edit) }
-        ensures after { self.new ≡ record self.old { sockets = altered socket (socket_edited edit.entry) self.old.sockets } }
+        ensures after { self.new ≡ record self.old { sockets = with_changed socket (after_socket_edit edit.entry) self.old.sockets } }
         ensures can { IfSome (slice_get self.new.sockets socket) (CanUndoSocket self.old.queue_room self.old.byte_room result) }
-        ensures back { altered socket (socket_reverted result) self.new.sockets ≡ self.old.sockets }
+        ensures back { with_changed socket (after_socket_undo result) self.new.sockets ≡ self.old.sockets }
         ensures light { socket_undo_words result ≤ socket_edit_words edit.entry }
     {
         if socket >= self.opened.len() {
             return SocketUndo::OpenPeer;
         }
         let row = &mut self.opened[socket];
-        row.edit(edit, self.queue_room, self.byte_room)
+        row.edit(edit)
     }
 
     /// So many bytes leave the front of a socket's buffer, and nothing keeps them.
     pub(crate) fn lose(&mut self, socket: usize, side: Side, count: usize)
-        ensures { self.new ≡ record self.old { sockets = altered socket (on_bytes side (λ held. drop count held)) self.old.sockets } }
+        ensures { self.new ≡ record self.old { sockets = with_changed socket (on_bytes side (λ held. drop count held)) self.old.sockets } }
     {
         if socket >= self.opened.len() {
             return;
@@ -146,12 +146,12 @@ impl Sockets {
     /// Undoes a change of a socket.
     pub(crate) fn undo(&mut self, socket: usize, undo: SocketUndo)
         requires { IfSome (slice_get self.old.sockets socket) (CanUndoSocket self.old.queue_room self.old.byte_room undo) }
-        ensures { self.new ≡ record self.old { sockets = altered socket (socket_reverted undo) self.old.sockets } }
+        ensures { self.new ≡ record self.old { sockets = with_changed socket (after_socket_undo undo) self.old.sockets } }
     {
         if socket >= self.opened.len() {
             return;
         }
         let row = &mut self.opened[socket];
-        row.undo(undo, self.queue_room, self.byte_room);
+        row.undo(undo);
     }
 }

@@ -185,8 +185,8 @@ fn arriving(alloc: Global) -> Result<Step, AllocError> {
     Ok(Step::Arrive { socket: 0, bytes })
 }
 
-/// Two bytes that are written.
-fn written(alloc: Global) -> Result<Step, AllocError> {
+/// Two bytes that are with_item.
+fn with_item(alloc: Global) -> Result<Step, AllocError> {
     let bytes = Bytes::new(Vec::from_slice(alloc, b"yo")?);
     Ok(Step::SysWrite {
         goroutine: 0,
@@ -217,10 +217,10 @@ fn holds(rt: &impl Abort, world: &PlainWorld, input: &[u8], output: &[u8]) {
 fn moves_bytes(rt: HostRuntime) {
     let mut world = PlainWorld::fresh(rt.alloc(), LIMITS).expect(&rt, "memory");
     let arriving = arriving(rt.alloc()).expect(&rt, "memory");
-    let written = written(rt.alloc()).expect(&rt, "memory");
+    let with_item = with_item(rt.alloc()).expect(&rt, "memory");
     gives(&rt, &mut world, &OPEN_FOR_FOUR, Answer::Number(0));
     gives(&rt, &mut world, &arriving, Answer::Done);
-    gives(&rt, &mut world, &written, Answer::Put(2));
+    gives(&rt, &mut world, &with_item, Answer::Put(2));
     holds(&rt, &world, b"hi", b"yo");
     gives(&rt, &mut world, &READ, Answer::Got(1));
     gives(&rt, &mut world, &DRAIN, Answer::Done);
@@ -260,12 +260,12 @@ fn goes_on_where_memory_was_refused(rt: HostRuntime) -> Result<(), Fail> {
     let Ok(mut world) = PlainWorld::fresh(rt.alloc(), LIMITS) else {
         return Ok(());
     };
-    let (Ok(arriving), Ok(written)) = (arriving(rt.alloc()), written(rt.alloc())) else {
+    let (Ok(arriving), Ok(with_item)) = (arriving(rt.alloc()), with_item(rt.alloc())) else {
         return Ok(());
     };
     applies(&rt, &mut world, &OPEN_FOR_FOUR, Answer::Number(0));
     applies(&rt, &mut world, &arriving, Answer::Done);
-    applies(&rt, &mut world, &written, Answer::Put(2));
+    applies(&rt, &mut world, &with_item, Answer::Put(2));
     applies(&rt, &mut world, &READ, Answer::Got(1));
     applies(&rt, &mut world, &DRAIN, Answer::Done);
     Ok(())

@@ -62,3 +62,10 @@ module _ {X : Type 0} where
   pub append-next : (xs : List X) (i : ℕ) (x : X) → i < length xs → x ≡ get_or xs i x → take i xs ++ (x ∷ drop (suc i) xs) ≡ xs
   append-next xs i x within read =
       ap (λ y. take i xs ++ (y ∷ drop (suc i) xs)) read ∙ ap (λ ys. take i xs ++ ys) (sym (drop-cons xs i x within)) ∙ take-append-drop i xs
+
+-- deltas lead back to one state, where each of them does
+pub LeadsBack-unique : {State Delta : Type 0} (back : Delta → State → State → Type 0) → ((delta : Delta) (new a b : State) → back delta new a → back delta new b → a ≡ b) → (deltas : List Delta) (new a b : State) → LeadsBack back deltas new a → LeadsBack back deltas new b → a ≡ b
+LeadsBack-unique back unique [] new a b p q = sym p ∙ q
+LeadsBack-unique {State} back unique (delta ∷ deltas) new a b p q =
+    let same = LeadsBack-unique back unique deltas new p.0 q.0 p.1 q.1 in
+    unique delta q.0 a b (subst (λ (s : State). back delta s a) same p.2) q.2

@@ -1,7 +1,8 @@
 use Rattle.std.proofs.Common.{subst}
 use Rattle.nr_rev.proofs.Chains.{LeadsBack-last, LeadsBack-undone}
 use Rattle.nr_rev.specs.Transaction.{LeadsBack}
-use Rattle.nr_plain.specs.Delta.{PlainBack, PlainBack-unique}
+use Rattle.nr_plain.specs.Delta.{PlainBack}
+use Rattle.nr_plain.specs.ReversibleLaws.{PlainBack-unique}
 use Rattle.nr_plain.proofs.tests.undo_last.Goals as goal
 
 pub undo-requires : goal.undo-requires

@@ -1,7 +1,7 @@
 use Rattle.std.proofs.Common.{subst}
 use Rattle.nr_rev.proofs.Chains.{LeadsBack-last, LeadsBack-undone}
 use Rattle.nr_rev.specs.Transaction.{LeadsBack}
-use Rattle.nr_plain.specs.Delta.{Undoes-unique}
+use Rattle.nr_plain.specs.ReversibleLaws.{Undoes-unique}
 use Rattle.nr_plain.specs.Edit.{Undoes}
 use Rattle.nr_plain.proofs.apply.PlainWorldReversible.undo.Goals as goal
 

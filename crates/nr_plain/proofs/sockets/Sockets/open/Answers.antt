@@ -1,6 +1,7 @@
 use Rattle.std.proofs.Common.{Some, arith}
 use Rattle.std.proofs.lemmas.List.Elements.{All-pop, All-push}
 use Rattle.nr_plain.specs.Socket.{HasRoom}
+use Rattle.nr_plain.proofs.SocketRoomLemmas.{own_room_is}
 use Rattle.nr_plain.proofs.sockets.Sockets.open.Goals as goal
 
 pub invariant_of-self : goal.invariant_of-self
@@ -11,6 +12,6 @@ invariant_of-self c =
       counted = omega (arith, c.in-Some.ensures.len);
       opened_room = omega (arith, c.push_reserved.ensures.capacity);
       spare_room = omega (arith, c.in-Some.ensures.capacity);
-      opened = rw c.push_reserved.ensures.items (All-push has _ _ c.self.invariant.opened (c.reset.ensures.room _ _ left.1));
+      opened = rw c.push_reserved.ensures.items (All-push has _ _ c.self.invariant.opened (own_room_is _ _ c.in-Some.row left.1 (λ queues bytes. HasRoom queues bytes c.reset.new.self) c.reset.ensures.room));
       spare = left.0;
     }

@@ -4,7 +4,7 @@ use Rattle.std.specs.Prelude.{remove, slice_get}
 use Rattle.nr_rev.proofs.Chains.{LeadsBack-push}
 use Rattle.nr_plain.specs.declared.edit.Edit.{Edit}
 use Rattle.nr_plain.specs.Edit.{Undoes, edit_words, undo_words}
-use Rattle.nr_plain.specs.Plan.{CanEditAll, all_edited}
+use Rattle.nr_plain.specs.Plan.{CanEditAll, after_edits}
 use Rattle.nr_plain.proofs.world.PlainWorld.perform_all.Goals as goal
 
 first_and_rest : (edits : List Edit) (edit : Edit) → slice_get edits 0 ≡ Some edit → edits ≡ edit ∷ remove edits 0
@@ -24,7 +24,7 @@ loop-edit-preserved c =
     let lengths = length-append c.loop-edit.undos.items (c.perform.result ∷ []) in
     let light = c.perform.ensures.light in
     record {
-      leads = ap (all_edited rest) after ∙ ap (λ es. all_edited es w) (sym split) ∙ c.loop-edit.invariant.leads;
+      leads = ap (after_edits rest) after ∙ ap (λ es. after_edits es w) (sym split) ∙ c.loop-edit.invariant.leads;
       can = rw after can.1;
       back = rw c.push.ensures.items (LeadsBack-push Undoes c.loop-edit.undos.items c.perform.result c.perform.new.self w c.args.self.now c.loop-edit.invariant.back c.perform.ensures.back);
       light = rw c.push.ensures.items (omega (arith, words, heavy, light, rw split at c.loop-edit.invariant.light));
