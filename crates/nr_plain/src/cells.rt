@@ -54,7 +54,8 @@ impl PlainWorld {
 
     fn lock_value(&self, socket: u32) -> CellValue
         requires { WellFormed self.now }
-        ensures { result ≡ socket_value socket self.now (λ row. value.Number (lock_number row.lock)) }
+        ensures { result
+            ≡ socket_value socket self.now (λ row. value.Number (lock_number row.lock)) }
     {
         match self.sockets.get(socket as usize) {
             None => CellValue::Absent,
@@ -63,7 +64,9 @@ impl PlainWorld {
     }
 
     fn count_value(&self, socket: u32, side: Side) -> CellValue
-        ensures { result ≡ socket_value socket self.now (λ row. value.Number (of_side side row.semaphores).count) }
+        ensures { result
+            ≡ socket_value socket self.now
+            (λ row. value.Number (of_side side row.semaphores).count) }
     {
         match self.sockets.get(socket as usize) {
             None => CellValue::Absent,
@@ -72,7 +75,9 @@ impl PlainWorld {
     }
 
     fn length_value(&self, socket: u32, side: Side) -> CellValue
-        ensures { result ≡ socket_value socket self.now (λ row. value.Number (length (of_side side row.buffers).bytes)) }
+        ensures { result
+            ≡ socket_value socket self.now
+            (λ row. value.Number (length (of_side side row.buffers).bytes)) }
     {
         match self.sockets.get(socket as usize) {
             None => CellValue::Absent,
@@ -81,7 +86,8 @@ impl PlainWorld {
     }
 
     fn word_value(&self, descriptor: u32, side: Side) -> CellValue
-        ensures { result ≡ descriptor_value descriptor self.now (λ x. value.Word (of_side side x.words)) }
+        ensures { result
+            ≡ descriptor_value descriptor self.now (λ x. value.Word (of_side side x.words)) }
     {
         match self.descriptor(descriptor) {
             None => CellValue::Absent,
@@ -90,7 +96,8 @@ impl PlainWorld {
     }
 
     fn deadline_value(&self, descriptor: u32, side: Side) -> CellValue
-        ensures { result ≡ descriptor_value descriptor self.now (λ x. value.Time (of_side side x.deadlines)) }
+        ensures { result
+            ≡ descriptor_value descriptor self.now (λ x. value.Time (of_side side x.deadlines)) }
     {
         match self.descriptor(descriptor) {
             None => CellValue::Absent,
@@ -99,7 +106,8 @@ impl PlainWorld {
     }
 
     fn sequence_value(&self, descriptor: u32, side: Side) -> CellValue
-        ensures { result ≡ descriptor_value descriptor self.now (λ x. value.Number (of_side side x.sequences)) }
+        ensures { result
+            ≡ descriptor_value descriptor self.now (λ x. value.Number (of_side side x.sequences)) }
     {
         match self.descriptor(descriptor) {
             None => CellValue::Absent,
@@ -109,7 +117,9 @@ impl PlainWorld {
 
     /// A descriptor that was made.
     fn descriptor(&self, descriptor: u32) -> Option<Descriptor>
-        ensures { result ≡ option_map (λ (row : Row). row.descriptor) (slice_get self.now.descriptors descriptor) }
+        ensures { result
+            ≡ option_map (λ (row : Row). row.descriptor)
+            (slice_get self.now.descriptors descriptor) }
     {
         match self.descriptors.get(descriptor as usize) {
             None => None,

@@ -160,7 +160,9 @@ fn timer_follows(side: Side, old: Descriptor, descriptor: Descriptor) -> Result<
 
 /// Whether a side's deadline and combo are as they were.
 fn is_unmoved(side: Side, old: Descriptor, descriptor: Descriptor) -> bool
-    ensures { result ≡ (int_eq (sides.of_side side old.deadlines) (sides.of_side side descriptor.deadlines) && (lock.bit (spec.is_combo old) == lock.bit (spec.is_combo descriptor))) }
+    ensures { result
+        ≡ (int_eq (sides.of_side side old.deadlines) (sides.of_side side descriptor.deadlines)
+        && (lock.bit (spec.is_combo old) == lock.bit (spec.is_combo descriptor))) }
 {
     old.deadlines.of(side) == descriptor.deadlines.of(side) && is_combo(old) == is_combo(descriptor)
 }
@@ -266,7 +268,9 @@ pub(crate) fn evicted(descriptor: Descriptor) -> Result<PlainChange, Refusal>
 
 /// The descriptor with a side's deadline past.
 fn with_past(side: Side, descriptor: Descriptor) -> Descriptor
-    ensures { result ≡ record descriptor { deadlines = sides.with_side side (negsuc 0) descriptor.deadlines } }
+    ensures { result ≡ record descriptor {
+      deadlines = sides.with_side side (negsuc 0) descriptor.deadlines;
+    } }
 {
     Descriptor {
         deadlines: descriptor.deadlines.with(side, -1),
@@ -278,7 +282,9 @@ impl PlainChange {
     /// The sides that a function covers expired, reading first.
     fn expire(self, function: TimerFunction) -> PlainChange
         requires { self.woken ≡ sides.twice None }
-        ensures { change_shown result ≡ spec.and_if (sides.covers_side function Write) (spec.expire Write) (spec.and_if (sides.covers_side function Read) (spec.expire Read) (change_shown self)) }
+        ensures { change_shown result
+            ≡ spec.and_if (sides.covers_side function Write) (spec.expire Write)
+            (spec.and_if (sides.covers_side function Read) (spec.expire Read) (change_shown self)) }
     {
         let mut change = self;
         if covers_side(function, Side::Read) {

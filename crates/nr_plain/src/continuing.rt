@@ -26,7 +26,8 @@ impl PlainWorld {
     ) -> Result<Plan<'a>, Refusal>
         requires few { length plan.edits.items ≤ 1 }
         requires can { CanEditAll plan.edits.items self.now }
-        requires arming { (after_edits plan.edits.items self.now).next_arming ≡ self.now.next_arming }
+        requires arming { (after_edits plan.edits.items self.now).next_arming
+            ≡ self.now.next_arming }
         ensures { ContinuesOr descriptor row (change_shown change) self.now plan.entry result }
     {
         let (timers, number) = obeyed(change.orders.read, row.timers, self.next_arming)?;
@@ -77,7 +78,9 @@ fn obeyed(
 fn then_woken<'a>(plan: Plan<'a>, woken: Sides<Option<u32>>) -> Plan<'a>
     requires { length plan.edits.items ≤ 3 }
     ensures answer { result.answer ≡ plan.entry.answer }
-    ensures edits { result.edits.items ≡ plan.entry.edits.items ++ map Wake (option_to_list woken.read ++ option_to_list woken.write) }
+    ensures edits { result.edits.items
+        ≡ plan.entry.edits.items ++ map Wake
+        (option_to_list woken.read ++ option_to_list woken.write) }
 {
     let plan = match woken.read {
         None => plan,

@@ -53,7 +53,8 @@ impl PlainWorld {
     /// The front of the free list, if there is one.
     #[tactic(auto, using(crate::proofs::OpenLemmas::front_or_none))]
     fn front_free(&self) -> Option<u32>
-        ensures { MatchOption result (self.now.free ≡ []) (λ d. (rest : List ℕ) × (self.now.free ≡ d ∷ rest)) }
+        ensures { MatchOption result (self.now.free ≡ [])
+            (λ d. (rest : List ℕ) × (self.now.free ≡ d ∷ rest)) }
     {
         self.free.get(0)
     }

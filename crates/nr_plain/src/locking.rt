@@ -86,7 +86,8 @@ impl PlainWorld {
 /// The lock is left so, and the goroutine has this status.
 fn left_lock<'a>(goroutine: u32, status: Status, socket: u32, left: LockOutcome) -> Plan<'a>
     ensures answer { result.answer ≡ left.answer }
-    ensures edits { result.edits.items ≡ edit.Socket socket (socket_edit.Lock left.lock) ∷ edit.Status goroutine status ∷ [] }
+    ensures edits { result.edits.items
+        ≡ edit.Socket socket (socket_edit.Lock left.lock) ∷ edit.Status goroutine status ∷ [] }
 {
     let edit = SocketEdit::Lock(left.lock);
     Plan::new(left.answer)

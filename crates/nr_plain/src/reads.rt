@@ -33,7 +33,9 @@ impl PlainWorld {
 
     /// A socket that is opened.
     pub(crate) fn socket_of(&self, socket: u32) -> Result<&PlainSocket, Refusal>
-        ensures { MatchResult result (λ p. slice_get self.now.sockets socket ≡ Some (socket_shown p.now)) (λ e. (slice_get self.now.sockets socket ≡ None) × (e ≡ NoSuchSocket)) }
+        ensures { MatchResult result
+            (λ p. slice_get self.now.sockets socket ≡ Some (socket_shown p.now))
+            (λ e. (slice_get self.now.sockets socket ≡ None) × (e ≡ NoSuchSocket)) }
     {
         self.sockets
             .get(socket as usize)

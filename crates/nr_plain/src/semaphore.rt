@@ -35,7 +35,10 @@ impl PlainSemaphore {
     /// Makes it equal to another, for which it has room.
     pub(crate) fn assign(&mut self, other: &PlainSemaphore)
         requires { other.now.queue.room ≤ self.old.queue.room }
-        ensures { self.new ≡ record { count = other.now.count; queue = record self.old.queue { items = other.now.queue.items } } }
+        ensures { self.new ≡ record {
+          count = other.now.count;
+          queue = record self.old.queue { items = other.now.queue.items };
+        } }
     {
         self.count = other.count;
         self.queue.assign(&other.queue);
@@ -54,14 +57,20 @@ impl PlainSemaphore {
     /// Puts a goroutine at the back.
     pub(crate) fn enqueue(&mut self, goroutine: u32)
         requires { length self.old.queue.items < self.old.queue.room }
-        ensures { self.new ≡ record self.old { queue = record self.old.queue { items = self.old.queue.items ++ goroutine ∷ [] } } }
+        ensures { self.new ≡ record self.old {
+          queue = record self.old.queue { items = self.old.queue.items ++ goroutine ∷ [] };
+        } }
     {
         self.queue.push(goroutine);
     }
 
     /// The back leaves.
     pub(crate) fn leave_back(&mut self)
-        ensures { self.new ≡ record self.old { queue = record self.old.queue { items = take (length self.old.queue.items - 1) self.old.queue.items } } }
+        ensures { self.new ≡ record self.old {
+          queue = record self.old.queue {
+            items = take (length self.old.queue.items - 1) self.old.queue.items;
+          };
+        } }
     {
         self.queue.drop_last();
     }
@@ -69,7 +78,10 @@ impl PlainSemaphore {
     /// Raises the count, and gives the front, which leaves.
     pub(crate) fn release(&mut self) -> Option<u32>
         requires { self.old.count + 1 < 2 ^ 32 }
-        ensures after { self.new ≡ record { count = self.old.count + 1; queue = record self.old.queue { items = drop 1 self.old.queue.items } } }
+        ensures after { self.new ≡ record {
+          count = self.old.count + 1;
+          queue = record self.old.queue { items = drop 1 self.old.queue.items };
+        } }
         ensures front { result ≡ slice_get self.old.queue.items 0 }
         ensures within { length self.old.queue.items ≤ self.old.queue.room }
     {
@@ -79,8 +91,12 @@ impl PlainSemaphore {
 
     /// Lowers the count, and puts what left back to the front.
     pub(crate) fn requeue(&mut self, front: Option<u32>)
-        requires { length (option_to_list front) + length self.old.queue.items ≤ self.old.queue.room }
-        ensures { self.new ≡ record { count = self.old.count - 1; queue = record self.old.queue { items = option_to_list front ++ self.old.queue.items } } }
+        requires { length (option_to_list front) + length self.old.queue.items
+            ≤ self.old.queue.room }
+        ensures { self.new ≡ record {
+          count = self.old.count - 1;
+          queue = record self.old.queue { items = option_to_list front ++ self.old.queue.items };
+        } }
     {
         self.count = self.count.saturating_sub(1);
         if let Some(goroutine) = front {

@@ -46,7 +46,9 @@ impl PlainWorld {
     fn acquiring(&self, goroutine: u32) -> Result<(u32, Side), Refusal>
         requires { WellFormed self.now }
         ensures place { result ≡ acquiring_by goroutine self.now }
-        ensures room { IfOk result (λ p. IfSome (slice_get self.now.sockets p.0) (λ socket. length (of_side p.1 socket.semaphores).queue < self.now.limits.goroutines)) }
+        ensures room { IfOk result
+            (λ p. IfSome (slice_get self.now.sockets p.0)
+            (λ socket. length (of_side p.1 socket.semaphores).queue < self.now.limits.goroutines)) }
     {
         let status = self.status_of(goroutine)?;
         acquiring_of(status)

@@ -187,7 +187,8 @@ impl PlainSocket {
     /// So many bytes leave the front of a buffer, and nothing keeps them.
     pub(crate) fn lose(&mut self, side: Side, count: usize)
         requires room { IsEven self.old }
-        ensures after { socket_shown self.new ≡ on_bytes side (λ held. drop count held) (socket_shown self.old) }
+        ensures after { socket_shown self.new
+            ≡ on_bytes side (λ held. drop count held) (socket_shown self.old) }
         ensures room { HasRoomOf self.old self.new }
     {
         match side {

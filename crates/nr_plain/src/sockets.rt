@@ -42,7 +42,12 @@ impl Sockets {
         queue_room: usize,
         byte_room: usize,
     ) -> Result<Sockets, AllocError>
-        ensures { IfOk result (λ s. s ≡ record { sockets = []; room = room; queue_room = queue_room; byte_room = byte_room }) }
+        ensures { IfOk result (λ s. s ≡ record {
+          sockets = [];
+          room = room;
+          queue_room = queue_room;
+          byte_room = byte_room;
+        }) }
     {
         let opened = Vec::with_capacity(alloc, room)?;
         let mut spare = Vec::with_capacity(alloc, room)?;
@@ -73,7 +78,9 @@ impl Sockets {
     fn open_copy(&mut self, socket: &PlainSocket)
         requires room { length self.old.sockets < self.old.room }
         requires same { HasRoom self.old.queue_room self.old.byte_room socket.now }
-        ensures { self.new ≡ record self.old { sockets = self.old.sockets ++ socket_shown socket.now ∷ [] } }
+        ensures { self.new ≡ record self.old {
+          sockets = self.old.sockets ++ socket_shown socket.now ∷ [];
+        } }
     {
         let Some(mut row) = self.spare.pop() else {
             unreachable!()
@@ -99,7 +106,9 @@ impl Sockets {
     /// Opens the next socket, with buffers of these capacities.
     pub(crate) fn open(&mut self, read_capacity: u32, write_capacity: u32)
         requires { length self.old.sockets < self.old.room }
-        ensures { self.new ≡ record self.old { sockets = self.old.sockets ++ new_socket read_capacity write_capacity ∷ [] } }
+        ensures { self.new ≡ record self.old {
+          sockets = self.old.sockets ++ new_socket read_capacity write_capacity ∷ [];
+        } }
     {
         let Some(mut row) = self.spare.pop() else {
             unreachable!()
@@ -110,7 +119,9 @@ impl Sockets {
 
     /// Takes the opening of the last one back.
     pub(crate) fn close_last(&mut self)
-        ensures { self.new ≡ record self.old { sockets = take (length self.old.sockets - 1) self.old.sockets } }
+        ensures { self.new ≡ record self.old {
+          sockets = take (length self.old.sockets - 1) self.old.sockets;
+        } }
     {
         if let Some(row) = self.opened.pop() {
             self.spare.push_reserved(row);
@@ -119,10 +130,15 @@ impl Sockets {
 
     /// Changes a socket, if it is opened, and tells what undoes the change.
     pub(crate) fn edit(&mut self, socket: usize, edit: SocketEdit) -> SocketUndo
-        requires { IfSome (slice_get self.old.sockets socket) (CanEditSocket self.old.queue_room self.old.byte_room edit) }
-        ensures after { self.new ≡ record self.old { sockets = with_changed socket (after_socket_edit edit.entry) self.old.sockets } }
-        ensures can { IfSome (slice_get self.new.sockets socket) (CanUndoSocket self.old.queue_room self.old.byte_room result) }
-        ensures back { with_changed socket (after_socket_undo result) self.new.sockets ≡ self.old.sockets }
+        requires { IfSome (slice_get self.old.sockets socket)
+            (CanEditSocket self.old.queue_room self.old.byte_room edit) }
+        ensures after { self.new ≡ record self.old {
+          sockets = with_changed socket (after_socket_edit edit.entry) self.old.sockets;
+        } }
+        ensures can { IfSome (slice_get self.new.sockets socket)
+            (CanUndoSocket self.old.queue_room self.old.byte_room result) }
+        ensures back { with_changed socket (after_socket_undo result) self.new.sockets
+            ≡ self.old.sockets }
         ensures light { socket_undo_words result ≤ socket_edit_words edit.entry }
     {
         if socket >= self.opened.len() {
@@ -134,7 +150,10 @@ impl Sockets {
 
     /// So many bytes leave the front of a socket's buffer, and nothing keeps them.
     pub(crate) fn lose(&mut self, socket: usize, side: Side, count: usize)
-        ensures { self.new ≡ record self.old { sockets = with_changed socket (on_bytes side (λ held. drop count held)) self.old.sockets } }
+        ensures { self.new ≡ record self.old {
+          sockets = with_changed socket
+              (on_bytes side (λ held. drop count held)) self.old.sockets;
+        } }
     {
         if socket >= self.opened.len() {
             return;
@@ -145,8 +164,11 @@ impl Sockets {
 
     /// Undoes a change of a socket.
     pub(crate) fn undo(&mut self, socket: usize, undo: SocketUndo)
-        requires { IfSome (slice_get self.old.sockets socket) (CanUndoSocket self.old.queue_room self.old.byte_room undo) }
-        ensures { self.new ≡ record self.old { sockets = with_changed socket (after_socket_undo undo) self.old.sockets } }
+        requires { IfSome (slice_get self.old.sockets socket)
+            (CanUndoSocket self.old.queue_room self.old.byte_room undo) }
+        ensures { self.new ≡ record self.old {
+          sockets = with_changed socket (after_socket_undo undo) self.old.sockets;
+        } }
     {
         if socket >= self.opened.len() {
             return;

@@ -91,7 +91,9 @@ impl<T: Drop> Table<T> {
 
     /// Takes the last item away, if there is one.
     pub(crate) fn drop_last(&mut self)
-        ensures { self.new ≡ record self.old { items = take (length self.old.items - 1) self.old.items } }
+        ensures { self.new ≡ record self.old {
+          items = take (length self.old.items - 1) self.old.items;
+        } }
     {
         let _ = self.items.pop();
     }

@@ -96,7 +96,8 @@ fn least_of_rows(rows: &[DescriptorRow]) -> Option<Entry>
 
 /// The earlier of a timer, if there is one, and an entry.
 fn earlier(descriptor: u32, side: Side, timer: Option<Timer>, least: Option<Entry>) -> Option<Entry>
-    ensures { (entries : List Entry) → least ≡ least_of entries → result ≡ least_of (entry_of descriptor side timer ++ entries) }
+    ensures { (entries : List Entry) → least ≡ least_of entries
+        → result ≡ least_of (entry_of descriptor side timer ++ entries) }
 {
     let Some(timer) = timer else {
         return least;

@@ -204,7 +204,8 @@ fn read_answer(count: u32, peer_closed: bool) -> Answer
 
 /// The bytes that there is room for.
 fn writable<'a>(buffer: &PlainBuffer, bytes: &'a [u8]) -> &'a [u8]
-    ensures bytes { result.now ≡ take (min (room_of (buffer_shown buffer.now)) (length bytes.now)) bytes.now }
+    ensures bytes { result.now
+        ≡ take (min (room_of (buffer_shown buffer.now)) (length bytes.now)) bytes.now }
     ensures len { length result.now ≡ min (room_of (buffer_shown buffer.now)) (length bytes.now) }
     ensures small { length result.now < 2 ^ 32 }
 {

@@ -195,7 +195,8 @@ fn moved<'a>(
     row: DescriptorRow,
 ) -> Plan<'a>
     ensures answer { result.answer ≡ answer }
-    ensures edits { result.edits.items ≡ edit.Row descriptor row ∷ edit.Status goroutine status ∷ [] }
+    ensures edits { result.edits.items
+        ≡ edit.Row descriptor row ∷ edit.Status goroutine status ∷ [] }
 {
     Plan::new(answer)
         .then(Edit::Row { descriptor, row })

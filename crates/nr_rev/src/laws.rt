@@ -33,14 +33,18 @@ pub fn empty_world_fits()
 
 /// A step leaves a well-formed world well formed. Its time has 64 bits, as its type says.
 pub fn steps_keep_well_formedness()
-    ensures { (w : World) (step : Step) (answer : Answer) (next : World) → IsTimely step → WellFormed w
-        → outcome w step ≡ Ok (answer, next) → WellFormed next }
+    ensures { (w : World) (step : Step) (answer : Answer) (next : World)
+        → IsTimely step → WellFormed w → outcome w step ≡ Ok (answer, next) → WellFormed next }
 {}
 
 /// Words at the places where a goroutine takes them up: nil or ready at blockarm, and none that holds a goroutine at blockswap.
 pub fn words_where_taken_up()
-    ensures arm { (w : World) (g d : ℕ) (side : Side) (word : Word) → WellFormed w → slice_get w.goroutines g ≡ Some (Entering d side) → HasWord w.descriptors d side word → (word ≡ Nil) ⊎ (word ≡ Ready) }
-    ensures swap { (w : World) (g k d : ℕ) (side : Side) → WellFormed w → slice_get w.goroutines g ≡ Some (Swapping d side) → ¬ HasWord w.descriptors d side (Held k) }
+    ensures arm { (w : World) (g d : ℕ) (side : Side) (word : Word) → WellFormed w
+        → slice_get w.goroutines g ≡ Some (Entering d side)
+        → HasWord w.descriptors d side word → (word ≡ Nil) ⊎ (word ≡ Ready) }
+    ensures swap { (w : World) (g k d : ℕ) (side : Side) → WellFormed w
+        → slice_get w.goroutines g ≡ Some (Swapping d side)
+        → ¬ HasWord w.descriptors d side (Held k) }
 {}
 
 /// No step of a well-formed world is refused for a corrupted descriptor.
@@ -56,9 +60,14 @@ pub fn positions_are_well_formed()
 
 /// What a status, a heap entry or a firing names was made, so no look-up of it is refused.
 pub fn what_is_named_is_there()
-    ensures place { (w : World) (g d : ℕ) (side : Side) → WellFormed w → IsInside w.goroutines g d side → (row : DescriptorRow) × (slice_get w.descriptors d ≡ Some row) }
-    ensures socket { (w : World) (g s : ℕ) → WellFormed w → Shows socket_named w.goroutines g s → (socket : Socket) × (slice_get w.sockets s ≡ Some socket) }
-    ensures entry { (w : World) (p : Stand) (e : Entry) → WellFormed w → standing w.descriptors w.firings p ≡ Some e → (row : DescriptorRow) × (slice_get w.descriptors e.descriptor ≡ Some row) }
+    ensures place { (w : World) (g d : ℕ) (side : Side) → WellFormed w
+        → IsInside w.goroutines g d side
+        → (row : DescriptorRow) × (slice_get w.descriptors d ≡ Some row) }
+    ensures socket { (w : World) (g s : ℕ) → WellFormed w → Shows socket_named w.goroutines g s
+        → (socket : Socket) × (slice_get w.sockets s ≡ Some socket) }
+    ensures entry { (w : World) (p : Stand) (e : Entry) → WellFormed w
+        → standing w.descriptors w.firings p ≡ Some e
+        → (row : DescriptorRow) × (slice_get w.descriptors e.descriptor ≡ Some row) }
 {}
 
 /// A kind's name is read as that kind, and nothing else is; and its number is its place in the list of all kinds.

@@ -65,16 +65,20 @@ pub trait Reversible {
         ensures { back delta self.old self.new };
 
     /// A delta leads back to one state at most.
-    ghost back_is_unique: { (delta : Self.Delta) (new a b : Self) → back delta new a → back delta new b → a ≡ b };
+    ghost back_is_unique: { (delta : Self.Delta) (new a b : Self) → back delta new a
+        → back delta new b → a ≡ b };
 
     /// Where there is a reason, no step is possible.
-    ghost refused_has_no_step: { (old : Self) (op : Self.Op) (e : Refusal) (answer : Self.Answer) (new : Self) → reason old op ≡ Some e → steps old op answer new → ⊥ };
+    ghost refused_has_no_step: { (old : Self) (op : Self.Op) (e : Refusal) (answer : Self.Answer)
+        (new : Self) → reason old op ≡ Some e → steps old op answer new → ⊥ };
 
     /// Want of memory is no reason.
-    ghost memory_is_no_reason: { (old : Self) (op : Self.Op) → is_well_formed old → reason old op ≡ Some Memory → ⊥ };
+    ghost memory_is_no_reason: { (old : Self) (op : Self.Op) → is_well_formed old
+        → reason old op ≡ Some Memory → ⊥ };
 
     /// From a state, an operation gives one answer and leads to one state.
-    ghost steps_unique: { (old : Self) (op : Self.Op) (a b : Self.Answer) (new other : Self) → steps old op a new → steps old op b other → (a ≡ b) × (new ≡ other) };
+    ghost steps_unique: { (old : Self) (op : Self.Op) (a b : Self.Answer) (new other : Self)
+        → steps old op a new → steps old op b other → (a ≡ b) × (new ≡ other) };
 
     /// No operation is allowed more than all are.
     ghost allowance_is_within: { (op : Self.Op) → allowance op ≤ WORDS };

@@ -38,11 +38,14 @@ where
     ensures well_formed { S.is_well_formed state.new }
 
     // All are applied, and each has its delta.
-    ensures applied { OnOk result (Applied S.steps S.back (IsLight S.weight S.allowance S.bytes_out) state.old ops.now out.new.items state.new) }
+    ensures applied { OnOk result
+        (Applied S.steps S.back
+        (IsLight S.weight S.allowance S.bytes_out) state.old ops.now out.new.items state.new) }
     ensures leads_back { OnOk result (LeadsBack S.back out.new.items state.new state.old) }
 
     // Or none is, and the first that does not apply is refused.
-    ensures refusal { IfErr result (FirstRefused S.steps (Refuses S.reason S.takes_memory) state.old ops.now) }
+    ensures refusal { IfErr result
+        (FirstRefused S.steps (Refuses S.reason S.takes_memory) state.old ops.now) }
     ensures unchanged { OnErr result (state.new ≡ state.old) }
     ensures nothing_out { OnErr result (out.new.items ≡ []) }
 {

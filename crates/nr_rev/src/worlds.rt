@@ -69,17 +69,22 @@ pub trait Worlds: Reversible<Op = Step, Answer = Answer> + Sized {
         ensures some { OnErr result (HasItems (queue_of (world self.now) socket side)) };
 
     /// Its steps are those of the machine.
-    ghost steps_are: { (old : Self) (step : Step) (answer : Answer) (new : Self) → Self.steps old step answer new → outcome (world old) step ≡ Ok (answer, world new) };
+    ghost steps_are: { (old : Self) (step : Step) (answer : Answer) (new : Self)
+        → Self.steps old step answer new → outcome (world old) step ≡ Ok (answer, world new) };
 
     /// So are its reasons.
-    ghost reasons_are: { (old : Self) (step : Step) → Self.reason old step ≡ refusal_of (outcome (world old) step) };
+    ghost reasons_are: { (old : Self) (step : Step) → Self.reason old step
+        ≡ refusal_of (outcome (world old) step) };
 
     /// Memory is taken only where bytes leave a buffer, which the way back keeps.
-    ghost memory_is_for_bytes: { (old : Self) (step : Step) → Self.takes_memory old step → LosesBytes (world old) step };
+    ghost memory_is_for_bytes: { (old : Self) (step : Step) → Self.takes_memory old step
+        → LosesBytes (world old) step };
 
     /// Those are the bytes that its deltas may weigh more by.
-    ghost bytes_out_are: { (step : Step) (answer : Answer) → Self.bytes_out step answer ≡ bytes_left step answer };
+    ghost bytes_out_are: { (step : Step) (answer : Answer) → Self.bytes_out step answer
+        ≡ bytes_left step answer };
 
     /// It means a well-formed world.
-    ghost means_well_formed: { (state : Self) → Self.is_well_formed state → WellFormed (world state) };
+    ghost means_well_formed: { (state : Self) → Self.is_well_formed state
+        → WellFormed (world state) };
 }
