@@ -7,6 +7,7 @@ use Rattle.nr_rev.specs.Step.{outcome}
 use Rattle.nr_rev.specs.World.{World}
 use Rattle.nr_rev.specs.Reversible.{Refuses}
 use Rattle.nr_rev.specs.Worlds.{LosesBytes, bytes_left, refusal_of}
+use Rattle.nr_plain.specs.declared.delta.TheConstants.{MOST_WORDS}
 use Rattle.nr_plain.specs.declared.edit.Edit.{Edit}
 use Rattle.nr_plain.specs.declared.plan.Plan.{Plan}
 use Rattle.nr_plain.specs.declared.plan.TheConstants.{MOST_EDITS}
@@ -30,7 +31,7 @@ all_words edits = sum_by edit_words edits
 pub record LeadsTo (step : Step) (w : World) (plan : Plan) : Type 0 where
   pub answer : outcome w step ≡ Ok (plan.answer, after_edits plan.edits.items w)
   pub can : CanEditAll plan.edits.items w
-  pub light : all_words plan.edits.items ≤ 64 + (bytes_left step plan.answer + 7) / 8
+  pub light : all_words plan.edits.items ≤ MOST_WORDS + (bytes_left step plan.answer + 7) / 8
   pub few : length plan.edits.items ≤ MOST_EDITS
 
 -- why a step does not apply

@@ -11,6 +11,7 @@ use Rattle.nr_rev.specs.Worlds.{refusal_of}
 use Rattle.nr_rev.proofs.Chains.{LeadsBack-unique}
 use Rattle.nr_rev.proofs.StepKeeps.{none_for_memory}
 use Rattle.nr_plain.specs.declared.delta.PlainDelta.{PlainDelta}
+use Rattle.nr_plain.specs.declared.delta.TheConstants.{MOST_WORDS}
 use Rattle.nr_plain.specs.declared.edit.Undo.{Undo}
 use Rattle.nr_plain.specs.Delta.{PlainBack}
 use Rattle.nr_plain.specs.Edit.{Undoes}
@@ -30,8 +31,9 @@ same_parts {A} {B} a c b d e =
 pub steps_unique : (old : World) (step : Step) (a b : Answer) (new other : World) → StepTo old step a new → StepTo old step b other → (a ≡ b) × (new ≡ other)
 steps_unique old step a b new other p q = same_parts a b new other (sym p ∙ q)
 
-pub sixty_four_is_within : (step : Step) → 64 ≤ 64
-sixty_four_is_within step = lit≤ tt
+-- each step has the whole allowance
+pub words_are_within : (step : Step) → MOST_WORDS ≤ MOST_WORDS
+words_are_within step = lit≤ tt
 
 -- what an outcome is refused for
 refused_for : (o : Outcome) (e : Refusal) → refusal_of o ≡ Some e → ◌≡◌ {A = Outcome} o (Err e)

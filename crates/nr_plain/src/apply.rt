@@ -7,7 +7,7 @@ ghost use Rattle.nr_rev.specs.WellFormed.{WellFormed};
 ghost use Rattle.nr_plain.specs.Edit.{Undoes, undo_words};
 ghost use Rattle.nr_plain.specs.Plan.{CanEditAll, PlansUnlessMemory, after_edits, all_words};
 
-use crate::delta::PlainDelta;
+use crate::delta::{MOST_WORDS, PlainDelta};
 use crate::edit::{Edit, Undo};
 use crate::plan::{MOST_EDITS, Plan};
 use crate::world::PlainWorld;
@@ -133,9 +133,10 @@ impl Reversible for PlainWorld {
     ghost use Rattle.nr_rev.specs.Step.{StepTo};
     ghost use Rattle.nr_rev.specs.WellFormed.{WellFormed};
     ghost use Rattle.nr_rev.specs.Worlds.{LosesBytes, bytes_left};
+    ghost use Rattle.nr_plain.specs.declared.delta.TheConstants.{MOST_WORDS};
     ghost use Rattle.nr_plain.specs.Delta.{PlainBack, delta_words};
     ghost use Rattle.nr_plain.specs.Plan.{world_reason};
-    ghost use Rattle.nr_plain.specs.ReversibleLaws.{PlainBack-unique, memory_is_no_reason, refused_has_no_step, sixty_four_is_within, steps_unique};
+    ghost use Rattle.nr_plain.specs.ReversibleLaws.{PlainBack-unique, memory_is_no_reason, refused_has_no_step, words_are_within, steps_unique};
 
     type Op = Step;
 
@@ -143,9 +144,9 @@ impl Reversible for PlainWorld {
 
     type Delta = PlainDelta;
 
-    const WORDS: u32 = 64;
+    const WORDS: u32 = MOST_WORDS;
 
-    ghost WORDS = { 64 };
+    ghost WORDS = { MOST_WORDS };
 
     ghost is_well_formed = { WellFormed };
 
@@ -159,7 +160,7 @@ impl Reversible for PlainWorld {
 
     ghost weight = { delta_words };
 
-    ghost allowance = { λ _. 64 };
+    ghost allowance = { λ _. MOST_WORDS };
 
     ghost bytes_out = { bytes_left };
 
@@ -184,5 +185,5 @@ impl Reversible for PlainWorld {
 
     ghost steps_unique = { steps_unique };
 
-    ghost allowance_is_within = { sixty_four_is_within };
+    ghost allowance_is_within = { words_are_within };
 }
