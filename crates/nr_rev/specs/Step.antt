@@ -26,7 +26,11 @@ use Rattle.nr_rev.specs.Socket.{Socket, new_socket, room_of}
 use Rattle.nr_rev.specs.declared.descriptor.DescriptorRow.{DescriptorRow}
 use Rattle.nr_rev.specs.World.{World, is_free_number, least_entry, is_waited, with_status, with_socket, with_row, with_descriptor}
 
--- ---- what steps look up, and the reasons where it isn't there
+-- ---- what a step comes to, and the time that it carries
+
+-- the answer and the next world, or the reason why it doesn't apply
+abbrev pub Outcome : Type 0
+Outcome = Result (Answer × World) Refusal
 
 -- the time that a step carries, if it carries one, is a time
 abbrev pub IsTimely : Step → Type 0
@@ -34,8 +38,7 @@ IsTimely (Step.SetDeadline g d mode t) = IsTime t
 IsTimely (Step.Tick t) = IsTime t
 IsTimely _ = Unit {0}
 
-abbrev pub Outcome : Type 0
-Outcome = Result (Answer × World) Refusal
+-- ---- what steps look up, and the reasons where it isn't there
 
 -- reason 1: no such goroutine, or gone
 abbrev pub alive : Option Status → Result Status Refusal

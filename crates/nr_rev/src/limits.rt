@@ -1,6 +1,6 @@
 //! The limits of a recording, and their ranges.
 
-ghost use Rattle.std.specs.Prelude.{◌≡◌};
+ghost use Rattle.std.specs.Prelude.{◌≡◌, true};
 ghost use Rattle.nr_rev.specs.Limits.{is_limit};
 
 /// The most goroutines that a recording may make.
@@ -37,6 +37,7 @@ impl Limits {
     pub fn are_in_range(&self) -> bool
         ensures value { result ≡ are_in_range self.now }
         ensures facts { OnTrue result (AreInRange self.now) }
+        ensures all { AreInRange self.now → result ≡ true }
     {
         is_limit(MOST_GOROUTINES, self.goroutines)
             && is_limit(MOST_SOCKETS, self.sockets)
