@@ -1,5 +1,5 @@
 -- A descriptor changes: its timers first, then its words.
-use Rattle.std.proofs.Common.{◌≡◌, ℕ, zero, suc, ◌<◌, Bool, true, false, List, [], ◌∷◌, ◌++◌, Option, Some, Ok, inl, refl, sym, ap, subst, ◌∙◌, set, arith, ◌+◌, ◌-◌, ◌^◌, None, true≢false}
+use Rattle.std.proofs.Common.{◌≡◌, ℕ, zero, suc, ◌<◌, Bool, true, false, List, [], ◌∷◌, ◌++◌, Option, Some, inl, refl, sym, ap, subst, ◌∙◌, set, arith, None, true≢false}
 use Rattle.std.specs.Prelude.{slice_get, option_map}
 use Rattle.std.specs.Option.{option_and_then}
 use Rattle.nr_rev.specs.declared.sides.Side.{Side}
@@ -11,19 +11,16 @@ use Rattle.nr_rev.specs.declared.descriptor.DescriptorRow.{DescriptorRow}
 use Rattle.nr_rev.specs.World.{World, with_row, is_free_number}
 use Rattle.nr_rev.specs.WellFormed.{WellFormed, RowFits, FiringFits, ArmedAt, armed_at}
 use Rattle.nr_rev.proofs.Lists.{slice_get-set_here}
-use Rattle.nr_rev.proofs.Reasons.{bound_then, same_ok, then_ok, unless_ok, below_of}
 use Rattle.std.proofs.lemmas.List.{append-nil}
 use Rattle.nr_rev.specs.declared.timer.Timer.{Timer}
 use Rattle.nr_rev.specs.declared.timer.Entry.{Entry}
-use Rattle.nr_rev.specs.Descriptor.{Change, and_then, and_if, unblocked, unblock, both_raised}
-use Rattle.nr_rev.specs.Step.{all_woken, changed, all_obeyed, obeyed}
+use Rattle.nr_rev.specs.Descriptor.{Change, and_then, and_if, unblocked, unblock}
+use Rattle.nr_rev.specs.Step.{all_woken, changed, all_obeyed}
 use Rattle.nr_rev.proofs.Retimed.{Retimed}
 use Rattle.nr_rev.proofs.RetimedKeeps.{retimed_keeps}
 use Rattle.nr_rev.proofs.Unblocked.{unblocked_keeps}
-use Rattle.nr_rev.specs.Refusing.{raised_sequence}
 use Rattle.nr_rev.specs.declared.timer.TimerOrder.{TimerOrder}
-use Rattle.nr_rev.specs.declared.timer.TimerOrder.TheVariants.{Arm, Stop}
-use Rattle.nr_rev.proofs.Outcomes.{Spares, Spares-ok, Ends-bind, Spares-raised_sequence}
+use Rattle.nr_rev.proofs.Outcomes.{Ends, Ends-ok, Ends-bind}
 
 pub set_set : {X : Type 0} (xs : List X) (i : ℕ) (a b : X) → set (set xs i a) i b ≡ set xs i b
 set_set [] i a b = refl
@@ -93,21 +90,19 @@ orders_if true ioready side change = append-nil _
 orders_if false ioready side change = refl
 
 -- timers are reset, and then sides are unblocked
-pub changed_keeps : (w next : World) (d : ℕ) (row : DescriptorRow) (base : Change) (reads writes ioready : Bool) → WellFormed w → slice_get w.descriptors d ≡ Some row → is_free_number d w.free ≡ false → base.woken ≡ [] → base.descriptor.words ≡ row.descriptor.words → ((timers : Sides (Option Timer)) (m : ℕ) → all_obeyed base.orders (row.timers, w.next_arming) ≡ Ok (timers, m) → Retimed w.firings d row (record { descriptor = base.descriptor; timers = timers }) w.next_arming m) → changed d row (and_if writes (unblocked ioready Write) (and_if reads (unblocked ioready Read) base)) w ≡ Ok next → WellFormed next
-changed_keeps w next d row base reads writes ioready h at is_open quiets words retimed e =
-    bound_then _ (all_obeyed (and_if writes (unblocked ioready Write) (and_if reads (unblocked ioready Read) base)).orders (row.timers, w.next_arming)) _ _ e
-    λ after obeys e.
-    let same : base.orders ≡ (and_if writes (unblocked ioready Write) (and_if reads (unblocked ioready Read) base)).orders =
-    sym (orders_if writes ioready Write _ ∙ orders_if reads ioready Read base)
+pub changed_keeps : {T : Type 0} (w : World) (d : ℕ) (row : DescriptorRow) (base : Change) (reads writes ioready : Bool) → WellFormed w → slice_get w.descriptors d ≡ Some row → is_free_number d w.free ≡ false → base.woken ≡ [] → base.descriptor.words ≡ row.descriptor.words → Ends (λ (left : Sides (Option Timer) × ℕ). T → Retimed w.firings d row (record { descriptor = base.descriptor; timers = left.0 }) w.next_arming left.1) (all_obeyed base.orders (row.timers, w.next_arming)) → Ends (λ (next : World). T → WellFormed next) (changed d row (and_if writes (unblocked ioready Write) (and_if reads (unblocked ioready Read) base)) w)
+changed_keeps {T = T} w d row base reads writes ioready h at is_open quiets words retimed =
+    Ends-bind
+    (subst (λ (orders : List TimerOrder). Ends (λ (left : Sides (Option Timer) × ℕ). T → Retimed w.firings d row (record { descriptor = base.descriptor; timers = left.0 }) w.next_arming left.1) (all_obeyed orders (row.timers, w.next_arming)))
+    (sym (orders_if writes ioready Write _ ∙ orders_if reads ioready Read base)) retimed)
+    λ left change.
+    Ends-ok λ premise.
+    let first : WellFormed (after_change d left.0 base (record w { next_arming = left.1 })) =
+    subst (λ (gs : List ℕ). WellFormed (all_woken gs (with_row d (record { descriptor = base.descriptor; timers = left.0 }) (record w { next_arming = left.1 })))) (sym quiets)
+    (retimed_keeps w d left.1 row _ h at is_open words (change premise))
     in
-    let r = retimed after.0 after.1 (ap (λ orders. all_obeyed orders (row.timers, w.next_arming)) same ∙ obeys) in
-    let first : WellFormed (after_change d after.0 base (record w { next_arming = after.1 })) =
-    subst (λ (gs : List ℕ). WellFormed (all_woken gs (with_row d (record { descriptor = base.descriptor; timers = after.0 }) (record w { next_arming = after.1 })))) (sym quiets)
-    (retimed_keeps w d after.1 row _ h at is_open words r)
-    in
-    subst WellFormed (same_ok _ _ e)
-    (then_if (record w { next_arming = after.1 }) d row after.0 (and_if reads (unblocked ioready Read) base) writes Write ioready at is_open
-    (then_if (record w { next_arming = after.1 }) d row after.0 base reads Read ioready at is_open first))
+    then_if (record w { next_arming = left.1 }) d row left.0 (and_if reads (unblocked ioready Read) base) writes Write ioready at is_open
+    (then_if (record w { next_arming = left.1 }) d row left.0 base reads Read ioready at is_open first)
 
 -- a timer that stands has a number given out before
 pub old_number : (w : World) (d : ℕ) (row : DescriptorRow) (side : Side) (timer : Timer) → WellFormed w → slice_get w.descriptors d ≡ Some row → of_side side row.timers ≡ Some timer → timer.number < w.next_arming
@@ -128,24 +123,6 @@ retimed_still w d old new h at timers sequences fits firing =
       in_range = h.timers.in_range;
     }
 
-pub raised_range : (n m : ℕ) → raised_sequence n ≡ Ok m → (m ≡ n + 1) × (m < 2 ^ 64)
-raised_range n m e =
-    let t = then_ok _ _ _ e in
-    let below : n < 2 ^ 64 - 1 = below_of _ _ (unless_ok _ _ t.0) in
-    let is : n + 1 ≡ m = same_ok _ _ t.1 in
-    (sym is, omega arith)
-
-pub both_range : (old new : Sides ℕ) → both_raised old ≡ Ok new → (side : Side) → (of_side side new ≡ of_side side old + 1) × (of_side side new < 2 ^ 64)
-both_range old new e side =
-    bound_then _ (raised_sequence old.read) _ _ e λ read raised e.
-    bound_then _ (raised_sequence old.write) _ _ e λ write raised' e.
-    subst (λ (x : Sides ℕ). (of_side side x ≡ of_side side old + 1) × (of_side side x < 2 ^ 64)) (same_ok _ _ e)
-    (go read write (raised_range _ _ raised) (raised_range _ _ raised') side)
-  where
-    go : (read write : ℕ) → (read ≡ old.read + 1) × (read < 2 ^ 64) → (write ≡ old.write + 1) × (write < 2 ^ 64) → (s : Side) → (of_side s (record { read = read; write = write }) ≡ of_side s old + 1) × (of_side s (record { read = read; write = write }) < 2 ^ 64)
-    go read write r c Read = r
-    go read write r c Write = c
-
 -- a timer stands only where it runs
 pub none_at_rest : (row : DescriptorRow) (side : Side) → RowFits row → of_side side row.descriptor.running ≡ false → of_side side row.timers ≡ None
 none_at_rest row side h rest = go (of_side side row.timers) refl
@@ -153,15 +130,3 @@ none_at_rest row side h rest = go (of_side side row.timers) refl
     go : (o : Option Timer) → of_side side row.timers ≡ o → of_side side row.timers ≡ None
     go None at = at
     go (Some timer) at = absurd (true≢false (sym (h.entries side timer at).running ∙ rest))
-
--- what is ordered of timers is refused for no other reason than a last number
-Spares-obeyed : (order : TimerOrder) (before : Sides (Option Timer) × ℕ) → Spares (obeyed order before)
-Spares-obeyed (Arm side due function sequence) before = Ends-bind _ (raised_sequence before.1) _ (Spares-raised_sequence before.1) (λ n _. Spares-ok _)
-Spares-obeyed (Stop side) before = Spares-ok _
-
-Spares-all_obeyed : (orders : List TimerOrder) (before : Sides (Option Timer) × ℕ) → Spares (all_obeyed orders before)
-Spares-all_obeyed [] before = Spares-ok _
-Spares-all_obeyed (order ∷ orders) before = Ends-bind _ (obeyed order before) _ (Spares-obeyed order before) (λ after _. Spares-all_obeyed orders after)
-
-pub Spares-changed : (d : ℕ) (row : DescriptorRow) (change : Change) (w : World) → Spares (changed d row change w)
-Spares-changed d row change w = Ends-bind _ (all_obeyed change.orders (row.timers, w.next_arming)) _ (Spares-all_obeyed change.orders _) (λ after _. Spares-ok _)

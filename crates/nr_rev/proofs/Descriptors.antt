@@ -1,42 +1,38 @@
 -- Descriptors are opened, evicted and closed, and the poller tells of events.
-use Rattle.std.proofs.Common.{◌≡◌, ℕ, ◌^◌, ◌<◌, Bool, true, not, ◌||◌, Option, Some, Ok, refl, subst, ◌+◌, false, [], ◌++◌, None, Result, inr, sym, ap, ◌∙◌, arith, true≢false, lit<, ◌≢◌, ◌≤◌, pos, List, ◌∷◌, ◌⊎◌, inl, ap₂, set, length, length-set, length-append, All}
-use Rattle.std.specs.Prelude.{slice_get, ◌==◌, if◌then◌else◌, count_by, sum_by, option_map}
+use Rattle.std.proofs.Common.{◌≡◌, ℕ, ◌^◌, ◌<◌, Bool, true, not, ◌||◌, Option, Some, refl, subst, ◌+◌, false, [], ◌++◌, None, inr, sym, ap, ◌∙◌, arith, true≢false, lit<, ◌≢◌, ◌≤◌, pos, List, ◌∷◌, ◌⊎◌, inl, ap₂, set, length, length-set, length-append, All}
+use Rattle.std.specs.Prelude.{slice_get, ◌==◌, nat_lt, if◌then◌else◌, count_by, sum_by, option_map}
 use Rattle.nr_rev.specs.declared.sides.Side.{Side}
 use Rattle.nr_rev.specs.declared.sides.Side.TheVariants.{Read, Write}
 use Rattle.nr_rev.specs.declared.sides.Sides.{Sides}
 use Rattle.nr_rev.specs.declared.descriptor.DescriptorRow.{DescriptorRow}
 use Rattle.nr_rev.specs.World.{World, is_free_number, with_row, with_descriptor, is_waited}
 use Rattle.nr_rev.specs.WellFormed.{WellFormed, RowFits, EntryFits, FiringFits, IsDueFor, TimersFit, IsInside, HasWord, held_count, Stand, ArmedAt, FiringAt, standing, armed_at, IsCurrent}
-use Rattle.nr_rev.proofs.Reasons.{bound_then, same_ok, then_ok, unless_ok, below_of, if_ok}
-use Rattle.nr_rev.proofs.Found.{row_ok, neither_of, open_row_ok, nobody_inside}
+use Rattle.nr_rev.proofs.BothSides.{each_side, of_side-twice}
+use Rattle.nr_rev.proofs.Found.{neither_of, nobody_inside, Ends-idle, Ends-socket_of, Ends-row_of, Ends-open_row_of}
 use Rattle.nr_rev.specs.declared.sides.Mode.{Mode}
 use Rattle.nr_rev.specs.declared.timer.TimerFunction.{TimerFunction}
 use Rattle.nr_rev.specs.Sides.{names_side, of_side, twice, with_side}
 use Rattle.nr_rev.specs.declared.timer.Timer.{Timer}
 use Rattle.nr_rev.specs.declared.timer.Entry.{Entry}
-use Rattle.nr_rev.specs.Descriptor.{timer_function, quiet, event_seen, Change, both_raised, stop_if, evicted, opened_for, closed}
-use Rattle.nr_rev.specs.Step.{pollevent, row_of, changed, all_obeyed, idle, open_row_of, evict, pollopen, pollclose, taken, new_row, socket_of}
-use Rattle.nr_rev.proofs.Changes.{changed_keeps, retimed_still, raised_range, both_range, none_at_rest, set_set, Spares-changed}
+use Rattle.nr_rev.specs.Descriptor.{timer_function, quiet, stop_if, evicted}
+use Rattle.nr_rev.specs.Step.{pollevent, changed, all_obeyed, evict, pollopen, pollclose, taken, new_row}
+use Rattle.nr_rev.proofs.Changes.{changed_keeps, retimed_still, none_at_rest, set_set}
 use Rattle.nr_rev.proofs.Retimed.{Retimed, TimersFit-retimed, armed_names}
 use Rattle.std.proofs.lemmas.Option.{none-some, same_Some, slice_get_within}
-use Rattle.nr_rev.specs.declared.refusal.Refusal.{Refusal}
-use Rattle.nr_rev.specs.Refusing.{raised_sequence}
-use Rattle.nr_rev.proofs.SideAfter.{SideAfter, firing_fits, none_current}
+use Rattle.nr_rev.proofs.SideAfter.{none_current}
 use Rattle.std.specs.Option.{option_and_then}
 use Rattle.nr_rev.specs.declared.descriptor.Word.{Word}
 use Rattle.nr_rev.specs.declared.descriptor.Word.TheVariants.{Nil, Ready, Held}
 use Rattle.nr_rev.proofs.Lists.{slice_get-set_unseen, slice_get-set_cases, slice_get-set_here, slice_get-push_cases, slice_get-push_kept, slice_get-push_unseen}
-use Rattle.nr_rev.specs.Timer.{IsTime}
-use Rattle.nr_rev.specs.declared.descriptor.Descriptor.{Descriptor}
 use Rattle.nr_rev.proofs.RetimedKeeps.{retimed_keeps, WordsFit-rows}
 use Rattle.std.proofs.lemmas.List.Sums.{sum_by-append}
 use Rattle.std.proofs.lemmas.List.Elements.{All-cons, All-tail, All-nil}
 use Rattle.nr_rev.specs.Lock.{bit}
 use Rattle.nr_rev.proofs.Reworded.{reworded}
 use Rattle.nr_rev.proofs.WordSet.{word_at_rest, word_has, cleared}
-use Rattle.nr_rev.proofs.Numbers.{count_front, number_same, number_apart, same_number}
+use Rattle.nr_rev.proofs.Numbers.{below_of, count_front, number_same, number_apart, same_number}
 use Rattle.nr_rev.proofs.Restood.{TimersFit-restood}
-use Rattle.nr_rev.proofs.Outcomes.{Keeps, Spares, Spares-ok, Ends-ok, Ends-bind, Ends-then, Spares-then, Ends-either, Spares-refused_if, Spares-refused_unless, Spares-idle, Spares-socket_of, Spares-row_of, Spares-open_row_of, Spares-raised_sequence, Spares-both_raised}
+use Rattle.nr_rev.proofs.Outcomes.{Ends, Keeps, BothRaised, Ends-ok, Ends-map, Ends-bind, Ends-then, Ends-either, Ends-refused_if, Ends-refused_unless, Ends-raised_sequence, Ends-both_raised}
 
 abbrev pub marked : DescriptorRow → Bool → ℕ → DescriptorRow
 marked row error fdseq = record row { descriptor = record row.descriptor { event_error = error; fdseq = fdseq } }
@@ -73,53 +69,44 @@ FiringFits-marked row error fdseq firing h =
     function_same Read e = e
     function_same Write e = e
 
-stopped_timers : (r c : Bool) (before after : Sides (Option Timer)) (n m : ℕ) → (r ≡ false → before.read ≡ None) → (c ≡ false → before.write ≡ None) → all_obeyed (stop_if r Read ++ stop_if c Write) (before, n) ≡ Ok (after, m) → ((side : Side) → of_side side after ≡ None) × (n ≡ m)
-stopped_timers r c before after n m read write e = go r c read write e
-  where
-    both : (x y : Option Timer) → x ≡ None → y ≡ None → (side : Side) → of_side side (record { read = x; write = y }) ≡ None
-    both x y a b Read = a
-    both x y a b Write = b
+-- the timers that run are stopped, and the others stand nowhere
+Ends-stopped : (r c : Bool) (before : Sides (Option Timer)) (n : ℕ) → (r ≡ false → before.read ≡ None) → (c ≡ false → before.write ≡ None) → Ends (λ left. ((side : Side) → of_side side left.0 ≡ None) × (n ≡ left.1)) (all_obeyed (stop_if r Read ++ stop_if c Write) (before, n))
+Ends-stopped true true before n read write = Ends-ok (each_side _ refl refl, refl)
+Ends-stopped true false before n read write = Ends-ok (each_side _ refl (write refl), refl)
+Ends-stopped false true before n read write = Ends-ok (each_side _ (read refl) refl, refl)
+Ends-stopped false false before n read write = Ends-ok (each_side _ (read refl) (write refl), refl)
 
-    done : (x y : Option Timer) → x ≡ None → y ≡ None → ◌≡◌ {A = Result (Sides (Option Timer) × ℕ) Refusal} (Ok (record { read = x; write = y }, n)) (Ok (after, m)) → ((side : Side) → of_side side after ≡ None) × (n ≡ m)
-    done x y a b e =
-        let p = same_ok {A = Sides (Option Timer) × ℕ} (record { read = x; write = y }, n) (after, m) e in
-        (λ side. sym (ap (λ (q : Sides (Option Timer) × ℕ). of_side side q.0) p) ∙ both x y a b side, ap (λ (q : Sides (Option Timer) × ℕ). q.1) p)
-
-    go : (r c : Bool) → (r ≡ false → before.read ≡ None) → (c ≡ false → before.write ≡ None) → all_obeyed (stop_if r Read ++ stop_if c Write) (before, n) ≡ Ok (after, m) → ((side : Side) → of_side side after ≡ None) × (n ≡ m)
-    go true true read write e = done None None refl refl e
-    go true false read write e = done None before.write refl (write refl) e
-    go false true read write e = done before.read None (read refl) refl e
-    go false false read write e = done before.read before.write (read refl) (write refl) e
-
-abbrev stopped : DescriptorRow → Sides ℕ → Sides (Option Timer) → DescriptorRow
-stopped row sequences timers = record { descriptor = record row.descriptor { closing = true; sequences = sequences; running = twice false }; timers = timers }
-
-off : (side : Side) → of_side side (twice false) ≡ false
-off Read = refl
-off Write = refl
-
-stopped_retimed : (w : World) (d : ℕ) (row : DescriptorRow) (sequences : Sides ℕ) (timers : Sides (Option Timer)) → WellFormed w → slice_get w.descriptors d ≡ Some row → ((side : Side) → (of_side side sequences ≡ of_side side row.descriptor.sequences + 1) × (of_side side sequences < 2 ^ 64)) → ((side : Side) → of_side side timers ≡ None) → Retimed w.firings d row (stopped row sequences timers) w.next_arming w.next_arming
-stopped_retimed w d row sequences timers h at raised none =
+-- both timers are gone, and both sequences were raised
+gone_retimed : (w : World) (d : ℕ) (old new : DescriptorRow) → WellFormed w → ((side : Side) → of_side side new.timers ≡ None) → BothRaised old.descriptor.sequences new.descriptor.sequences → RowFits new → Retimed w.firings d old new w.next_arming w.next_arming
+gone_retimed w d old new h none raised fits =
     record {
-      fits =
-          record {
-            entries = λ side timer is. absurd (none-some _ (sym (none side) ∙ is));
-            combo = λ _. refl;
-            closing = λ _. refl;
-            sequences = λ side. (raised side).1;
-            fdseq = (h.timers.entries_fit d row at).fdseq;
-            times = (h.timers.entries_fit d row at).times;
-          };
-      firing = λ i e _ _ f. firing_fits e row.descriptor (stopped row sequences timers).descriptor None None (SideAfter.Stopped (raised e.side).0 (off e.side) refl) f;
+      fits = fits;
+      firing = λ i e _ _ f.
+          let most = f.sequence in
+          let up = (raised e.side).0 in
+          record { side = f.side; sequence = omega arith; due = f.due; current = λ now. absurd (omega arith) };
       sides = λ side.
           inr (record {
-            stale = λ e same f now.
-                none_current e row.descriptor (stopped row sequences timers).descriptor (inr (raised e.side).0) f (now ∙ ap (λ s. of_side s sequences) (sym same));
+            stale = λ e same f now. none_current e old.descriptor new.descriptor (inr (raised e.side).0) f (now ∙ ap (λ s. of_side s new.descriptor.sequences) (sym same));
             number = λ timer is. absurd (none-some _ (sym (none side) ∙ is));
           });
       apart = λ s t a b is_a is_b new_number same. absurd (none-some _ (sym (none s) ∙ is_a));
       rises = omega arith;
       in_range = h.timers.in_range;
+    }
+
+abbrev stopped : DescriptorRow → Sides ℕ → Sides (Option Timer) → DescriptorRow
+stopped row sequences timers = record { descriptor = record row.descriptor { closing = true; sequences = sequences; running = twice false }; timers = timers }
+
+RowFits-stopped : (row : DescriptorRow) (sequences : Sides ℕ) (timers : Sides (Option Timer)) → RowFits row → ((side : Side) → of_side side timers ≡ None) → BothRaised row.descriptor.sequences sequences → RowFits (stopped row sequences timers)
+RowFits-stopped row sequences timers h none raised =
+    record {
+      entries = λ side timer is. absurd (none-some _ (sym (none side) ∙ is));
+      combo = λ _. refl;
+      closing = λ _. refl;
+      sequences = λ side. (raised side).1;
+      fdseq = h.fdseq;
+      times = h.times;
     }
 
 swap_equal : (a b : ℕ) → (a == b) ≡ (b == a)
@@ -289,35 +276,21 @@ popped w d free h is =
 
 -- the pushed row says nothing
 new_unarmed : (k : ℕ) (side : Side) → armed_at k side new_row ≡ None
-new_unarmed k Read = refl
-new_unarmed k Write = refl
+new_unarmed k = each_side _ refl refl
 
 new_word : (side : Side) → of_side side new_row.descriptor.words ≡ Nil
-new_word Read = refl
-new_word Write = refl
+new_word = each_side _ refl refl
 
 new_fits : RowFits new_row
 new_fits =
     record {
-      entries = entries;
+      entries = each_side _ (λ timer e. cc) (λ timer e. cc);
       combo = λ e. refl;
       closing = λ e. refl;
-      sequences = sequences;
+      sequences = each_side _ (omega arith) (omega arith);
       fdseq = omega arith;
-      times = times;
+      times = each_side _ (record { sfits = lit< tt }) (record { sfits = lit< tt });
     }
-  where
-    times : (side : Side) → IsTime (of_side side new_row.descriptor.deadlines)
-    times Read = record { sfits = lit< tt }
-    times Write = record { sfits = lit< tt }
-
-    entries : (side : Side) (timer : Timer) → of_side side new_row.timers ≡ Some timer → EntryFits new_row.descriptor side timer
-    entries Read timer e = cc
-    entries Write timer e = cc
-
-    sequences : (side : Side) → of_side side new_row.descriptor.sequences < 2 ^ 64
-    sequences Read = omega arith
-    sequences Write = omega arith
 
 pushed_word : (rows : List DescriptorRow) (k : ℕ) (side : Side) (word : Word) → HasWord (rows ++ new_row ∷ []) k side word → HasWord rows k side word ⊎ ((k ≡ length rows) × (word ≡ Nil))
 pushed_word rows k side word has = go (slice_get (rows ++ new_row ∷ []) k) refl has
@@ -426,14 +399,11 @@ pushed w h none room =
     past_end [] side word e = cc
     past_end (row ∷ rows) side word e = past_end rows side word e
 
-takes : (w next : World) (d : ℕ) (free : List ℕ) → WellFormed w → w.free ≡ free → taken free w ≡ Ok (d, next) → Taken next d
-takes w next d (k ∷ free) h is e =
-    let p = same_ok {A = ℕ × World} (k, record w { free = free }) (d, next) e in
-    subst (λ (x : ℕ × World). Taken x.1 x.0) p (popped w k free h is)
-takes w next d [] h is e =
-    let t = then_ok _ _ _ e in
-    let p = same_ok {A = ℕ × World} (length w.descriptors, record w { descriptors = w.descriptors ++ new_row ∷ [] }) (d, next) t.1 in
-    subst (λ (x : ℕ × World). Taken x.1 x.0) p (pushed w h is (below_of _ _ (unless_ok _ _ t.0)))
+Ends-taken : (w : World) (free : List ℕ) → WellFormed w → w.free ≡ free → Ends (λ (took : ℕ × World). Taken took.1 took.0) (taken free w)
+Ends-taken w (k ∷ free) h is = Ends-ok (popped w k free h is)
+Ends-taken w [] h is =
+    Ends-then (Ends-refused_unless (nat_lt (length w.descriptors) w.limits.descriptors) _ refl) λ room.
+    Ends-ok (pushed w h is (below_of _ _ room))
 
 -- a descriptor at rest begins anew
 abbrev begun_row : DescriptorRow → ℕ → Sides ℕ → DescriptorRow
@@ -451,52 +421,26 @@ begun_row row s sequences =
           };
     }
 
-begun_retimed : (w : World) (d s : ℕ) (row : DescriptorRow) (sequences : Sides ℕ) → WellFormed w → slice_get w.descriptors d ≡ Some row → row.descriptor.running ≡ twice false → ((side : Side) → (of_side side sequences ≡ of_side side row.descriptor.sequences + 1) × (of_side side sequences < 2 ^ 64)) → Retimed w.firings d row (begun_row row s sequences) w.next_arming w.next_arming
-begun_retimed w d s row sequences h at rests raised =
+RowFits-begun : (s : ℕ) (row : DescriptorRow) (sequences : Sides ℕ) → RowFits row → ((side : Side) → of_side side row.timers ≡ None) → BothRaised row.descriptor.sequences sequences → RowFits (begun_row row s sequences)
+RowFits-begun s row sequences h none raised =
     record {
-      fits =
-          record {
-            entries = λ side timer is. absurd (none-some _ (sym (none side) ∙ is));
-            combo = λ e. cc;
-            closing = λ e. cc;
-            sequences = λ side. (raised side).1;
-            fdseq = fdseq (row.descriptor.fdseq == 0);
-            times = times;
-          };
-      firing = λ i e _ _ f.
-          let most = f.sequence in
-          let up = (raised e.side).0 in
-          record { side = f.side; sequence = omega arith; due = f.due; current = λ now. absurd (omega arith) };
-      sides = λ side.
-          inr (record {
-            stale = λ e same f now. none_current e row.descriptor (begun_row row s sequences).descriptor (inr (raised e.side).0) f (now ∙ ap (λ s. of_side s sequences) (sym same));
-            number = λ timer is. absurd (none-some _ (sym (none side) ∙ is));
-          });
-      apart = λ a b x y is_x is_y new_number same. absurd (none-some _ (sym (none a) ∙ is_x));
-      rises = omega arith;
-      in_range = h.timers.in_range;
+      entries = λ side timer is. absurd (none-some _ (sym (none side) ∙ is));
+      combo = λ e. cc;
+      closing = λ e. cc;
+      sequences = λ side. (raised side).1;
+      fdseq = fdseq (row.descriptor.fdseq == 0);
+      times = each_side _ (record { sfits = lit< tt }) (record { sfits = lit< tt });
     }
   where
-    off : (side : Side) → of_side side (twice false) ≡ false
-    off Read = refl
-    off Write = refl
-
-    none : (side : Side) → of_side side row.timers ≡ None
-    none side = none_at_rest row side (h.timers.entries_fit d row at) (ap (of_side side) rests ∙ off side)
-
-    times : (side : Side) → IsTime (of_side side (twice (pos 0)))
-    times Read = record { sfits = lit< tt }
-    times Write = record { sfits = lit< tt }
-
     fdseq : (b : Bool) → (if b then 1 else row.descriptor.fdseq) < 2 ^ 64
     fdseq true = omega arith
-    fdseq false = (h.timers.entries_fit d row at).fdseq
+    fdseq false = h.fdseq
 
-begins : (w : World) (d s : ℕ) (row : DescriptorRow) (sequences : Sides ℕ) → Taken w d → slice_get w.descriptors d ≡ Some row → ((side : Side) → (of_side side sequences ≡ of_side side row.descriptor.sequences + 1) × (of_side side sequences < 2 ^ 64)) → WellFormed (with_row d (begun_row row s sequences) w)
+begins : (w : World) (d s : ℕ) (row : DescriptorRow) (sequences : Sides ℕ) → Taken w d → slice_get w.descriptors d ≡ Some row → BothRaised row.descriptor.sequences sequences → WellFormed (with_row d (begun_row row s sequences) w)
 begins w d s row sequences t at raised =
     subst WellFormed same
     (retimed_keeps second d w.next_arming row2 _ h2 at2 t.is_open refl
-    (begun_retimed second d s row2 sequences h2 at2 (t.rests row at) raised))
+    (gone_retimed second d row2 _ h2 none raised (RowFits-begun s row2 sequences (h2.timers.entries_fit d row2 at2) none raised)))
   where
     row1 : DescriptorRow
     row1 = reworded row (with_side Read Nil row.descriptor.words)
@@ -522,89 +466,72 @@ begins w d s row sequences t at raised =
     at2 : slice_get second.descriptors d ≡ Some row2
     at2 = slice_get-set_here first.descriptors d row1 row2 at1
 
+    none : (side : Side) → of_side side row.timers ≡ None
+    none side = none_at_rest row side (t.fits.timers.entries_fit d row at) (ap (of_side side) (t.rests row at) ∙ of_side-twice side false)
+
     same : with_row d (begun_row row2 s sequences) second ≡ with_row d (begun_row row s sequences) w
     same =
         ap (λ rows. record w { descriptors = rows })
         (set_set (set w.descriptors d row1) d row2 (begun_row row2 s sequences) ∙ set_set w.descriptors d row1 (begun_row row2 s sequences))
 
-Spares-taken : (free : List ℕ) (w : World) → Spares (taken free w)
-Spares-taken (d ∷ free) w = Spares-ok _
-Spares-taken [] w = Spares-then _ _ (Spares-refused_unless _ Refusal.TableFull refl) (Spares-ok _)
-
 pub pollopen_sound : (w : World) (g s : ℕ) → WellFormed w → Keeps (pollopen g s w)
 pollopen_sound w g s h =
-    Ends-then _ (idle g w) _ (Spares-idle g w) λ _.
-    Ends-bind _ (socket_of s w) _ (Spares-socket_of s w) λ socket _.
-    Ends-bind _ (taken w.free w) _ (Spares-taken w.free w) λ took takes_it.
-    Ends-bind _ (row_of took.0 took.1) _ (Spares-row_of took.0 took.1) λ row found.
-    Ends-bind _ (opened_for s row.descriptor) _
-    (Ends-bind _ (both_raised row.descriptor.sequences) _ (Spares-both_raised row.descriptor.sequences) (λ sequences _. Spares-ok _)) λ descriptor opens.
-    bound_then _ (both_raised row.descriptor.sequences) _ _ opens λ sequences raised is.
-    Ends-ok _ _
-    (subst WellFormed (ap (λ (x : Descriptor). with_descriptor took.0 row x took.1) (same_ok _ _ is))
-    (begins took.1 took.0 s row sequences (takes w took.1 took.0 w.free h refl takes_it) (row_ok took.0 took.1 row found)
-    (both_range row.descriptor.sequences sequences raised)))
+    Ends-then (Ends-idle g w) λ _.
+    Ends-bind (Ends-socket_of s w) λ socket _.
+    Ends-bind (Ends-taken w w.free h refl) λ took taken.
+    Ends-bind (Ends-row_of took.0 took.1) λ row at.
+    Ends-bind {P = λ descriptor. WellFormed (with_descriptor took.0 row descriptor took.1)}
+    (Ends-bind (Ends-both_raised row.descriptor.sequences) λ sequences raised. Ends-ok (begins took.1 took.0 s row sequences taken at raised))
+    λ descriptor fits.
+    Ends-ok fits
 
 pub pollclose_sound : (w : World) (g d : ℕ) → WellFormed w → Keeps (pollclose g d w)
 pollclose_sound w g d h =
-    Ends-then _ (idle g w) _ (Spares-idle g w) λ _.
-    Ends-bind _ (open_row_of d w) _ (Spares-open_row_of d w) λ row found.
-    Ends-then _ _ _ (Spares-refused_unless _ Refusal.CloseWithoutUnblock refl) λ closing.
-    Ends-then _ _ _ (Spares-refused_if _ Refusal.WaiterInside refl) λ nobody.
-    Ends-bind _ (closed row.descriptor) _
-    (Ends-bind _ (raised_sequence row.descriptor.fdseq) _ (Spares-raised_sequence row.descriptor.fdseq) (λ fdseq _. Spares-ok _)) λ descriptor closes.
-    bound_then _ (raised_sequence row.descriptor.fdseq) _ _ closes λ fdseq raised is.
-    let f = open_row_ok d w row found in
-    let n = neither_of (is_waited d Read w.goroutines) (is_waited d Write w.goroutines) (if_ok _ _ nobody) in
-    Ends-ok _ _
-    (subst WellFormed (ap (λ (x : Descriptor). record (with_descriptor d row x w) { free = d ∷ w.free }) (same_ok _ _ is))
-    (freed w d row fdseq h f.0 f.1 (unless_ok _ _ closing) (alone n.0 n.1) (raised_range _ _ raised).1))
-  where
-    alone : is_waited d Read w.goroutines ≡ false → is_waited d Write w.goroutines ≡ false → (side : Side) → is_waited d side w.goroutines ≡ false
-    alone r c Read = r
-    alone r c Write = c
-
-Spares-evicted : (d : Descriptor) → Spares (evicted d)
-Spares-evicted d =
-    Ends-then _ _ _ (Spares-refused_if d.closing Refusal.AlreadyClosing refl) (λ _.
-    Ends-bind _ (both_raised d.sequences) _ (Spares-both_raised d.sequences) (λ sequences _. Spares-ok _))
+    Ends-then (Ends-idle g w) λ _.
+    Ends-bind (Ends-open_row_of d w) λ row found.
+    Ends-then (Ends-refused_unless row.descriptor.closing _ refl) λ closing.
+    Ends-then (Ends-refused_if (is_waited d Read w.goroutines || is_waited d Write w.goroutines) _ refl) λ nobody.
+    let alone = neither_of (is_waited d Read w.goroutines) (is_waited d Write w.goroutines) nobody in
+    Ends-bind {P = λ descriptor. WellFormed (record (with_descriptor d row descriptor w) { free = d ∷ w.free })}
+    (Ends-bind (Ends-raised_sequence row.descriptor.fdseq) λ fdseq raised.
+    Ends-ok (freed w d row fdseq h found.0 found.1 closing (each_side _ alone.0 alone.1) raised.1))
+    λ descriptor fits.
+    Ends-ok fits
 
 pub evict_sound : (w : World) (g d : ℕ) → WellFormed w → Keeps (evict g d w)
 evict_sound w g d h =
-    Ends-then _ (idle g w) _ (Spares-idle g w) λ _.
-    Ends-bind _ (open_row_of d w) _ (Spares-open_row_of d w) λ row found.
-    Ends-bind _ (evicted row.descriptor) _ (Spares-evicted row.descriptor) λ change evicts.
-    Ends-bind _ (changed d row change w) _ (Spares-changed d row change w) λ after does.
-    let c = then_ok _ _ _ evicts in
-    bound_then _ (both_raised row.descriptor.sequences) _ _ c.1 λ sequences raised change_is.
-    let f = open_row_ok d w row found in
-    let fits : RowFits row = h.timers.entries_fit d row f.0 in
-    let base : Change = record {
-      descriptor = record row.descriptor { closing = true; sequences = sequences; running = twice false };
-      orders = stop_if row.descriptor.running.read Read ++ stop_if row.descriptor.running.write Write;
-      woken = [];
-    }
-    in
-    Ends-ok _ _
-    (changed_keeps w after d row base true true false h f.0 f.1 refl refl
-    (λ timers m obeys.
-    let s = stopped_timers row.descriptor.running.read row.descriptor.running.write row.timers timers w.next_arming m (λ off. none_at_rest row Read fits off) (λ off. none_at_rest row Write fits off) obeys in
-    subst (λ n. Retimed w.firings d row (stopped row sequences timers) w.next_arming n) s.1
-    (stopped_retimed w d row sequences timers h f.0 (both_range row.descriptor.sequences sequences raised) s.0))
-    (ap (λ c. changed d row c w) (same_ok _ _ change_is) ∙ does))
+    Ends-then (Ends-idle g w) λ _.
+    Ends-bind (Ends-open_row_of d w) λ row found.
+    Ends-bind (evicts row found.0 found.1) λ change keeps.
+    Ends-bind keeps λ next fits.
+    Ends-ok (fits tt)
+  where
+    evicts : (row : DescriptorRow) → slice_get w.descriptors d ≡ Some row → is_free_number d w.free ≡ false → Ends (λ change. Ends (λ next. Unit {0} → WellFormed next) (changed d row change w)) (evicted row.descriptor)
+    evicts row at is_open =
+        let before : RowFits row = h.timers.entries_fit d row at in
+        Ends-then (Ends-refused_if row.descriptor.closing _ refl) λ _.
+        Ends-bind (Ends-both_raised row.descriptor.sequences) λ sequences raised.
+        Ends-ok
+        (changed_keeps w d row
+        (record {
+          descriptor = record row.descriptor { closing = true; sequences = sequences; running = twice false };
+          orders = stop_if row.descriptor.running.read Read ++ stop_if row.descriptor.running.write Write;
+          woken = [];
+        })
+        true true false h at is_open refl refl
+        (Ends-map (Ends-stopped row.descriptor.running.read row.descriptor.running.write row.timers w.next_arming (none_at_rest row Read before) (none_at_rest row Write before)) λ left stops _.
+        subst (λ n. Retimed w.firings d row (stopped row sequences left.0) w.next_arming n) stops.1
+        (gone_retimed w d row _ h stops.0 raised (RowFits-stopped row sequences left.0 before stops.0 raised))))
 
 pub pollevent_sound : (w : World) (d tag : ℕ) (mode : Mode) (error : Bool) → WellFormed w → Keeps (pollevent d tag mode error w)
 pollevent_sound w d tag mode error h =
-    Ends-bind _ (row_of d w) _ (Spares-row_of d w) λ row found.
-    Ends-either _ (is_free_number d w.free || not (tag == row.descriptor.fdseq)) _ _ (λ _. Ends-ok _ _ h) λ fresh.
-    let at : slice_get w.descriptors d ≡ Some row = row_ok d w row found in
+    Ends-bind (Ends-row_of d w) λ row at.
+    Ends-either (is_free_number d w.free || not (tag == row.descriptor.fdseq)) (λ _. Ends-ok h) λ fresh.
     let fits : RowFits row = h.timers.entries_fit d row at in
-    Ends-bind _ (changed d row (event_seen mode error row.descriptor) w) _ (Spares-changed d row (event_seen mode error row.descriptor) w) λ after does.
-    Ends-ok _ _
-    (changed_keeps w after d row (quiet (record row.descriptor { event_error = error })) (names_side mode Read) (names_side mode Write) true h at (neither_of _ _ fresh).0 refl refl
-    (λ timers m obeys.
-    let same = same_ok _ _ obeys in
-    subst (λ (x : Sides (Option Timer) × ℕ). Retimed w.firings d row (record { descriptor = record row.descriptor { event_error = error }; timers = x.0 }) w.next_arming x.1) same
-    (retimed_still w d row (marked row error row.descriptor.fdseq) h at refl refl (RowFits-marked row error row.descriptor.fdseq fits.fdseq fits)
+    Ends-bind
+    (changed_keeps {T = Unit {0}} w d row (quiet (record row.descriptor { event_error = error })) (names_side mode Read) (names_side mode Write) true h at (neither_of _ _ fresh).0 refl refl
+    (Ends-ok λ _.
+    retimed_still w d row (marked row error row.descriptor.fdseq) h at refl refl (RowFits-marked row error row.descriptor.fdseq fits.fdseq fits)
     (λ i f _ _ h. FiringFits-marked row error row.descriptor.fdseq f h)))
-    does)
+    λ next fits.
+    Ends-ok (fits tt)

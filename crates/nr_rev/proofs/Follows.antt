@@ -1,23 +1,26 @@
--- What a side's timer does after a deadline was set.
-use Rattle.std.proofs.Common.{◌≡◌, ℕ, ◌+◌, Bool, true, false, not, ◌&&◌, List, [], ◌∷◌, ◌⊎◌, inl, inr, refl, sym, ap, subst, ◌∙◌, Ok, true≢false, int_eq}
+-- What a side's timer does after a deadline was set, and what of the descriptor it leaves as it was.
+use Rattle.std.proofs.Common.{◌≡◌, ◌≢◌, ℕ, ◌+◌, ◌^◌, ◌<◌, Bool, true, false, not, ◌&&◌, List, [], ◌∷◌, ◌⊎◌, inl, inr, refl, sym, ap, subst, ◌∙◌, true≢false, int_eq}
 use Rattle.std.proofs.lemmas.Bool.Decides.{Decides-int_eq}
 use Rattle.std.specs.Prelude.{◌==◌, if◌then◌else◌}
 use Rattle.nr_rev.specs.declared.sides.Side.{Side}
-use Rattle.nr_rev.specs.declared.sides.Side.TheVariants.{Read, Write}
 use Rattle.nr_rev.specs.Sides.{of_side, with_side}
-use Rattle.nr_rev.specs.Refusing.{raised_sequence}
 use Rattle.nr_rev.specs.Lock.{bit}
 use Rattle.nr_rev.specs.declared.timer.TimerOrder.{TimerOrder}
 use Rattle.nr_rev.specs.declared.timer.TimerOrder.TheVariants.{Arm, Stop}
 use Rattle.nr_rev.specs.declared.descriptor.Descriptor.{Descriptor}
 use Rattle.nr_rev.specs.Descriptor.{Change, quiet, is_combo, timer_function, wants_timer, timer_reset, timer_follows}
-use Rattle.nr_rev.proofs.Reasons.{bound_then, then_ok, same_ok, either_then}
-use Rattle.nr_rev.proofs.Reworded.{of_side-with_side_same}
+use Rattle.nr_rev.proofs.Outcomes.{Ends, Ends-ok, Ends-bind, Ends-either, Ends-raised_sequence}
+use Rattle.nr_rev.proofs.Found.{both_true}
+use Rattle.nr_rev.proofs.BothSides.{each_side, of_side-with_side_same, of_side-with_side_other}
+
+-- a side's timer didn't run, or its sequence was raised
+abbrev pub Begun : Side → Descriptor → Descriptor → Type 0
+Begun side old new = ((of_side side old.running ≡ false) × (of_side side new.sequences ≡ of_side side old.sequences)) ⊎ (of_side side new.sequences ≡ of_side side old.sequences + 1)
 
 -- the three things that may become of a side's timer
 pub data Followed (side : Side) (old new : Descriptor) (orders : List TimerOrder) : Type 0 where
   Kept : of_side side new.sequences ≡ of_side side old.sequences → of_side side new.running ≡ of_side side old.running → (of_side side old.running ≡ true → (of_side side new.deadlines ≡ of_side side old.deadlines) × (is_combo new ≡ is_combo old)) → orders ≡ [] → Followed side old new orders
-  Armed : ((of_side side old.running ≡ false) × (of_side side new.sequences ≡ of_side side old.sequences)) ⊎ (of_side side new.sequences ≡ of_side side old.sequences + 1) → of_side side new.running ≡ true → wants_timer side new ≡ true → orders ≡ Arm side (of_side side new.deadlines) (timer_function side new) (of_side side new.sequences) ∷ [] → Followed side old new orders
+  Armed : Begun side old new → of_side side new.running ≡ true → wants_timer side new ≡ true → orders ≡ Arm side (of_side side new.deadlines) (timer_function side new) (of_side side new.sequences) ∷ [] → Followed side old new orders
   Stopped : of_side side new.sequences ≡ of_side side old.sequences + 1 → of_side side new.running ≡ false → orders ≡ Stop side ∷ [] → Followed side old new orders
 
 same_bits : (a b : Bool) → (bit a == bit b) ≡ true → b ≡ a
@@ -26,17 +29,9 @@ same_bits true false e = cc
 same_bits false true e = cc
 same_bits false false e = refl
 
-pub both_true : (a b : Bool) → (a && b) ≡ true → (a ≡ true) × (b ≡ true)
-both_true true b e = (refl, e)
-both_true false b e = cc
-
 pub not_true : (a : Bool) → not a ≡ true → a ≡ false
 not_true true e = cc
 not_true false e = refl
-
-not_false : (a : Bool) → not a ≡ false → a ≡ true
-not_false true e = refl
-not_false false e = cc
 
 -- a timer may be reset where it didn't run and is wanted, or where its sequence was raised
 abbrev MayReset : Side → Descriptor → Descriptor → Type 0
@@ -45,7 +40,7 @@ MayReset side old d =
     ⊎ (of_side side d.sequences ≡ of_side side old.sequences + 1)
 
 -- what is known of the sequence where it is armed
-begun : (side : Side) (old d : Descriptor) → MayReset side old d → ((of_side side old.running ≡ false) × (of_side side d.sequences ≡ of_side side old.sequences)) ⊎ (of_side side d.sequences ≡ of_side side old.sequences + 1)
+begun : (side : Side) (old d : Descriptor) → MayReset side old d → Begun side old d
 begun side old d (inl (stopped, same, wanted)) = inl (stopped, same)
 begun side old d (inr raised) = inr raised
 
@@ -54,39 +49,81 @@ halted side old d (inl (stopped, same, wanted)) e = absurd (true≢false (sym wa
 halted side old d (inr raised) e = raised
 
 reset_followed : (side : Side) (old d : Descriptor) → MayReset side old d → Followed side old (timer_reset side d).descriptor (timer_reset side d).orders
-reset_followed Read old d may = go (wants_timer Read d) refl
+reset_followed side old d may = go (wants_timer side d) refl (of_side-with_side_same side (wants_timer side d) d.running)
   where
-    go : (wants : Bool) → wants_timer Read d ≡ wants → Followed Read old (timer_reset Read d).descriptor (timer_reset Read d).orders
-    go true e = Armed (begun Read old d may) e e (rw e refl)
-    go false e = Stopped (halted Read old d may e) e (rw e refl)
-reset_followed Write old d may = go (wants_timer Write d) refl
+    alike : (s : Side) → (wants_timer s (timer_reset side d).descriptor ≡ wants_timer s d) × (timer_function s (timer_reset side d).descriptor ≡ timer_function s d)
+    alike = each_side _ (refl, refl) (refl, refl)
+
+    go : (wants : Bool) → wants_timer side d ≡ wants → of_side side (timer_reset side d).descriptor.running ≡ wants_timer side d → Followed side old (timer_reset side d).descriptor (timer_reset side d).orders
+    go true e runs = Armed (begun side old d may) (runs ∙ e) ((alike side).0 ∙ e) (rw ((alike side).1, e) refl)
+    go false e runs = Stopped (halted side old d may e) (runs ∙ e) (rw e refl)
+
+-- what a side's timer leaves of the descriptor when it follows its deadline
+pub record Frame (side : Side) (d : Descriptor) (change : Change) : Type 0 where
+  pub words : change.descriptor.words ≡ d.words
+  pub closing : change.descriptor.closing ≡ d.closing
+  pub deadlines : change.descriptor.deadlines ≡ d.deadlines
+  pub fdseq : change.descriptor.fdseq ≡ d.fdseq
+  pub running : (s : Side) → s ≢ side → of_side s change.descriptor.running ≡ of_side s d.running
+  pub sequences : (s : Side) → s ≢ side → of_side s change.descriptor.sequences ≡ of_side s d.sequences
+  pub bound : of_side side d.sequences < 2 ^ 64 → of_side side change.descriptor.sequences < 2 ^ 64
+  pub woken : change.woken ≡ []
+
+frame_quiet : (side : Side) (d : Descriptor) → Frame side d (quiet d)
+frame_quiet side d =
+    record {
+      words = refl;
+      closing = refl;
+      deadlines = refl;
+      fdseq = refl;
+      running = λ s apart. refl;
+      sequences = λ s apart. refl;
+      bound = λ b. b;
+      woken = refl;
+    }
+
+frame_reset : (side : Side) (d : Descriptor) → Frame side d (timer_reset side d)
+frame_reset side d =
+    record {
+      words = refl;
+      closing = refl;
+      deadlines = refl;
+      fdseq = refl;
+      running = λ s apart. of_side-with_side_other s side (wants_timer side d) d.running apart;
+      sequences = λ s apart. refl;
+      bound = λ b. b;
+      woken = refl;
+    }
+
+frame_raised : (side : Side) (d : Descriptor) (q : ℕ) → q < 2 ^ 64 → Frame side d (timer_reset side (record d { sequences = with_side side q d.sequences }))
+frame_raised side d q small =
+    record {
+      words = refl;
+      closing = refl;
+      deadlines = refl;
+      fdseq = refl;
+      running = λ s apart. of_side-with_side_other s side (wants_timer side (record d { sequences = with_side side q d.sequences })) d.running apart;
+      sequences = λ s apart. of_side-with_side_other s side q d.sequences apart;
+      bound = λ b. subst (λ n. n < 2 ^ 64) (sym (of_side-with_side_same side q d.sequences)) small;
+      woken = refl;
+    }
+
+-- what becomes of a side's timer, and what it leaves
+pub Ends-timer_follows : (side : Side) (old d : Descriptor) → of_side side d.sequences ≡ of_side side old.sequences → of_side side d.running ≡ of_side side old.running → Ends (λ change. Followed side old change.descriptor change.orders × Frame side d change) (timer_follows side old d)
+Ends-timer_follows side old d same_sequence same_running =
+    Ends-either (not (of_side side d.running)) (λ stopped. Ends-ok (at_rest (wants_timer side d) refl (not_true _ stopped))) λ _.
+    Ends-either (int_eq (of_side side old.deadlines) (of_side side d.deadlines) && (bit (is_combo old) == bit (is_combo d)))
+    (λ same.
+    let parts = both_true (int_eq (of_side side old.deadlines) (of_side side d.deadlines)) (bit (is_combo old) == bit (is_combo d)) same in
+    Ends-ok (Kept same_sequence same_running (λ _. (sym ((Decides-int_eq _ _).0 parts.0), same_bits _ _ parts.1)) refl, frame_quiet side d))
+    (λ _.
+    Ends-bind (Ends-raised_sequence (of_side side d.sequences)) λ next raised.
+    Ends-ok (
+      reset_followed side old (record d { sequences = with_side side next d.sequences })
+          (inr (of_side-with_side_same side next d.sequences ∙ raised.0 ∙ ap (λ n. n + 1) same_sequence)),
+      frame_raised side d next raised.1,
+    ))
   where
-    go : (wants : Bool) → wants_timer Write d ≡ wants → Followed Write old (timer_reset Write d).descriptor (timer_reset Write d).orders
-    go true e = Armed (begun Write old d may) e e (rw e refl)
-    go false e = Stopped (halted Write old d may e) e (rw e refl)
-
-raised_is : (n m : ℕ) → raised_sequence n ≡ Ok m → m ≡ n + 1
-raised_is n m e = sym (same_ok _ _ (then_ok _ _ _ e).1)
-
-pub timer_followed : (side : Side) (old d : Descriptor) (change : Change) → of_side side d.sequences ≡ of_side side old.sequences → of_side side d.running ≡ of_side side old.running → timer_follows side old d ≡ Ok change → Followed side old change.descriptor change.orders
-timer_followed side old d change same_sequence same_running e =
-    either_then _ (not (of_side side d.running)) _ _ _ e
-    (λ stopped e. subst Leads (same_ok _ _ e) (at_rest (wants_timer side d) refl (not_true _ stopped)))
-    (λ runs e. either_then _ (int_eq (of_side side old.deadlines) (of_side side d.deadlines) && (bit (is_combo old) == bit (is_combo d))) _ _ _ e
-    (λ same e.
-    let parts = both_true _ _ same in
-    subst Leads (same_ok _ _ e)
-    (Kept same_sequence same_running (λ _. (sym ((Decides-int_eq _ _).0 parts.0), same_bits _ _ parts.1)) refl))
-    (λ other e. bound_then _ (raised_sequence (of_side side d.sequences)) _ _ e
-    (λ next raised e.
-    let after : Descriptor = record d { sequences = with_side side next d.sequences } in
-    subst Leads (same_ok _ _ e)
-    (reset_followed side old after
-    (inr (of_side-with_side_same side next d.sequences ∙ raised_is _ _ raised ∙ ap (λ n. n + 1) same_sequence))))))
-  where
-    Leads : Change → Type 0
-    Leads c = Followed side old c.descriptor c.orders
-
-    at_rest : (wants : Bool) → wants_timer side d ≡ wants → of_side side d.running ≡ false → Leads (if wants then timer_reset side d else quiet d)
-    at_rest true e stopped = reset_followed side old d (inl (sym same_running ∙ stopped, same_sequence, e))
-    at_rest false e stopped = Kept same_sequence same_running (λ runs. absurd (true≢false (sym runs ∙ sym same_running ∙ stopped))) refl
+    at_rest : (wants : Bool) → wants_timer side d ≡ wants → of_side side d.running ≡ false → Followed side old (if wants then timer_reset side d else quiet d).descriptor (if wants then timer_reset side d else quiet d).orders × Frame side d (if wants then timer_reset side d else quiet d)
+    at_rest true e stopped = (reset_followed side old d (inl (sym same_running ∙ stopped, same_sequence, e)), frame_reset side d)
+    at_rest false e stopped = (Kept same_sequence same_running (λ runs. absurd (true≢false (sym runs ∙ sym same_running ∙ stopped))) refl, frame_quiet side d)

@@ -1,51 +1,64 @@
--- What the look-ups of a row say where they found something.
-use Rattle.std.proofs.Common.{◌≡◌, ℕ, Bool, true, false, ◌&&◌, ◌||◌, List, [], ◌∷◌, Option, Some, None, Ok, refl, sym, ap, ◌∙◌, zero, suc, true≢false, eq-eqb}
-use Rattle.std.proofs.lemmas.Option.{slice_get_within}
-use Rattle.std.specs.Prelude.{slice_get}
+-- What each look-up of a step finds.
+use Rattle.std.proofs.Common.{◌≡◌, ℕ, Bool, true, false, ◌&&◌, ◌||◌, List, [], ◌∷◌, Option, Some, None, refl, sym, ap, ◌∙◌, zero, suc, true≢false, eq-eqb, ◌<◌, ◌≤◌}
+use Rattle.std.specs.Prelude.{slice_get, nat_lt, nat_le}
 use Rattle.nr_rev.specs.declared.sides.Side.{Side}
 use Rattle.nr_rev.specs.declared.sides.Side.TheVariants.{Read, Write}
+use Rattle.nr_rev.specs.declared.sides.Sides.{Sides}
 use Rattle.nr_rev.specs.declared.status.Status.{Status}
 use Rattle.nr_rev.specs.declared.status.Status.TheVariants.{Idle, Gone, Acquiring, Owing, Entering, Armed, Parking, Swapping, Checking}
 use Rattle.nr_rev.specs.declared.descriptor.DescriptorRow.{DescriptorRow}
+use Rattle.nr_rev.specs.Socket.{Socket}
 use Rattle.nr_rev.specs.World.{World, is_waited, is_place, is_free_number}
-use Rattle.nr_rev.specs.Step.{alive, status_of, idle, is_idle, row_of, open_row_of, entering_of, armed_of, swapping_of, checking_of, acquiring_of, owing_of, parking_of}
-use Rattle.nr_rev.specs.WellFormed.{IsInside, IsOpen}
-use Rattle.nr_rev.proofs.Reasons.{bound_ok, then_ok, unless_ok, if_ok, found_ok, same_ok}
-use Rattle.nr_rev.specs.declared.sides.Sides.{Sides}
+use Rattle.nr_rev.specs.WellFormed.{IsInside}
+use Rattle.nr_rev.specs.Step.{alive, status_of, idle, is_idle, socket_of, row_of, open_row_of, sized, acquiring_of, owing_of, entering_of, armed_of, parking_of, swapping_of, checking_of}
+use Rattle.nr_rev.proofs.Numbers.{below_of, most_of}
+use Rattle.nr_rev.proofs.Outcomes.{Ends, Ends-ok, Ends-refused, Ends-map, Ends-bind, Ends-then, Ends-refused_if, Ends-refused_unless, Ends-found_or}
 
-alive_ok : (o : Option Status) (status : Status) → alive o ≡ Ok status → o ≡ Some status
-alive_ok None status e = cc
-alive_ok (Some Gone) status e = cc
-alive_ok (Some s) status e = cc
+Ends-alive : (o : Option Status) → Ends (λ status. o ≡ Some status) (alive o)
+Ends-alive None = Ends-refused refl
+Ends-alive (Some Gone) = Ends-refused refl
+Ends-alive (Some status) = Ends-ok refl
 
-pub status_ok : (g : ℕ) (w : World) (status : Status) → status_of g w ≡ Ok status → slice_get w.goroutines g ≡ Some status
-status_ok g w status e = alive_ok _ status e
+pub Ends-status_of : (g : ℕ) (w : World) → Ends (λ status. slice_get w.goroutines g ≡ Some status) (status_of g w)
+Ends-status_of g w = Ends-alive (slice_get w.goroutines g)
 
-is_idle_ok : (status : Status) → is_idle status ≡ true → status ≡ Idle
-is_idle_ok Idle e = refl
-is_idle_ok _ e = cc
+idle_is : (status : Status) → is_idle status ≡ true → status ≡ Idle
+idle_is Idle e = refl
+idle_is _ e = cc
 
-pub idle_ok : (g : ℕ) (w : World) → idle g w ≡ Ok tt → slice_get w.goroutines g ≡ Some Idle
-idle_ok g w e =
-    let b = bound_ok (status_of g w) _ tt e in
-    status_ok g w b.0 b.1 ∙ ap Some (is_idle_ok b.0 (unless_ok _ _ b.2))
+pub Ends-idle : (g : ℕ) (w : World) → Ends (λ _. slice_get w.goroutines g ≡ Some Idle) (idle g w)
+Ends-idle g w =
+    Ends-bind (Ends-status_of g w) λ status found.
+    Ends-map (Ends-refused_unless (is_idle status) _ refl) λ _ is. found ∙ ap Some (idle_is status is)
 
-pub row_ok : (d : ℕ) (w : World) (row : DescriptorRow) → row_of d w ≡ Ok row → slice_get w.descriptors d ≡ Some row
-row_ok d w row e = found_ok _ _ row e
+pub Ends-socket_of : (s : ℕ) (w : World) → Ends (λ (socket : Socket). slice_get w.sockets s ≡ Some socket) (socket_of s w)
+Ends-socket_of s w = Ends-found_or (slice_get w.sockets s) _ refl
 
-pub open_row_ok : (d : ℕ) (w : World) (row : DescriptorRow) → open_row_of d w ≡ Ok row → (slice_get w.descriptors d ≡ Some row) × (is_free_number d w.free ≡ false)
-open_row_ok d w row e = let t = then_ok _ (row_of d w) row e in (row_ok d w row t.1, if_ok _ _ t.0)
+pub Ends-row_of : (d : ℕ) (w : World) → Ends (λ (row : DescriptorRow). slice_get w.descriptors d ≡ Some row) (row_of d w)
+Ends-row_of d w = Ends-found_or (slice_get w.descriptors d) _ refl
 
-pub open_made : (d : ℕ) (w : World) (row : DescriptorRow) → open_row_of d w ≡ Ok row → IsOpen w.descriptors w.free d
-open_made d w row e = let f = open_row_ok d w row e in (slice_get_within _ _ _ f.0, f.1)
+pub Ends-open_row_of : (d : ℕ) (w : World) → Ends (λ (row : DescriptorRow). (slice_get w.descriptors d ≡ Some row) × (is_free_number d w.free ≡ false)) (open_row_of d w)
+Ends-open_row_of d w =
+    Ends-then (Ends-refused_if (is_free_number d w.free) _ refl) λ is_open.
+    Ends-map (Ends-row_of d w) λ row at. (at, is_open)
 
-is_place_here : (d : ℕ) (side : Side) → is_place d side (Some (d, side)) ≡ true
-is_place_here d Read = ap (λ b. b && true) (eq-eqb d d refl)
-is_place_here d Write = ap (λ b. b && true) (eq-eqb d d refl)
+pub both_true : (a b : Bool) → (a && b) ≡ true → (a ≡ true) × (b ≡ true)
+both_true true b e = (refl, e)
+both_true false b e = cc
 
 pub neither_of : (a b : Bool) → (a || b) ≡ false → (a ≡ false) × (b ≡ false)
 neither_of true b e = cc
 neither_of false b e = (refl, e)
+
+pub Ends-sized : (n : ℕ) (w : World) → Ends (λ _. (0 < n) × (n ≤ w.limits.buffer)) (sized n w)
+Ends-sized n w =
+    Ends-map (Ends-refused_unless (nat_lt 0 n && nat_le n w.limits.buffer) _ refl) λ _ both.
+    let p = both_true (nat_lt 0 n) (nat_le n w.limits.buffer) both in
+    (below_of 0 n p.0, most_of n w.limits.buffer p.1)
+
+is_place_here : (d : ℕ) (side : Side) → is_place d side (Some (d, side)) ≡ true
+is_place_here d Read = ap (λ b. b && true) (eq-eqb d d refl)
+is_place_here d Write = ap (λ b. b && true) (eq-eqb d d refl)
 
 -- nobody is inside where the search for a waiter finds none
 pub nobody_inside : (gs : List Status) (d : ℕ) (side : Side) (g : ℕ) → is_waited d side gs ≡ false → IsInside gs g d side → ⊥
@@ -55,30 +68,30 @@ nobody_inside (status ∷ gs) d side zero e p =
 nobody_inside (status ∷ gs) d side (suc g) e p = nobody_inside gs d side g (neither_of _ _ e).1 p
 
 -- where a goroutine has to be
-pub entering_ok : (status : Status) (place : ℕ × Side) → entering_of status ≡ Ok place → status ≡ Entering place.0 place.1
-entering_ok (Entering d side) place e = ap (λ (p : ℕ × Side). Entering p.0 p.1) (same_ok _ _ e)
-entering_ok _ place e = cc
+pub Ends-acquiring_of : (status : Status) → Ends (λ (place : ℕ × Side). status ≡ Acquiring place.0 place.1) (acquiring_of status)
+Ends-acquiring_of (Acquiring s side) = Ends-ok refl
+Ends-acquiring_of _ = Ends-refused refl
 
-pub armed_ok : (status : Status) (place : ℕ × Side) → armed_of status ≡ Ok place → status ≡ Armed place.0 place.1
-armed_ok (Armed d side) place e = ap (λ (p : ℕ × Side). Armed p.0 p.1) (same_ok _ _ e)
-armed_ok _ place e = cc
+pub Ends-owing_of : (status : Status) → Ends (λ (debt : ℕ × Sides ℕ). status ≡ Owing debt.0 debt.1.read debt.1.write) (owing_of status)
+Ends-owing_of (Owing s reads writes) = Ends-ok refl
+Ends-owing_of _ = Ends-refused refl
 
-pub swapping_ok : (status : Status) (place : ℕ × Side) → swapping_of status ≡ Ok place → status ≡ Swapping place.0 place.1
-swapping_ok (Swapping d side) place e = ap (λ (p : ℕ × Side). Swapping p.0 p.1) (same_ok _ _ e)
-swapping_ok _ place e = cc
+pub Ends-entering_of : (status : Status) → Ends (λ (place : ℕ × Side). status ≡ Entering place.0 place.1) (entering_of status)
+Ends-entering_of (Entering d side) = Ends-ok refl
+Ends-entering_of _ = Ends-refused refl
 
-pub checking_ok : (status : Status) (place : ℕ × Side) → checking_of status ≡ Ok place → status ≡ Checking place.0 place.1
-checking_ok (Checking d side) place e = ap (λ (p : ℕ × Side). Checking p.0 p.1) (same_ok _ _ e)
-checking_ok _ place e = cc
+pub Ends-armed_of : (status : Status) → Ends (λ (place : ℕ × Side). status ≡ Armed place.0 place.1) (armed_of status)
+Ends-armed_of (Armed d side) = Ends-ok refl
+Ends-armed_of _ = Ends-refused refl
 
-pub acquiring_ok : (status : Status) (place : ℕ × Side) → acquiring_of status ≡ Ok place → status ≡ Acquiring place.0 place.1
-acquiring_ok (Acquiring d side) place e = ap (λ (p : ℕ × Side). Acquiring p.0 p.1) (same_ok _ _ e)
-acquiring_ok _ place e = cc
+pub Ends-parking_of : (status : Status) → Ends (λ (place : ℕ × Side). status ≡ Parking place.0 place.1) (parking_of status)
+Ends-parking_of (Parking d side) = Ends-ok refl
+Ends-parking_of _ = Ends-refused refl
 
-pub owing_ok : (status : Status) (debt : ℕ × Sides ℕ) → owing_of status ≡ Ok debt → status ≡ Owing debt.0 debt.1.read debt.1.write
-owing_ok (Owing s reads writes) debt e = ap (λ (p : ℕ × Sides ℕ). Owing p.0 p.1.read p.1.write) (same_ok _ _ e)
-owing_ok _ debt e = cc
+pub Ends-swapping_of : (status : Status) → Ends (λ (place : ℕ × Side). status ≡ Swapping place.0 place.1) (swapping_of status)
+Ends-swapping_of (Swapping d side) = Ends-ok refl
+Ends-swapping_of _ = Ends-refused refl
 
-pub parking_ok : (status : Status) (place : ℕ × Side) → parking_of status ≡ Ok place → status ≡ Parking place.0 place.1
-parking_ok (Parking d side) place e = ap (λ (p : ℕ × Side). Parking p.0 p.1) (same_ok _ _ e)
-parking_ok _ place e = cc
+pub Ends-checking_of : (status : Status) → Ends (λ (place : ℕ × Side). status ≡ Checking place.0 place.1) (checking_of status)
+Ends-checking_of (Checking d side) = Ends-ok refl
+Ends-checking_of _ = Ends-refused refl

@@ -6,15 +6,15 @@ use Rattle.nr_rev.specs.declared.status.Status.TheVariants.{Idle, Gone}
 use Rattle.nr_rev.specs.Socket.{Socket}
 use Rattle.nr_rev.specs.declared.descriptor.DescriptorRow.{DescriptorRow}
 use Rattle.nr_rev.specs.World.{World, wait_of}
-use Rattle.nr_rev.specs.Step.{spawn, exit, idle}
+use Rattle.nr_rev.specs.Step.{spawn, exit}
 use Rattle.nr_rev.specs.WellFormed.{WellFormed, GoroutinesFit, socket_named, owed_of, parked_of, awaiting_of, is_queued}
 use Rattle.nr_rev.proofs.Lists.{slice_get-push_unseen}
-use Rattle.nr_rev.proofs.Reasons.{unless_ok, below_of}
+use Rattle.nr_rev.proofs.Numbers.{below_of}
+use Rattle.std.specs.Prelude.{nat_lt}
 use Rattle.nr_rev.proofs.SameViews.{SameView, WordsFit-same, QueuesFit-same}
-use Rattle.nr_rev.specs.declared.refusal.Refusal.{Refusal}
-use Rattle.nr_rev.proofs.Found.{idle_ok}
+use Rattle.nr_rev.proofs.Found.{Ends-idle}
 use Rattle.nr_rev.proofs.StatusSet.{may_leave, moved}
-use Rattle.nr_rev.proofs.Outcomes.{Keeps, Ends-ok, Ends-then, Spares-refused_unless, Spares-idle}
+use Rattle.nr_rev.proofs.Outcomes.{Keeps, Ends-ok, Ends-then, Ends-refused_unless}
 
 idle_goroutines : (gs : List Status) (sockets : List Socket) (rows : List DescriptorRow) (free : List ℕ) → GoroutinesFit gs sockets rows free → GoroutinesFit (gs ++ Idle ∷ []) sockets rows free
 idle_goroutines gs sockets rows free h =
@@ -51,10 +51,10 @@ spawned w h room =
 
 pub spawn_sound : (w : World) → WellFormed w → Keeps (spawn w)
 spawn_sound w h =
-    Ends-then _ _ _ (Spares-refused_unless _ Refusal.TableFull refl) λ room.
-    Ends-ok _ _ (spawned w h (below_of _ _ (unless_ok _ _ room)))
+    Ends-then (Ends-refused_unless (nat_lt (length w.goroutines) w.limits.goroutines) _ refl) λ room.
+    Ends-ok (spawned w h (below_of _ _ room))
 
 pub exit_sound : (w : World) (g : ℕ) → WellFormed w → Keeps (exit g w)
 exit_sound w g h =
-    Ends-then _ (idle g w) _ (Spares-idle g w) λ at.
-    Ends-ok _ _ (moved w g Idle Gone h (idle_ok g w at) (may_leave w g Gone refl refl refl) refl refl (λ _ _. refl))
+    Ends-then (Ends-idle g w) λ at.
+    Ends-ok (moved w g Idle Gone h at (may_leave w g Gone refl refl refl) refl refl (λ _ _. refl))

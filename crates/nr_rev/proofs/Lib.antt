@@ -1,3 +1,4 @@
+pub mod BothSides
 pub mod Chains
 pub mod Changes
 pub mod Deadlines
@@ -13,7 +14,6 @@ pub mod Named
 pub mod Numbers
 pub mod Outcomes
 pub mod Positions
-pub mod Reasons
 pub mod Restood
 pub mod Retimed
 pub mod RetimedKeeps

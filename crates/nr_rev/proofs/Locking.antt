@@ -1,50 +1,44 @@
 -- Operations on a socket's lock.
-use Rattle.std.proofs.Common.{◌≡◌, ℕ, ◌-◌, ◌^◌, ◌<◌, true, Some, refl, ap, subst, length, length-set, Ok, arith, min}
+use Rattle.std.proofs.Common.{◌≡◌, ℕ, ◌-◌, ◌^◌, ◌<◌, true, not, ◌||◌, Some, Result, Ok, refl, sym, subst, length, length-set, arith, min}
 use Rattle.std.proofs.lemmas.Option.{same_Some, slice_get_within}
-use Rattle.std.specs.Prelude.{slice_get}
+use Rattle.std.specs.Prelude.{nat_lt, ◌==◌}
 use Rattle.nr_rev.specs.declared.sides.Side.{Side}
-use Rattle.nr_rev.specs.declared.sides.Side.TheVariants.{Read, Write}
 use Rattle.nr_rev.specs.declared.status.Status.{Status}
 use Rattle.nr_rev.specs.declared.status.Status.TheVariants.{Idle, Relock}
 use Rattle.nr_rev.specs.declared.answer.Answer.{Answer}
-use Rattle.nr_rev.specs.declared.sides.Sides.{Sides}
-use Rattle.nr_rev.specs.Sides.{of_side, with_side, twice}
+use Rattle.nr_rev.specs.declared.refusal.Refusal.{Refusal}
+use Rattle.nr_rev.specs.Sides.{of_side, twice}
 use Rattle.nr_rev.specs.declared.lock.Lock.{Lock}
 use Rattle.nr_rev.specs.declared.lock.LockOutcome.{LockOutcome}
-use Rattle.nr_rev.specs.Lock.{rw_lock, raised_field}
-use Rattle.nr_rev.specs.Socket.{Socket}
-use Rattle.nr_rev.specs.World.{World, with_socket, with_status}
-use Rattle.nr_rev.specs.Step.{rwlock, status_of, socket_of, may_lock, locker, incref, increfclose, decref, rwunlock, owing, idle}
-use Rattle.nr_rev.specs.WellFormed.{WellFormed, LockFits, SocketFits, IsField, socket_named, owed_of}
-use Rattle.nr_rev.proofs.Reasons.{then_ok, unless_ok, found_ok, below_of, same_ok, bound_then, either_then}
-use Rattle.nr_rev.proofs.StatusSet.{IsOutside, moved_outside, idle_outside, comes_to_owe}
-use Rattle.nr_rev.proofs.Found.{status_ok, idle_ok}
-use Rattle.nr_rev.proofs.SocketSet.{resocketed, socket_fits}
-use Rattle.nr_rev.specs.declared.refusal.Refusal.{Refusal}
-use Rattle.nr_rev.proofs.Outcomes.{Keeps, Spares, Spares-ok, Ends-ok, Ends-bind, Ends-then, Spares-then, Ends-either, Spares-refused_if, Spares-refused_unless, Spares-idle, Spares-status_of, Spares-socket_of}
 use Rattle.nr_rev.specs.Lock
+use Rattle.nr_rev.specs.Lock.{raised_field}
+use Rattle.nr_rev.specs.Refusing.{◌>>=◌, ◌>>◌}
+use Rattle.nr_rev.specs.World.{World, with_socket, with_status}
+use Rattle.nr_rev.specs.Step.{rwlock, socket_of, may_lock, locker, incref, increfclose, decref, rwunlock, owing, idle, lock_left}
+use Rattle.nr_rev.specs.WellFormed.{WellFormed, LockFits, SocketFits, IsField, socket_named, owed_of}
+use Rattle.nr_rev.proofs.BothSides.{each_side, with_side_all}
+use Rattle.nr_rev.proofs.Numbers.{below_of, lowered}
+use Rattle.nr_rev.proofs.StatusSet.{IsOutside, moved_outside, idle_outside, comes_to_owe}
+use Rattle.nr_rev.proofs.SocketSet.{resocketed}
+use Rattle.nr_rev.proofs.Outcomes.{Ends, Keeps, Ends-ok, Ends-bind, Ends-then, Ends-either, Ends-refused_if, Ends-refused_unless}
+use Rattle.nr_rev.proofs.Found.{Ends-idle, Ends-status_of, Ends-socket_of}
 
-pub raised_fits : (n m : ℕ) → raised_field n ≡ Ok m → IsField m
-raised_fits n m e =
-    let t = then_ok _ _ _ e in
-    let below : n < 2 ^ 20 - 1 = below_of _ _ (unless_ok _ _ t.0) in
-    subst IsField (same_ok _ _ t.1) (omega arith)
+Ends-raised_field : (n : ℕ) → Ends IsField (raised_field n)
+Ends-raised_field n =
+    Ends-then (Ends-refused_unless (nat_lt n (2 ^ 20 - 1)) _ refl) λ is_below.
+    let below : n < 2 ^ 20 - 1 = below_of _ _ is_below in
+    Ends-ok (omega arith)
 
-pub with_side_fits : (P : ℕ → Type 0) (side : Side) (n : ℕ) (both : Sides ℕ) → P n → ((s : Side) → P (of_side s both)) → (s : Side) → P (of_side s (with_side side n both))
-with_side_fits P Read n both p all Read = p
-with_side_fits P Read n both p all Write = all Write
-with_side_fits P Write n both p all Read = all Read
-with_side_fits P Write n both p all Write = p
-
-rw_lock_fits : (side : Side) (lock : Lock) (left : LockOutcome) → LockFits lock → rw_lock side lock ≡ Ok left → LockFits left.lock
-rw_lock_fits side lock left h e =
-    either_then _ lock.closed _ _ _ e (λ _ same. subst (λ (o : LockOutcome). LockFits o.lock) (same_ok _ _ same) h)
-    (λ _ e. either_then _ (of_side side lock.locked) _ _ _ e
-    (λ _ e. bound_then _ (raised_field (of_side side lock.waiters)) _ _ e
-    (λ n raised is. subst (λ (o : LockOutcome). LockFits o.lock) (same_ok _ _ is)
-    (record { references = h.references; waiters = with_side_fits IsField side n lock.waiters (raised_fits _ n raised) h.waiters })))
-    (λ _ e. bound_then _ (raised_field lock.references) _ _ e
-    (λ n raised is. subst (λ (o : LockOutcome). LockFits o.lock) (same_ok _ _ is) (record { references = raised_fits _ n raised; waiters = h.waiters }))))
+Ends-rw_lock : (side : Side) (lock : Lock) → LockFits lock → Ends (λ left. LockFits left.lock) (Lock.rw_lock side lock)
+Ends-rw_lock side lock h =
+    Ends-either lock.closed (λ _. Ends-ok h) λ _.
+    Ends-either (of_side side lock.locked)
+    (λ _.
+    Ends-bind (Ends-raised_field (of_side side lock.waiters)) λ n small.
+    Ends-ok (record { references = h.references; waiters = with_side_all IsField side n lock.waiters small h.waiters }))
+    (λ _.
+    Ends-bind (Ends-raised_field lock.references) λ n small.
+    Ends-ok (record { references = small; waiters = h.waiters }))
 
 lockers_are_outside : (s : ℕ) (side : Side) (answer : Answer) → IsOutside (locker s side answer)
 lockers_are_outside s side Answer.Wait = record { waits = refl; parked = refl; awaits = refl; queued = λ _ _. refl }
@@ -63,134 +57,69 @@ locker_owes : (s : ℕ) (side : Side) (answer : Answer) (owed : ℕ × ℕ) → 
 locker_owes s side Answer.Wait owed e = cc
 locker_owes s side _ owed e = cc
 
--- what an operation on the lock has to leave
-pub record Leaves (left : LockOutcome) : Type 0 where
+-- what an operation on the lock leaves of it, and the goroutine's status after it
+pub record Leaves (s : ℕ) (status : Status) (left : LockOutcome) : Type 0 where
   pub lock : LockFits left.lock
   pub owed : (side : Side) → IsField (of_side side left.owed)
+  pub owes : status ≡ owing s left.owed
 
-pub lock_keeps : (w : World) (g s : ℕ) (socket : Socket) (left : LockOutcome) → WellFormed w → slice_get w.goroutines g ≡ Some Idle → socket_of s w ≡ Ok socket → Leaves left → WellFormed (with_status g (owing s left.owed) (with_socket s (record socket { lock = left.lock }) w))
-lock_keeps w g s socket left h at found leaves =
-    let there : slice_get w.sockets s ≡ Some socket = found_ok _ _ _ found in
+-- an operation on the lock by an idle goroutine
+lock_keeps : (op : Lock → Result LockOutcome Refusal) (status : LockOutcome → Status) (w : World) (g s : ℕ) → ((lock : Lock) → LockFits lock → Ends (λ left. Leaves s (status left) left) (op lock)) → WellFormed w → Keeps (idle g w >> socket_of s w >>= λ socket. op socket.lock >>= λ left. Ok (lock_left g (status left) s socket left w))
+lock_keeps op status w g s leaves h =
+    Ends-then (Ends-idle g w) λ at.
+    Ends-bind (Ends-socket_of s w) λ socket there.
     let fits : SocketFits w.limits.buffer socket = h.sockets s socket there in
-    comes_to_owe _ g s Idle left.owed
-    (resocketed w s socket _ h there (λ _. refl) (record { lock = leaves.lock; counts = fits.counts; bytes = fits.bytes; capacities = fits.capacities }))
-    at idle_outside (rw length-set (slice_get_within _ _ _ there)) leaves.owed
+    Ends-bind (leaves socket.lock fits.lock) λ left l.
+    Ends-ok
+    (subst (λ x. WellFormed (with_status g x (with_socket s (record socket { lock = left.lock }) w))) (sym l.owes)
+    (comes_to_owe _ g s Idle left.owed
+    (resocketed w s socket _ h there (λ _. refl) (record { lock = l.lock; counts = fits.counts; bytes = fits.bytes; capacities = fits.capacities }))
+    at idle_outside (rw length-set (slice_get_within _ _ _ there)) l.owed))
 
 none_owed : (side : Side) → IsField (of_side side (twice 0))
-none_owed Read = omega arith
-none_owed Write = omega arith
-
-incref_leaves : (lock : Lock) (left : LockOutcome) → LockFits lock → Lock.incref lock ≡ Ok left → Leaves left × (left.owed ≡ twice 0)
-incref_leaves lock left h e =
-    either_then _ lock.closed _ _ _ e
-    (λ _ is. subst (λ (o : LockOutcome). Leaves o × (o.owed ≡ twice 0)) (same_ok _ _ is) (record { lock = h; owed = none_owed }, refl))
-    (λ _ e. bound_then _ (raised_field lock.references) _ _ e
-    (λ n raised is. subst (λ (o : LockOutcome). Leaves o × (o.owed ≡ twice 0)) (same_ok _ _ is)
-    (record { lock = record { references = raised_fits _ n raised; waiters = h.waiters }; owed = none_owed }, refl)))
-
-decref_leaves : (lock : Lock) (left : LockOutcome) → LockFits lock → Lock.decref lock ≡ Ok left → Leaves left × (left.owed ≡ twice 0)
-decref_leaves lock left h e =
-    let t = then_ok _ _ _ e in
-    let r : IsField lock.references = h.references in
-    let less : IsField (lock.references - 1) = omega arith in
-    subst (λ (o : LockOutcome). Leaves o × (o.owed ≡ twice 0)) (same_ok _ _ t.1)
-    (record { lock = record { references = less; waiters = h.waiters }; owed = none_owed }, refl)
-
-incref_close_leaves : (lock : Lock) (left : LockOutcome) → LockFits lock → Lock.incref_close lock ≡ Ok left → Leaves left
-incref_close_leaves lock left h e =
-    either_then _ lock.closed _ _ _ e
-    (λ _ is. subst Leaves (same_ok _ _ is) (record { lock = h; owed = none_owed }))
-    (λ _ e. bound_then _ (raised_field lock.references) _ _ e
-    (λ n raised is. subst Leaves (same_ok _ _ is) (record { lock = record { references = raised_fits _ n raised; waiters = none_owed }; owed = h.waiters })))
-
-rw_unlock_leaves : (side : Side) (lock : Lock) (left : LockOutcome) → LockFits lock → Lock.rw_unlock side lock ≡ Ok left → Leaves left
-rw_unlock_leaves side lock left h e =
-    let t = then_ok _ _ _ e in
-    let r : IsField lock.references = h.references in
-    let v : IsField (of_side side lock.waiters) = h.waiters side in
-    let less : IsField (lock.references - 1) = omega arith in
-    let fewer : IsField (of_side side lock.waiters - 1) = omega arith in
-    let one : IsField (min (of_side side lock.waiters) 1) = omega arith in
-    subst Leaves (same_ok _ _ t.1)
-    (record {
-      lock = record { references = less; waiters = with_side_fits IsField side _ lock.waiters fewer h.waiters };
-      owed = with_side_fits IsField side _ (twice 0) one none_owed;
-    })
-
-Spares-raised_field : (n : ℕ) → Spares (raised_field n)
-Spares-raised_field n = Spares-then _ _ (Spares-refused_unless _ Refusal.FieldOverflow refl) (Spares-ok _)
-
-Spares-incref : (lock : Lock) → Spares (Lock.incref lock)
-Spares-incref lock =
-    Ends-either _ lock.closed _ _ (λ _. Spares-ok _)
-    (λ _. Ends-bind _ (raised_field lock.references) _ (Spares-raised_field lock.references) (λ n _. Spares-ok _))
-
-Spares-incref_close : (lock : Lock) → Spares (Lock.incref_close lock)
-Spares-incref_close lock =
-    Ends-either _ lock.closed _ _ (λ _. Spares-ok _)
-    (λ _. Ends-bind _ (raised_field lock.references) _ (Spares-raised_field lock.references) (λ n _. Spares-ok _))
-
-Spares-decref : (lock : Lock) → Spares (Lock.decref lock)
-Spares-decref lock = Spares-then _ _ (Spares-refused_if _ Refusal.InconsistentLock refl) (Spares-ok _)
-
-Spares-rw_lock : (side : Side) (lock : Lock) → Spares (rw_lock side lock)
-Spares-rw_lock side lock =
-    Ends-either _ lock.closed _ _ (λ _. Spares-ok _) (λ _.
-    Ends-either _ (of_side side lock.locked) _ _
-    (λ _. Ends-bind _ (raised_field (of_side side lock.waiters)) _ (Spares-raised_field _) (λ n _. Spares-ok _))
-    (λ _. Ends-bind _ (raised_field lock.references) _ (Spares-raised_field _) (λ n _. Spares-ok _)))
-
-Spares-rw_unlock : (side : Side) (lock : Lock) → Spares (Lock.rw_unlock side lock)
-Spares-rw_unlock side lock = Spares-then _ _ (Spares-refused_if _ Refusal.InconsistentLock refl) (Spares-ok _)
+none_owed = each_side _ (omega arith) (omega arith)
 
 pub incref_sound : (w : World) (g s : ℕ) → WellFormed w → Keeps (incref g s w)
-incref_sound w g s h =
-    Ends-then _ (idle g w) _ (Spares-idle g w) λ at.
-    Ends-bind _ (socket_of s w) _ (Spares-socket_of s w) λ socket found.
-    Ends-bind _ (Lock.incref socket.lock) _ (Spares-incref socket.lock) λ left is.
-    let l = incref_leaves socket.lock left (socket_fits w s socket h found).lock is in
-    Ends-ok _ _
-    (subst WellFormed (ap (λ (o : Sides ℕ). with_status g (owing s o) (with_socket s (record socket { lock = left.lock }) w)) l.1)
-    (lock_keeps w g s socket left h (idle_ok g w at) found l.0))
-
-pub decref_sound : (w : World) (g s : ℕ) → WellFormed w → Keeps (decref g s w)
-decref_sound w g s h =
-    Ends-then _ (idle g w) _ (Spares-idle g w) λ at.
-    Ends-bind _ (socket_of s w) _ (Spares-socket_of s w) λ socket found.
-    Ends-bind _ (Lock.decref socket.lock) _ (Spares-decref socket.lock) λ left is.
-    let l = decref_leaves socket.lock left (socket_fits w s socket h found).lock is in
-    Ends-ok _ _
-    (subst WellFormed (ap (λ (o : Sides ℕ). with_status g (owing s o) (with_socket s (record socket { lock = left.lock }) w)) l.1)
-    (lock_keeps w g s socket left h (idle_ok g w at) found l.0))
+incref_sound w g s =
+    lock_keeps Lock.incref (λ _. Idle) w g s λ lock h.
+    Ends-either lock.closed (λ _. Ends-ok (record { lock = h; owed = none_owed; owes = refl })) λ _.
+    Ends-bind (Ends-raised_field lock.references) λ n small.
+    Ends-ok (record { lock = record { references = small; waiters = h.waiters }; owed = none_owed; owes = refl })
 
 pub increfclose_sound : (w : World) (g s : ℕ) → WellFormed w → Keeps (increfclose g s w)
-increfclose_sound w g s h =
-    Ends-then _ (idle g w) _ (Spares-idle g w) λ at.
-    Ends-bind _ (socket_of s w) _ (Spares-socket_of s w) λ socket found.
-    Ends-bind _ (Lock.incref_close socket.lock) _ (Spares-incref_close socket.lock) λ left is.
-    Ends-ok _ _ (lock_keeps w g s socket left h (idle_ok g w at) found (incref_close_leaves socket.lock left (socket_fits w s socket h found).lock is))
+increfclose_sound w g s =
+    lock_keeps Lock.incref_close (λ left. owing s left.owed) w g s λ lock h.
+    Ends-either lock.closed (λ _. Ends-ok (record { lock = h; owed = none_owed; owes = refl })) λ _.
+    Ends-bind (Ends-raised_field lock.references) λ n small.
+    Ends-ok (record { lock = record { references = small; waiters = none_owed }; owed = h.waiters; owes = refl })
+
+pub decref_sound : (w : World) (g s : ℕ) → WellFormed w → Keeps (decref g s w)
+decref_sound w g s =
+    lock_keeps Lock.decref (λ _. Idle) w g s λ lock h.
+    Ends-then (Ends-refused_if (lock.references == 0) _ refl) λ _.
+    Ends-ok (record { lock = record { references = lowered _ h.references; waiters = h.waiters }; owed = none_owed; owes = refl })
+
+pub rwunlock_sound : (w : World) (g s : ℕ) (side : Side) → WellFormed w → Keeps (rwunlock g s side w)
+rwunlock_sound w g s side =
+    lock_keeps (Lock.rw_unlock side) (λ left. owing s left.owed) w g s λ lock h.
+    Ends-then (Ends-refused_if (not (of_side side lock.locked) || (lock.references == 0)) _ refl) λ _.
+    let one : IsField (min (of_side side lock.waiters) 1) = omega arith in
+    Ends-ok (record {
+      lock = record { references = lowered _ h.references; waiters = with_side_all IsField side _ lock.waiters (lowered _ (h.waiters side)) h.waiters };
+      owed = with_side_all IsField side _ (twice 0) one none_owed;
+      owes = refl;
+    })
 
 pub rwlock_sound : (w : World) (g s : ℕ) (side : Side) → WellFormed w → Keeps (rwlock g s side w)
 rwlock_sound w g s side h =
-    Ends-bind _ (status_of g w) _ (Spares-status_of g w) λ status has.
-    Ends-then _ _ _ (Spares-refused_unless _ Refusal.NotThere refl) λ may.
-    Ends-bind _ (socket_of s w) _ (Spares-socket_of s w) λ socket found.
-    Ends-bind _ (rw_lock side socket.lock) _ (Spares-rw_lock side socket.lock) λ left locked.
-    let at : slice_get w.sockets s ≡ Some socket = found_ok _ _ _ found in
-    let fits : SocketFits w.limits.buffer socket = h.sockets s socket at in
-    let first : WellFormed (with_socket s (record socket { lock = left.lock }) w) =
-    resocketed w s socket _ h at (λ _. refl)
-    (record { lock = rw_lock_fits side socket.lock left fits.lock locked; counts = fits.counts; bytes = fits.bytes; capacities = fits.capacities })
-    in
-    Ends-ok _ _
-    (moved_outside _ g status (locker s side left.answer) first (status_ok g w status has) (may_lock_outside s side status (unless_ok _ _ may))
-    (lockers_are_outside s side left.answer)
-    (λ k named. rw length-set (subst (λ (n : ℕ). n < length w.sockets) (locker_named s side left.answer k named) (slice_get_within _ _ _ at)))
+    Ends-bind (Ends-status_of g w) λ status at.
+    Ends-then (Ends-refused_unless (may_lock s side status) _ refl) λ may.
+    Ends-bind (Ends-socket_of s w) λ socket there.
+    let fits : SocketFits w.limits.buffer socket = h.sockets s socket there in
+    Ends-bind (Ends-rw_lock side socket.lock fits.lock) λ left locked.
+    Ends-ok
+    (moved_outside _ g status (locker s side left.answer)
+    (resocketed w s socket _ h there (λ _. refl) (record { lock = locked; counts = fits.counts; bytes = fits.bytes; capacities = fits.capacities }))
+    at (may_lock_outside s side status may) (lockers_are_outside s side left.answer)
+    (λ k named. rw length-set (subst (λ (n : ℕ). n < length w.sockets) (locker_named s side left.answer k named) (slice_get_within _ _ _ there)))
     (λ reads writes owed. absurd (locker_owes s side left.answer _ owed)))
-
-pub rwunlock_sound : (w : World) (g s : ℕ) (side : Side) → WellFormed w → Keeps (rwunlock g s side w)
-rwunlock_sound w g s side h =
-    Ends-then _ (idle g w) _ (Spares-idle g w) λ at.
-    Ends-bind _ (socket_of s w) _ (Spares-socket_of s w) λ socket found.
-    Ends-bind _ (Lock.rw_unlock side socket.lock) _ (Spares-rw_unlock side socket.lock) λ left is.
-    Ends-ok _ _ (lock_keeps w g s socket left h (idle_ok g w at) found (rw_unlock_leaves side socket.lock left (socket_fits w s socket h found).lock is))

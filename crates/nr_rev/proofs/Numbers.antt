@@ -1,11 +1,15 @@
 -- Equal numbers, and how often a number stands in a list.
-use Rattle.std.proofs.Common.{◌≡◌, ◌≢◌, ℕ, ◌≤◌, Bool, true, false, List, [], ◌∷◌, ◌++◌, refl, arith, ◌+◌, cond}
-use Rattle.std.specs.Prelude.{◌==◌, nat_le, count_by}
+use Rattle.std.proofs.Common.{◌≡◌, ◌≢◌, ℕ, ◌≤◌, ◌<◌, Bool, true, false, List, [], ◌∷◌, ◌++◌, refl, arith, ◌+◌, ◌-◌, cond}
+use Rattle.std.specs.Prelude.{◌==◌, nat_le, nat_lt, count_by}
 use Rattle.nr_rev.specs.Lock.{bit}
+use Rattle.nr_rev.specs.WellFormed.{IsField}
 use Rattle.std.proofs.lemmas.List.Sums.{sum_by-append}
 
 pub same_number : (a b : ℕ) → (a == b) ≡ true → a ≡ b
 same_number a b e = grind (arith, e)
+
+pub below_of : (a b : ℕ) → nat_lt a b ≡ true → a < b
+below_of a b e = grind (arith, e)
 
 pub most_of : (a b : ℕ) → nat_le a b ≡ true → a ≤ b
 most_of a b e = grind (arith, e)
@@ -25,3 +29,6 @@ number_same a = grind arith
 
 pub number_apart : (a b : ℕ) → a ≢ b → (a == b) ≡ false
 number_apart a b apart = grind arith
+
+pub lowered : (n : ℕ) → IsField n → IsField (n - 1)
+lowered n small = omega arith

@@ -18,7 +18,7 @@ use Rattle.nr_rev.specs.declared.descriptor.Descriptor.{Descriptor}
 use Rattle.nr_rev.specs.Descriptor.{timer_function, is_combo, is_positive}
 use Rattle.nr_rev.proofs.SideAfter
 use Rattle.nr_rev.proofs.SideAfter.{SideAfter, entry_fits, firing_fits, none_current, combo_fits}
-use Rattle.nr_rev.proofs.Reworded.{other_side, of_side-with_side_same, of_side-with_side_other}
+use Rattle.nr_rev.proofs.BothSides.{other_side, of_side-with_side_same, of_side-with_side_other}
 use Rattle.nr_rev.specs.WellFormed.{Stand, ArmedAt, FiringAt, standing, armed_at, IsCurrent}
 
 -- each entry stood somewhere before, no two at one place
@@ -68,10 +68,6 @@ skip_once (suc i) (suc j) (suc k) e = ap suc (skip_once i j k (omega arith))
 abbrev WasBefore : ℕ → Stand → Stand → Type 0
 WasBefore i (ArmedAt d side) q = q ≡ ArmedAt d side
 WasBefore i (FiringAt j) q = q ≡ FiringAt (skip i j)
-
-firing_number : Stand → ℕ
-firing_number (FiringAt j) = j
-firing_number _ = 0
 
 pub same_firing : (j k : ℕ) → FiringAt j ≡ FiringAt k → j ≡ k
 same_firing j k e = cc

@@ -16,6 +16,7 @@ use Rattle.nr_rev.specs.Socket.{Socket}
 use Rattle.nr_rev.specs.declared.descriptor.DescriptorRow.{DescriptorRow}
 use Rattle.nr_rev.specs.World.{is_free_number}
 use Rattle.nr_rev.specs.WellFormed.{GoroutinesFit, TimersFit, FreeFits, RowFits, EntryFits, FiringFits, IsDueFor, HasWord, Stand, ArmedAt, FiringAt, armed_at, standing, IsCurrent}
+use Rattle.nr_rev.proofs.BothSides.{other_side, of_side-with_side_same, of_side-with_side_other}
 use Rattle.nr_rev.proofs.Lists.{slice_get-set_unseen, slice_get-set_cases, slice_get-set_here}
 
 abbrev pub reworded : DescriptorRow → Sides Word → DescriptorRow
@@ -106,22 +107,6 @@ word_cases rows d row words k side word at has =
   where
     view : DescriptorRow → Word
     view r = of_side side r.descriptor.words
-
-pub other_side : (s side : Side) → (s ≡ side) ⊎ (s ≢ side)
-other_side Read Read = inl refl
-other_side Read Write = inr (λ e. cc)
-other_side Write Read = inr (λ e. cc)
-other_side Write Write = inl refl
-
-pub of_side-with_side_same : {A : Type 0} (side : Side) (new : A) (both : Sides A) → of_side side (with_side side new both) ≡ new
-of_side-with_side_same Read new both = refl
-of_side-with_side_same Write new both = refl
-
-pub of_side-with_side_other : {A : Type 0} (s side : Side) (new : A) (both : Sides A) → s ≢ side → of_side s (with_side side new both) ≡ of_side s both
-of_side-with_side_other Read Read new both apart = absurd (apart refl)
-of_side-with_side_other Read Write new both apart = refl
-of_side-with_side_other Write Read new both apart = refl
-of_side-with_side_other Write Write new both apart = absurd (apart refl)
 
 -- the rows after one word changed
 abbrev pub with_word_at : List DescriptorRow → ℕ → DescriptorRow → Side → Word → List DescriptorRow

@@ -1,5 +1,5 @@
 -- Goroutines acquire semaphores, queue at them and release them.
-use Rattle.std.proofs.Common.{◌≡◌, ◌≢◌, ℕ, ◌+◌, ◌-◌, ◌^◌, ◌<◌, Bool, true, false, ◌&&◌, List, [], ◌∷◌, ◌++◌, Option, Some, None, Ok, inl, inr, refl, sym, ap, subst, ◌∙◌, set, length, length-set, arith, drop}
+use Rattle.std.proofs.Common.{◌≡◌, ◌≢◌, ℕ, ◌+◌, ◌-◌, ◌^◌, ◌<◌, Bool, true, false, ◌&&◌, List, [], ◌∷◌, ◌++◌, Option, Some, None, inl, inr, refl, sym, ap, subst, ◌∙◌, set, length, length-set, arith, drop}
 use Rattle.std.proofs.lemmas.Option.{same_Some, none-some, slice_get_within}
 use Rattle.std.specs.Prelude.{slice_get, if◌then◌else◌, ◌==◌, nat_lt, count_by}
 use Rattle.std.specs.Option.{option_and_then}
@@ -8,23 +8,20 @@ use Rattle.nr_rev.specs.declared.sides.Side.TheVariants.{Read, Write}
 use Rattle.nr_rev.specs.declared.status.Status.{Status}
 use Rattle.nr_rev.specs.declared.status.Status.TheVariants.{Acquiring, Queued, Relock, Owing}
 use Rattle.nr_rev.specs.declared.answer.Answer.{Answer}
-use Rattle.nr_rev.specs.declared.refusal.Refusal.{Refusal}
-use Rattle.nr_rev.specs.declared.sides.Sides.{Sides}
 use Rattle.nr_rev.specs.Sides.{of_side, with_side, same_side}
 use Rattle.nr_rev.specs.World.{World, wait_of, with_status, with_socket}
 use Rattle.nr_rev.specs.Socket.{Socket}
 use Rattle.nr_rev.specs.WellFormed.{WellFormed, SocketFits, IsField, socket_named, owed_of, is_queued}
 use Rattle.nr_rev.proofs.Lists.{slice_get-set_cases}
-use Rattle.nr_rev.proofs.Reasons.{then_ok, unless_ok, found_ok, same_ok, below_of}
-use Rattle.nr_rev.proofs.Found.{status_ok, acquiring_ok, owing_ok}
+use Rattle.nr_rev.proofs.BothSides.{each_side, with_side_all}
+use Rattle.nr_rev.proofs.Found.{both_true, Ends-status_of, Ends-socket_of, Ends-acquiring_of, Ends-owing_of}
 use Rattle.nr_rev.proofs.StatusSet.{MayMove, IsOutside, moved_outside, comes_to_owe}
 use Rattle.nr_rev.specs.Lock.{bit}
 use Rattle.nr_rev.specs.Semaphore.{Semaphore, is_free, acquired, front_of, released}
-use Rattle.nr_rev.specs.Step.{acquire, release, status_of, socket_of, acquiring_of, owing_of, with_semaphore, tries_again}
+use Rattle.nr_rev.specs.Step.{acquire, release, with_semaphore, tries_again}
 use Rattle.nr_rev.proofs.SocketSet.{resocketed, requeued}
-use Rattle.nr_rev.proofs.Numbers.{same_number, count_push, count_front, number_same, number_apart}
-use Rattle.nr_rev.proofs.Follows.{both_true}
-use Rattle.nr_rev.proofs.Outcomes.{Keeps, Spares, Spares-ok, Ends-ok, Ends-bind, Spares-then, Spares-refused_unless, Spares-status_of, Spares-acquiring_of, Spares-owing_of, Spares-socket_of}
+use Rattle.nr_rev.proofs.Numbers.{below_of, lowered, same_number, count_push, count_front, number_same, number_apart}
+use Rattle.nr_rev.proofs.Outcomes.{Ends, Keeps, Ends-ok, Ends-bind, Ends-then, Ends-refused_unless}
 
 may_name : (w : World) (g s : ℕ) (new : Status) → s < length w.sockets → wait_of new ≡ None → socket_named new ≡ Some s → owed_of new ≡ None → MayMove w.goroutines w.sockets w.descriptors w.free g new
 may_name w g s new within none named owes_none =
@@ -41,13 +38,12 @@ resemaphored side socket semaphore = record socket { semaphores = with_side side
 
 semaphore_fits : (limit : ℕ) (side : Side) (socket : Socket) (semaphore : Semaphore) → semaphore.count < 2 ^ 32 → SocketFits limit socket → SocketFits limit (resemaphored side socket semaphore)
 semaphore_fits limit side socket semaphore small h =
-    record { lock = h.lock; counts = counts side; bytes = h.bytes; capacities = h.capacities }
-  where
-    counts : (side s : Side) → (of_side s (resemaphored side socket semaphore).semaphores).count < 2 ^ 32
-    counts Read Read = small
-    counts Read Write = h.counts Write
-    counts Write Read = h.counts Read
-    counts Write Write = small
+    record {
+      lock = h.lock;
+      counts = with_side_all (λ (x : Semaphore). x.count < 2 ^ 32) side semaphore socket.semaphores small h.counts;
+      bytes = h.bytes;
+      capacities = h.capacities;
+    }
 
 queue_kept : (side s : Side) (socket : Socket) (semaphore : Semaphore) → semaphore.queue ≡ (of_side side socket.semaphores).queue → (of_side s (resemaphored side socket semaphore).semaphores).queue ≡ (of_side s socket.semaphores).queue
 queue_kept Read Read socket semaphore e = e
@@ -78,42 +74,22 @@ and_true : (a : Bool) → (a && true) ≡ a
 and_true true = refl
 and_true false = refl
 
-same_side_swap : (a b : Side) → same_side a b ≡ same_side b a
-same_side_swap Read Read = refl
-same_side_swap Read Write = refl
-same_side_swap Write Read = refl
-same_side_swap Write Write = refl
-
--- the bits of queued goroutines after one began, or from the list before it ended, to be queued there
-bits_more : (gs : List Status) (g s k : ℕ) (side other : Side) (from to : Status) → slice_get gs g ≡ Some from → is_queued s other (Some from) ≡ false → is_queued s other (Some to) ≡ same_side other side → bit (is_queued s other (slice_get (set gs g to) k)) ≡ bit (is_queued s other (slice_get gs k)) + bit (same_side other side && (g == k))
-bits_more gs g s k side other from to at before_is after_is =
+-- a view's bit at k, after g moved
+bits_moved : (view : Option Status → Bool) (gs : List Status) (g k : ℕ) (from to : Status) → slice_get gs g ≡ Some from → bit (view (slice_get (set gs g to) k)) + bit (view (Some from) && (g == k)) ≡ bit (view (slice_get gs k)) + bit (view (Some to) && (g == k))
+bits_moved view gs g k from to at =
     elim (slice_get-set_cases gs g from to k at) [
       | inl here ↦
-          let a : bit (is_queued s other (slice_get (set gs g to) k)) ≡ bit (same_side other side) = ap bit (ap (is_queued s other) here.1 ∙ after_is) in
-          let b : bit (is_queued s other (slice_get gs k)) ≡ 0 = ap bit (ap (is_queued s other) (ap (slice_get gs) here.0 ∙ at) ∙ before_is) in
-          let c : bit (same_side other side && (g == k)) ≡ bit (same_side other side) =
-          ap bit (ap (λ n. same_side other side && (g == n)) here.0 ∙ ap (λ b. same_side other side && b) (number_same g) ∙ and_true _)
-          in
+          let a : bit (view (slice_get (set gs g to) k)) ≡ bit (view (Some to)) = ap (λ o. bit (view o)) here.1 in
+          let b : bit (view (slice_get gs k)) ≡ bit (view (Some from)) = ap (λ o. bit (view o)) (ap (slice_get gs) here.0 ∙ at) in
+          let same : (g == k) ≡ true = ap (λ n. g == n) here.0 ∙ number_same g in
+          let c : bit (view (Some from) && (g == k)) ≡ bit (view (Some from)) = ap bit (ap (λ b. view (Some from) && b) same ∙ and_true _) in
+          let d : bit (view (Some to) && (g == k)) ≡ bit (view (Some to)) = ap bit (ap (λ b. view (Some to) && b) same ∙ and_true _) in
           omega arith
       | inr there ↦
-          let a : bit (is_queued s other (slice_get (set gs g to) k)) ≡ bit (is_queued s other (slice_get gs k)) = ap (λ o. bit (is_queued s other o)) there.1 in
-          let c : bit (same_side other side && (g == k)) ≡ 0 = ap bit (ap (λ b. same_side other side && b) (number_apart g k (λ e. there.0 (sym e))) ∙ and_false _) in
-          omega arith
-    ]
-
-bits_less : (gs : List Status) (g s k : ℕ) (side other : Side) (from to : Status) → slice_get gs g ≡ Some from → is_queued s other (Some from) ≡ same_side other side → is_queued s other (Some to) ≡ false → bit (is_queued s other (slice_get gs k)) ≡ bit (is_queued s other (slice_get (set gs g to) k)) + bit (same_side other side && (g == k))
-bits_less gs g s k side other from to at before_is after_is =
-    elim (slice_get-set_cases gs g from to k at) [
-      | inl here ↦
-          let a : bit (is_queued s other (slice_get (set gs g to) k)) ≡ 0 = ap bit (ap (is_queued s other) here.1 ∙ after_is) in
-          let b : bit (is_queued s other (slice_get gs k)) ≡ bit (same_side other side) = ap bit (ap (is_queued s other) (ap (slice_get gs) here.0 ∙ at) ∙ before_is) in
-          let c : bit (same_side other side && (g == k)) ≡ bit (same_side other side) =
-          ap bit (ap (λ n. same_side other side && (g == n)) here.0 ∙ ap (λ b. same_side other side && b) (number_same g) ∙ and_true _)
-          in
-          omega arith
-      | inr there ↦
-          let a : bit (is_queued s other (slice_get (set gs g to) k)) ≡ bit (is_queued s other (slice_get gs k)) = ap (λ o. bit (is_queued s other o)) there.1 in
-          let c : bit (same_side other side && (g == k)) ≡ 0 = ap bit (ap (λ b. same_side other side && b) (number_apart g k (λ e. there.0 (sym e))) ∙ and_false _) in
+          let a : bit (view (slice_get (set gs g to) k)) ≡ bit (view (slice_get gs k)) = ap (λ o. bit (view o)) there.1 in
+          let apart : (g == k) ≡ false = number_apart g k (λ e. there.0 (sym e)) in
+          let c : bit (view (Some from) && (g == k)) ≡ 0 = ap bit (ap (λ b. view (Some from) && b) apart ∙ and_false _) in
+          let d : bit (view (Some to) && (g == k)) ≡ 0 = ap bit (ap (λ b. view (Some to) && b) apart ∙ and_false _) in
           omega arith
     ]
 
@@ -130,7 +106,8 @@ queues w g s side socket h at there =
     (λ k other.
     let a = queue_pushed side other g k socket in
     let b : count_by (λ h. h == k) (of_side other socket.semaphores).queue ≡ bit (is_queued s other (slice_get w.goroutines k)) = h.queues.queued k s other socket there in
-    let c = bits_more w.goroutines g s k side other (Acquiring s side) (Queued s side) at refl (queued_here s side other) in
+    let c = bits_moved (is_queued s other) w.goroutines g k (Acquiring s side) (Queued s side) at in
+    let d : bit (is_queued s other (Some (Queued s side)) && (g == k)) ≡ bit (same_side other side && (g == k)) = ap (λ x. bit (x && (g == k))) (queued_here s side other) in
     omega arith)
     (semaphore_fits _ side socket _ ((h.sockets s socket there).counts side) (h.sockets s socket there))
 
@@ -190,17 +167,12 @@ pub record Released (w next : World) : Type 0 where
   pub sockets : length next.sockets ≡ length w.sockets
   pub owes : (g s reads writes : ℕ) → slice_get w.goroutines g ≡ Some (Owing s reads writes) → slice_get next.goroutines g ≡ Some (Owing s reads writes)
 
-releases : (w : World) (s : ℕ) (side : Side) (socket : Socket) (left : Semaphore) → WellFormed w → slice_get w.sockets s ≡ Some socket → released (of_side side socket.semaphores) ≡ Ok left → Released w (tries_again s side (front_of (of_side side socket.semaphores)) (with_semaphore s side socket left w))
-releases w s side socket left h there e =
-    let t = then_ok _ _ _ e in
-    let below : (of_side side socket.semaphores).count < 2 ^ 32 - 1 = below_of _ _ (unless_ok _ _ t.0) in
-    let small : (of_side side socket.semaphores).count + 1 < 2 ^ 32 = omega arith in
-    subst (λ (x : Semaphore). Released w (tries_again s side (front_of (of_side side socket.semaphores)) (with_semaphore s side socket x w))) (same_ok _ _ t.1)
-    (go (of_side side socket.semaphores).queue refl small)
+releases : (w : World) (s : ℕ) (side : Side) (socket : Socket) → WellFormed w → slice_get w.sockets s ≡ Some socket → Ends (λ left. Released w (tries_again s side (front_of (of_side side socket.semaphores)) (with_semaphore s side socket left w))) (released (of_side side socket.semaphores))
+releases w s side socket h there =
+    Ends-then (Ends-refused_unless (nat_lt (of_side side socket.semaphores).count (2 ^ 32 - 1)) _ refl) λ is_below.
+    let below : (of_side side socket.semaphores).count < 2 ^ 32 - 1 = below_of _ _ is_below in
+    Ends-ok (go (of_side side socket.semaphores).queue refl (omega arith))
   where
-    raised : Semaphore → List ℕ → Semaphore
-    raised semaphore q = record { count = semaphore.count + 1; queue = q }
-
     go : (q : List ℕ) → (of_side side socket.semaphores).queue ≡ q → (of_side side socket.semaphores).count + 1 < 2 ^ 32 → Released w (tries_again s side (slice_get (of_side side socket.semaphores).queue 0) (with_semaphore s side socket (record { count = (of_side side socket.semaphores).count + 1; queue = drop 1 (of_side side socket.semaphores).queue }) w))
     go [] is small =
         subst (λ (q : List ℕ). Released w (tries_again s side (slice_get q 0) (with_semaphore s side socket (record { count = (of_side side socket.semaphores).count + 1; queue = drop 1 q }) w))) (sym is)
@@ -219,7 +191,8 @@ releases w s side socket left h there e =
               (λ k other.
               let a = queue_popped side other f k ((of_side side socket.semaphores).count + 1) q socket is in
               let b : count_by (λ h. h == k) (of_side other socket.semaphores).queue ≡ bit (is_queued s other (slice_get w.goroutines k)) = h.queues.queued k s other socket there in
-              let c = bits_less w.goroutines f s k side other (Queued s side) (Acquiring s side) at (queued_here s side other) refl in
+              let c = bits_moved (is_queued s other) w.goroutines f k (Queued s side) (Acquiring s side) at in
+              let d : bit (is_queued s other (Some (Queued s side)) && (f == k)) ≡ bit (same_side other side && (f == k)) = ap (λ x. bit (x && (f == k))) (queued_here s side other) in
               omega arith)
               (semaphore_fits _ side socket _ small (h.sockets s socket there));
           sockets = length-set _ s _;
@@ -236,36 +209,23 @@ picked a b false h = h
 
 pub acquire_sound : (w : World) (g : ℕ) → WellFormed w → Keeps (acquire g w)
 acquire_sound w g h =
-    Ends-bind _ (status_of g w) _ (Spares-status_of g w) λ status has.
-    Ends-bind _ (acquiring_of status) _ (Spares-acquiring_of status) λ place is.
-    Ends-bind _ (socket_of place.0 w) _ (Spares-socket_of place.0 w) λ socket found.
-    Ends-ok _ _
+    Ends-bind (Ends-status_of g w) λ status at.
+    Ends-bind (Ends-acquiring_of status) λ place is.
+    Ends-bind (Ends-socket_of place.0 w) λ socket there.
+    Ends-ok
     (picked _ _ (is_free (of_side place.1 socket.semaphores))
-    (acquires w g place.0 place.1 socket _ h (status_ok g w status has ∙ ap Some (acquiring_ok status place is)) (found_ok _ _ _ found) refl))
-
-Spares-released : (semaphore : Semaphore) → Spares (released semaphore)
-Spares-released semaphore = Spares-then _ _ (Spares-refused_unless _ Refusal.FieldOverflow refl) (Spares-ok _)
+    (acquires w g place.0 place.1 socket _ h (at ∙ ap Some is) there refl))
 
 pub release_sound : (w : World) (g : ℕ) → WellFormed w → Keeps (release g w)
 release_sound w g h =
-    Ends-bind _ (status_of g w) _ (Spares-status_of g w) λ status has.
-    Ends-bind _ (owing_of status) _ (Spares-owing_of status) λ debt is.
-    Ends-bind _ (socket_of debt.0 w) _ (Spares-socket_of debt.0 w) λ socket found.
-    Ends-bind _ (released (of_side (if nat_lt 0 debt.1.read then Read else Write) socket.semaphores)) _ (Spares-released (of_side (if nat_lt 0 debt.1.read then Read else Write) socket.semaphores)) λ left raised.
-    let at : slice_get w.goroutines g ≡ Some (Owing debt.0 debt.1.read debt.1.write) = status_ok g w status has ∙ ap Some (owing_ok status debt is) in
-    let there : slice_get w.sockets debt.0 ≡ Some socket = found_ok _ _ _ found in
-    let r = releases w debt.0 (if nat_lt 0 debt.1.read then Read else Write) socket left h there raised in
-    let small = h.goroutines.owed g debt.1.read debt.1.write (ap (option_and_then owed_of) at) in
-    Ends-ok _ _
+    Ends-bind (Ends-status_of g w) λ status status_at.
+    Ends-bind (Ends-owing_of status) λ debt is.
+    Ends-bind (Ends-socket_of debt.0 w) λ socket there.
+    Ends-bind (releases w debt.0 (if nat_lt 0 debt.1.read then Read else Write) socket h there) λ left r.
+    let at : slice_get w.goroutines g ≡ Some (Owing debt.0 debt.1.read debt.1.write) = status_at ∙ ap Some is in
+    let owed = h.goroutines.owed g debt.1.read debt.1.write (ap (option_and_then owed_of) at) in
+    let small : (s : Side) → IsField (of_side s debt.1) = each_side _ owed.0 owed.1 in
+    Ends-ok
     (comes_to_owe _ g debt.0 (Owing debt.0 debt.1.read debt.1.write) _ r.fits (r.owes g debt.0 debt.1.read debt.1.write at)
     (record { waits = refl; parked = refl; awaits = refl; queued = λ _ _. refl }) (rw r.sockets (slice_get_within _ _ _ there))
-    (lowered (if nat_lt 0 debt.1.read then Read else Write) debt.1 small.0 small.1))
-  where
-    less : (n : ℕ) → IsField n → IsField (n - 1)
-    less n e = omega arith
-
-    lowered : (side : Side) (owed : Sides ℕ) → IsField owed.read → IsField owed.write → (s : Side) → IsField (of_side s (with_side side (of_side side owed - 1) owed))
-    lowered Read owed r c Read = less owed.read r
-    lowered Read owed r c Write = c
-    lowered Write owed r c Read = r
-    lowered Write owed r c Write = less owed.write c
+    (with_side_all IsField (if nat_lt 0 debt.1.read then Read else Write) _ debt.1 (lowered _ (small (if nat_lt 0 debt.1.read then Read else Write))) small))

@@ -12,12 +12,13 @@ use Rattle.nr_rev.specs.declared.timer.Entry.{Entry}
 use Rattle.nr_rev.specs.declared.descriptor.Descriptor.{Descriptor}
 use Rattle.nr_rev.specs.Descriptor.{is_combo, is_positive, timer_function, wants_timer}
 use Rattle.nr_rev.specs.WellFormed.{EntryFits, FiringFits, IsDueFor}
-use Rattle.nr_rev.proofs.Follows.{both_true, not_true}
+use Rattle.nr_rev.proofs.Follows.{Begun, not_true}
+use Rattle.nr_rev.proofs.Found.{both_true}
 
 -- what became of a side: its timer was kept, armed anew, or stopped
 pub data SideAfter (side : Side) (old new : Descriptor) (before after : Option Timer) : Type 0 where
   Kept : of_side side new.sequences ≡ of_side side old.sequences → of_side side new.running ≡ of_side side old.running → (of_side side old.running ≡ true → (of_side side new.deadlines ≡ of_side side old.deadlines) × (is_combo new ≡ is_combo old)) → after ≡ before → SideAfter side old new before after
-  Armed : ((of_side side old.running ≡ false) × (of_side side new.sequences ≡ of_side side old.sequences)) ⊎ (of_side side new.sequences ≡ of_side side old.sequences + 1) → of_side side new.running ≡ true → wants_timer side new ≡ true → (timer : Timer) → timer.due ≡ of_side side new.deadlines → timer.function ≡ timer_function side new → timer.sequence ≡ of_side side new.sequences → after ≡ Some timer → SideAfter side old new before after
+  Armed : Begun side old new → of_side side new.running ≡ true → wants_timer side new ≡ true → (timer : Timer) → timer.due ≡ of_side side new.deadlines → timer.function ≡ timer_function side new → timer.sequence ≡ of_side side new.sequences → after ≡ Some timer → SideAfter side old new before after
   Stopped : of_side side new.sequences ≡ of_side side old.sequences + 1 → of_side side new.running ≡ false → after ≡ None → SideAfter side old new before after
 
 wanted_positive : (side : Side) (d : Descriptor) → wants_timer side d ≡ true → is_positive (of_side side d.deadlines) ≡ true
@@ -119,7 +120,7 @@ firing_fits e old new before after (Stopped raised halted now) h =
     record { side = h.side; sequence = omega arith; due = h.due; current = λ now. absurd (omega arith) }
 
 -- no firing is current where the timer was armed anew or stopped
-pub none_current : (e : Entry) (old new : Descriptor) → ((of_side e.side old.running ≡ false) × (of_side e.side new.sequences ≡ of_side e.side old.sequences)) ⊎ (of_side e.side new.sequences ≡ of_side e.side old.sequences + 1) → FiringFits old e → e.timer.sequence ≢ of_side e.side new.sequences
+pub none_current : (e : Entry) (old new : Descriptor) → Begun e.side old new → FiringFits old e → e.timer.sequence ≢ of_side e.side new.sequences
 none_current e old new begun h now =
     elim begun [
       | inl rest ↦ true≢false (sym (h.current (now ∙ rest.1)).running ∙ rest.0)

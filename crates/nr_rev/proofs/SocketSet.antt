@@ -1,5 +1,5 @@
 -- A socket is set, alone or together with a goroutine's status.
-use Rattle.std.proofs.Common.{◌≡◌, ℕ, List, Some, Ok, ap, subst, ◌∙◌, length-set, inl, inr, sym, ◌≢◌, set}
+use Rattle.std.proofs.Common.{◌≡◌, ℕ, List, Some, ap, subst, ◌∙◌, length-set, inl, inr, sym, ◌≢◌, set}
 use Rattle.std.proofs.lemmas.Option.{same_Some}
 use Rattle.std.specs.Prelude.{slice_get, ◌==◌, count_by}
 use Rattle.nr_rev.specs.declared.sides.Side.{Side}
@@ -8,16 +8,11 @@ use Rattle.nr_rev.specs.Sides.{of_side}
 use Rattle.nr_rev.specs.World.{World, with_status, with_socket}
 use Rattle.nr_rev.specs.Socket.{Socket}
 use Rattle.nr_rev.specs.WellFormed.{WellFormed, SocketFits, GoroutinesFit, parked_of, awaiting_of, is_queued}
-use Rattle.nr_rev.proofs.Reasons.{found_ok}
-use Rattle.nr_rev.specs.Step.{socket_of}
 use Rattle.nr_rev.specs.Lock.{bit}
 use Rattle.nr_rev.proofs.StatusSet.{MayMove, GoroutinesFit-moved}
 use Rattle.nr_rev.proofs.Lists.{slice_get-set_cases, slice_get-set_unseen}
 use Rattle.std.specs.Option.{option_and_then}
 use Rattle.nr_rev.proofs.SameViews.{WordsFit-same}
-
-pub socket_fits : (w : World) (s : ℕ) (socket : Socket) → WellFormed w → socket_of s w ≡ Ok socket → SocketFits w.limits.buffer socket
-socket_fits w s socket h found = h.sockets s socket (found_ok _ _ _ found)
 
 -- a socket changes, but for its queues
 pub resocketed : (w : World) (s : ℕ) (old new : Socket) → WellFormed w → slice_get w.sockets s ≡ Some old → ((side : Side) → (of_side side new.semaphores).queue ≡ (of_side side old.semaphores).queue) → SocketFits w.limits.buffer new → WellFormed (with_socket s new w)

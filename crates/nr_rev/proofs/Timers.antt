@@ -8,14 +8,13 @@ use Rattle.nr_rev.specs.declared.sides.Sides.{Sides}
 use Rattle.nr_rev.specs.World.{World, with_row, is_free_number, least_entry}
 use Rattle.nr_rev.specs.Timer.{IsTime, least_of, earlier_of, is_before, entries_from, entries_at, entry_of}
 use Rattle.nr_rev.specs.WellFormed.{WellFormed, RowFits, EntryFits, FiringFits, IsDueFor, ArmedAt, FiringAt, armed_at, IsCurrent}
-use Rattle.nr_rev.proofs.Reasons.{then_ok, if_ok, same_ok, unless_ok, found_ok, below_of, either_then}
-use Rattle.nr_rev.proofs.Found.{row_ok}
-use Rattle.nr_rev.specs.Step.{tick, row_of, pop, changed, fire, fired_with}
+use Rattle.nr_rev.proofs.BothSides.{of_side-twice}
+use Rattle.nr_rev.proofs.Numbers.{below_of, same_number}
+use Rattle.nr_rev.proofs.Found.{Ends-row_of}
+use Rattle.nr_rev.specs.Step.{tick, pop, fire, fired_with}
 use Rattle.std.proofs.lemmas.Int.{ints}
 use Rattle.nr_rev.specs.declared.sides.Side.TheVariants.{Read, Write}
-use Rattle.nr_rev.specs.declared.refusal.Refusal.{Refusal}
 use Rattle.nr_rev.specs.Sides.{of_side, twice, with_side, same_side, covers_side, side_of_function}
-use Rattle.nr_rev.specs.Refusing.{found_or, refused_unless}
 use Rattle.nr_rev.specs.declared.descriptor.DescriptorRow.{DescriptorRow}
 use Rattle.nr_rev.specs.declared.timer.Timer.{Timer}
 use Rattle.nr_rev.specs.declared.timer.Entry.{Entry}
@@ -25,11 +24,10 @@ use Rattle.nr_rev.proofs.Restood.{TimersFit-popped, unarmed, TimersFit-removed, 
 use Rattle.nr_rev.specs.declared.timer.TimerFunction.{TimerFunction}
 use Rattle.nr_rev.specs.declared.descriptor.Descriptor.{Descriptor}
 use Rattle.nr_rev.specs.Descriptor.{Change, timer_function, quiet, is_combo, is_positive, and_if, unblocked, fired, expire, is_current, is_timed}
-use Rattle.nr_rev.proofs.Retimed.{Retimed}
 use Rattle.nr_rev.proofs.SideAfter.{SideAfter, combo_of_both}
-use Rattle.nr_rev.proofs.Changes.{changed_keeps, retimed_still, Spares-changed}
+use Rattle.nr_rev.proofs.Changes.{changed_keeps, retimed_still}
 use Rattle.std.proofs.lemmas.List.Edits.{length-remove}
-use Rattle.nr_rev.proofs.Outcomes.{Keeps, KeepsFor, Spares, Spares-ok, Ends-ok, Ends-bind, Ends-then, Ends-either, Spares-refused_if, Spares-refused_unless, Spares-found_or, Spares-row_of}
+use Rattle.nr_rev.proofs.Outcomes.{Ends, Keeps, KeepsFor, Ends-ok, Ends-bind, Ends-then, Ends-either, Ends-certain, Ends-found_or, Ends-refused_if, Ends-refused_unless}
 use Rattle.nr_rev.proofs.SideAfter
 
 not_negative : (t c : ℤ) → int_lt t c ≡ false → pos 0 ≤ℤ c → pos 0 ≤ℤ t
@@ -94,10 +92,6 @@ least_stands w e is =
     zero_more : (k : ℕ) → e.descriptor ≡ 0 + k → e.descriptor ≡ k
     zero_more k q = omega arith
 
-off : (side : Side) → of_side side (twice false) ≡ false
-off Read = refl
-off Write = refl
-
 -- a descriptor of which a side runs isn't free
 pub running_open : (w : World) (d : ℕ) (row : DescriptorRow) (side : Side) → WellFormed w → slice_get w.descriptors d ≡ Some row → of_side side row.descriptor.running ≡ true → is_free_number d w.free ≡ false
 running_open w d row side h at runs = go (is_free_number d w.free) refl
@@ -106,7 +100,7 @@ running_open w d row side h at runs = go (is_free_number d w.free) refl
     go false is = is
     go true is =
         let fits : RowFits row = h.timers.entries_fit d row at in
-        absurd (true≢false (sym runs ∙ ap (of_side side) (fits.closing (h.free.closing d row is at)) ∙ off side))
+        absurd (true≢false (sym runs ∙ ap (of_side side) (fits.closing (h.free.closing d row is at)) ∙ of_side-twice side false))
 
 popped : (w : World) (e : Entry) (row : DescriptorRow) → WellFormed w → slice_get w.descriptors e.descriptor ≡ Some row → of_side e.side row.timers ≡ Some e.timer → length w.firings < 2 * w.limits.descriptors → WellFormed (record (with_row e.descriptor (unarmed row e.side) w) { firings = w.firings ++ e ∷ [] })
 popped w e row h at is room =
@@ -320,19 +314,16 @@ module _ (w : World) (i : ℕ) (e : Entry) (row : DescriptorRow) (h : WellFormed
       (current_of f same (f_now ∙ ap (λ s. of_side s row.descriptor.sequences) (sym same_side))) (current_of e refl now_here)))
 
 pub current_is : (f : TimerFunction) (n : ℕ) (d : Descriptor) → not (is_current f n d) ≡ false → n ≡ of_side (side_of_function f) d.sequences
-current_is f n d e = number (n) (of_side (side_of_function f) d.sequences) (positive (n == of_side (side_of_function f) d.sequences) e)
+current_is f n d e = same_number n (of_side (side_of_function f) d.sequences) (positive (n == of_side (side_of_function f) d.sequences) e)
   where
     positive : (b : Bool) → not b ≡ false → b ≡ true
     positive true e = refl
     positive false e = cc
 
-    number : (a b : ℕ) → (a == b) ≡ true → a ≡ b
-    number a b e = grind (arith, e)
-
 pub tick_sound : (w : World) (t : ℤ) → WellFormed w → KeepsFor (IsTime t) (tick t w)
 tick_sound w t h =
-    Ends-then _ _ _ (Spares-refused_if _ Refusal.ClockGoesBack refl) λ later.
-    Ends-ok _ _ (λ is_time. record {
+    Ends-then (Ends-refused_if (int_lt t w.clock) _ refl) λ later.
+    Ends-ok (λ is_time. record {
       goroutines = h.goroutines;
       words = h.words;
       queues = h.queues;
@@ -343,70 +334,47 @@ tick_sound w t h =
       sockets_limited = h.sockets_limited;
       descriptors_limited = h.descriptors_limited;
       firings_limited = h.firings_limited;
-      clock = record { begun = not_negative t w.clock (if_ok _ _ later) h.clock.begun; time = is_time };
+      clock = record { begun = not_negative t w.clock later h.clock.begun; time = is_time };
     })
 
 pub pop_sound : (w : World) → WellFormed w → Keeps (pop w)
 pop_sound w h =
-    Ends-bind _ (found_or (least_entry w) Refusal.NoTimerDue) _ (Spares-found_or _ Refusal.NoTimerDue refl) λ entry found.
-    Ends-then _ (refused_unless (int_le entry.timer.due w.clock) Refusal.NoTimerDue) _ (Spares-refused_unless _ Refusal.NoTimerDue refl) λ _.
-    Ends-then _ (refused_unless (nat_lt (length w.firings) (2 * w.limits.descriptors)) Refusal.FiringsFull) _ (Spares-refused_unless _ Refusal.FiringsFull refl) λ room.
-    Ends-bind _ (row_of entry.descriptor w) _ (Spares-row_of entry.descriptor w) λ row row_found.
-    let s = least_stands w entry (found_ok _ _ _ found) in
-    let at : slice_get w.descriptors entry.descriptor ≡ Some row = row_ok entry.descriptor w row row_found in
+    Ends-bind (Ends-found_or (least_entry w) _ refl) λ entry found.
+    Ends-then (Ends-refused_unless (int_le entry.timer.due w.clock) _ refl) λ _.
+    Ends-then (Ends-refused_unless (nat_lt (length w.firings) (2 * w.limits.descriptors)) _ refl) λ room.
+    Ends-bind (Ends-row_of entry.descriptor w) λ row at.
+    let s = least_stands w entry found in
     let same : s.0 ≡ row = same_Some _ _ (sym s.1 ∙ at) in
-    Ends-ok _ _
-    (popped w entry row h at (ap (λ (r : DescriptorRow). of_side entry.side r.timers) (sym same) ∙ s.2) (below_of _ _ (unless_ok _ _ room)))
+    Ends-ok (popped w entry row h at (ap (λ (r : DescriptorRow). of_side entry.side r.timers) (sym same) ∙ s.2) (below_of _ _ room))
 
 timed : (row : DescriptorRow) (f : TimerFunction) → MayFire row f → is_timed f row.descriptor ≡ true
 timed row TimerFunction.Read may = ap₂ (λ x y. x && y) (may.positive Read refl) may.running
 timed row TimerFunction.Write may = ap₂ (λ x y. x && y) (may.positive Write refl) may.running
 timed row TimerFunction.Both may = ap₂ (λ x y. x && y) (ap₂ (λ x y. x && y) (may.positive Read refl) may.running) (may.positive Write refl)
 
-unless_so : (test : Bool) (reason : Refusal) → test ≡ true → Spares (refused_unless test reason)
-unless_so true reason so = Spares-ok tt
-unless_so false reason so = cc
-
--- a firing of a well-formed world finds no descriptor that contradicts itself
-Spares-fired : (w : World) (i : ℕ) (e : Entry) (row : DescriptorRow) → WellFormed w → slice_get w.firings i ≡ Some e → slice_get w.descriptors e.descriptor ≡ Some row → Spares (fired e.timer.function e.timer.sequence row.descriptor)
-Spares-fired w i e row h at row_at =
-    Ends-either _ (not (is_current e.timer.function e.timer.sequence row.descriptor)) _ _ (λ _. Spares-ok _) (λ fresh.
-    Ends-then _ _ _
-    (unless_so _ Refusal.CorruptedDescriptor
-    (timed row e.timer.function (may_fire w i e row h at row_at (current_is e.timer.function e.timer.sequence row.descriptor fresh))))
-    (λ _. Spares-ok _))
-
--- a current firing, whose change is made
-fires_now : (w : World) (i : ℕ) (entry : Entry) (row : DescriptorRow) → WellFormed w → slice_get w.firings i ≡ Some entry → slice_get w.descriptors entry.descriptor ≡ Some row → not (is_current entry.timer.function entry.timer.sequence row.descriptor) ≡ false → Keeps (fired_with entry.descriptor row (Some (and_if (covers_side entry.timer.function Write) (expire Write) (and_if (covers_side entry.timer.function Read) (expire Read) (quiet row.descriptor)))) (record w { firings = remove w.firings i }))
-fires_now w i entry row h at row_at fresh =
+-- a firing is stale, or its change is made
+Ends-fired : (w : World) (i : ℕ) (entry : Entry) (row : DescriptorRow) → WellFormed w → slice_get w.firings i ≡ Some entry → slice_get w.descriptors entry.descriptor ≡ Some row → Ends (λ change. Keeps (fired_with entry.descriptor row change (record w { firings = remove w.firings i }))) (fired entry.timer.function entry.timer.sequence row.descriptor)
+Ends-fired w i entry row h at row_at =
     let rest : WellFormed (record w { firings = remove w.firings i }) = removed_keeps w i entry h at in
-    let base : Change = quiet (record row.descriptor { deadlines = past entry.timer.function row.descriptor.deadlines }) in
+    Ends-either (not (is_current entry.timer.function entry.timer.sequence row.descriptor)) (λ _. Ends-ok (Ends-ok rest)) λ fresh.
     let now = current_is entry.timer.function entry.timer.sequence row.descriptor fresh in
     let may = may_fire w i entry row h at row_at now in
-    subst (λ (c : Change). Keeps (fired_with entry.descriptor row (Some c) (record w { firings = remove w.firings i }))) (sym (fired_change entry.timer.function row.descriptor))
-    (Ends-bind _ (changed entry.descriptor row (and_if (covers_side entry.timer.function Write) (unblocked false Write) (and_if (covers_side entry.timer.function Read) (unblocked false Read) base)) (record w { firings = remove w.firings i })) _ (Spares-changed entry.descriptor row (and_if (covers_side entry.timer.function Write) (unblocked false Write) (and_if (covers_side entry.timer.function Read) (unblocked false Read) base)) (record w { firings = remove w.firings i })) λ after does.
-    Ends-ok _ _
-    (changed_keeps (record w { firings = remove w.firings i }) after entry.descriptor row base (covers_side entry.timer.function Read) (covers_side entry.timer.function Write) false rest row_at
+    Ends-then (Ends-certain (is_timed entry.timer.function row.descriptor) _ (timed row entry.timer.function may)) λ _.
+    Ends-ok
+    (subst (λ (c : Change). Keeps (fired_with entry.descriptor row (Some c) (record w { firings = remove w.firings i }))) (sym (fired_change entry.timer.function row.descriptor))
+    (Ends-bind
+    (changed_keeps {T = Unit {0}} (record w { firings = remove w.firings i }) entry.descriptor row (quiet (record row.descriptor { deadlines = past entry.timer.function row.descriptor.deadlines })) (covers_side entry.timer.function Read) (covers_side entry.timer.function Write) false rest row_at
     (running_open w entry.descriptor row (side_of_function entry.timer.function) h row_at may.running) refl refl
-    (λ timers m obeys.
-    let same = same_ok _ _ obeys in
-    subst (λ (x : Sides (Option Timer) × ℕ). Retimed (remove w.firings i) entry.descriptor row (record { descriptor = base.descriptor; timers = x.0 }) w.next_arming x.1) same
-    (retimed_still (record w { firings = remove w.firings i }) entry.descriptor row (passed row entry.timer.function) rest row_at refl refl
+    (Ends-ok λ _.
+    retimed_still (record w { firings = remove w.firings i }) entry.descriptor row (passed row entry.timer.function) rest row_at refl refl
     (passed_fits row entry.timer.function may (unarmed_side w i entry row h at row_at now))
     (λ j f f_is same_d f_fits. passed_firing row entry.timer.function f may (λ same_side. others_stale w i entry row h at row_at now j f f_is same_d same_side) f_fits)))
-    does))
+    λ next fits.
+    Ends-ok (fits tt)))
 
 pub fire_sound : (w : World) (i : ℕ) → WellFormed w → Keeps (fire i w)
 fire_sound w i h =
-    Ends-bind _ (found_or (slice_get w.firings i) Refusal.NoSuchFiring) _ (Spares-found_or _ Refusal.NoSuchFiring refl) λ entry found.
-    Ends-bind _ (row_of entry.descriptor w) _ (Spares-row_of entry.descriptor w) λ row row_found.
-    let at : slice_get w.firings i ≡ Some entry = found_ok _ _ _ found in
-    let row_at : slice_get w.descriptors entry.descriptor ≡ Some row = row_ok entry.descriptor w row row_found in
-    Ends-bind _ (fired entry.timer.function entry.timer.sequence row.descriptor) _ (Spares-fired w i entry row h at row_at) λ change fires.
-    either_then _ (not (is_current entry.timer.function entry.timer.sequence row.descriptor)) _ _ _ fires
-    (λ stale is.
-    subst (λ (c : Option Change). Keeps (fired_with entry.descriptor row c (record w { firings = remove w.firings i }))) (same_ok _ _ is)
-    (Ends-ok _ _ (removed_keeps w i entry h at)))
-    (λ fresh is.
-    subst (λ (c : Option Change). Keeps (fired_with entry.descriptor row c (record w { firings = remove w.firings i }))) (same_ok _ _ (then_ok _ _ _ is).1)
-    (fires_now w i entry row h at row_at fresh))
+    Ends-bind (Ends-found_or (slice_get w.firings i) _ refl) λ entry at.
+    Ends-bind (Ends-row_of entry.descriptor w) λ row row_at.
+    Ends-bind (Ends-fired w i entry row h at row_at) λ change keeps.
+    keeps

@@ -1,26 +1,24 @@
 -- Sockets are opened, and bytes move into their buffers and out of them.
-use Rattle.std.proofs.Common.{◌≡◌, ◌≢◌, ℕ, ◌^◌, ◌<◌, ◌≤◌, Bool, true, false, ◌&&◌, List, [], ◌∷◌, ◌++◌, Option, Some, None, Ok, inl, inr, refl, sym, ap, subst, ◌∙◌, length, length-append, arith, min, take, drop}
+use Rattle.std.proofs.Common.{◌≡◌, ◌≢◌, ℕ, ◌<◌, ◌≤◌, Bool, true, false, ◌&&◌, List, [], ◌∷◌, ◌++◌, Option, Some, None, inl, inr, refl, sym, ap, subst, ◌∙◌, length, length-append, arith, min, take, drop}
 use Rattle.std.specs.Prelude.{slice_get, ◌==◌, nat_lt, nat_le, count_by}
 use Rattle.std.specs.Option.{option_and_then}
 use Rattle.nr_rev.specs.declared.sides.Side.{Side}
 use Rattle.nr_rev.specs.declared.sides.Side.TheVariants.{Read, Write}
 use Rattle.nr_rev.specs.declared.status.Status.{Status}
 use Rattle.nr_rev.specs.declared.status.Status.TheVariants.{Queued}
-use Rattle.nr_rev.specs.Sides.{of_side, twice, same_side}
+use Rattle.nr_rev.specs.Sides.{of_side, same_side}
 use Rattle.nr_rev.specs.World.{World, with_socket}
-use Rattle.nr_rev.specs.Socket.{Socket, new_socket, room_of}
-use Rattle.nr_rev.specs.WellFormed.{WellFormed, SocketFits, IsField, Shows, socket_named, is_queued}
+use Rattle.nr_rev.specs.Socket.{Socket, Buffer, new_socket, room_of}
+use Rattle.nr_rev.specs.WellFormed.{WellFormed, SocketFits, Shows, socket_named, is_queued}
 use Rattle.nr_rev.proofs.Lists.{slice_get-push_cases}
-use Rattle.nr_rev.proofs.Reasons.{unless_ok, below_of, found_ok}
-use Rattle.nr_rev.specs.Step.{sockopen, sized, arrive, peerclose, sysread, syswrite, drain, with_buffer, socket_of, idle}
-use Rattle.nr_rev.proofs.Follows.{both_true}
-use Rattle.nr_rev.proofs.Numbers.{most_of, same_number}
+use Rattle.nr_rev.proofs.BothSides.{each_side, with_side_all}
+use Rattle.nr_rev.specs.Step.{sockopen, arrive, peerclose, sysread, syswrite, drain, with_buffer}
+use Rattle.nr_rev.proofs.Numbers.{below_of, most_of, same_number}
 use Rattle.nr_rev.specs.Lock.{bit}
 use Rattle.std.proofs.lemmas.List.{length-drop, length-take}
-use Rattle.nr_rev.proofs.SocketSet.{resocketed, socket_fits}
-use Rattle.nr_rev.specs.declared.refusal.Refusal.{Refusal}
-use Rattle.nr_rev.specs.Refusing.{refused_if, refused_unless}
-use Rattle.nr_rev.proofs.Outcomes.{Keeps, Ends-ok, Ends-bind, Ends-then, Spares-refused_if, Spares-refused_unless, Spares-idle, Spares-socket_of, Spares-sized}
+use Rattle.nr_rev.proofs.SocketSet.{resocketed}
+use Rattle.nr_rev.proofs.Found.{Ends-idle, Ends-socket_of, Ends-sized}
+use Rattle.nr_rev.proofs.Outcomes.{Keeps, Ends-ok, Ends-bind, Ends-then, Ends-refused_if, Ends-refused_unless}
 
 named_queue : (s : ℕ) (side : Side) (status : Status) → socket_named status ≢ Some s → is_queued s side (Some status) ≡ false
 named_queue s side (Queued k other) unnamed = go (s == k) refl
@@ -41,31 +39,14 @@ unqueued gs s side g unnamed = go (slice_get gs g) refl
 new_fits : (limit rc wc : ℕ) → (0 < rc) × (rc ≤ limit) → (0 < wc) × (wc ≤ limit) → SocketFits limit (new_socket rc wc)
 new_fits limit rc wc r c =
     record {
-      lock = record { references = omega arith; waiters = zeroes };
-      counts = counts;
-      bytes = bytes;
-      capacities = capacities;
+      lock = record { references = omega arith; waiters = each_side _ (omega arith) (omega arith) };
+      counts = each_side _ (omega arith) (omega arith);
+      bytes = each_side _ (omega arith) (omega arith);
+      capacities = each_side _ r c;
     }
-  where
-    zeroes : (s : Side) → IsField (of_side s (twice 0))
-    zeroes Read = omega arith
-    zeroes Write = omega arith
-
-    counts : (s : Side) → (of_side s (new_socket rc wc).semaphores).count < 2 ^ 32
-    counts Read = omega arith
-    counts Write = omega arith
-
-    bytes : (s : Side) → length (of_side s (new_socket rc wc).buffers).bytes ≤ (of_side s (new_socket rc wc).buffers).capacity
-    bytes Read = omega arith
-    bytes Write = omega arith
-
-    capacities : (s : Side) → (0 < (of_side s (new_socket rc wc).buffers).capacity) × ((of_side s (new_socket rc wc).buffers).capacity ≤ limit)
-    capacities Read = r
-    capacities Write = c
 
 new_queue : (rc wc g : ℕ) (side : Side) → count_by (λ h. h == g) (of_side side (new_socket rc wc).semaphores).queue ≡ 0
-new_queue rc wc g Read = refl
-new_queue rc wc g Write = refl
+new_queue rc wc g = each_side _ refl refl
 
 opened : (w : World) (rc wc : ℕ) → WellFormed w → length w.sockets < w.limits.sockets → (0 < rc) × (rc ≤ w.limits.buffer) → (0 < wc) × (wc ≤ w.limits.buffer) → WellFormed (record w { sockets = w.sockets ++ new_socket rc wc ∷ [] })
 opened w rc wc h room r c =
@@ -103,80 +84,63 @@ opened w rc wc h room r c =
       clock = h.clock;
     }
 
-size_is : (n : ℕ) (w : World) → sized n w ≡ Ok tt → (0 < n) × (n ≤ w.limits.buffer)
-size_is n w e =
-    let p = both_true (nat_lt 0 n) (nat_le n w.limits.buffer) (unless_ok _ _ e) in
-    (below_of _ _ p.0, most_of _ _ p.1)
-
 -- a buffer within its capacity
 buffer_fits : (limit : ℕ) (side : Side) (bytes : List ℕ) (socket : Socket) → length bytes ≤ (of_side side socket.buffers).capacity → SocketFits limit socket → SocketFits limit (with_buffer side bytes socket)
 buffer_fits limit side bytes socket fits h =
-    record { lock = h.lock; counts = h.counts; bytes = within side fits; capacities = kept side }
-  where
-    within : (side : Side) → length bytes ≤ (of_side side socket.buffers).capacity → (s : Side) → length (of_side s (with_buffer side bytes socket).buffers).bytes ≤ (of_side s (with_buffer side bytes socket).buffers).capacity
-    within Read fits Read = fits
-    within Read fits Write = h.bytes Write
-    within Write fits Read = h.bytes Read
-    within Write fits Write = fits
+    record {
+      lock = h.lock;
+      counts = h.counts;
+      bytes = with_side_all (λ (b : Buffer). length b.bytes ≤ b.capacity) side _ socket.buffers fits h.bytes;
+      capacities = with_side_all (λ (b : Buffer). (0 < b.capacity) × (b.capacity ≤ limit)) side _ socket.buffers (h.capacities side) h.capacities;
+    }
 
-    kept : (side s : Side) → (0 < (of_side s (with_buffer side bytes socket).buffers).capacity) × ((of_side s (with_buffer side bytes socket).buffers).capacity ≤ limit)
-    kept Read Read = h.capacities Read
-    kept Read Write = h.capacities Write
-    kept Write Read = h.capacities Read
-    kept Write Write = h.capacities Write
-
-pub rebuffered : (w : World) (s : ℕ) (socket : Socket) (side : Side) (bytes : List ℕ) → WellFormed w → socket_of s w ≡ Ok socket → length bytes ≤ (of_side side socket.buffers).capacity → WellFormed (with_socket s (with_buffer side bytes socket) w)
-rebuffered w s socket side bytes h found fits =
-    let at : slice_get w.sockets s ≡ Some socket = found_ok _ _ _ found in
-    resocketed w s socket _ h at (λ _. refl) (buffer_fits _ side bytes socket fits (h.sockets s socket at))
+rebuffered : (w : World) (s : ℕ) (socket : Socket) (side : Side) (bytes : List ℕ) → WellFormed w → slice_get w.sockets s ≡ Some socket → (length (of_side side socket.buffers).bytes ≤ (of_side side socket.buffers).capacity → length bytes ≤ (of_side side socket.buffers).capacity) → WellFormed (with_socket s (with_buffer side bytes socket) w)
+rebuffered w s socket side bytes h at fits =
+    let before : SocketFits w.limits.buffer socket = h.sockets s socket at in
+    resocketed w s socket _ h at (λ _. refl) (buffer_fits _ side bytes socket (fits (before.bytes side)) before)
 
 pub sockopen_sound : (w : World) (rc wc : ℕ) → WellFormed w → Keeps (sockopen rc wc w)
 sockopen_sound w rc wc h =
-    Ends-then _ _ _ (Spares-refused_unless _ Refusal.TableFull refl) λ room.
-    Ends-then _ (sized rc w) _ (Spares-sized rc w) λ r.
-    Ends-then _ (sized wc w) _ (Spares-sized wc w) λ c.
-    Ends-ok _ _ (opened w rc wc h (below_of _ _ (unless_ok _ _ room)) (size_is rc w r) (size_is wc w c))
+    Ends-then (Ends-refused_unless (nat_lt (length w.sockets) w.limits.sockets) _ refl) λ room.
+    Ends-then (Ends-sized rc w) λ r.
+    Ends-then (Ends-sized wc w) λ c.
+    Ends-ok (opened w rc wc h (below_of _ _ room) r c)
 
 pub arrive_sound : (w : World) (s : ℕ) (bytes : List ℕ) → WellFormed w → Keeps (arrive s bytes w)
 arrive_sound w s bytes h =
-    Ends-bind _ (socket_of s w) _ (Spares-socket_of s w) λ socket found.
-    Ends-then _ (refused_if (length bytes == 0) Refusal.SizeOutOfRange) _ (Spares-refused_if _ Refusal.SizeOutOfRange refl) λ _.
-    Ends-then _ (refused_if socket.peer_closed Refusal.PeerClosed) _ (Spares-refused_if _ Refusal.PeerClosed refl) λ _.
-    Ends-then _ (refused_unless (nat_le (length bytes) (room_of socket.buffers.read)) Refusal.NoRoom) _ (Spares-refused_unless _ Refusal.NoRoom refl) λ fits.
-    let room : length bytes ≤ room_of socket.buffers.read = most_of _ _ (unless_ok _ _ fits) in
-    let before : length socket.buffers.read.bytes ≤ socket.buffers.read.capacity = (socket_fits w s socket h found).bytes Read in
-    Ends-ok _ _ (rebuffered w s socket Read (socket.buffers.read.bytes ++ bytes) h found (rw length-append (omega arith)))
+    Ends-bind (Ends-socket_of s w) λ socket at.
+    Ends-then (Ends-refused_if (length bytes == 0) _ refl) λ _.
+    Ends-then (Ends-refused_if socket.peer_closed _ refl) λ _.
+    Ends-then (Ends-refused_unless (nat_le (length bytes) (room_of socket.buffers.read)) _ refl) λ fits.
+    let room : length bytes ≤ room_of socket.buffers.read = most_of _ _ fits in
+    Ends-ok (rebuffered w s socket Read (socket.buffers.read.bytes ++ bytes) h at (λ before. rw length-append (omega arith)))
 
 pub peerclose_sound : (w : World) (s : ℕ) → WellFormed w → Keeps (peerclose s w)
 peerclose_sound w s h =
-    Ends-bind _ (socket_of s w) _ (Spares-socket_of s w) λ socket found.
-    Ends-then _ _ _ (Spares-refused_if _ Refusal.PeerClosed refl) λ _.
-    let fits : SocketFits w.limits.buffer socket = socket_fits w s socket h found in
-    Ends-ok _ _
-    (resocketed w s socket _ h (found_ok _ _ _ found) (λ _. refl) (record { lock = fits.lock; counts = fits.counts; bytes = fits.bytes; capacities = fits.capacities }))
+    Ends-bind (Ends-socket_of s w) λ socket at.
+    Ends-then (Ends-refused_if socket.peer_closed _ refl) λ _.
+    let fits : SocketFits w.limits.buffer socket = h.sockets s socket at in
+    Ends-ok (resocketed w s socket _ h at (λ _. refl) (record { lock = fits.lock; counts = fits.counts; bytes = fits.bytes; capacities = fits.capacities }))
 
 pub sysread_sound : (w : World) (g s n : ℕ) → WellFormed w → Keeps (sysread g s n w)
 sysread_sound w g s n h =
-    Ends-then _ (idle g w) _ (Spares-idle g w) λ _.
-    Ends-bind _ (socket_of s w) _ (Spares-socket_of s w) λ socket found.
-    Ends-then _ (sized n w) _ (Spares-sized n w) λ _.
-    let before : length socket.buffers.read.bytes ≤ socket.buffers.read.capacity = (socket_fits w s socket h found).bytes Read in
-    Ends-ok _ _ (rebuffered w s socket Read (drop n socket.buffers.read.bytes) h found (rw length-drop (omega arith)))
+    Ends-then (Ends-idle g w) λ _.
+    Ends-bind (Ends-socket_of s w) λ socket at.
+    Ends-then (Ends-sized n w) λ _.
+    Ends-ok (rebuffered w s socket Read (drop n socket.buffers.read.bytes) h at (λ before. rw length-drop (omega arith)))
 
 pub syswrite_sound : (w : World) (g s : ℕ) (bytes : List ℕ) → WellFormed w → Keeps (syswrite g s bytes w)
 syswrite_sound w g s bytes h =
-    Ends-then _ (idle g w) _ (Spares-idle g w) λ _.
-    Ends-bind _ (socket_of s w) _ (Spares-socket_of s w) λ socket found.
-    Ends-then _ _ _ (Spares-refused_if _ Refusal.SizeOutOfRange refl) λ _.
-    let before : length socket.buffers.write.bytes ≤ socket.buffers.write.capacity = (socket_fits w s socket h found).bytes Write in
-    Ends-ok _ _
-    (rebuffered w s socket Write (socket.buffers.write.bytes ++ take (min (room_of socket.buffers.write) (length bytes)) bytes) h found
-    (simp (length-append, length-take) (omega arith)))
+    Ends-then (Ends-idle g w) λ _.
+    Ends-bind (Ends-socket_of s w) λ socket at.
+    Ends-then (Ends-refused_if (length bytes == 0) _ refl) λ _.
+    Ends-ok
+    (rebuffered w s socket Write (socket.buffers.write.bytes ++ take (min (room_of socket.buffers.write) (length bytes)) bytes) h at
+    (λ before. simp (length-append, length-take) (omega arith)))
 
 pub drain_sound : (w : World) (s n : ℕ) → WellFormed w → Keeps (drain s n w)
 drain_sound w s n h =
-    Ends-bind _ (socket_of s w) _ (Spares-socket_of s w) λ socket found.
-    Ends-then _ (refused_if (n == 0) Refusal.SizeOutOfRange) _ (Spares-refused_if _ Refusal.SizeOutOfRange refl) λ _.
-    Ends-then _ (refused_if (nat_lt (length socket.buffers.write.bytes) n) Refusal.TooFewBytes) _ (Spares-refused_if _ Refusal.TooFewBytes refl) λ _.
-    let before : length socket.buffers.write.bytes ≤ socket.buffers.write.capacity = (socket_fits w s socket h found).bytes Write in
-    Ends-ok _ _ (rebuffered w s socket Write (drop n socket.buffers.write.bytes) h found (rw length-drop (omega arith)))
+    Ends-bind (Ends-socket_of s w) λ socket at.
+    Ends-then (Ends-refused_if (n == 0) _ refl) λ _.
+    Ends-then (Ends-refused_if (nat_lt (length socket.buffers.write.bytes) n) _ refl) λ _.
+    Ends-ok (rebuffered w s socket Write (drop n socket.buffers.write.bytes) h at (λ before. rw length-drop (omega arith)))

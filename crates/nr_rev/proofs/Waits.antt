@@ -1,15 +1,17 @@
 -- A wait of a descriptor and side, from its reset to its end.
-use Rattle.std.proofs.Common.{◌≡◌, ℕ, ◌&&◌, if◌then◌else◌, Bool, true, false, Some, refl, sym, subst, ◌∙◌, Option, inl, inr, ap, set, length-set, arith, ◌+◌, get_or}
+use Rattle.std.proofs.Common.{◌≡◌, ℕ, ◌&&◌, if◌then◌else◌, Bool, true, false, Result, Some, refl, sym, subst, ◌∙◌, Option, inl, inr, ap, set, length-set, arith, ◌+◌, get_or}
 use Rattle.std.proofs.lemmas.Option.{some_pair_parts, slice_get_within, get_or_from_slice_get}
-use Rattle.std.specs.Prelude.{slice_get, if◌then◌else◌, sum_by}
+use Rattle.std.specs.Prelude.{slice_get, if◌then◌else◌, sum_by, ◌==◌}
 use Rattle.nr_rev.specs.declared.sides.Side.{Side}
 use Rattle.nr_rev.specs.declared.status.Status.TheVariants.{Idle, Entering, Armed, Parking, Parked, Swapping, Checking}
 use Rattle.nr_rev.specs.World.{World, is_waited, with_status, wait_of, with_row, is_free_number}
-use Rattle.nr_rev.specs.Step.{waitbegin, idle, open_row_of, blockarm, blockswap, pollreset, with_wait, armed_by, swapped_by, entering_of, swapping_of, status_of, row_of, parkcommit, parking_of, committed_by, blockcheck, waitcheck, armed_of, checking_of}
+use Rattle.nr_rev.specs.Step.{Outcome, waitbegin, blockarm, blockswap, pollreset, with_wait, armed_by, swapped_by, entering_of, swapping_of, status_of, row_of, parkcommit, parking_of, committed_by, blockcheck, waitcheck, armed_of, checking_of}
 use Rattle.nr_rev.specs.WellFormed.{WellFormed, IsOpen, WordsFit, Shows, HasWord, parked_of, awaiting_of, is_queued, held_count}
-use Rattle.nr_rev.proofs.Reasons.{if_ok}
+use Rattle.nr_rev.specs.declared.status.Status.{Status}
+use Rattle.nr_rev.specs.Descriptor.{check}
+use Rattle.nr_rev.specs.Refusing.{◌>>=◌}
 use Rattle.nr_rev.proofs.StatusSet.{moved, shown_cases, shown_kept, may_leave, may_stay, stays_inside}
-use Rattle.nr_rev.proofs.Found.{idle_ok, open_made, nobody_inside, status_ok, row_ok, open_row_ok, entering_ok, swapping_ok, parking_ok, armed_ok, checking_ok}
+use Rattle.nr_rev.proofs.Found.{nobody_inside, Ends-idle, Ends-status_of, Ends-row_of, Ends-open_row_of, Ends-entering_of, Ends-armed_of, Ends-parking_of, Ends-swapping_of, Ends-checking_of}
 use Rattle.std.specs.Option.{option_and_then}
 use Rattle.nr_rev.specs.declared.descriptor.Word.{Word}
 use Rattle.nr_rev.specs.declared.descriptor.Word.TheVariants.{Nil, Ready, Held}
@@ -21,7 +23,7 @@ use Rattle.nr_rev.proofs.Reworded.{reworded, with_word_at, word_at_cases, word_k
 use Rattle.std.proofs.lemmas.List.Sums.{sum_by-set}
 use Rattle.nr_rev.specs.declared.sides.Side.TheVariants.{Read, Write}
 use Rattle.nr_rev.specs.declared.refusal.Refusal.{Refusal}
-use Rattle.nr_rev.proofs.Outcomes.{Keeps, Ends-ok, Ends-bind, Ends-then, Ends-refused, Spares-refused_if, Spares-idle, Spares-status_of, Spares-row_of, Spares-open_row_of, Spares-entering_of, Spares-armed_of, Spares-parking_of, Spares-swapping_of, Spares-checking_of}
+use Rattle.nr_rev.proofs.Outcomes.{Ends, Keeps, Ends-ok, Ends-bind, Ends-then, Ends-refused, Ends-refused_if}
 use Rattle.nr_rev.proofs.WordSet.{IsUnheld, worded, word_has, word_at_swap, word_at_rest, nil_unheld, ready_unheld, wait_unheld, cleared}
 
 entered : (w : World) (g d : ℕ) (side : Side) → WellFormed w → slice_get w.goroutines g ≡ Some Idle → IsOpen w.descriptors w.free d → is_waited d side w.goroutines ≡ false → WellFormed (with_status g (Entering d side) w)
@@ -143,11 +145,10 @@ reset w d side row true h row_at is_open nobody =
 
 pub pollreset_sound : (w : World) (g d : ℕ) (side : Side) → WellFormed w → Keeps (pollreset g d side w)
 pollreset_sound w g d side h =
-    Ends-then _ (idle g w) _ (Spares-idle g w) λ _.
-    Ends-bind _ (open_row_of d w) _ (Spares-open_row_of d w) λ row found.
-    Ends-then _ _ _ (Spares-refused_if _ Refusal.WaiterInside refl) λ nobody.
-    let f = open_row_ok d w row found in
-    Ends-ok _ _ (reset w d side row _ h f.0 f.1 (if_ok _ _ nobody))
+    Ends-then (Ends-idle g w) λ _.
+    Ends-bind (Ends-open_row_of d w) λ row found.
+    Ends-then (Ends-refused_if ((check side row.descriptor == 0) && is_waited d side w.goroutines) _ refl) λ nobody.
+    Ends-ok (reset w d side row _ h found.0 found.1 nobody)
 
 -- with code 0 the goroutine enters
 enters : (w : World) (g d : ℕ) (side : Side) (zero : Bool) → WellFormed w → slice_get w.goroutines g ≡ Some Idle → IsOpen w.descriptors w.free d → (zero && is_waited d side w.goroutines) ≡ false → WellFormed (if zero then with_status g (Entering d side) w else w)
@@ -156,58 +157,44 @@ enters w g d side false h at is_open nobody = h
 
 pub waitbegin_sound : (w : World) (g d : ℕ) (side : Side) → WellFormed w → Keeps (waitbegin g d side w)
 waitbegin_sound w g d side h =
-    Ends-then _ (idle g w) _ (Spares-idle g w) λ at.
-    Ends-bind _ (open_row_of d w) _ (Spares-open_row_of d w) λ row found.
-    Ends-then _ _ _ (Spares-refused_if _ Refusal.DoubleWait refl) λ nobody.
-    Ends-ok _ _ (enters w g d side _ h (idle_ok g w at) (open_made d w row found) (if_ok _ _ nobody))
+    Ends-then (Ends-idle g w) λ at.
+    Ends-bind (Ends-open_row_of d w) λ row found.
+    Ends-then (Ends-refused_if ((check side row.descriptor == 0) && is_waited d side w.goroutines) _ refl) λ nobody.
+    Ends-ok (enters w g d side _ h at (slice_get_within _ _ _ found.0, found.1) nobody)
 
 arms : (w : World) (g d : ℕ) (side : Side) (row : DescriptorRow) (word : Word) → WellFormed w → slice_get w.goroutines g ≡ Some (Entering d side) → slice_get w.descriptors d ≡ Some row → of_side side row.descriptor.words ≡ word → Keeps (armed_by g d side word row w)
 arms w g d side row Nil h at row_at is =
-    Ends-ok _ _
+    Ends-ok
     (worded w g d side row (Entering d side) (Armed d side) Nil Word.Wait h at row_at (h.goroutines.inside_open g d side (ap (option_and_then wait_of) at)).1 is nil_unheld wait_unheld
     (record { unparked = (refl, refl); awaits = λ _. refl; only = λ k s e. cc; unqueued = λ _ _. refl })
     (may_stay w g _ _ (d, side) h at refl refl refl refl))
 arms w g d side row Ready h at row_at is =
-    Ends-ok _ _
+    Ends-ok
     (worded w g d side row (Entering d side) Idle Ready Nil h at row_at (h.goroutines.inside_open g d side (ap (option_and_then wait_of) at)).1 is ready_unheld nil_unheld
     (record { unparked = (refl, refl); awaits = λ e. cc; only = λ k s e. cc; unqueued = λ _ _. refl })
     (may_leave w g Idle refl refl refl))
-arms w g d side row Word.Wait h at row_at is = Ends-refused _ Refusal.DoubleWait refl
-arms w g d side row (Held k) h at row_at is = Ends-refused _ Refusal.DoubleWait refl
+arms w g d side row Word.Wait h at row_at is = Ends-refused refl
+arms w g d side row (Held k) h at row_at is = Ends-refused refl
+
+-- a step of a goroutine that has to be at a place of a wait
+at_place : (status : ℕ → Side → Status) (place_of : Status → Result (ℕ × Side) Refusal) (rest : ℕ → Side → DescriptorRow → Outcome) (w : World) (g : ℕ) → ((s : Status) → Ends (λ place. s ≡ status place.0 place.1) (place_of s)) → ((d : ℕ) (side : Side) (row : DescriptorRow) → slice_get w.goroutines g ≡ Some (status d side) → slice_get w.descriptors d ≡ Some row → Keeps (rest d side row)) → Keeps (status_of g w >>= λ s. place_of s >>= λ place. row_of place.0 w >>= λ row. rest place.0 place.1 row)
+at_place status place_of rest w g places keeps =
+    Ends-bind (Ends-status_of g w) λ s at.
+    Ends-bind (places s) λ place is.
+    Ends-bind (Ends-row_of place.0 w) λ row row_at.
+    keeps place.0 place.1 row (at ∙ ap Some is) row_at
 
 pub blockarm_sound : (w : World) (g : ℕ) → WellFormed w → Keeps (blockarm g w)
-blockarm_sound w g h =
-    Ends-bind _ (status_of g w) _ (Spares-status_of g w) λ status has.
-    Ends-bind _ (entering_of status) _ (Spares-entering_of status) λ place is.
-    Ends-bind _ (row_of place.0 w) _ (Spares-row_of place.0 w) λ row found.
-    arms w g place.0 place.1 row _ h (status_ok g w status has ∙ ap Some (entering_ok status place is)) (row_ok place.0 w row found) refl
+blockarm_sound w g h = at_place Entering entering_of _ w g Ends-entering_of λ d side row at row_at. arms w g d side row _ h at row_at refl
 
 pub blockcheck_sound : (w : World) (g : ℕ) → WellFormed w → Keeps (blockcheck g w)
-blockcheck_sound w g h =
-    Ends-bind _ (status_of g w) _ (Spares-status_of g w) λ status has.
-    Ends-bind _ (armed_of status) _ (Spares-armed_of status) λ place is.
-    Ends-bind _ (row_of place.0 w) _ (Spares-row_of place.0 w) λ row found.
-    Ends-ok _ _ (checked w g place.0 place.1 _ h (status_ok g w status has ∙ ap Some (armed_ok status place is)))
+blockcheck_sound w g h = at_place Armed armed_of _ w g Ends-armed_of λ d side row at row_at. Ends-ok (checked w g d side _ h at)
 
 pub parkcommit_sound : (w : World) (g : ℕ) → WellFormed w → Keeps (parkcommit g w)
-parkcommit_sound w g h =
-    Ends-bind _ (status_of g w) _ (Spares-status_of g w) λ status has.
-    Ends-bind _ (parking_of status) _ (Spares-parking_of status) λ place is.
-    Ends-bind _ (row_of place.0 w) _ (Spares-row_of place.0 w) λ row found.
-    Ends-ok _ _
-    (committed w g place.0 place.1 _ row h (status_ok g w status has ∙ ap Some (parking_ok status place is)) (row_ok place.0 w row found) refl)
+parkcommit_sound w g h = at_place Parking parking_of _ w g Ends-parking_of λ d side row at row_at. Ends-ok (committed w g d side _ row h at row_at refl)
 
 pub blockswap_sound : (w : World) (g : ℕ) → WellFormed w → Keeps (blockswap g w)
-blockswap_sound w g h =
-    Ends-bind _ (status_of g w) _ (Spares-status_of g w) λ status has.
-    Ends-bind _ (swapping_of status) _ (Spares-swapping_of status) λ place is.
-    Ends-bind _ (row_of place.0 w) _ (Spares-row_of place.0 w) λ row found.
-    Ends-ok _ _
-    (swapped w g place.0 place.1 row _ h (status_ok g w status has ∙ ap Some (swapping_ok status place is)) (row_ok place.0 w row found) refl)
+blockswap_sound w g h = at_place Swapping swapping_of _ w g Ends-swapping_of λ d side row at row_at. Ends-ok (swapped w g d side row _ h at row_at refl)
 
 pub waitcheck_sound : (w : World) (g : ℕ) → WellFormed w → Keeps (waitcheck g w)
-waitcheck_sound w g h =
-    Ends-bind _ (status_of g w) _ (Spares-status_of g w) λ status has.
-    Ends-bind _ (checking_of status) _ (Spares-checking_of status) λ place is.
-    Ends-bind _ (row_of place.0 w) _ (Spares-row_of place.0 w) λ row found.
-    Ends-ok _ _ (rechecked w g place.0 place.1 _ h (status_ok g w status has ∙ ap Some (checking_ok status place is)))
+waitcheck_sound w g h = at_place Checking checking_of _ w g Ends-checking_of λ d side row at row_at. Ends-ok (rechecked w g d side _ h at)
