@@ -1,7 +1,6 @@
 -- A descriptor changes: its timers first, then its words.
-use Rattle.std.proofs.Common.{◌≡◌, ℕ, zero, suc, ◌<◌, Bool, true, false, List, [], ◌∷◌, ◌++◌, Option, Some, inl, refl, sym, ap, subst, ◌∙◌, set, arith, None, true≢false}
-use Rattle.std.specs.Prelude.{slice_get, option_map}
-use Rattle.std.specs.Option.{option_and_then}
+use Rattle.std.proofs.Common.{◌≡◌, ℕ, zero, suc, Bool, true, false, List, [], ◌∷◌, ◌++◌, Option, Some, refl, sym, ap, subst, ◌∙◌, set, None, true≢false}
+use Rattle.std.specs.Prelude.{slice_get}
 use Rattle.nr_rev.specs.declared.sides.Side.{Side}
 use Rattle.nr_rev.specs.declared.sides.Side.TheVariants.{Read, Write}
 use Rattle.nr_rev.specs.declared.descriptor.Word.{Word}
@@ -9,15 +8,14 @@ use Rattle.nr_rev.specs.declared.sides.Sides.{Sides}
 use Rattle.nr_rev.specs.Sides.{of_side, with_side}
 use Rattle.nr_rev.specs.declared.descriptor.DescriptorRow.{DescriptorRow}
 use Rattle.nr_rev.specs.World.{World, with_row, is_free_number}
-use Rattle.nr_rev.specs.WellFormed.{WellFormed, RowFits, FiringFits, ArmedAt, armed_at}
+use Rattle.nr_rev.specs.WellFormed.{WellFormed, RowFits}
 use Rattle.nr_rev.proofs.Lists.{slice_get-set_here}
 use Rattle.std.proofs.lemmas.List.{append-nil}
 use Rattle.nr_rev.specs.declared.timer.Timer.{Timer}
-use Rattle.nr_rev.specs.declared.timer.Entry.{Entry}
 use Rattle.nr_rev.specs.Descriptor.{Change, and_then, and_if, unblocked, unblock}
 use Rattle.nr_rev.specs.Step.{all_woken, changed, all_obeyed}
 use Rattle.nr_rev.proofs.Retimed.{Retimed}
-use Rattle.nr_rev.proofs.RetimedKeeps.{retimed_keeps}
+use Rattle.nr_rev.proofs.RowSet.{retimed_keeps}
 use Rattle.nr_rev.proofs.Unblocked.{unblocked_keeps}
 use Rattle.nr_rev.specs.declared.timer.TimerOrder.{TimerOrder}
 use Rattle.nr_rev.proofs.Outcomes.{Ends, Ends-ok, Ends-bind}
@@ -103,25 +101,6 @@ changed_keeps {T = T} w d row base reads writes ioready h at is_open quiets word
     in
     then_if (record w { next_arming = left.1 }) d row left.0 (and_if reads (unblocked ioready Read) base) writes Write ioready at is_open
     (then_if (record w { next_arming = left.1 }) d row left.0 base reads Read ioready at is_open first)
-
--- a timer that stands has a number given out before
-pub old_number : (w : World) (d : ℕ) (row : DescriptorRow) (side : Side) (timer : Timer) → WellFormed w → slice_get w.descriptors d ≡ Some row → of_side side row.timers ≡ Some timer → timer.number < w.next_arming
-old_number w d row side timer h at is =
-    h.timers.armed_before (ArmedAt d side) (record { descriptor = d; side = side; timer = timer })
-    (ap (option_and_then (armed_at d side)) at ∙ ap (option_map (λ (t : Timer). record { descriptor = d; side = side; timer = t })) is)
-
--- no timer changes, nor any sequence
-pub retimed_still : (w : World) (d : ℕ) (old new : DescriptorRow) → WellFormed w → slice_get w.descriptors d ≡ Some old → new.timers ≡ old.timers → new.descriptor.sequences ≡ old.descriptor.sequences → RowFits new → ((i : ℕ) (e : Entry) → slice_get w.firings i ≡ Some e → e.descriptor ≡ d → FiringFits old.descriptor e → FiringFits new.descriptor e) → Retimed w.firings d old new w.next_arming w.next_arming
-retimed_still w d old new h at timers sequences fits firing =
-    record {
-      fits = fits;
-      firing = firing;
-      sides = λ side. inl (record { timer = ap (of_side side) timers; sequence = ap (of_side side) sequences });
-      apart = λ s t a b is_a is_b new_number same.
-          let before : a.number < w.next_arming = old_number w d old s a h at (sym (ap (of_side s) timers) ∙ is_a) in absurd (omega arith);
-      rises = omega arith;
-      in_range = h.timers.in_range;
-    }
 
 -- a timer stands only where it runs
 pub none_at_rest : (row : DescriptorRow) (side : Side) → RowFits row → of_side side row.descriptor.running ≡ false → of_side side row.timers ≡ None

@@ -23,11 +23,11 @@ use Rattle.nr_rev.specs.declared.timer.TimerOrder.TheVariants.{Arm}
 use Rattle.nr_rev.specs.declared.descriptor.Descriptor.{Descriptor}
 use Rattle.nr_rev.specs.Descriptor.{timer_function, quiet, is_combo, is_positive, is_expired, wants_timer, with_deadlines, deadline_from, deadline_set, and_then}
 use Rattle.nr_rev.specs.Step.{changed, obeyed, all_obeyed, setdeadline}
-use Rattle.nr_rev.proofs.Retimed.{Retimed, SideStays, SideBegins}
+use Rattle.nr_rev.proofs.Retimed.{Retimed, SideStays, SideBegins, old_number, retimed_still}
 use Rattle.nr_rev.proofs.SideAfter.{SideAfter, entry_fits, firing_fits, none_current, combo_fits}
 use Rattle.nr_rev.proofs.Follows.{Followed, Begun, Ends-timer_follows}
 use Rattle.nr_rev.proofs.BothSides.{each_side, of_side-with_side_same, of_side-with_side_other}
-use Rattle.nr_rev.proofs.Changes.{changed_keeps, retimed_still, old_number}
+use Rattle.nr_rev.proofs.Changes.{changed_keeps}
 use Rattle.nr_rev.proofs.Outcomes.{Ends, KeepsFor, Ends-ok, Ends-refused, Ends-map, Ends-bind, Ends-then, Ends-either, Ends-raised_sequence}
 use Rattle.nr_rev.proofs.Follows
 use Rattle.nr_rev.proofs.SideAfter
@@ -154,12 +154,12 @@ module _ (w : World) (d : ℕ) (row : DescriptorRow) (new : Descriptor) (first l
   numbers_apart a b is_a is_b new_a new_b =
       let first_a : first.read ≡ Some a = sym (write.other Read reads_apart) ∙ is_a in
       elim read.fate [
-        | inl stays ↦ let o : a.number < w.next_arming = old_number w d row Read a h at (sym stays.0 ∙ first_a) in absurd (omega arith)
+        | inl stays ↦ let o : a.number < w.next_arming = old_number w.descriptors w.firings w.next_arming d row Read a at (sym stays.0 ∙ first_a) h.timers in absurd (omega arith)
         | inr begins ↦
             let n = begins.1 a first_a in
             let below : a.number < k = n.1 in
             elim write.fate [
-              | inl stays ↦ let o : b.number < w.next_arming = old_number w d row Write b h at (sym (read.other Write writes_apart) ∙ sym stays.0 ∙ is_b) in absurd (omega arith)
+              | inl stays ↦ let o : b.number < w.next_arming = old_number w.descriptors w.firings w.next_arming d row Write b at (sym (read.other Write writes_apart) ∙ sym stays.0 ∙ is_b) h.timers in absurd (omega arith)
               | inr begins' ↦ let n' = begins'.1 b is_b in let above : k ≤ b.number = n'.0 in omega arith
             ]
       ]
@@ -229,7 +229,7 @@ setdeadline_sound w g d mode t h =
         (λ _.
         Ends-ok
         (changed_keeps w d row (quiet row.descriptor) false false false h at is_open refl refl
-        (Ends-ok λ _. retimed_still w d row row h at refl refl fits (λ i f _ _ x. x))))
+        (Ends-ok λ _. retimed_still w.descriptors w.firings w.next_arming d row row at refl refl fits (λ i f _ _ x. x) h.timers)))
         (λ still_open.
         Ends-bind (Ends-timer_follows Read row.descriptor (with_deadlines mode (deadline_from w.clock t) row.descriptor) refl refl) λ read a.
         Ends-bind (Ends-timer_follows Write row.descriptor read.descriptor (a.1.sequences Write (λ e. cc)) (a.1.running Write (λ e. cc))) λ write b.

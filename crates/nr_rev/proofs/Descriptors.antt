@@ -6,17 +6,16 @@ use Rattle.nr_rev.specs.declared.sides.Side.TheVariants.{Read, Write}
 use Rattle.nr_rev.specs.declared.sides.Sides.{Sides}
 use Rattle.nr_rev.specs.declared.descriptor.DescriptorRow.{DescriptorRow}
 use Rattle.nr_rev.specs.World.{World, is_free_number, with_row, with_descriptor, is_waited}
-use Rattle.nr_rev.specs.WellFormed.{WellFormed, RowFits, EntryFits, FiringFits, IsDueFor, TimersFit, IsInside, HasWord, held_count, Stand, ArmedAt, FiringAt, standing, armed_at, IsCurrent}
+use Rattle.nr_rev.specs.WellFormed.{WellFormed, RowFits, TimersFit, IsInside, HasWord, held_count, Stand, ArmedAt, FiringAt, standing, armed_at, IsCurrent}
 use Rattle.nr_rev.proofs.BothSides.{each_side, of_side-twice}
 use Rattle.nr_rev.proofs.Found.{neither_of, nobody_inside, Ends-idle, Ends-socket_of, Ends-row_of, Ends-open_row_of}
 use Rattle.nr_rev.specs.declared.sides.Mode.{Mode}
-use Rattle.nr_rev.specs.declared.timer.TimerFunction.{TimerFunction}
 use Rattle.nr_rev.specs.Sides.{names_side, of_side, twice, with_side}
 use Rattle.nr_rev.specs.declared.timer.Timer.{Timer}
 use Rattle.nr_rev.specs.declared.timer.Entry.{Entry}
-use Rattle.nr_rev.specs.Descriptor.{timer_function, quiet, stop_if, evicted}
+use Rattle.nr_rev.specs.Descriptor.{quiet, stop_if, evicted}
 use Rattle.nr_rev.specs.Step.{pollevent, changed, all_obeyed, evict, pollopen, pollclose, taken, new_row}
-use Rattle.nr_rev.proofs.Changes.{changed_keeps, retimed_still, none_at_rest, set_set}
+use Rattle.nr_rev.proofs.Changes.{changed_keeps, none_at_rest, set_set}
 use Rattle.nr_rev.proofs.Retimed.{Retimed, TimersFit-retimed, armed_names}
 use Rattle.std.proofs.lemmas.Option.{none-some, same_Some, slice_get_within}
 use Rattle.nr_rev.proofs.SideAfter.{none_current}
@@ -24,50 +23,15 @@ use Rattle.std.specs.Option.{option_and_then}
 use Rattle.nr_rev.specs.declared.descriptor.Word.{Word}
 use Rattle.nr_rev.specs.declared.descriptor.Word.TheVariants.{Nil, Ready, Held}
 use Rattle.nr_rev.proofs.Lists.{slice_get-set_unseen, slice_get-set_cases, slice_get-set_here, slice_get-push_cases, slice_get-push_kept, slice_get-push_unseen}
-use Rattle.nr_rev.proofs.RetimedKeeps.{retimed_keeps, WordsFit-rows}
+use Rattle.nr_rev.proofs.RowSet.{retimed_keeps, WordsFit-rows}
 use Rattle.std.proofs.lemmas.List.Sums.{sum_by-append}
 use Rattle.std.proofs.lemmas.List.Elements.{All-cons, All-tail, All-nil}
 use Rattle.nr_rev.specs.Lock.{bit}
-use Rattle.nr_rev.proofs.Reworded.{reworded}
+use Rattle.nr_rev.proofs.Reworded.{reworded, remarked, remarked_still}
 use Rattle.nr_rev.proofs.WordSet.{word_at_rest, word_has, cleared}
 use Rattle.nr_rev.proofs.Numbers.{below_of, count_front, number_same, number_apart, same_number}
 use Rattle.nr_rev.proofs.Restood.{TimersFit-restood}
 use Rattle.nr_rev.proofs.Outcomes.{Ends, Keeps, BothRaised, Ends-ok, Ends-map, Ends-bind, Ends-then, Ends-either, Ends-refused_if, Ends-refused_unless, Ends-raised_sequence, Ends-both_raised}
-
-abbrev pub marked : DescriptorRow → Bool → ℕ → DescriptorRow
-marked row error fdseq = record row { descriptor = record row.descriptor { event_error = error; fdseq = fdseq } }
-
-pub RowFits-marked : (row : DescriptorRow) (error : Bool) (fdseq : ℕ) → fdseq < 2 ^ 64 → RowFits row → RowFits (marked row error fdseq)
-RowFits-marked row error fdseq small h =
-    record {
-      entries = λ side timer at.
-          let fits : EntryFits row.descriptor side timer = h.entries side timer at in
-          record { sequence = fits.sequence; running = fits.running; positive = fits.positive; due = fits.due; function = function_same side fits.function };
-      combo = h.combo;
-      closing = h.closing;
-      sequences = h.sequences;
-      fdseq = small;
-      times = h.times;
-    }
-  where
-    function_same : (side : Side) {f : TimerFunction} → f ≡ timer_function side row.descriptor → f ≡ timer_function side (marked row error fdseq).descriptor
-    function_same Read e = e
-    function_same Write e = e
-
-pub FiringFits-marked : (row : DescriptorRow) (error : Bool) (fdseq : ℕ) (firing : Entry) → FiringFits row.descriptor firing → FiringFits (marked row error fdseq).descriptor firing
-FiringFits-marked row error fdseq firing h =
-    record {
-      side = h.side;
-      sequence = h.sequence;
-      due = h.due;
-      current = λ e.
-          let due : IsDueFor row.descriptor firing = h.current e in
-          record { positive = due.positive; running = due.running; function = function_same firing.side due.function };
-    }
-  where
-    function_same : (side : Side) {f : TimerFunction} → f ≡ timer_function side row.descriptor → f ≡ timer_function side (marked row error fdseq).descriptor
-    function_same Read e = e
-    function_same Write e = e
 
 -- the timers that run are stopped, and the others stand nowhere
 Ends-stopped : (r c : Bool) (before : Sides (Option Timer)) (n : ℕ) → (r ≡ false → before.read ≡ None) → (c ≡ false → before.write ≡ None) → Ends (λ left. ((side : Side) → of_side side left.0 ≡ None) × (n ≡ left.1)) (all_obeyed (stop_if r Read ++ stop_if c Write) (before, n))
@@ -153,7 +117,7 @@ free_more k d free e = go (k == d) e
     go false e = e
 
 -- 17: an open descriptor on which nobody waits goes to the free ones
-freed : (w : World) (d : ℕ) (row : DescriptorRow) (fdseq : ℕ) → WellFormed w → slice_get w.descriptors d ≡ Some row → is_free_number d w.free ≡ false → row.descriptor.closing ≡ true → ((side : Side) → is_waited d side w.goroutines ≡ false) → fdseq < 2 ^ 64 → WellFormed (record (with_row d (marked row row.descriptor.event_error fdseq) w) { free = d ∷ w.free })
+freed : (w : World) (d : ℕ) (row : DescriptorRow) (fdseq : ℕ) → WellFormed w → slice_get w.descriptors d ≡ Some row → is_free_number d w.free ≡ false → row.descriptor.closing ≡ true → ((side : Side) → is_waited d side w.goroutines ≡ false) → fdseq < 2 ^ 64 → WellFormed (record (with_row d (remarked row row.descriptor.words row.descriptor.event_error fdseq) w) { free = d ∷ w.free })
 freed w d row fdseq h at is_open closing nobody small =
     record {
       goroutines =
@@ -169,7 +133,7 @@ freed w d row fdseq h at is_open closing nobody small =
       queues = h.queues;
       timers =
           TimersFit-retimed w.descriptors w.firings w.next_arming w.next_arming d row after at
-          (retimed_still w d row after h at refl refl (RowFits-marked row row.descriptor.event_error fdseq small (h.timers.entries_fit d row at)) (λ i f _ _ x. FiringFits-marked row row.descriptor.event_error fdseq f x)) h.timers;
+          (remarked_still w.descriptors w.firings w.next_arming d row row.descriptor.words row.descriptor.event_error fdseq at small h.timers) h.timers;
       free =
           record {
             made = made;
@@ -196,7 +160,7 @@ freed w d row fdseq h at is_open closing nobody small =
     }
   where
     after : DescriptorRow
-    after = marked row row.descriptor.event_error fdseq
+    after = remarked row row.descriptor.words row.descriptor.event_error fdseq
 
     old_free : (k : ℕ) → k ≢ d → is_free_number k (d ∷ w.free) ≡ true → is_free_number k w.free ≡ true
     old_free k apart e = elim (free_cases k d w.free e) [ inl here ↦ absurd (apart here) | inr there ↦ there.1 ]
@@ -527,11 +491,8 @@ pub pollevent_sound : (w : World) (d tag : ℕ) (mode : Mode) (error : Bool) →
 pollevent_sound w d tag mode error h =
     Ends-bind (Ends-row_of d w) λ row at.
     Ends-either (is_free_number d w.free || not (tag == row.descriptor.fdseq)) (λ _. Ends-ok h) λ fresh.
-    let fits : RowFits row = h.timers.entries_fit d row at in
     Ends-bind
     (changed_keeps {T = Unit {0}} w d row (quiet (record row.descriptor { event_error = error })) (names_side mode Read) (names_side mode Write) true h at (neither_of _ _ fresh).0 refl refl
-    (Ends-ok λ _.
-    retimed_still w d row (marked row error row.descriptor.fdseq) h at refl refl (RowFits-marked row error row.descriptor.fdseq fits.fdseq fits)
-    (λ i f _ _ h. FiringFits-marked row error row.descriptor.fdseq f h)))
+    (Ends-ok λ _. remarked_still w.descriptors w.firings w.next_arming d row row.descriptor.words error row.descriptor.fdseq at (h.timers.entries_fit d row at).fdseq h.timers))
     λ next fits.
     Ends-ok (fits tt)

@@ -16,8 +16,8 @@ pub mod Outcomes
 pub mod Positions
 pub mod Restood
 pub mod Retimed
-pub mod RetimedKeeps
 pub mod Reworded
+pub mod RowSet
 pub mod SameViews
 pub mod Semaphores
 pub mod SideAfter

@@ -43,6 +43,25 @@ armed_names rows firings k s e is = go (slice_get rows k) refl is
     go None at is = cc
     go (Some row) at is = let n = named row (of_side s row.timers) refl is in (row, at, n.0, n.1, n.2)
 
+-- a timer that stands has a number given out before
+pub old_number : (rows : List DescriptorRow) (firings : List Entry) (n d : ℕ) (row : DescriptorRow) (side : Side) (timer : Timer) → slice_get rows d ≡ Some row → of_side side row.timers ≡ Some timer → TimersFit rows firings n → timer.number < n
+old_number rows firings n d row side timer at is h =
+    h.armed_before (ArmedAt d side) (record { descriptor = d; side = side; timer = timer })
+    (ap (option_and_then (armed_at d side)) at ∙ ap (option_map (λ (t : Timer). record { descriptor = d; side = side; timer = t })) is)
+
+-- no timer changes, nor any sequence
+pub retimed_still : (rows : List DescriptorRow) (firings : List Entry) (n d : ℕ) (old new : DescriptorRow) → slice_get rows d ≡ Some old → new.timers ≡ old.timers → new.descriptor.sequences ≡ old.descriptor.sequences → RowFits new → ((i : ℕ) (e : Entry) → slice_get firings i ≡ Some e → e.descriptor ≡ d → FiringFits old.descriptor e → FiringFits new.descriptor e) → TimersFit rows firings n → Retimed firings d old new n n
+retimed_still rows firings n d old new at timers sequences fits firing h =
+    record {
+      fits = fits;
+      firing = firing;
+      sides = λ side. inl (record { timer = ap (of_side side) timers; sequence = ap (of_side side) sequences });
+      apart = λ s t a b is_a is_b new_number same.
+          let before : a.number < n = old_number rows firings n d old s a at (sym (ap (of_side s) timers) ∙ is_a) h in absurd (omega arith);
+      rises = omega arith;
+      in_range = h.in_range;
+    }
+
 -- what is known of a place after the change
 pub record Stays (rows after : List DescriptorRow) (firings : List Entry) (k : ℕ) (s : Side) : Type 0 where
   pub stands : (e : Entry) → standing after firings (ArmedAt k s) ≡ Some e → standing rows firings (ArmedAt k s) ≡ Some e

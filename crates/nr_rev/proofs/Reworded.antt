@@ -1,101 +1,60 @@
--- A descriptor's words change, and nothing else of its row.
-use Rattle.std.proofs.Common.{◌≡◌, ◌≢◌, ℕ, false, List, Some, ◌⊎◌, inl, inr, refl, sym, ap, subst, ◌∙◌, set, length, length-set, true≢false}
+-- A descriptor's words change, or marks of it that say nothing of its timers.
+use Rattle.std.proofs.Common.{◌≡◌, ◌≢◌, ℕ, ◌^◌, ◌<◌, Bool, List, Some, ◌⊎◌, inl, inr, refl, sym, ap, ◌∙◌, set}
 use Rattle.std.proofs.lemmas.Option.{same_Some}
 use Rattle.std.specs.Prelude.{slice_get, option_map}
-use Rattle.std.specs.Option.{option_and_then}
 use Rattle.nr_rev.specs.declared.sides.Side.{Side}
-use Rattle.nr_rev.specs.declared.sides.Side.TheVariants.{Read, Write}
 use Rattle.nr_rev.specs.declared.descriptor.Word.{Word}
-use Rattle.nr_rev.specs.declared.status.Status.{Status}
 use Rattle.nr_rev.specs.declared.sides.Sides.{Sides}
 use Rattle.nr_rev.specs.Sides.{of_side, with_side}
-use Rattle.nr_rev.specs.declared.timer.TimerFunction.{TimerFunction}
 use Rattle.nr_rev.specs.Descriptor.{timer_function}
 use Rattle.nr_rev.specs.declared.timer.Entry.{Entry}
-use Rattle.nr_rev.specs.Socket.{Socket}
 use Rattle.nr_rev.specs.declared.descriptor.DescriptorRow.{DescriptorRow}
-use Rattle.nr_rev.specs.World.{is_free_number}
-use Rattle.nr_rev.specs.WellFormed.{GoroutinesFit, TimersFit, FreeFits, RowFits, EntryFits, FiringFits, IsDueFor, HasWord, Stand, ArmedAt, FiringAt, armed_at, standing, IsCurrent}
-use Rattle.nr_rev.proofs.BothSides.{other_side, of_side-with_side_same, of_side-with_side_other}
-use Rattle.nr_rev.proofs.Lists.{slice_get-set_unseen, slice_get-set_cases, slice_get-set_here}
+use Rattle.nr_rev.specs.WellFormed.{TimersFit, RowFits, EntryFits, IsDueFor, HasWord}
+use Rattle.nr_rev.proofs.BothSides.{each_side, other_side, of_side-with_side_same, of_side-with_side_other}
+use Rattle.nr_rev.proofs.Retimed.{Retimed, retimed_still}
+use Rattle.nr_rev.proofs.Lists.{slice_get-set_cases, slice_get-set_here}
 
 abbrev pub reworded : DescriptorRow → Sides Word → DescriptorRow
 reworded row words = record row { descriptor = record row.descriptor { words = words } }
 
-RowFits-reworded : (row : DescriptorRow) (words : Sides Word) → RowFits row → RowFits (reworded row words)
-RowFits-reworded row words h =
+-- the row with other words and marks
+abbrev pub remarked : DescriptorRow → Sides Word → Bool → ℕ → DescriptorRow
+remarked row words error fdseq = record row { descriptor = record row.descriptor { words = words; event_error = error; fdseq = fdseq } }
+
+-- words, event error and fdseq say nothing of timers
+pub remarked_still : (rows : List DescriptorRow) (firings : List Entry) (n d : ℕ) (row : DescriptorRow) (words : Sides Word) (error : Bool) (fdseq : ℕ) → slice_get rows d ≡ Some row → fdseq < 2 ^ 64 → TimersFit rows firings n → Retimed firings d row (remarked row words error fdseq) n n
+remarked_still rows firings n d row words error fdseq at small h =
+    retimed_still rows firings n d row _ at refl refl
+    (record {
+      entries = λ side timer is.
+          let entry : EntryFits row.descriptor side timer = fits.entries side timer is in
+          record { sequence = entry.sequence; running = entry.running; positive = entry.positive; due = entry.due; function = entry.function ∙ sym (same side) };
+      combo = fits.combo;
+      closing = fits.closing;
+      sequences = fits.sequences;
+      fdseq = small;
+      times = fits.times;
+    })
+    (λ i firing _ _ f.
     record {
-      entries = λ side timer at.
-          let fits : EntryFits row.descriptor side timer = h.entries side timer at in
-          record { sequence = fits.sequence; running = fits.running; positive = fits.positive; due = fits.due; function = function_same side fits.function };
-      combo = h.combo;
-      closing = h.closing;
-      sequences = h.sequences;
-      fdseq = h.fdseq;
-      times = h.times;
-    }
+      side = f.side;
+      sequence = f.sequence;
+      due = f.due;
+      current = λ now.
+          let due : IsDueFor row.descriptor firing = f.current now in
+          record { positive = due.positive; running = due.running; function = due.function ∙ sym (same firing.side) };
+    })
+    h
   where
-    function_same : (side : Side) {f : TimerFunction} → f ≡ timer_function side row.descriptor → f ≡ timer_function side (reworded row words).descriptor
-    function_same Read e = e
-    function_same Write e = e
+    fits : RowFits row
+    fits = h.entries_fit d row at
 
-FiringFits-reworded : (row : DescriptorRow) (words : Sides Word) (firing : Entry) → FiringFits row.descriptor firing → FiringFits (reworded row words).descriptor firing
-FiringFits-reworded row words firing h =
-    record {
-      side = h.side;
-      sequence = h.sequence;
-      due = h.due;
-      current = λ e.
-          let due : IsDueFor row.descriptor firing = h.current e in
-          record { positive = due.positive; running = due.running; function = function_same firing.side due.function };
-    }
-  where
-    function_same : (side : Side) {f : TimerFunction} → f ≡ timer_function side row.descriptor → f ≡ timer_function side (reworded row words).descriptor
-    function_same Read e = e
-    function_same Write e = e
+    same : (side : Side) → timer_function side (remarked row words error fdseq).descriptor ≡ timer_function side row.descriptor
+    same = each_side _ refl refl
 
-pub TimersFit-reworded : (rows : List DescriptorRow) (firings : List Entry) (n d : ℕ) (row : DescriptorRow) (words : Sides Word) → slice_get rows d ≡ Some row → TimersFit rows firings n → TimersFit (set rows d (reworded row words)) firings n
-TimersFit-reworded rows firings n d row words at h =
-    record {
-      entries_fit = λ k other is.
-          elim (slice_get-set_cases rows d row (reworded row words) k at) [
-            | inl here ↦ subst RowFits (same_Some _ _ (sym here.1 ∙ is)) (RowFits-reworded row words (h.entries_fit d row at))
-            | inr there ↦ h.entries_fit k other (sym there.1 ∙ is)
-          ];
-      firings_fit = λ i firing is.
-          let f = h.firings_fit i firing is in
-          elim (slice_get-set_cases rows d row (reworded row words) firing.descriptor at) [
-            | inl here ↦
-                let same : f.0 ≡ row = same_Some _ _ (sym f.1 ∙ ap (slice_get rows) here.0 ∙ at) in
-                (reworded row words, here.1, FiringFits-reworded row words firing (subst (λ (r : DescriptorRow). FiringFits r.descriptor firing) same f.2))
-            | inr there ↦ (f.0, there.1 ∙ f.1, f.2)
-          ];
-      one_current = λ p q e f at_p at_q same_d same_side e_now f_now. h.one_current p q e f (stands p at_p) (stands q at_q) same_d same_side (now e e_now) (now f f_now);
-      armed_before = λ p e at_p. h.armed_before p e (stands p at_p);
-      armed_once = λ p q e f at_p at_q. h.armed_once p q e f (stands p at_p) (stands q at_q);
-      numbered = h.numbered;
-      in_range = h.in_range;
-    }
-  where
-    abide : (side : Side) (e : ℕ) → armed_at e side (reworded row words) ≡ armed_at e side row
-    abide Read e = refl
-    abide Write e = refl
-
-    stands : (p : Stand) {e : Entry} → standing (set rows d (reworded row words)) firings p ≡ Some e → standing rows firings p ≡ Some e
-    stands (ArmedAt k side) is = sym (slice_get-set_unseen (option_and_then (armed_at k side)) rows d row (reworded row words) k at (abide side k)) ∙ is
-    stands (FiringAt i) is = is
-
-    now : (e : Entry) → IsCurrent (set rows d (reworded row words)) e → IsCurrent rows e
-    now e is = sym (slice_get-set_unseen (option_map (λ (r : DescriptorRow). of_side e.side r.descriptor.sequences)) rows d row (reworded row words) e.descriptor at refl) ∙ is
-
-pub GoroutinesFit-rows : (gs : List Status) (sockets : List Socket) (rows new : List DescriptorRow) (free : List ℕ) → length new ≡ length rows → GoroutinesFit gs sockets rows free → GoroutinesFit gs sockets new free
-GoroutinesFit-rows gs sockets rows new free same h =
-    record {
-      one_inside = h.one_inside;
-      inside_open = λ g d side p. let o = h.inside_open g d side p in (rw same o.0, o.1);
-      sockets_named = h.sockets_named;
-      owed = h.owed;
-    }
+pub reworded_still : (rows : List DescriptorRow) (firings : List Entry) (n d : ℕ) (row : DescriptorRow) (words : Sides Word) → slice_get rows d ≡ Some row → TimersFit rows firings n → Retimed firings d row (reworded row words) n n
+reworded_still rows firings n d row words at h =
+    remarked_still rows firings n d row words row.descriptor.event_error row.descriptor.fdseq at (h.entries_fit d row at).fdseq h
 
 -- a word of the changed row is a new one, any other an old one
 pub word_cases : (rows : List DescriptorRow) (d : ℕ) (row : DescriptorRow) (words : Sides Word) (k : ℕ) (side : Side) (word : Word) → slice_get rows d ≡ Some row → HasWord (set rows d (reworded row words)) k side word → ((k ≡ d) × (of_side side words ≡ word)) ⊎ ((k ≢ d) × HasWord rows k side word)
@@ -150,20 +109,3 @@ word_kept rows d row side new k s word at other has =
           ]
       | inr there ↦ ap (option_map (λ (r : DescriptorRow). of_side s r.descriptor.words)) there.1 ∙ has
     ]
-
-pub FreeFits-reworded : (rows : List DescriptorRow) (free : List ℕ) (d : ℕ) (row : DescriptorRow) (words : Sides Word) → slice_get rows d ≡ Some row → is_free_number d free ≡ false → FreeFits rows free → FreeFits (set rows d (reworded row words)) free
-FreeFits-reworded rows free d row words at open_d h =
-    record {
-      made = rw length-set h.made;
-      once = h.once;
-      closing = λ k other k_free is.
-          elim (slice_get-set_cases rows d row (reworded row words) k at) [
-            | inl here ↦ absurd (true≢false (sym k_free ∙ ap (λ x. is_free_number x free) here.0 ∙ open_d))
-            | inr there ↦ h.closing k other k_free (sym there.1 ∙ is)
-          ];
-      words = λ k side word k_free has.
-          elim (word_cases rows d row words k side word at has) [
-            | inl here ↦ absurd (true≢false (sym k_free ∙ ap (λ x. is_free_number x free) here.0 ∙ open_d))
-            | inr there ↦ h.words k side word k_free there.1
-          ];
-    }

@@ -134,11 +134,6 @@ moved_outside w g old new h at from to named owes =
     })
     (to.parked ∙ sym from.parked) (to.awaits ∙ sym from.awaits) (λ s side. to.queued s side ∙ sym (from.queued s side))
 
--- a goroutine inside a wait goes on to another status inside it
-pub stays_inside : (w : World) (g d : ℕ) (side : Side) (old new : Status) → WellFormed w → slice_get w.goroutines g ≡ Some old → wait_of old ≡ Some (d, side) → wait_of new ≡ Some (d, side) → socket_named new ≡ None → owed_of new ≡ None → GoroutinesFit (set w.goroutines g new) w.sockets w.descriptors w.free
-stays_inside w g d side old new h at from to unnamed owes_none =
-    GoroutinesFit-moved _ w.sockets w.descriptors w.free g old new at (may_stay w g old new (d, side) h at from to unnamed owes_none) h.goroutines
-
 owing_outside : (s : ℕ) (owed : Sides ℕ) → IsOutside (owing s owed)
 owing_outside s owed = go (owed.read + owed.write == 0)
   where

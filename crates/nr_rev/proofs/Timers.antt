@@ -18,14 +18,14 @@ use Rattle.nr_rev.specs.Sides.{of_side, twice, with_side, same_side, covers_side
 use Rattle.nr_rev.specs.declared.descriptor.DescriptorRow.{DescriptorRow}
 use Rattle.nr_rev.specs.declared.timer.Timer.{Timer}
 use Rattle.nr_rev.specs.declared.timer.Entry.{Entry}
-use Rattle.nr_rev.proofs.Reworded.{GoroutinesFit-rows}
-use Rattle.nr_rev.proofs.RetimedKeeps.{WordsFit-rows, FreeFits-open}
+use Rattle.nr_rev.proofs.RowSet.{GoroutinesFit-rows, WordsFit-rows, FreeFits-open}
 use Rattle.nr_rev.proofs.Restood.{TimersFit-popped, unarmed, TimersFit-removed, slice_get-remove, skip, skip_apart, same_firing}
 use Rattle.nr_rev.specs.declared.timer.TimerFunction.{TimerFunction}
 use Rattle.nr_rev.specs.declared.descriptor.Descriptor.{Descriptor}
 use Rattle.nr_rev.specs.Descriptor.{Change, timer_function, quiet, is_combo, is_positive, and_if, unblocked, fired, expire, is_current, is_timed}
+use Rattle.nr_rev.proofs.Retimed.{retimed_still}
 use Rattle.nr_rev.proofs.SideAfter.{SideAfter, combo_of_both}
-use Rattle.nr_rev.proofs.Changes.{changed_keeps, retimed_still}
+use Rattle.nr_rev.proofs.Changes.{changed_keeps}
 use Rattle.std.proofs.lemmas.List.Edits.{length-remove}
 use Rattle.nr_rev.proofs.Outcomes.{Ends, Keeps, KeepsFor, Ends-ok, Ends-bind, Ends-then, Ends-either, Ends-certain, Ends-found_or, Ends-refused_if, Ends-refused_unless}
 use Rattle.nr_rev.proofs.SideAfter
@@ -366,9 +366,9 @@ Ends-fired w i entry row h at row_at =
     (changed_keeps {T = Unit {0}} (record w { firings = remove w.firings i }) entry.descriptor row (quiet (record row.descriptor { deadlines = past entry.timer.function row.descriptor.deadlines })) (covers_side entry.timer.function Read) (covers_side entry.timer.function Write) false rest row_at
     (running_open w entry.descriptor row (side_of_function entry.timer.function) h row_at may.running) refl refl
     (Ends-ok λ _.
-    retimed_still (record w { firings = remove w.firings i }) entry.descriptor row (passed row entry.timer.function) rest row_at refl refl
+    retimed_still w.descriptors (remove w.firings i) w.next_arming entry.descriptor row (passed row entry.timer.function) row_at refl refl
     (passed_fits row entry.timer.function may (unarmed_side w i entry row h at row_at now))
-    (λ j f f_is same_d f_fits. passed_firing row entry.timer.function f may (λ same_side. others_stale w i entry row h at row_at now j f f_is same_d same_side) f_fits)))
+    (λ j f f_is same_d f_fits. passed_firing row entry.timer.function f may (λ same_side. others_stale w i entry row h at row_at now j f f_is same_d same_side) f_fits) rest.timers))
     λ next fits.
     Ends-ok (fits tt)))
 

@@ -1,5 +1,5 @@
 -- A word that is unblocked, with the goroutine that it held woken, leaves a world well formed.
-use Rattle.std.proofs.Common.{◌≡◌, ◌≢◌, ℕ, ◌+◌, ◌-◌, Bool, true, false, List, [], ◌∷◌, Option, Some, None, inl, inr, refl, sym, ap, subst, ◌∙◌, set, length-set, arith, get_or}
+use Rattle.std.proofs.Common.{◌≡◌, ◌≢◌, ℕ, ◌+◌, ◌-◌, Bool, true, false, List, [], ◌∷◌, Option, Some, None, inl, inr, refl, sym, ap, subst, ◌∙◌, set, arith, get_or}
 use Rattle.std.proofs.lemmas.Option.{slice_get_within, get_or_from_slice_get, some_pair_parts}
 use Rattle.std.proofs.lemmas.List.Sums.{sum_by-set}
 use Rattle.std.specs.Prelude.{slice_get, sum_by, if◌then◌else◌, option_map}
@@ -16,12 +16,10 @@ use Rattle.nr_rev.specs.Descriptor.{unblock}
 use Rattle.nr_rev.specs.declared.descriptor.DescriptorRow.{DescriptorRow}
 use Rattle.nr_rev.specs.World.{World, with_row, is_free_number}
 use Rattle.nr_rev.specs.Step.{all_woken, roused}
-use Rattle.nr_rev.specs.WellFormed.{WellFormed, WordsFit, Shows, parked_of, awaiting_of, is_queued, is_held, held_count}
-use Rattle.nr_rev.proofs.Lists.{slice_get-set_unseen}
-use Rattle.nr_rev.proofs.SameViews.{QueuesFit-same}
-use Rattle.nr_rev.proofs.StatusSet.{shown_cases, shown_kept}
-use Rattle.nr_rev.proofs.StatusSet.{stays_inside}
-use Rattle.nr_rev.proofs.Reworded.{reworded, with_word_at, word_at_cases, word_kept, TimersFit-reworded, FreeFits-reworded, GoroutinesFit-rows}
+use Rattle.nr_rev.specs.WellFormed.{WellFormed, WordsFit, Shows, parked_of, awaiting_of, is_held, held_count}
+use Rattle.nr_rev.proofs.StatusSet.{shown_cases, shown_kept, may_stay}
+use Rattle.nr_rev.proofs.Reworded.{reworded, with_word_at, word_at_cases, word_kept, reworded_still}
+use Rattle.nr_rev.proofs.RowSet.{row_keeps, reworded_moved}
 
 -- a word that says nothing of a goroutine
 pub record IsClear (word : Word) : Type 0 where
@@ -124,37 +122,17 @@ unblocked_world w d row side new = all_woken new.1 (with_row d (reworded row (wi
 
 pub unblocked_quietly : (w : World) (d : ℕ) (row : DescriptorRow) (side : Side) (old new : Word) → WellFormed w → slice_get w.descriptors d ≡ Some row → is_free_number d w.free ≡ false → of_side side row.descriptor.words ≡ old → ((g : ℕ) → old ≢ Held g) → bit (is_held old) ≡ 0 → IsClear new → WellFormed (unblocked_world w d row side (new, []))
 unblocked_quietly w d row side old new h at is_open is unheld zero clear =
-    record {
-      goroutines = GoroutinesFit-rows _ w.sockets w.descriptors _ w.free (length-set _ d _) h.goroutines;
-      words = cleared_words w.goroutines w.descriptors w.waiters d row side old new at is unheld zero clear h.words;
-      queues = h.queues;
-      timers = TimersFit-reworded w.descriptors w.firings w.next_arming d row _ at h.timers;
-      free = FreeFits-reworded w.descriptors w.free d row _ at is_open h.free;
-      sockets = h.sockets;
-      goroutines_limited = h.goroutines_limited;
-      sockets_limited = h.sockets_limited;
-      descriptors_limited = rw length-set h.descriptors_limited;
-      firings_limited = h.firings_limited;
-      clock = h.clock;
-    }
+    row_keeps w w.goroutines w.waiters d w.next_arming row _ h at is_open refl h.goroutines h.queues
+    (cleared_words w.goroutines w.descriptors w.waiters d row side old new at is unheld zero clear h.words)
+    (reworded_still w.descriptors w.firings w.next_arming d row _ at h.timers)
 
 unblocked_waking : (w : World) (d g : ℕ) (row : DescriptorRow) (side : Side) (new : Word) → WellFormed w → slice_get w.descriptors d ≡ Some row → is_free_number d w.free ≡ false → of_side side row.descriptor.words ≡ Held g → IsClear new → WellFormed (unblocked_world w d row side (new, g ∷ []))
 unblocked_waking w d g row side new h at is_open is clear =
     subst (λ (status : Status). WellFormed (record w { goroutines = set w.goroutines g status; descriptors = with_word_at w.descriptors d row side new; waiters = w.waiters - 1 }))
     (sym (ap roused (get_or_from_slice_get w.goroutines g _ Idle parked)))
-    (record {
-      goroutines = GoroutinesFit-rows _ w.sockets w.descriptors _ w.free (length-set _ d _) (stays_inside w g d side (Parked d side) (Swapping d side) h parked refl refl refl refl);
-      words = woken_words w.goroutines w.descriptors w.waiters d g row side new at is parked clear h.words;
-      queues = QueuesFit-same w.goroutines _ w.sockets (λ s side k. slice_get-set_unseen (is_queued s side) w.goroutines g _ _ k parked refl) h.queues;
-      timers = TimersFit-reworded w.descriptors w.firings w.next_arming d row _ at h.timers;
-      free = FreeFits-reworded w.descriptors w.free d row _ at is_open h.free;
-      sockets = h.sockets;
-      goroutines_limited = rw length-set h.goroutines_limited;
-      sockets_limited = h.sockets_limited;
-      descriptors_limited = rw length-set h.descriptors_limited;
-      firings_limited = h.firings_limited;
-      clock = h.clock;
-    })
+    (reworded_moved w g (w.waiters - 1) d (Parked d side) (Swapping d side) row _ h parked at is_open
+    (may_stay w g _ _ (d, side) h parked refl refl refl refl) (λ _ _. refl)
+    (woken_words w.goroutines w.descriptors w.waiters d g row side new at is parked clear h.words))
   where
     parked : slice_get w.goroutines g ≡ Some (Parked d side)
     parked = parked_at w.goroutines g d side ((h.words.held g d side).0 (ap (option_map (λ (r : DescriptorRow). of_side side r.descriptor.words)) at ∙ ap Some is))

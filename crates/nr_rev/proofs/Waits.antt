@@ -1,25 +1,25 @@
 -- A wait of a descriptor and side, from its reset to its end.
-use Rattle.std.proofs.Common.{◌≡◌, ℕ, ◌&&◌, if◌then◌else◌, Bool, true, false, Result, Some, refl, sym, subst, ◌∙◌, Option, inl, inr, ap, set, length-set, arith, ◌+◌, get_or}
+use Rattle.std.proofs.Common.{◌≡◌, ℕ, ◌&&◌, if◌then◌else◌, Bool, true, false, Result, Some, refl, sym, subst, ◌∙◌, Option, inl, inr, ap, set, arith, ◌+◌, get_or}
 use Rattle.std.proofs.lemmas.Option.{some_pair_parts, slice_get_within, get_or_from_slice_get}
 use Rattle.std.specs.Prelude.{slice_get, if◌then◌else◌, sum_by, ◌==◌}
 use Rattle.nr_rev.specs.declared.sides.Side.{Side}
 use Rattle.nr_rev.specs.declared.status.Status.TheVariants.{Idle, Entering, Armed, Parking, Parked, Swapping, Checking}
 use Rattle.nr_rev.specs.World.{World, is_waited, with_status, wait_of, with_row, is_free_number}
 use Rattle.nr_rev.specs.Step.{Outcome, waitbegin, blockarm, blockswap, pollreset, with_wait, armed_by, swapped_by, entering_of, swapping_of, status_of, row_of, parkcommit, parking_of, committed_by, blockcheck, waitcheck, armed_of, checking_of}
-use Rattle.nr_rev.specs.WellFormed.{WellFormed, IsOpen, WordsFit, Shows, HasWord, parked_of, awaiting_of, is_queued, held_count}
+use Rattle.nr_rev.specs.WellFormed.{WellFormed, IsOpen, WordsFit, Shows, HasWord, parked_of, awaiting_of, held_count}
 use Rattle.nr_rev.specs.declared.status.Status.{Status}
 use Rattle.nr_rev.specs.Descriptor.{check}
 use Rattle.nr_rev.specs.Refusing.{◌>>=◌}
-use Rattle.nr_rev.proofs.StatusSet.{moved, shown_cases, shown_kept, may_leave, may_stay, stays_inside}
+use Rattle.nr_rev.proofs.StatusSet.{moved, shown_cases, shown_kept, may_leave, may_stay}
 use Rattle.nr_rev.proofs.Found.{nobody_inside, Ends-idle, Ends-status_of, Ends-row_of, Ends-open_row_of, Ends-entering_of, Ends-armed_of, Ends-parking_of, Ends-swapping_of, Ends-checking_of}
 use Rattle.std.specs.Option.{option_and_then}
 use Rattle.nr_rev.specs.declared.descriptor.Word.{Word}
 use Rattle.nr_rev.specs.declared.descriptor.Word.TheVariants.{Nil, Ready, Held}
 use Rattle.nr_rev.specs.Sides.{of_side, with_side}
 use Rattle.nr_rev.specs.declared.descriptor.DescriptorRow.{DescriptorRow}
-use Rattle.nr_rev.proofs.Lists.{slice_get-set_unseen, slice_get-set_here}
-use Rattle.nr_rev.proofs.SameViews.{QueuesFit-same}
-use Rattle.nr_rev.proofs.Reworded.{reworded, with_word_at, word_at_cases, word_kept, TimersFit-reworded, FreeFits-reworded, GoroutinesFit-rows, word_here}
+use Rattle.nr_rev.proofs.Lists.{slice_get-set_here}
+use Rattle.nr_rev.proofs.Reworded.{reworded, with_word_at, word_at_cases, word_kept, word_here}
+use Rattle.nr_rev.proofs.RowSet.{reworded_moved}
 use Rattle.std.proofs.lemmas.List.Sums.{sum_by-set}
 use Rattle.nr_rev.specs.declared.sides.Side.TheVariants.{Read, Write}
 use Rattle.nr_rev.specs.declared.refusal.Refusal.{Refusal}
@@ -112,19 +112,9 @@ parked_words w g d side row h at row_at waits =
 
 parked : (w : World) (g d : ℕ) (side : Side) (row : DescriptorRow) → WellFormed w → slice_get w.goroutines g ≡ Some (Parking d side) → slice_get w.descriptors d ≡ Some row → of_side side row.descriptor.words ≡ Word.Wait → WellFormed (committed_by g d side Word.Wait row w).1
 parked w g d side row h at row_at waits =
-    record {
-      goroutines = GoroutinesFit-rows _ w.sockets w.descriptors _ w.free (length-set _ d _) (stays_inside w g d side _ _ h at refl refl refl refl);
-      words = parked_words w g d side row h at row_at waits;
-      queues = QueuesFit-same w.goroutines _ w.sockets (λ s side k. slice_get-set_unseen (is_queued s side) w.goroutines g _ _ k at refl) h.queues;
-      timers = TimersFit-reworded w.descriptors w.firings w.next_arming d row _ row_at h.timers;
-      free = FreeFits-reworded w.descriptors w.free d row _ row_at (h.goroutines.inside_open g d side (ap (option_and_then wait_of) at)).1 h.free;
-      sockets = h.sockets;
-      goroutines_limited = rw length-set h.goroutines_limited;
-      sockets_limited = h.sockets_limited;
-      descriptors_limited = rw length-set h.descriptors_limited;
-      firings_limited = h.firings_limited;
-      clock = h.clock;
-    }
+    reworded_moved w g (w.waiters + 1) d (Parking d side) (Parked d side) row _ h at row_at (h.goroutines.inside_open g d side (ap (option_and_then wait_of) at)).1
+    (may_stay w g _ _ (d, side) h at refl refl refl refl) (λ _ _. refl)
+    (parked_words w g d side row h at row_at waits)
 
 committed : (w : World) (g d : ℕ) (side : Side) (word : Word) (row : DescriptorRow) → WellFormed w → slice_get w.goroutines g ≡ Some (Parking d side) → slice_get w.descriptors d ≡ Some row → of_side side row.descriptor.words ≡ word → WellFormed (committed_by g d side word row w).1
 committed w g d side Word.Wait row h at row_at is = parked w g d side row h at row_at is

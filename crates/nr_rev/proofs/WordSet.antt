@@ -1,5 +1,5 @@
 -- A word of a descriptor is set together with a goroutine's status, or cleared.
-use Rattle.std.proofs.Common.{◌≡◌, ◌≢◌, ℕ, false, List, Option, Some, None, ◌⊎◌, inl, inr, refl, sym, ap, ◌∙◌, set, length-set, arith}
+use Rattle.std.proofs.Common.{◌≡◌, ◌≢◌, ℕ, false, List, Option, Some, None, ◌⊎◌, inl, inr, refl, sym, ap, ◌∙◌, set, arith}
 use Rattle.std.proofs.lemmas.Option.{none-some}
 use Rattle.std.specs.Prelude.{slice_get, sum_by, option_map}
 use Rattle.std.specs.Option.{option_and_then}
@@ -12,13 +12,13 @@ use Rattle.nr_rev.specs.Sides.{of_side, with_side}
 use Rattle.nr_rev.specs.declared.descriptor.DescriptorRow.{DescriptorRow}
 use Rattle.nr_rev.specs.World.{World, wait_of, with_row, is_free_number, is_waited}
 use Rattle.nr_rev.specs.WellFormed.{WellFormed, WordsFit, IsInside, Shows, HasWord, parked_of, awaiting_of, is_queued, is_held, held_count}
-use Rattle.nr_rev.proofs.Lists.{slice_get-set_unseen, slice_get-set_here}
+use Rattle.nr_rev.proofs.Lists.{slice_get-set_here}
 use Rattle.nr_rev.proofs.Found.{nobody_inside}
-use Rattle.nr_rev.proofs.SameViews.{QueuesFit-same}
-use Rattle.nr_rev.proofs.StatusSet.{MayMove, GoroutinesFit-moved, shown_cases, shown_kept}
+use Rattle.nr_rev.proofs.StatusSet.{MayMove, shown_cases, shown_kept}
 use Rattle.nr_rev.specs.Lock.{bit}
 use Rattle.nr_rev.specs.Step.{with_wait}
-use Rattle.nr_rev.proofs.Reworded.{reworded, with_word_at, word_at_cases, word_kept, TimersFit-reworded, FreeFits-reworded, GoroutinesFit-rows}
+use Rattle.nr_rev.proofs.Reworded.{reworded, with_word_at, word_at_cases, word_kept}
+use Rattle.nr_rev.proofs.RowSet.{reworded_moved}
 use Rattle.nr_rev.proofs.Unblocked.{held_sum, unblocked_quietly, parked_at, if_clear}
 
 -- a word that holds no goroutine
@@ -65,19 +65,8 @@ WordsFit-worded gs rows waiters g d side row old new was word at row_at is unhel
 
 pub worded : (w : World) (g d : ℕ) (side : Side) (row : DescriptorRow) (old new : Status) (was word : Word) → WellFormed w → slice_get w.goroutines g ≡ Some old → slice_get w.descriptors d ≡ Some row → is_free_number d w.free ≡ false → of_side side row.descriptor.words ≡ was → IsUnheld was → IsUnheld word → Waits d side old new word → MayMove w.goroutines w.sockets w.descriptors w.free g new → WellFormed (with_wait g new d side word row w)
 worded w g d side row old new was word h at row_at is_open is unheld free waits may =
-    record {
-      goroutines = GoroutinesFit-rows _ w.sockets w.descriptors _ w.free (length-set _ d _) (GoroutinesFit-moved _ w.sockets w.descriptors w.free g old new at may h.goroutines);
-      words = WordsFit-worded w.goroutines w.descriptors w.waiters g d side row old new was word at row_at is unheld free waits h.words;
-      queues = QueuesFit-same w.goroutines _ w.sockets (λ s other k. slice_get-set_unseen (is_queued s other) w.goroutines g _ _ k at (waits.unqueued s other)) h.queues;
-      timers = TimersFit-reworded w.descriptors w.firings w.next_arming d row _ row_at h.timers;
-      free = FreeFits-reworded w.descriptors w.free d row _ row_at is_open h.free;
-      sockets = h.sockets;
-      goroutines_limited = rw length-set h.goroutines_limited;
-      sockets_limited = h.sockets_limited;
-      descriptors_limited = rw length-set h.descriptors_limited;
-      firings_limited = h.firings_limited;
-      clock = h.clock;
-    }
+    reworded_moved w g w.waiters d old new row _ h at row_at is_open may waits.unqueued
+    (WordsFit-worded w.goroutines w.descriptors w.waiters g d side row old new was word at row_at is unheld free waits h.words)
 
 awaiting_waits : (status : Status) (place : ℕ × Side) → awaiting_of status ≡ Some place → wait_of status ≡ Some place
 awaiting_waits (Armed d side) place e = e

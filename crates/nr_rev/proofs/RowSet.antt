@@ -1,5 +1,5 @@
--- A row retimed, its words as they were, leaves a world well formed.
-use Rattle.std.proofs.Common.{◌≡◌, ℕ, ◌+◌, false, List, Some, inl, inr, sym, ap, ◌∙◌, set, length-set, arith, true≢false, get_or}
+-- A descriptor's row is set, alone or together with statuses of goroutines.
+use Rattle.std.proofs.Common.{◌≡◌, ℕ, ◌+◌, false, List, Some, inl, inr, refl, sym, ap, ◌∙◌, set, length, length-set, arith, true≢false, get_or}
 use Rattle.std.proofs.lemmas.Option.{slice_get_within, get_or_from_slice_get}
 use Rattle.std.proofs.lemmas.List.Sums.{sum_by-set}
 use Rattle.std.specs.Prelude.{slice_get, sum_by, option_map}
@@ -10,11 +10,23 @@ use Rattle.nr_rev.specs.Lock.{bit}
 use Rattle.nr_rev.specs.declared.sides.Sides.{Sides}
 use Rattle.nr_rev.specs.Sides.{of_side}
 use Rattle.nr_rev.specs.declared.descriptor.DescriptorRow.{DescriptorRow}
+use Rattle.nr_rev.specs.Socket.{Socket}
 use Rattle.nr_rev.specs.World.{World, with_row, is_free_number}
-use Rattle.nr_rev.specs.WellFormed.{WellFormed, WordsFit, FreeFits, held_count, is_held}
+use Rattle.nr_rev.specs.WellFormed.{WellFormed, GoroutinesFit, QueuesFit, WordsFit, FreeFits, held_count, is_held, is_queued}
 use Rattle.nr_rev.proofs.Lists.{slice_get-set_cases, slice_get-set_unseen}
-use Rattle.nr_rev.proofs.Reworded.{GoroutinesFit-rows}
+use Rattle.nr_rev.proofs.Reworded.{reworded, reworded_still}
+use Rattle.nr_rev.proofs.SameViews.{QueuesFit-same}
+use Rattle.nr_rev.proofs.StatusSet.{MayMove, GoroutinesFit-moved}
 use Rattle.nr_rev.proofs.Retimed.{Retimed, TimersFit-retimed}
+
+pub GoroutinesFit-rows : (gs : List Status) (sockets : List Socket) (rows new : List DescriptorRow) (free : List ℕ) → length new ≡ length rows → GoroutinesFit gs sockets rows free → GoroutinesFit gs sockets new free
+GoroutinesFit-rows gs sockets rows new free same h =
+    record {
+      one_inside = h.one_inside;
+      inside_open = λ g d side p. let o = h.inside_open g d side p in (rw same o.0, o.1);
+      sockets_named = h.sockets_named;
+      owed = h.owed;
+    }
 
 -- an open descriptor's row says nothing of the free ones
 pub FreeFits-open : (rows : List DescriptorRow) (free : List ℕ) (d : ℕ) (old new : DescriptorRow) → slice_get rows d ≡ Some old → is_free_number d free ≡ false → FreeFits rows free → FreeFits (set rows d new) free
@@ -55,18 +67,32 @@ WordsFit-rows gs rows waiters d old new at same h =
     word : (k : ℕ) (side : Side) → option_map (λ (r : DescriptorRow). of_side side r.descriptor.words) (slice_get (set rows d new) k) ≡ option_map (λ (r : DescriptorRow). of_side side r.descriptor.words) (slice_get rows k)
     word k side = slice_get-set_unseen (option_map (λ (r : DescriptorRow). of_side side r.descriptor.words)) rows d old new k at (ap (λ (w : Sides Word). Some (of_side side w)) same)
 
-pub retimed_keeps : (w : World) (d m : ℕ) (old new : DescriptorRow) → WellFormed w → slice_get w.descriptors d ≡ Some old → is_free_number d w.free ≡ false → new.descriptor.words ≡ old.descriptor.words → Retimed w.firings d old new w.next_arming m → WellFormed (record (with_row d new w) { next_arming = m })
-retimed_keeps w d m old new h at is_open same change =
+-- a row and what goroutines show of it change, and it says nothing else of the free ones
+pub row_keeps : (w : World) (gs : List Status) (waiters d m : ℕ) (old new : DescriptorRow) → WellFormed w → slice_get w.descriptors d ≡ Some old → is_free_number d w.free ≡ false → length gs ≡ length w.goroutines → GoroutinesFit gs w.sockets w.descriptors w.free → QueuesFit gs w.sockets → WordsFit gs (set w.descriptors d new) waiters → Retimed w.firings d old new w.next_arming m → WellFormed (record w { goroutines = gs; descriptors = set w.descriptors d new; waiters = waiters; next_arming = m })
+row_keeps w gs waiters d m old new h at is_open as_many goroutines queues words change =
     record {
-      goroutines = GoroutinesFit-rows _ w.sockets w.descriptors _ w.free (length-set _ d _) h.goroutines;
-      words = WordsFit-rows w.goroutines w.descriptors w.waiters d old new at same h.words;
-      queues = h.queues;
+      goroutines = GoroutinesFit-rows gs w.sockets w.descriptors _ w.free (length-set _ d _) goroutines;
+      words = words;
+      queues = queues;
       timers = TimersFit-retimed w.descriptors w.firings w.next_arming m d old new at change h.timers;
       free = FreeFits-open w.descriptors w.free d old new at is_open h.free;
       sockets = h.sockets;
-      goroutines_limited = h.goroutines_limited;
+      goroutines_limited = rw as_many h.goroutines_limited;
       sockets_limited = h.sockets_limited;
       descriptors_limited = rw length-set h.descriptors_limited;
       firings_limited = h.firings_limited;
       clock = h.clock;
     }
+
+-- a row is retimed, its words as they were
+pub retimed_keeps : (w : World) (d m : ℕ) (old new : DescriptorRow) → WellFormed w → slice_get w.descriptors d ≡ Some old → is_free_number d w.free ≡ false → new.descriptor.words ≡ old.descriptor.words → Retimed w.firings d old new w.next_arming m → WellFormed (record (with_row d new w) { next_arming = m })
+retimed_keeps w d m old new h at is_open same change =
+    row_keeps w w.goroutines w.waiters d m old new h at is_open refl h.goroutines h.queues (WordsFit-rows w.goroutines w.descriptors w.waiters d old new at same h.words) change
+
+-- a goroutine moves, and words of a row say so
+pub reworded_moved : (w : World) (g waiters d : ℕ) (old new : Status) (row : DescriptorRow) (words : Sides Word) → WellFormed w → slice_get w.goroutines g ≡ Some old → slice_get w.descriptors d ≡ Some row → is_free_number d w.free ≡ false → MayMove w.goroutines w.sockets w.descriptors w.free g new → ((s : ℕ) (side : Side) → is_queued s side (Some new) ≡ is_queued s side (Some old)) → WordsFit (set w.goroutines g new) (set w.descriptors d (reworded row words)) waiters → WellFormed (record w { goroutines = set w.goroutines g new; descriptors = set w.descriptors d (reworded row words); waiters = waiters })
+reworded_moved w g waiters d old new row words h at row_at is_open may queued words_fit =
+    row_keeps w (set w.goroutines g new) waiters d w.next_arming row _ h row_at is_open (length-set _ g _)
+    (GoroutinesFit-moved _ w.sockets w.descriptors w.free g old new at may h.goroutines)
+    (QueuesFit-same w.goroutines _ w.sockets (λ s side k. slice_get-set_unseen (is_queued s side) w.goroutines g old new k at (queued s side)) h.queues)
+    words_fit (reworded_still w.descriptors w.firings w.next_arming d row words row_at h.timers)
