@@ -28,7 +28,8 @@ use Rattle.std.proofs.lemmas.List.Sums.{sum_by-append}
 use Rattle.std.proofs.lemmas.List.Elements.{All-cons, All-tail, All-nil}
 use Rattle.nr_rev.specs.Lock.{bit}
 use Rattle.nr_rev.proofs.Reworded.{reworded, remarked, remarked_still}
-use Rattle.nr_rev.proofs.WordSet.{word_at_rest, word_has, cleared}
+use Rattle.nr_rev.proofs.WordSet.{word_at_rest, word_has}
+use Rattle.nr_rev.proofs.Unblocked.{cleared}
 use Rattle.nr_rev.proofs.Numbers.{below_of, count_front, number_same, number_apart, same_number}
 use Rattle.nr_rev.proofs.Restood.{TimersFit-restood}
 use Rattle.nr_rev.proofs.Outcomes.{Ends, Keeps, BothRaised, Ends-ok, Ends-map, Ends-bind, Ends-then, Ends-either, Ends-refused_if, Ends-refused_unless, Ends-raised_sequence, Ends-both_raised}

@@ -1,30 +1,27 @@
 -- A wait of a descriptor and side, from its reset to its end.
-use Rattle.std.proofs.Common.{◌≡◌, ℕ, ◌&&◌, if◌then◌else◌, Bool, true, false, Result, Some, refl, sym, subst, ◌∙◌, Option, inl, inr, ap, set, arith, ◌+◌, get_or}
-use Rattle.std.proofs.lemmas.Option.{some_pair_parts, slice_get_within, get_or_from_slice_get}
-use Rattle.std.specs.Prelude.{slice_get, if◌then◌else◌, sum_by, ◌==◌}
+use Rattle.std.proofs.Common.{◌≡◌, ℕ, ◌&&◌, if◌then◌else◌, Bool, true, false, Result, Some, refl, sym, subst, ◌∙◌, ap, arith, ◌+◌}
+use Rattle.std.proofs.lemmas.Option.{some_pair_parts, slice_get_within}
+use Rattle.std.specs.Prelude.{slice_get, if◌then◌else◌, ◌==◌}
 use Rattle.nr_rev.specs.declared.sides.Side.{Side}
 use Rattle.nr_rev.specs.declared.status.Status.TheVariants.{Idle, Entering, Armed, Parking, Parked, Swapping, Checking}
 use Rattle.nr_rev.specs.World.{World, is_waited, with_status, wait_of, with_row, is_free_number}
 use Rattle.nr_rev.specs.Step.{Outcome, waitbegin, blockarm, blockswap, pollreset, with_wait, armed_by, swapped_by, entering_of, swapping_of, status_of, row_of, parkcommit, parking_of, committed_by, blockcheck, waitcheck, armed_of, checking_of}
-use Rattle.nr_rev.specs.WellFormed.{WellFormed, IsOpen, WordsFit, Shows, HasWord, parked_of, awaiting_of, held_count}
+use Rattle.nr_rev.specs.WellFormed.{WellFormed, IsOpen, awaiting_of, is_held}
 use Rattle.nr_rev.specs.declared.status.Status.{Status}
 use Rattle.nr_rev.specs.Descriptor.{check}
 use Rattle.nr_rev.specs.Refusing.{◌>>=◌}
-use Rattle.nr_rev.proofs.StatusSet.{moved, shown_cases, shown_kept, may_leave, may_stay}
+use Rattle.nr_rev.proofs.StatusSet.{moved, may_leave, may_stay}
 use Rattle.nr_rev.proofs.Found.{nobody_inside, Ends-idle, Ends-status_of, Ends-row_of, Ends-open_row_of, Ends-entering_of, Ends-armed_of, Ends-parking_of, Ends-swapping_of, Ends-checking_of}
 use Rattle.std.specs.Option.{option_and_then}
 use Rattle.nr_rev.specs.declared.descriptor.Word.{Word}
 use Rattle.nr_rev.specs.declared.descriptor.Word.TheVariants.{Nil, Ready, Held}
 use Rattle.nr_rev.specs.Sides.{of_side, with_side}
 use Rattle.nr_rev.specs.declared.descriptor.DescriptorRow.{DescriptorRow}
-use Rattle.nr_rev.proofs.Lists.{slice_get-set_here}
-use Rattle.nr_rev.proofs.Reworded.{reworded, with_word_at, word_at_cases, word_kept, word_here}
-use Rattle.nr_rev.proofs.RowSet.{reworded_moved}
-use Rattle.std.proofs.lemmas.List.Sums.{sum_by-set}
-use Rattle.nr_rev.specs.declared.sides.Side.TheVariants.{Read, Write}
+use Rattle.nr_rev.proofs.Reworded.{reworded}
 use Rattle.nr_rev.specs.declared.refusal.Refusal.{Refusal}
 use Rattle.nr_rev.proofs.Outcomes.{Ends, Keeps, Ends-ok, Ends-bind, Ends-then, Ends-refused, Ends-refused_if}
-use Rattle.nr_rev.proofs.WordSet.{IsUnheld, worded, word_has, word_at_swap, word_at_rest, nil_unheld, ready_unheld, wait_unheld, cleared}
+use Rattle.nr_rev.proofs.WordSet.{same_place, told, worded, word_has, word_at_swap, word_at_rest}
+use Rattle.nr_rev.proofs.Unblocked.{cleared}
 
 entered : (w : World) (g d : ℕ) (side : Side) → WellFormed w → slice_get w.goroutines g ≡ Some Idle → IsOpen w.descriptors w.free d → is_waited d side w.goroutines ≡ false → WellFormed (with_status g (Entering d side) w)
 entered w g d side h at_g is_open nobody =
@@ -41,80 +38,42 @@ swapped : (w : World) (g d : ℕ) (side : Side) (row : DescriptorRow) (word : Wo
 swapped w g d side row word h at row_at is = go word is
   where
     only : (k : ℕ) (s : Side) → awaiting_of (Swapping d side) ≡ Some (k, s) → (k ≡ d) × (s ≡ side)
-    only k s e = let p = some_pair_parts d k side s e in (sym p.0, sym p.1)
+    only k s e = same_place d k side s e
 
     is_open : is_free_number d w.free ≡ false
     is_open = (h.goroutines.inside_open g d side (ap (option_and_then wait_of) at)).1
 
-    checks : (was : Word) → of_side side row.descriptor.words ≡ was → IsUnheld was → WellFormed (with_wait g (Checking d side) d side Nil row w)
-    checks was is unheld =
-        worded w g d side row (Swapping d side) (Checking d side) was Nil h at row_at is_open is unheld nil_unheld
+    checks : (was : Word) → of_side side row.descriptor.words ≡ was → is_held was ≡ false → WellFormed (with_wait g (Checking d side) d side Nil row w)
+    checks was is free =
+        worded w g d side row (Swapping d side) (Checking d side) was Nil h at row_at is_open is free refl
         (record { unparked = (refl, refl); awaits = λ e. cc; only = only; unqueued = λ _ _. refl })
         (may_stay w g _ _ (d, side) h at refl refl refl refl)
 
     go : (was : Word) → of_side side row.descriptor.words ≡ was → WellFormed (swapped_by g d side was row w).1
     go Ready is =
-        worded w g d side row (Swapping d side) Idle Ready Nil h at row_at is_open is ready_unheld nil_unheld
+        worded w g d side row (Swapping d side) Idle Ready Nil h at row_at is_open is refl refl
         (record { unparked = (refl, refl); awaits = λ e. cc; only = only; unqueued = λ _ _. refl })
         (may_leave w g Idle refl refl refl)
-    go Nil is = checks Nil is nil_unheld
-    go Word.Wait is = checks Word.Wait is wait_unheld
+    go Nil is = checks Nil is refl
+    go Word.Wait is = checks Word.Wait is refl
     go (Held k) is = absurd (word_at_swap w g k d side h at (word_has w d side row (Held k) row_at is))
 
 swapping : (w : World) (g d : ℕ) (side : Side) → WellFormed w → slice_get w.goroutines g ≡ Some (Parking d side) → WellFormed (with_status g (Swapping d side) w)
 swapping w g d side h at = moved w g _ _ h at (may_stay w g _ _ (d, side) h at refl refl refl refl) refl refl (λ _ _. refl)
 
-held_more : (side : Side) (g : ℕ) (row : DescriptorRow) → of_side side row.descriptor.words ≡ Word.Wait → held_count (reworded row (with_side side (Held g) row.descriptor.words)) ≡ held_count row + 1
-held_more Read g row e = rw e (omega arith)
-held_more Write g row e = rw e (omega arith)
-
-parked_words : (w : World) (g d : ℕ) (side : Side) (row : DescriptorRow) → WellFormed w → slice_get w.goroutines g ≡ Some (Parking d side) → slice_get w.descriptors d ≡ Some row → of_side side row.descriptor.words ≡ Word.Wait → WordsFit (set w.goroutines g (Parked d side)) (with_word_at w.descriptors d row side (Held g)) (w.waiters + 1)
-parked_words w g d side row h at row_at waits =
-    record {
-      held = λ k e s. (to_parked k e s, to_held k e s);
-      waited = λ e s word.
-          elim (word_at_cases w.descriptors d row side (Held g) e s Word.Wait row_at word) [
-            | inl here ↦ cc
-            | inr there ↦
-                let before = h.words.waited e s there.1 in
-                (before.0, shown_kept awaiting_of w.goroutines g (Parking d side) _ before.0 (e, s) at (λ same. there.0 (elsewhere e s same)) before.1)
-          ];
-      counted =
-          let changed : sum_by held_count (with_word_at w.descriptors d row side (Held g)) + held_count (get_or w.descriptors d row) ≡ sum_by held_count w.descriptors + held_count (reworded row (with_side side (Held g) row.descriptor.words)) =
-          sum_by-set held_count w.descriptors d _ row (slice_get_within _ _ _ row_at)
-          in
-          let old : held_count (get_or w.descriptors d row) ≡ held_count row = ap held_count (get_or_from_slice_get w.descriptors d row row row_at) in
-          let counted : w.waiters ≡ sum_by held_count w.descriptors = h.words.counted in
-          let more : held_count (reworded row (with_side side (Held g) row.descriptor.words)) ≡ held_count row + 1 = held_more side g row waits in
-          omega arith;
-    }
-  where
-    elsewhere : (e : ℕ) (s : Side) → ◌≡◌ {A = Option (ℕ × Side)} (Some (d, side)) (Some (e, s)) → (e ≡ d) × (s ≡ side)
-    elsewhere e s same = let p = some_pair_parts d e side s same in (sym p.0, sym p.1)
-
-    to_parked : (k e : ℕ) (s : Side) → HasWord (with_word_at w.descriptors d row side (Held g)) e s (Held k) → Shows parked_of (set w.goroutines g (Parked d side)) k (e, s)
-    to_parked k e s has =
-        elim (word_at_cases w.descriptors d row side (Held g) e s (Held k) row_at has) [
-          | inl here ↦
-              let k_is : k ≡ g = cc in
-              rw (k_is, here.0, here.1) (ap (option_and_then parked_of) (slice_get-set_here w.goroutines g _ (Parked d side) at))
-          | inr there ↦ shown_kept parked_of w.goroutines g (Parking d side) _ k (e, s) at (λ same. cc) ((h.words.held k e s).0 there.1)
-        ]
-
-    to_held : (k e : ℕ) (s : Side) → Shows parked_of (set w.goroutines g (Parked d side)) k (e, s) → HasWord (with_word_at w.descriptors d row side (Held g)) e s (Held k)
-    to_held k e s parked =
-        elim (shown_cases parked_of w.goroutines g (Parking d side) (Parked d side) k (e, s) at parked) [
-          | inl here ↦
-              let p = elsewhere e s here.1 in
-              rw (here.0, p.0, p.1) (word_here w.descriptors d row side (Held g) row_at)
-          | inr there ↦ word_kept w.descriptors d row side (Held g) e s (Held k) row_at (λ same. cc) ((h.words.held k e s).1 there.1)
-        ]
-
 parked : (w : World) (g d : ℕ) (side : Side) (row : DescriptorRow) → WellFormed w → slice_get w.goroutines g ≡ Some (Parking d side) → slice_get w.descriptors d ≡ Some row → of_side side row.descriptor.words ≡ Word.Wait → WellFormed (committed_by g d side Word.Wait row w).1
 parked w g d side row h at row_at waits =
-    reworded_moved w g (w.waiters + 1) d (Parking d side) (Parked d side) row _ h at row_at (h.goroutines.inside_open g d side (ap (option_and_then wait_of) at)).1
-    (may_stay w g _ _ (d, side) h at refl refl refl refl) (λ _ _. refl)
-    (parked_words w g d side row h at row_at waits)
+    told w g d (w.waiters + 1) side row (Parking d side) (Parked d side) Word.Wait (Held g) h at row_at (h.goroutines.inside_open g d side (ap (option_and_then wait_of) at)).1 waits
+    (record {
+      held_before = λ k e. cc;
+      held = λ k e. (cc, refl);
+      parked_before = λ e s same. cc;
+      parked = λ e s same. let p = same_place d e side s same in (p.0, p.1, refl);
+      waited_before = λ e s same. same_place d e side s same;
+      waited = λ e. cc;
+      unqueued = λ _ _. refl;
+    })
+    (may_stay w g _ _ (d, side) h at refl refl refl refl) (omega arith)
 
 committed : (w : World) (g d : ℕ) (side : Side) (word : Word) (row : DescriptorRow) → WellFormed w → slice_get w.goroutines g ≡ Some (Parking d side) → slice_get w.descriptors d ≡ Some row → of_side side row.descriptor.words ≡ word → WellFormed (committed_by g d side word row w).1
 committed w g d side Word.Wait row h at row_at is = parked w g d side row h at row_at is
@@ -155,12 +114,12 @@ waitbegin_sound w g d side h =
 arms : (w : World) (g d : ℕ) (side : Side) (row : DescriptorRow) (word : Word) → WellFormed w → slice_get w.goroutines g ≡ Some (Entering d side) → slice_get w.descriptors d ≡ Some row → of_side side row.descriptor.words ≡ word → Keeps (armed_by g d side word row w)
 arms w g d side row Nil h at row_at is =
     Ends-ok
-    (worded w g d side row (Entering d side) (Armed d side) Nil Word.Wait h at row_at (h.goroutines.inside_open g d side (ap (option_and_then wait_of) at)).1 is nil_unheld wait_unheld
+    (worded w g d side row (Entering d side) (Armed d side) Nil Word.Wait h at row_at (h.goroutines.inside_open g d side (ap (option_and_then wait_of) at)).1 is refl refl
     (record { unparked = (refl, refl); awaits = λ _. refl; only = λ k s e. cc; unqueued = λ _ _. refl })
     (may_stay w g _ _ (d, side) h at refl refl refl refl))
 arms w g d side row Ready h at row_at is =
     Ends-ok
-    (worded w g d side row (Entering d side) Idle Ready Nil h at row_at (h.goroutines.inside_open g d side (ap (option_and_then wait_of) at)).1 is ready_unheld nil_unheld
+    (worded w g d side row (Entering d side) Idle Ready Nil h at row_at (h.goroutines.inside_open g d side (ap (option_and_then wait_of) at)).1 is refl refl
     (record { unparked = (refl, refl); awaits = λ e. cc; only = λ k s e. cc; unqueued = λ _ _. refl })
     (may_leave w g Idle refl refl refl))
 arms w g d side row Word.Wait h at row_at is = Ends-refused refl

@@ -1,30 +1,95 @@
--- A word of a descriptor is set together with a goroutine's status, or cleared.
-use Rattle.std.proofs.Common.{◌≡◌, ◌≢◌, ℕ, false, List, Option, Some, None, ◌⊎◌, inl, inr, refl, sym, ap, ◌∙◌, set, arith}
-use Rattle.std.proofs.lemmas.Option.{none-some}
+-- A word of a descriptor is set together with a goroutine's status.
+use Rattle.std.proofs.Common.{◌≡◌, ◌≢◌, ℕ, ◌+◌, ◌-◌, false, List, Option, Some, None, ◌⊎◌, inl, inr, refl, sym, ap, ◌∙◌, set, arith, true≢false, get_or}
+use Rattle.std.proofs.lemmas.Option.{none-some, some_pair_parts, slice_get_within, get_or_from_slice_get}
+use Rattle.std.proofs.lemmas.List.Sums.{sum_by-set}
 use Rattle.std.specs.Prelude.{slice_get, sum_by, option_map}
 use Rattle.std.specs.Option.{option_and_then}
 use Rattle.nr_rev.specs.declared.sides.Side.{Side}
+use Rattle.nr_rev.specs.declared.sides.Side.TheVariants.{Read, Write}
 use Rattle.nr_rev.specs.declared.status.Status.{Status}
 use Rattle.nr_rev.specs.declared.status.Status.TheVariants.{Entering, Armed, Parking, Parked, Swapping}
 use Rattle.nr_rev.specs.declared.descriptor.Word.{Word}
 use Rattle.nr_rev.specs.declared.descriptor.Word.TheVariants.{Nil, Ready, Held}
 use Rattle.nr_rev.specs.Sides.{of_side, with_side}
 use Rattle.nr_rev.specs.declared.descriptor.DescriptorRow.{DescriptorRow}
-use Rattle.nr_rev.specs.World.{World, wait_of, with_row, is_free_number, is_waited}
+use Rattle.nr_rev.specs.World.{World, wait_of, is_free_number, is_waited}
 use Rattle.nr_rev.specs.WellFormed.{WellFormed, WordsFit, IsInside, Shows, HasWord, parked_of, awaiting_of, is_queued, is_held, held_count}
 use Rattle.nr_rev.proofs.Lists.{slice_get-set_here}
 use Rattle.nr_rev.proofs.Found.{nobody_inside}
 use Rattle.nr_rev.proofs.StatusSet.{MayMove, shown_cases, shown_kept}
 use Rattle.nr_rev.specs.Lock.{bit}
 use Rattle.nr_rev.specs.Step.{with_wait}
-use Rattle.nr_rev.proofs.Reworded.{reworded, with_word_at, word_at_cases, word_kept}
+use Rattle.nr_rev.proofs.Reworded.{reworded, with_word_at, word_at_cases, word_kept, word_here}
 use Rattle.nr_rev.proofs.RowSet.{reworded_moved}
-use Rattle.nr_rev.proofs.Unblocked.{held_sum, unblocked_quietly, parked_at, if_clear}
 
--- a word that holds no goroutine
-pub record IsUnheld (word : Word) : Type 0 where
-  pub none : (k : ℕ) → word ≢ Held k
-  pub uncounted : bit (is_held word) ≡ 0
+held_change : (side : Side) (row : DescriptorRow) (old new : Word) → of_side side row.descriptor.words ≡ old → held_count (reworded row (with_side side new row.descriptor.words)) + bit (is_held old) ≡ held_count row + bit (is_held new)
+held_change Read row old new e = let k : bit (is_held row.descriptor.words.read) ≡ bit (is_held old) = ap (λ (x : Word). bit (is_held x)) e in omega arith
+held_change Write row old new e = let k : bit (is_held row.descriptor.words.write) ≡ bit (is_held old) = ap (λ (x : Word). bit (is_held x)) e in omega arith
+
+-- how the count of held words changes
+pub held_sum : (rows : List DescriptorRow) (d : ℕ) (row : DescriptorRow) (side : Side) (old new : Word) → slice_get rows d ≡ Some row → of_side side row.descriptor.words ≡ old → sum_by held_count (with_word_at rows d row side new) + bit (is_held old) ≡ sum_by held_count rows + bit (is_held new)
+held_sum rows d row side old new at is =
+    let changed : sum_by held_count (with_word_at rows d row side new) + held_count (get_or rows d row) ≡ sum_by held_count rows + held_count (reworded row (with_side side new row.descriptor.words)) =
+    sum_by-set held_count rows d _ row (slice_get_within _ _ _ at)
+    in
+    let was : held_count (get_or rows d row) ≡ held_count row = ap held_count (get_or_from_slice_get rows d row row at) in
+    let more = held_change side row old new is in
+    omega arith
+
+-- a word that holds no goroutine isn't one that holds k
+pub unheld : (word : Word) (k : ℕ) → is_held word ≡ false → word ≢ Held k
+unheld word k none same = true≢false (sym (ap is_held same) ∙ none)
+
+pub same_place : (d e : ℕ) (side s : Side) → ◌≡◌ {A = Option (ℕ × Side)} (Some (d, side)) (Some (e, s)) → (e ≡ d) × (s ≡ side)
+same_place d e side s same = let p = some_pair_parts d e side s same in (sym p.0, sym p.1)
+
+-- a goroutine's statuses say of d's side what its words say of the goroutine, before and after both change
+pub record Tells (g d : ℕ) (side : Side) (old new : Status) (was word : Word) : Type 0 where
+  pub held_before : (k : ℕ) → was ≡ Held k → k ≡ g
+  pub held : (k : ℕ) → word ≡ Held k → (k ≡ g) × (parked_of new ≡ Some (d, side))
+  pub parked_before : (e : ℕ) (s : Side) → parked_of old ≡ Some (e, s) → (e ≡ d) × (s ≡ side)
+  pub parked : (e : ℕ) (s : Side) → parked_of new ≡ Some (e, s) → (e ≡ d) × (s ≡ side) × (word ≡ Held g)
+  pub waited_before : (e : ℕ) (s : Side) → awaiting_of old ≡ Some (e, s) → (e ≡ d) × (s ≡ side)
+  pub waited : word ≡ Word.Wait → awaiting_of new ≡ Some (d, side)
+  pub unqueued : (s : ℕ) (other : Side) → is_queued s other (Some new) ≡ is_queued s other (Some old)
+
+WordsFit-told : (gs : List Status) (rows : List DescriptorRow) (waiters after g d : ℕ) (side : Side) (row : DescriptorRow) (old new : Status) (was word : Word) → slice_get gs g ≡ Some old → slice_get rows d ≡ Some row → of_side side row.descriptor.words ≡ was → Tells g d side old new was word → after ≡ waiters + bit (is_held word) - bit (is_held was) → WordsFit gs rows waiters → WordsFit (set gs g new) (with_word_at rows d row side word) after
+WordsFit-told gs rows waiters after g d side row old new was word at row_at is tells counts h =
+    record {
+      held = λ k e s. (
+        λ has.
+            elim (word_at_cases rows d row side word e s (Held k) row_at has) [
+              | inl here ↦
+                  let p = tells.held k here.2 in
+                  rw (p.0, here.0, here.1) (ap (option_and_then parked_of) (slice_get-set_here gs g old new at) ∙ p.1)
+              | inr there ↦ shown_kept parked_of gs g old new k (e, s) at (λ same. there.0 (tells.parked_before e s same)) ((h.held k e s).0 there.1)
+            ],
+        λ shows.
+            elim (shown_cases parked_of gs g old new k (e, s) at shows) [
+              | inl here ↦
+                  let p = tells.parked e s here.1 in
+                  rw (here.0, p.0, p.1) (word_here rows d row side word row_at ∙ ap Some p.2)
+              | inr there ↦ word_kept rows d row side word e s (Held k) row_at (λ same. there.0 (tells.held_before k (sym is ∙ same))) ((h.held k e s).1 there.1)
+            ],
+      );
+      waited = λ e s has.
+          elim (word_at_cases rows d row side word e s Word.Wait row_at has) [
+            | inl here ↦ (g, rw (here.0, here.1) (ap (option_and_then awaiting_of) (slice_get-set_here gs g old new at) ∙ tells.waited here.2))
+            | inr there ↦
+                let before = h.waited e s there.1 in
+                (before.0, shown_kept awaiting_of gs g old new before.0 (e, s) at (λ same. there.0 (tells.waited_before e s same)) before.1)
+          ];
+      counted =
+          let sums = held_sum rows d row side was word row_at is in
+          let c : waiters ≡ sum_by held_count rows = h.counted in
+          omega arith;
+    }
+
+-- a goroutine and a word change together
+pub told : (w : World) (g d after : ℕ) (side : Side) (row : DescriptorRow) (old new : Status) (was word : Word) → WellFormed w → slice_get w.goroutines g ≡ Some old → slice_get w.descriptors d ≡ Some row → is_free_number d w.free ≡ false → of_side side row.descriptor.words ≡ was → Tells g d side old new was word → MayMove w.goroutines w.sockets w.descriptors w.free g new → after ≡ w.waiters + bit (is_held word) - bit (is_held was) → WellFormed (record w { goroutines = set w.goroutines g new; descriptors = with_word_at w.descriptors d row side word; waiters = after })
+told w g d after side row old new was word h at row_at is_open is tells may counts =
+    reworded_moved w g after d old new row _ h at row_at is_open may tells.unqueued
+    (WordsFit-told w.goroutines w.descriptors w.waiters after g d side row old new was word at row_at is tells counts h.words)
 
 -- neither status is parked, the new one waits where the word says so, and the old one waited nowhere else
 pub record Waits (d : ℕ) (side : Side) (old new : Status) (word : Word) : Type 0 where
@@ -33,40 +98,33 @@ pub record Waits (d : ℕ) (side : Side) (old new : Status) (word : Word) : Type
   pub only : (k : ℕ) (s : Side) → awaiting_of old ≡ Some (k, s) → (k ≡ d) × (s ≡ side)
   pub unqueued : (s : ℕ) (other : Side) → is_queued s other (Some new) ≡ is_queued s other (Some old)
 
-WordsFit-worded : (gs : List Status) (rows : List DescriptorRow) (waiters g d : ℕ) (side : Side) (row : DescriptorRow) (old new : Status) (was word : Word) → slice_get gs g ≡ Some old → slice_get rows d ≡ Some row → of_side side row.descriptor.words ≡ was → IsUnheld was → IsUnheld word → Waits d side old new word → WordsFit gs rows waiters → WordsFit (set gs g new) (with_word_at rows d row side word) waiters
-WordsFit-worded gs rows waiters g d side row old new was word at row_at is unheld free waits h =
-    record {
-      held = λ k e s. (
-        λ has.
-            elim (word_at_cases rows d row side word e s (Held k) row_at has) [
-              | inl here ↦ absurd (free.none k here.2)
-              | inr there ↦ shown_kept parked_of gs g old new k (e, s) at (λ same. none-some _ (sym waits.unparked.0 ∙ same)) ((h.held k e s).0 there.1)
-            ],
-        λ shows.
-            elim (shown_cases parked_of gs g old new k (e, s) at shows) [
-              | inl here ↦ absurd (none-some _ (sym waits.unparked.1 ∙ here.1))
-              | inr there ↦ word_kept rows d row side word e s (Held k) row_at (λ same. unheld.none k (sym is ∙ same)) ((h.held k e s).1 there.1)
-            ],
-      );
-      waited = λ e s has.
-          elim (word_at_cases rows d row side word e s Word.Wait row_at has) [
-            | inl here ↦ (g, rw (here.0, here.1) (ap (option_and_then awaiting_of) (slice_get-set_here gs g old new at) ∙ waits.awaits here.2))
-            | inr there ↦
-                let before = h.waited e s there.1 in
-                (before.0, shown_kept awaiting_of gs g old new before.0 (e, s) at (λ same. there.0 (waits.only e s same)) before.1)
-          ];
-      counted =
-          let sums = held_sum rows d row side was word row_at is in
-          let c : waiters ≡ sum_by held_count rows = h.counted in
-          let y = unheld.uncounted in
-          let z = free.uncounted in
-          omega arith;
-    }
+-- neither word holds a goroutine
+pub worded : (w : World) (g d : ℕ) (side : Side) (row : DescriptorRow) (old new : Status) (was word : Word) → WellFormed w → slice_get w.goroutines g ≡ Some old → slice_get w.descriptors d ≡ Some row → is_free_number d w.free ≡ false → of_side side row.descriptor.words ≡ was → is_held was ≡ false → is_held word ≡ false → Waits d side old new word → MayMove w.goroutines w.sockets w.descriptors w.free g new → WellFormed (with_wait g new d side word row w)
+worded w g d side row old new was word h at row_at is_open is was_free free waits may =
+    let b : bit (is_held was) ≡ 0 = ap bit was_free in
+    let a : bit (is_held word) ≡ 0 = ap bit free in
+    told w g d w.waiters side row old new was word h at row_at is_open is
+    (record {
+      held_before = λ k e. absurd (unheld was k was_free e);
+      held = λ k e. absurd (unheld word k free e);
+      parked_before = λ e s p. absurd (none-some _ (sym waits.unparked.0 ∙ p));
+      parked = λ e s p. absurd (none-some _ (sym waits.unparked.1 ∙ p));
+      waited_before = waits.only;
+      waited = waits.awaits;
+      unqueued = waits.unqueued;
+    })
+    may (omega arith)
 
-pub worded : (w : World) (g d : ℕ) (side : Side) (row : DescriptorRow) (old new : Status) (was word : Word) → WellFormed w → slice_get w.goroutines g ≡ Some old → slice_get w.descriptors d ≡ Some row → is_free_number d w.free ≡ false → of_side side row.descriptor.words ≡ was → IsUnheld was → IsUnheld word → Waits d side old new word → MayMove w.goroutines w.sockets w.descriptors w.free g new → WellFormed (with_wait g new d side word row w)
-worded w g d side row old new was word h at row_at is_open is unheld free waits may =
-    reworded_moved w g w.waiters d old new row _ h at row_at is_open may waits.unqueued
-    (WordsFit-worded w.goroutines w.descriptors w.waiters g d side row old new was word at row_at is unheld free waits h.words)
+parked_is : (status : Status) (d : ℕ) (side : Side) → parked_of status ≡ Some (d, side) → status ≡ Parked d side
+parked_is (Parked k s) d side e = let p = some_pair_parts k d s side e in ap (λ x. Parked x s) p.0 ∙ ap (Parked d) p.1
+parked_is _ d side e = cc
+
+pub parked_at : (gs : List Status) (g d : ℕ) (side : Side) → Shows parked_of gs g (d, side) → slice_get gs g ≡ Some (Parked d side)
+parked_at gs g d side shows = go (slice_get gs g) shows
+  where
+    go : (o : Option Status) → option_and_then parked_of o ≡ Some (d, side) → o ≡ Some (Parked d side)
+    go None e = cc
+    go (Some status) e = ap Some (parked_is status d side e)
 
 awaiting_waits : (status : Status) (place : ℕ × Side) → awaiting_of status ≡ Some place → wait_of status ≡ Some place
 awaiting_waits (Armed d side) place e = e
@@ -116,20 +174,3 @@ word_at_rest w d side Word.Wait h nobody has =
 word_at_rest w d side (Held k) h nobody has =
     let at : slice_get w.goroutines k ≡ Some (Parked d side) = parked_at w.goroutines k d side ((h.words.held k d side).0 has) in
     absurd (nobody_inside w.goroutines d side k nobody (ap (option_and_then wait_of) at))
-
-pub nil_unheld : IsUnheld Nil
-nil_unheld = record { none = λ k e. cc; uncounted = refl }
-
-pub ready_unheld : IsUnheld Ready
-ready_unheld = record { none = λ k e. cc; uncounted = refl }
-
-pub wait_unheld : IsUnheld Word.Wait
-wait_unheld = record { none = λ k e. cc; uncounted = refl }
-
--- a word that holds nobody and waits for nobody is cleared
-pub cleared : (w : World) (d : ℕ) (side : Side) (row : DescriptorRow) → WellFormed w → slice_get w.descriptors d ≡ Some row → is_free_number d w.free ≡ false → (of_side side row.descriptor.words ≡ Nil) ⊎ (of_side side row.descriptor.words ≡ Ready) → WellFormed (with_row d (reworded row (with_side side Nil row.descriptor.words)) w)
-cleared w d side row h row_at is_open either =
-    elim either [
-      | inl nil ↦ unblocked_quietly w d row side Nil Nil h row_at is_open nil (λ k e. cc) refl (if_clear false)
-      | inr ready ↦ unblocked_quietly w d row side Ready Nil h row_at is_open ready (λ k e. cc) refl (if_clear false)
-    ]
