@@ -13,7 +13,7 @@ use Rattle.nr_rev.specs.declared.refusal.Refusal.{Refusal}
 use Rattle.nr_rev.specs.declared.descriptor.DescriptorRow.{DescriptorRow}
 use Rattle.nr_rev.specs.World.{World, is_free_number}
 use Rattle.nr_rev.specs.WellFormed.{WellFormed, RowFits}
-use Rattle.nr_rev.proofs.Found.{Ends-idle, Ends-open_row_of}
+use Rattle.nr_rev.proofs.Found.{Ends-idle_open}
 use Rattle.nr_rev.specs.declared.sides.Mode.{Mode}
 use Rattle.nr_rev.specs.declared.timer.TimerFunction.{TimerFunction}
 use Rattle.nr_rev.specs.declared.timer.Timer.{Timer}
@@ -28,7 +28,7 @@ use Rattle.nr_rev.proofs.SideAfter.{SideAfter, entry_fits, firing_fits, none_cur
 use Rattle.nr_rev.proofs.Follows.{Followed, Begun, Ends-timer_follows}
 use Rattle.nr_rev.proofs.BothSides.{each_side, of_side-with_side_same, of_side-with_side_other}
 use Rattle.nr_rev.proofs.Changes.{changed_keeps}
-use Rattle.nr_rev.proofs.Outcomes.{Ends, KeepsFor, Ends-ok, Ends-refused, Ends-map, Ends-bind, Ends-then, Ends-either, Ends-raised_sequence}
+use Rattle.nr_rev.proofs.Outcomes.{Ends, KeepsFor, Ends-ok, Ends-refused, Ends-map, Ends-bind, Ends-either, Ends-raised_sequence}
 use Rattle.nr_rev.proofs.Follows
 use Rattle.nr_rev.proofs.SideAfter
 
@@ -216,9 +216,8 @@ set_times mode t d is_time old Write = either_time (names_side mode Write) t d.d
 
 pub setdeadline_sound : (w : World) (g d : ℕ) (mode : Mode) (t : ℤ) → WellFormed w → KeepsFor (IsTime t) (setdeadline g d mode t w)
 setdeadline_sound w g d mode t h =
-    Ends-then (Ends-idle g w) λ _.
-    Ends-bind (Ends-open_row_of d w) λ row found.
-    Ends-bind (sets row found.0 found.1) λ change keeps.
+    Ends-idle_open g d w λ row _ at is_open.
+    Ends-bind (sets row at is_open) λ change keeps.
     Ends-bind keeps λ next fits.
     Ends-ok fits
   where

@@ -8,7 +8,7 @@ use Rattle.nr_rev.specs.declared.descriptor.DescriptorRow.{DescriptorRow}
 use Rattle.nr_rev.specs.World.{World, is_free_number, with_row, with_descriptor, is_waited}
 use Rattle.nr_rev.specs.WellFormed.{WellFormed, RowFits, TimersFit, IsInside, HasWord, held_count, Stand, ArmedAt, FiringAt, standing, armed_at, IsCurrent}
 use Rattle.nr_rev.proofs.BothSides.{each_side, of_side-twice}
-use Rattle.nr_rev.proofs.Found.{neither_of, nobody_inside, Ends-idle, Ends-socket_of, Ends-row_of, Ends-open_row_of}
+use Rattle.nr_rev.proofs.Found.{neither_of, nobody_inside, Ends-idle, Ends-socket_of, Ends-row_of, Ends-idle_open}
 use Rattle.nr_rev.specs.declared.sides.Mode.{Mode}
 use Rattle.nr_rev.specs.Sides.{names_side, of_side, twice, with_side}
 use Rattle.nr_rev.specs.declared.timer.Timer.{Timer}
@@ -75,11 +75,7 @@ RowFits-stopped row sequences timers h none raised =
     }
 
 swap_equal : (a b : ℕ) → (a == b) ≡ (b == a)
-swap_equal a b = go (a == b) refl
-  where
-    go : (c : Bool) → (a == b) ≡ c → (a == b) ≡ (b == a)
-    go true is = is ∙ sym (ap (λ n. b == n) (same_number a b is) ∙ number_same b)
-    go false is = is ∙ sym (number_apart b a (λ e. true≢false (sym (ap (λ n. a == n) e ∙ number_same a) ∙ is)))
+swap_equal a b = grind arith
 
 -- a number that isn't among the free ones stands there no time
 uncounted : (d : ℕ) (free : List ℕ) → is_free_number d free ≡ false → count_by (λ f. f == d) free ≡ 0
@@ -452,28 +448,25 @@ pollopen_sound w g s h =
 
 pub pollclose_sound : (w : World) (g d : ℕ) → WellFormed w → Keeps (pollclose g d w)
 pollclose_sound w g d h =
-    Ends-then (Ends-idle g w) λ _.
-    Ends-bind (Ends-open_row_of d w) λ row found.
+    Ends-idle_open g d w λ row _ at is_open.
     Ends-then (Ends-refused_unless row.descriptor.closing _ refl) λ closing.
     Ends-then (Ends-refused_if (is_waited d Read w.goroutines || is_waited d Write w.goroutines) _ refl) λ nobody.
     let alone = neither_of (is_waited d Read w.goroutines) (is_waited d Write w.goroutines) nobody in
     Ends-bind {P = λ descriptor. WellFormed (record (with_descriptor d row descriptor w) { free = d ∷ w.free })}
     (Ends-bind (Ends-raised_sequence row.descriptor.fdseq) λ fdseq raised.
-    Ends-ok (freed w d row fdseq h found.0 found.1 closing (each_side _ alone.0 alone.1) raised.1))
+    Ends-ok (freed w d row fdseq h at is_open closing (each_side _ alone.0 alone.1) raised.1))
     λ descriptor fits.
     Ends-ok fits
 
 pub evict_sound : (w : World) (g d : ℕ) → WellFormed w → Keeps (evict g d w)
 evict_sound w g d h =
-    Ends-then (Ends-idle g w) λ _.
-    Ends-bind (Ends-open_row_of d w) λ row found.
-    Ends-bind (evicts row found.0 found.1) λ change keeps.
+    Ends-idle_open g d w λ row _ at is_open.
+    Ends-bind (evicts row at is_open (h.timers.entries_fit d row at)) λ change keeps.
     Ends-bind keeps λ next fits.
     Ends-ok (fits tt)
   where
-    evicts : (row : DescriptorRow) → slice_get w.descriptors d ≡ Some row → is_free_number d w.free ≡ false → Ends (λ change. Ends (λ next. Unit {0} → WellFormed next) (changed d row change w)) (evicted row.descriptor)
-    evicts row at is_open =
-        let before : RowFits row = h.timers.entries_fit d row at in
+    evicts : (row : DescriptorRow) → slice_get w.descriptors d ≡ Some row → is_free_number d w.free ≡ false → RowFits row → Ends (λ change. Ends (λ next. Unit {0} → WellFormed next) (changed d row change w)) (evicted row.descriptor)
+    evicts row at is_open before =
         Ends-then (Ends-refused_if row.descriptor.closing _ refl) λ _.
         Ends-bind (Ends-both_raised row.descriptor.sequences) λ sequences raised.
         Ends-ok

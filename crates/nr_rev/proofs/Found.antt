@@ -1,5 +1,5 @@
 -- What each look-up of a step finds.
-use Rattle.std.proofs.Common.{◌≡◌, ℕ, Bool, true, false, ◌&&◌, ◌||◌, List, [], ◌∷◌, Option, Some, None, refl, sym, ap, ◌∙◌, zero, suc, true≢false, eq-eqb, ◌<◌, ◌≤◌}
+use Rattle.std.proofs.Common.{◌≡◌, ℕ, Bool, true, false, ◌&&◌, ◌||◌, List, [], ◌∷◌, Option, Some, None, Result, refl, sym, ap, ◌∙◌, zero, suc, true≢false, eq-eqb, ◌<◌, ◌≤◌}
 use Rattle.std.specs.Prelude.{slice_get, nat_lt, nat_le}
 use Rattle.nr_rev.specs.declared.sides.Side.{Side}
 use Rattle.nr_rev.specs.declared.sides.Side.TheVariants.{Read, Write}
@@ -8,6 +8,8 @@ use Rattle.nr_rev.specs.declared.status.Status.{Status}
 use Rattle.nr_rev.specs.declared.status.Status.TheVariants.{Idle, Gone, Acquiring, Owing, Entering, Armed, Parking, Swapping, Checking}
 use Rattle.nr_rev.specs.declared.descriptor.DescriptorRow.{DescriptorRow}
 use Rattle.nr_rev.specs.Socket.{Socket}
+use Rattle.nr_rev.specs.declared.refusal.Refusal.{Refusal}
+use Rattle.nr_rev.specs.Refusing.{◌>>=◌, ◌>>◌}
 use Rattle.nr_rev.specs.World.{World, is_waited, is_place, is_free_number}
 use Rattle.nr_rev.specs.WellFormed.{IsInside}
 use Rattle.nr_rev.specs.Step.{alive, status_of, idle, is_idle, socket_of, row_of, open_row_of, sized, acquiring_of, owing_of, entering_of, armed_of, parking_of, swapping_of, checking_of}
@@ -37,10 +39,16 @@ Ends-socket_of s w = Ends-found_or (slice_get w.sockets s) _ refl
 pub Ends-row_of : (d : ℕ) (w : World) → Ends (λ (row : DescriptorRow). slice_get w.descriptors d ≡ Some row) (row_of d w)
 Ends-row_of d w = Ends-found_or (slice_get w.descriptors d) _ refl
 
-pub Ends-open_row_of : (d : ℕ) (w : World) → Ends (λ (row : DescriptorRow). (slice_get w.descriptors d ≡ Some row) × (is_free_number d w.free ≡ false)) (open_row_of d w)
+Ends-open_row_of : (d : ℕ) (w : World) → Ends (λ (row : DescriptorRow). (slice_get w.descriptors d ≡ Some row) × (is_free_number d w.free ≡ false)) (open_row_of d w)
 Ends-open_row_of d w =
     Ends-then (Ends-refused_if (is_free_number d w.free) _ refl) λ is_open.
     Ends-map (Ends-row_of d w) λ row at. (at, is_open)
+
+-- a step of an idle goroutine on an open descriptor
+pub Ends-idle_open : {A : Type 0} {P : A → Type 0} (g d : ℕ) (w : World) {rest : DescriptorRow → Result A Refusal} → ((row : DescriptorRow) → slice_get w.goroutines g ≡ Some Idle → slice_get w.descriptors d ≡ Some row → is_free_number d w.free ≡ false → Ends P (rest row)) → Ends P (idle g w >> open_row_of d w >>= rest)
+Ends-idle_open g d w next =
+    Ends-then (Ends-idle g w) λ at.
+    Ends-bind (Ends-open_row_of d w) λ row found. next row at found.0 found.1
 
 pub both_true : (a b : Bool) → (a && b) ≡ true → (a ≡ true) × (b ≡ true)
 both_true true b e = (refl, e)

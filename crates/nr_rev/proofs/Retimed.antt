@@ -134,12 +134,9 @@ module _ (rows : List DescriptorRow) (firings : List Entry) (n m d : ℕ) (old n
   same_stand : (k k' : ℕ) (s s' : Side) → k ≡ k' → s ≡ s' → ArmedAt k s ≡ ArmedAt k' s'
   same_stand k k' s s' e f = cc
 
-  one_current : (p q : Stand) (e f : Entry) → standing after firings p ≡ Some e → standing after firings q ≡ Some f → e.descriptor ≡ f.descriptor → e.side ≡ f.side → IsCurrent after e → IsCurrent after f → p ≡ q
-  one_current (ArmedAt k s) (ArmedAt k' s') e f p q same_d same_side e_now f_now =
-      let a = armed_names after firings k s e p in
-      let b = armed_names after firings k' s' f q in
-      same_stand k k' s s' (sym a.3 ∙ same_d ∙ b.3) (sym a.4 ∙ same_side ∙ b.4)
-  one_current (ArmedAt k s) (FiringAt j) e f p q same_d same_side e_now f_now =
+  -- no armed entry and no firing are both current
+  none_both : (k : ℕ) (s : Side) (j : ℕ) (e f : Entry) → standing after firings (ArmedAt k s) ≡ Some e → slice_get firings j ≡ Some f → e.descriptor ≡ f.descriptor → e.side ≡ f.side → IsCurrent after e → IsCurrent after f → ArmedAt k s ≡ FiringAt j
+  none_both k s j e f p q same_d same_side e_now f_now =
       let a = armed_names after firings k s e p in
       elim (place_known k s) [
         | inl stays ↦
@@ -147,14 +144,14 @@ module _ (rows : List DescriptorRow) (firings : List Entry) (n m d : ℕ) (old n
             (stays.current f (sym same_d ∙ a.3) (sym same_side ∙ a.4) f_now)
         | inr begins ↦ absurd (begins.stale j f q (sym same_d ∙ a.3) (sym same_side ∙ a.4) f_now)
       ]
-  one_current (FiringAt i) (ArmedAt k s) e f p q same_d same_side e_now f_now =
-      let a = armed_names after firings k s f q in
-      elim (place_known k s) [
-        | inl stays ↦
-            h.one_current (FiringAt i) (ArmedAt k s) e f p (stays.stands f q) same_d same_side (stays.current e (same_d ∙ a.3) (same_side ∙ a.4) e_now)
-            (stays.current f a.3 a.4 f_now)
-        | inr begins ↦ absurd (begins.stale i e p (same_d ∙ a.3) (same_side ∙ a.4) e_now)
-      ]
+
+  one_current : (p q : Stand) (e f : Entry) → standing after firings p ≡ Some e → standing after firings q ≡ Some f → e.descriptor ≡ f.descriptor → e.side ≡ f.side → IsCurrent after e → IsCurrent after f → p ≡ q
+  one_current (ArmedAt k s) (ArmedAt k' s') e f p q same_d same_side e_now f_now =
+      let a = armed_names after firings k s e p in
+      let b = armed_names after firings k' s' f q in
+      same_stand k k' s s' (sym a.3 ∙ same_d ∙ b.3) (sym a.4 ∙ same_side ∙ b.4)
+  one_current (ArmedAt k s) (FiringAt j) e f p q same_d same_side e_now f_now = none_both k s j e f p q same_d same_side e_now f_now
+  one_current (FiringAt i) (ArmedAt k s) e f p q same_d same_side e_now f_now = sym (none_both k s i f e q p (sym same_d) (sym same_side) f_now e_now)
   one_current (FiringAt i) (FiringAt j) e f p q same_d same_side e_now f_now =
       elim (place_known e.descriptor e.side) [
         | inl stays ↦
@@ -171,18 +168,17 @@ module _ (rows : List DescriptorRow) (firings : List Entry) (n m d : ℕ) (old n
         | inr begins ↦ (begins.number e p).1
       ]
 
-  armed_once : (p q : Stand) (e f : Entry) → standing after firings p ≡ Some e → standing after firings q ≡ Some f → e.timer.number ≡ f.timer.number → p ≡ q
-  armed_once (FiringAt i) (FiringAt j) e f p q same = h.armed_once (FiringAt i) (FiringAt j) e f p q same
-  armed_once (FiringAt i) (ArmedAt k s) e f p q same =
-      elim (place_known k s) [
-        | inl stays ↦ h.armed_once (FiringAt i) (ArmedAt k s) e f p (stays.stands f q) same
-        | inr begins ↦ let b = h.armed_before (FiringAt i) e p in let c = (begins.number f q).0 in absurd (omega arith)
-      ]
-  armed_once (ArmedAt k s) (FiringAt j) e f p q same =
+  numbers_apart : (k : ℕ) (s : Side) (j : ℕ) (e f : Entry) → standing after firings (ArmedAt k s) ≡ Some e → slice_get firings j ≡ Some f → e.timer.number ≡ f.timer.number → ArmedAt k s ≡ FiringAt j
+  numbers_apart k s j e f p q same =
       elim (place_known k s) [
         | inl stays ↦ h.armed_once (ArmedAt k s) (FiringAt j) e f (stays.stands e p) q same
         | inr begins ↦ let b = h.armed_before (FiringAt j) f q in let c = (begins.number e p).0 in absurd (omega arith)
       ]
+
+  armed_once : (p q : Stand) (e f : Entry) → standing after firings p ≡ Some e → standing after firings q ≡ Some f → e.timer.number ≡ f.timer.number → p ≡ q
+  armed_once (FiringAt i) (FiringAt j) e f p q same = h.armed_once (FiringAt i) (FiringAt j) e f p q same
+  armed_once (FiringAt i) (ArmedAt k s) e f p q same = sym (numbers_apart k s i f e q p (sym same))
+  armed_once (ArmedAt k s) (FiringAt j) e f p q same = numbers_apart k s j e f p q same
   armed_once (ArmedAt k s) (ArmedAt k' s') e f p q same =
       elim (place_known k s) [
         | inl stays ↦

@@ -1,5 +1,5 @@
 -- Goroutines acquire semaphores, queue at them and release them.
-use Rattle.std.proofs.Common.{◌≡◌, ◌≢◌, ℕ, ◌+◌, ◌-◌, ◌^◌, ◌<◌, Bool, true, false, ◌&&◌, List, [], ◌∷◌, ◌++◌, Option, Some, None, inl, inr, refl, sym, ap, subst, ◌∙◌, set, length, length-set, arith, drop}
+use Rattle.std.proofs.Common.{◌≡◌, ◌≢◌, ℕ, ◌+◌, ◌-◌, ◌^◌, ◌<◌, Bool, true, false, ◌&&◌, List, [], ◌∷◌, ◌++◌, Option, Some, None, Ok, inl, inr, refl, sym, ap, subst, ◌∙◌, set, length, length-set, arith, drop}
 use Rattle.std.proofs.lemmas.Option.{same_Some, none-some, slice_get_within}
 use Rattle.std.specs.Prelude.{slice_get, if◌then◌else◌, ◌==◌, nat_lt, count_by}
 use Rattle.std.specs.Option.{option_and_then}
@@ -17,7 +17,7 @@ use Rattle.nr_rev.proofs.BothSides.{each_side, with_side_all}
 use Rattle.nr_rev.proofs.Found.{both_true, Ends-status_of, Ends-socket_of, Ends-acquiring_of, Ends-owing_of}
 use Rattle.nr_rev.proofs.StatusSet.{MayMove, IsOutside, moved_outside, comes_to_owe}
 use Rattle.nr_rev.specs.Lock.{bit}
-use Rattle.nr_rev.specs.Semaphore.{Semaphore, is_free, acquired, front_of, released}
+use Rattle.nr_rev.specs.Semaphore.{Semaphore, is_free, front_of, released}
 use Rattle.nr_rev.specs.Step.{acquire, release, with_semaphore, tries_again}
 use Rattle.nr_rev.proofs.SocketSet.{resocketed, requeued}
 use Rattle.nr_rev.proofs.Numbers.{below_of, lowered, same_number, count_push, count_front, number_same, number_apart}
@@ -121,15 +121,13 @@ goes_on w g s side socket h at there =
     (λ k e. rw length-set (subst (λ (n : ℕ). n < length w.sockets) (same_Some _ _ e) (slice_get_within _ _ _ there)))
     (λ reads writes e. cc)
 
-acquires : (w : World) (g s : ℕ) (side : Side) (socket : Socket) (free : Bool) → WellFormed w → slice_get w.goroutines g ≡ Some (Acquiring s side) → slice_get w.sockets s ≡ Some socket → is_free (of_side side socket.semaphores) ≡ free → WellFormed (if free then with_status g (Relock s side) (with_semaphore s side socket (acquired g (of_side side socket.semaphores)) w) else with_status g (Queued s side) (with_semaphore s side socket (acquired g (of_side side socket.semaphores)) w))
-acquires w g s side socket true h at there is =
-    subst (λ (x : Semaphore). WellFormed (with_status g (Relock s side) (with_semaphore s side socket x w)))
-    (sym (ap (λ b. if b then record (of_side side socket.semaphores) { count = (of_side side socket.semaphores).count - 1 } else record (of_side side socket.semaphores) { queue = (of_side side socket.semaphores).queue ++ g ∷ [] }) is))
-    (goes_on w g s side socket h at there)
-acquires w g s side socket false h at there is =
-    subst (λ (x : Semaphore). WellFormed (with_status g (Queued s side) (with_semaphore s side socket x w)))
-    (sym (ap (λ b. if b then record (of_side side socket.semaphores) { count = (of_side side socket.semaphores).count - 1 } else record (of_side side socket.semaphores) { queue = (of_side side socket.semaphores).queue ++ g ∷ [] }) is))
-    (queues w g s side socket h at there)
+-- what an acquire leaves of a semaphore, free or not
+abbrev taken : Bool → ℕ → Semaphore → Semaphore
+taken free g semaphore = if free then record semaphore { count = semaphore.count - 1 } else record semaphore { queue = semaphore.queue ++ g ∷ [] }
+
+acquires : (w : World) (g s : ℕ) (side : Side) (socket : Socket) (free : Bool) → WellFormed w → slice_get w.goroutines g ≡ Some (Acquiring s side) → slice_get w.sockets s ≡ Some socket → Keeps (Ok (if free then (Answer.Yes, with_status g (Relock s side) (with_semaphore s side socket (taken free g (of_side side socket.semaphores)) w)) else (Answer.Wait, with_status g (Queued s side) (with_semaphore s side socket (taken free g (of_side side socket.semaphores)) w))))
+acquires w g s side socket true h at there = Ends-ok (goes_on w g s side socket h at there)
+acquires w g s side socket false h at there = Ends-ok (queues w g s side socket h at there)
 
 -- the front of a queue is queued
 front_queued : (w : World) (s f : ℕ) (side : Side) (socket : Socket) (q : List ℕ) → WellFormed w → slice_get w.sockets s ≡ Some socket → (of_side side socket.semaphores).queue ≡ f ∷ q → slice_get w.goroutines f ≡ Some (Queued s side)
@@ -203,18 +201,12 @@ releases w s side socket h there =
               ];
         })
 
-picked : (a b : Answer × World) (c : Bool) → WellFormed (if c then a.1 else b.1) → WellFormed (if c then a else b).1
-picked a b true h = h
-picked a b false h = h
-
 pub acquire_sound : (w : World) (g : ℕ) → WellFormed w → Keeps (acquire g w)
 acquire_sound w g h =
     Ends-bind (Ends-status_of g w) λ status at.
     Ends-bind (Ends-acquiring_of status) λ place is.
     Ends-bind (Ends-socket_of place.0 w) λ socket there.
-    Ends-ok
-    (picked _ _ (is_free (of_side place.1 socket.semaphores))
-    (acquires w g place.0 place.1 socket _ h (at ∙ ap Some is) there refl))
+    acquires w g place.0 place.1 socket (is_free (of_side place.1 socket.semaphores)) h (at ∙ ap Some is) there
 
 pub release_sound : (w : World) (g : ℕ) → WellFormed w → Keeps (release g w)
 release_sound w g h =

@@ -8,7 +8,7 @@ use Rattle.nr_rev.specs.declared.sides.Sides.{Sides}
 use Rattle.nr_rev.specs.World.{World, with_row, is_free_number, least_entry}
 use Rattle.nr_rev.specs.Timer.{IsTime, least_of, earlier_of, is_before, entries_from, entries_at, entry_of}
 use Rattle.nr_rev.specs.WellFormed.{WellFormed, RowFits, EntryFits, FiringFits, IsDueFor, ArmedAt, FiringAt, armed_at, IsCurrent}
-use Rattle.nr_rev.proofs.BothSides.{of_side-twice}
+use Rattle.nr_rev.proofs.BothSides.{each_side, other_side, of_side-twice, with_side_all}
 use Rattle.nr_rev.proofs.Numbers.{below_of, same_number}
 use Rattle.nr_rev.proofs.Found.{Ends-row_of}
 use Rattle.nr_rev.specs.Step.{tick, pop, fire, fired_with}
@@ -167,80 +167,67 @@ combo_off row may = go (is_combo row.descriptor) refl
 read_alone : (row : DescriptorRow) → is_combo row.descriptor ≡ false → timer_function Read row.descriptor ≡ TimerFunction.Read
 read_alone row e = ap (λ b. if b then TimerFunction.Both else TimerFunction.Read) e
 
+-- a side that runs, and whose timer isn't the one that goes off, is left as it was
+record Untouched (row : DescriptorRow) (f : TimerFunction) (side : Side) : Type 0 where
+  pub deadline : of_side side (past f row.descriptor.deadlines) ≡ of_side side row.descriptor.deadlines
+  pub function : timer_function side (passed row f).descriptor ≡ timer_function side row.descriptor
+  pub alone : (s : Side) → covers_side (timer_function side row.descriptor) s ≡ true → s ≡ side
+
+untouched : (row : DescriptorRow) (f : TimerFunction) (side : Side) → MayFire row f → side ≢ side_of_function f → of_side side row.descriptor.running ≡ true → Untouched row f side
+untouched row TimerFunction.Read Read may apart runs = absurd (apart refl)
+untouched row TimerFunction.Read Write may apart runs = record { deadline = refl; function = refl; alone = each_side _ (λ e. cc) (λ e. refl) }
+untouched row TimerFunction.Write Read may apart runs =
+    record {
+      deadline = refl;
+      function = SideAfter.function_like Read row.descriptor (passed row TimerFunction.Write).descriptor (no_combo row TimerFunction.Write ∙ sym (combo_off row may));
+      alone = each_side _ (λ e. refl) (λ covers. absurd (true≢false (sym covers ∙ ap (λ g. covers_side g Write) (read_alone row (combo_off row may)))));
+    }
+untouched row TimerFunction.Write Write may apart runs = absurd (apart refl)
+untouched row TimerFunction.Both Read may apart runs = absurd (apart refl)
+untouched row TimerFunction.Both Write may apart runs = absurd (true≢false (sym runs ∙ quiet_write row may))
+
+past_all : (P : ℤ → Type 0) (f : TimerFunction) (deadlines : Sides ℤ) → P (negsuc 0) → ((side : Side) → P (of_side side deadlines)) → (side : Side) → P (of_side side (past f deadlines))
+past_all P TimerFunction.Read deadlines p all = with_side_all P Read _ deadlines p all
+past_all P TimerFunction.Write deadlines p all = with_side_all P Write _ deadlines p all
+past_all P TimerFunction.Both deadlines p all = each_side _ p p
+
 passed_fits : (row : DescriptorRow) (f : TimerFunction) → MayFire row f → of_side (side_of_function f) row.timers ≡ None → RowFits (passed row f)
 passed_fits row f may none =
     record {
-      entries = entries f may none;
+      entries = λ side timer is.
+          elim (other_side side (side_of_function f)) [
+            | inl same ↦ absurd (none-some _ (sym none ∙ ap (λ s. of_side s row.timers) (sym same) ∙ is))
+            | inr apart ↦
+                let e : EntryFits row.descriptor side timer = may.fits.entries side timer is in
+                let kept : Untouched row f side = untouched row f side may apart e.running in
+                record { sequence = e.sequence; running = e.running; positive = e.positive; due = e.due ∙ sym kept.deadline; function = e.function ∙ sym kept.function }
+          ];
       combo = λ e. absurd (true≢false (sym e ∙ no_combo row f));
       closing = may.fits.closing;
       sequences = may.fits.sequences;
       fdseq = may.fits.fdseq;
-      times = times f;
+      times = past_all IsTime f row.descriptor.deadlines (record { sfits = lit< tt }) may.fits.times;
     }
-  where
-    times : (f : TimerFunction) (side : Side) → IsTime (of_side side (past f row.descriptor.deadlines))
-    times TimerFunction.Read Read = record { sfits = lit< tt }
-    times TimerFunction.Read Write = may.fits.times Write
-    times TimerFunction.Write Read = may.fits.times Read
-    times TimerFunction.Write Write = record { sfits = lit< tt }
-    times TimerFunction.Both Read = record { sfits = lit< tt }
-    times TimerFunction.Both Write = record { sfits = lit< tt }
-
-    entries : (f : TimerFunction) → MayFire row f → of_side (side_of_function f) row.timers ≡ None → (side : Side) (timer : Timer) → of_side side row.timers ≡ Some timer → EntryFits (passed row f).descriptor side timer
-    entries TimerFunction.Read may none Read timer is = absurd (none-some _ (sym none ∙ is))
-    entries TimerFunction.Read may none Write timer is =
-        let e : EntryFits row.descriptor Write timer = may.fits.entries Write timer is in
-        record { sequence = e.sequence; running = e.running; positive = e.positive; due = e.due; function = e.function }
-    entries TimerFunction.Write may none Write timer is = absurd (none-some _ (sym none ∙ is))
-    entries TimerFunction.Write may none Read timer is =
-        let e : EntryFits row.descriptor Read timer = may.fits.entries Read timer is in
-        record {
-          sequence = e.sequence;
-          running = e.running;
-          positive = e.positive;
-          due = e.due;
-          function = e.function ∙ sym (SideAfter.function_like Read row.descriptor (passed row TimerFunction.Write).descriptor (no_combo row TimerFunction.Write ∙ sym (combo_off row may)));
-        }
-    entries TimerFunction.Both may none Read timer is = absurd (none-some _ (sym none ∙ is))
-    entries TimerFunction.Both may none Write timer is = absurd (true≢false (sym (may.fits.entries Write timer is).running ∙ quiet_write row may))
 
 passed_firing : (row : DescriptorRow) (f : TimerFunction) (e : Entry) → MayFire row f → (e.side ≡ side_of_function f → e.timer.sequence ≢ of_side (side_of_function f) row.descriptor.sequences) → FiringFits row.descriptor e → FiringFits (passed row f).descriptor e
-passed_firing row f e may stale h =
-    record { side = h.side; sequence = h.sequence; due = h.due; current = λ now. due f may stale e.side refl (h.current now) now }
+passed_firing row f e may stale h = record { side = h.side; sequence = h.sequence; due = h.due; current = current }
   where
-    write_only : (g : TimerFunction) → g ≡ TimerFunction.Write → covers_side g Read ≡ true → ⊥
-    write_only g is covers = true≢false (sym covers ∙ ap (λ x. covers_side x Read) is)
-
-    read_only : (g : TimerFunction) → g ≡ TimerFunction.Read → covers_side g Write ≡ true → ⊥
-    read_only g is covers = true≢false (sym covers ∙ ap (λ x. covers_side x Write) is)
-
-    due : (f : TimerFunction) → MayFire row f → (e.side ≡ side_of_function f → e.timer.sequence ≢ of_side (side_of_function f) row.descriptor.sequences) → (side : Side) → e.side ≡ side → IsDueFor row.descriptor e → e.timer.sequence ≡ of_side e.side row.descriptor.sequences → IsDueFor (passed row f).descriptor e
-    due TimerFunction.Read may stale Read is d now = absurd (stale is (now ∙ ap (λ s. of_side s row.descriptor.sequences) is))
-    due TimerFunction.Read may stale Write is d now =
-        let function_is : e.timer.function ≡ TimerFunction.Write = d.function ∙ ap (λ s. timer_function s row.descriptor) is in
-        record {
-          positive = positive function_is;
-          running = d.running;
-          function = function_is ∙ sym (ap (λ s. timer_function s (passed row TimerFunction.Read).descriptor) is);
-        }
-      where
-        positive : e.timer.function ≡ TimerFunction.Write → (s : Side) → covers_side e.timer.function s ≡ true → is_positive (of_side s (passed row TimerFunction.Read).descriptor.deadlines) ≡ true
-        positive function_is Read covers = absurd (write_only _ function_is covers)
-        positive function_is Write covers = d.positive Write covers
-    due TimerFunction.Write may stale Write is d now = absurd (stale is (now ∙ ap (λ s. of_side s row.descriptor.sequences) is))
-    due TimerFunction.Write may stale Read is d now =
-        let function_is : e.timer.function ≡ TimerFunction.Read = d.function ∙ ap (λ s. timer_function s row.descriptor) is ∙ read_alone row (combo_off row may) in
-        record {
-          positive = positive function_is;
-          running = d.running;
-          function = function_is ∙ sym (ap (λ s. timer_function s (passed row TimerFunction.Write).descriptor) is ∙ read_alone (passed row TimerFunction.Write) (no_combo row TimerFunction.Write));
-        }
-      where
-        positive : e.timer.function ≡ TimerFunction.Read → (s : Side) → covers_side e.timer.function s ≡ true → is_positive (of_side s (passed row TimerFunction.Write).descriptor.deadlines) ≡ true
-        positive function_is Write covers = absurd (read_only _ function_is covers)
-        positive function_is Read covers = d.positive Read covers
-    due TimerFunction.Both may stale Read is d now = absurd (stale is (now ∙ ap (λ s. of_side s row.descriptor.sequences) is))
-    due TimerFunction.Both may stale Write is d now = absurd (true≢false (sym d.running ∙ ap (λ s. of_side s row.descriptor.running) is ∙ quiet_write row may))
+    current : e.timer.sequence ≡ of_side e.side row.descriptor.sequences → IsDueFor (passed row f).descriptor e
+    current now =
+        elim (other_side e.side (side_of_function f)) [
+          | inl same ↦ absurd (stale same (now ∙ ap (λ s. of_side s row.descriptor.sequences) same))
+          | inr apart ↦
+              let due : IsDueFor row.descriptor e = h.current now in
+              let kept : Untouched row f e.side = untouched row f e.side may apart due.running in
+              record {
+                positive = λ s covers.
+                    let own : s ≡ e.side = kept.alone s (sym (ap (λ g. covers_side g s) due.function) ∙ covers) in
+                    ap is_positive (ap (λ x. of_side x (past f row.descriptor.deadlines)) own ∙ kept.deadline ∙ sym (ap (λ x. of_side x row.descriptor.deadlines) own))
+                    ∙ due.positive s covers;
+                running = due.running;
+                function = due.function ∙ sym kept.function;
+              }
+        ]
 
 -- a firing leaves
 pub removed_keeps : (w : World) (i : ℕ) (e : Entry) → WellFormed w → slice_get w.firings i ≡ Some e → WellFormed (record w { firings = remove w.firings i })

@@ -11,7 +11,7 @@ use Rattle.nr_rev.specs.declared.status.Status.{Status}
 use Rattle.nr_rev.specs.Descriptor.{check}
 use Rattle.nr_rev.specs.Refusing.{◌>>=◌}
 use Rattle.nr_rev.proofs.StatusSet.{moved, may_leave, may_stay}
-use Rattle.nr_rev.proofs.Found.{nobody_inside, Ends-idle, Ends-status_of, Ends-row_of, Ends-open_row_of, Ends-entering_of, Ends-armed_of, Ends-parking_of, Ends-swapping_of, Ends-checking_of}
+use Rattle.nr_rev.proofs.Found.{nobody_inside, Ends-status_of, Ends-row_of, Ends-idle_open, Ends-entering_of, Ends-armed_of, Ends-parking_of, Ends-swapping_of, Ends-checking_of}
 use Rattle.std.specs.Option.{option_and_then}
 use Rattle.nr_rev.specs.declared.descriptor.Word.{Word}
 use Rattle.nr_rev.specs.declared.descriptor.Word.TheVariants.{Nil, Ready, Held}
@@ -94,10 +94,9 @@ reset w d side row true h row_at is_open nobody =
 
 pub pollreset_sound : (w : World) (g d : ℕ) (side : Side) → WellFormed w → Keeps (pollreset g d side w)
 pollreset_sound w g d side h =
-    Ends-then (Ends-idle g w) λ _.
-    Ends-bind (Ends-open_row_of d w) λ row found.
+    Ends-idle_open g d w λ row _ at is_open.
     Ends-then (Ends-refused_if ((check side row.descriptor == 0) && is_waited d side w.goroutines) _ refl) λ nobody.
-    Ends-ok (reset w d side row _ h found.0 found.1 nobody)
+    Ends-ok (reset w d side row _ h at is_open nobody)
 
 -- with code 0 the goroutine enters
 enters : (w : World) (g d : ℕ) (side : Side) (zero : Bool) → WellFormed w → slice_get w.goroutines g ≡ Some Idle → IsOpen w.descriptors w.free d → (zero && is_waited d side w.goroutines) ≡ false → WellFormed (if zero then with_status g (Entering d side) w else w)
@@ -106,10 +105,9 @@ enters w g d side false h at is_open nobody = h
 
 pub waitbegin_sound : (w : World) (g d : ℕ) (side : Side) → WellFormed w → Keeps (waitbegin g d side w)
 waitbegin_sound w g d side h =
-    Ends-then (Ends-idle g w) λ at.
-    Ends-bind (Ends-open_row_of d w) λ row found.
+    Ends-idle_open g d w λ row at row_at is_open.
     Ends-then (Ends-refused_if ((check side row.descriptor == 0) && is_waited d side w.goroutines) _ refl) λ nobody.
-    Ends-ok (enters w g d side _ h at (slice_get_within _ _ _ found.0, found.1) nobody)
+    Ends-ok (enters w g d side _ h at (slice_get_within _ _ _ row_at, is_open) nobody)
 
 arms : (w : World) (g d : ℕ) (side : Side) (row : DescriptorRow) (word : Word) → WellFormed w → slice_get w.goroutines g ≡ Some (Entering d side) → slice_get w.descriptors d ≡ Some row → of_side side row.descriptor.words ≡ word → Keeps (armed_by g d side word row w)
 arms w g d side row Nil h at row_at is =
