@@ -43,10 +43,10 @@ woken_append [] hs w = refl
 woken_append (g ∷ gs) hs w = woken_append gs hs (all_woken (g ∷ []) w)
 
 -- the world after a change of descriptor d, whose timers are these
-abbrev pub after_change : ℕ → Sides (Option Timer) → Change → World → World
+abbrev after_change : ℕ → Sides (Option Timer) → Change → World → World
 after_change d timers change w = all_woken change.woken (with_row d (record { descriptor = change.descriptor; timers = timers }) w)
 
-pub then_unblocked : (w : World) (d : ℕ) (old : DescriptorRow) (timers : Sides (Option Timer)) (change : Change) (side : Side) (ioready : Bool) → slice_get w.descriptors d ≡ Some old → is_free_number d w.free ≡ false → WellFormed (after_change d timers change w) → WellFormed (after_change d timers (and_then change (unblocked ioready side)) w)
+then_unblocked : (w : World) (d : ℕ) (old : DescriptorRow) (timers : Sides (Option Timer)) (change : Change) (side : Side) (ioready : Bool) → slice_get w.descriptors d ≡ Some old → is_free_number d w.free ≡ false → WellFormed (after_change d timers change w) → WellFormed (after_change d timers (and_then change (unblocked ioready side)) w)
 then_unblocked w d old timers change side ioready at is_open h =
     subst WellFormed same (unblocked_keeps first d row side ioready h row_at first_open)
   where

@@ -1,13 +1,13 @@
 -- A deadline is set: each side's timer follows it, and sides that are past are unblocked.
 use Rattle.std.proofs.Common.{lit<, pos, negsuc, ◌≡◌, ◌≢◌, ℕ, ◌+◌, ◌^◌, ◌<◌, ◌≤◌, ℤ, int_eq, Bool, true, false, not, ◌&&◌, List, [], ◌∷◌, ◌++◌, Option, Some, None, Result, Ok, Err, ◌⊎◌, inl, inr, refl, sym, ap, ap₂, subst, ◌∙◌, arith, true≢false}
-use Rattle.std.proofs.lemmas.Option.{same_Some, none-some}
+use Rattle.std.proofs.lemmas.Option.{same_Some}
 use Rattle.std.specs.Prelude.{slice_get, if◌then◌else◌, ◌≤ℤ◌, ◌-◌, nat_lt}
 use Rattle.std.specs.Int.{int_min}
 use Rattle.std.proofs.lemmas.Bool.{ltb-false}
 use Rattle.nr_rev.specs.declared.sides.Side.{Side}
 use Rattle.nr_rev.specs.declared.sides.Side.TheVariants.{Read, Write}
 use Rattle.nr_rev.specs.declared.sides.Sides.{Sides}
-use Rattle.nr_rev.specs.Sides.{of_side, with_side, names_side}
+use Rattle.nr_rev.specs.Sides.{of_side, names_side}
 use Rattle.nr_rev.specs.Refusing.{◌>>=◌}
 use Rattle.nr_rev.specs.declared.refusal.Refusal.{Refusal}
 use Rattle.nr_rev.specs.declared.descriptor.DescriptorRow.{DescriptorRow}
@@ -24,13 +24,11 @@ use Rattle.nr_rev.specs.declared.descriptor.Descriptor.{Descriptor}
 use Rattle.nr_rev.specs.Descriptor.{timer_function, quiet, is_combo, is_positive, is_expired, wants_timer, with_deadlines, deadline_from, deadline_set, and_then}
 use Rattle.nr_rev.specs.Step.{changed, obeyed, all_obeyed, setdeadline}
 use Rattle.nr_rev.proofs.Retimed.{Retimed, SideStays, SideBegins, old_number, retimed_still}
-use Rattle.nr_rev.proofs.SideAfter.{SideAfter, entry_fits, firing_fits, none_current, combo_fits}
-use Rattle.nr_rev.proofs.Follows.{Followed, Begun, Ends-timer_follows}
+use Rattle.nr_rev.proofs.Fate.{Fate, Begun, orders_of, timer_left, function_like, entry_fits, firing_fits, none_current, combo_fits}
+use Rattle.nr_rev.proofs.Follows.{Followed, Ends-timer_follows}
 use Rattle.nr_rev.proofs.BothSides.{each_side, of_side-with_side_same, of_side-with_side_other}
 use Rattle.nr_rev.proofs.Changes.{changed_keeps}
 use Rattle.nr_rev.proofs.Outcomes.{Ends, KeepsFor, Ends-ok, Ends-refused, Ends-map, Ends-bind, Ends-either, Ends-raised_sequence}
-use Rattle.nr_rev.proofs.Follows
-use Rattle.nr_rev.proofs.SideAfter
 
 combo_alike : (a b : Descriptor) → a.deadlines ≡ b.deadlines → is_combo a ≡ is_combo b
 combo_alike a b e = ap (λ (x : Sides ℤ). is_positive x.read && int_eq x.read x.write) e
@@ -40,25 +38,27 @@ wants_alike Read a b e = ap (λ (x : Sides ℤ). is_positive x.read) e
 wants_alike Write a b e = ap (λ (x : Sides ℤ). is_positive x.write && not (is_positive x.read && int_eq x.read x.write)) e
 
 function_alike : (side : Side) (a b : Descriptor) → a.deadlines ≡ b.deadlines → timer_function side a ≡ timer_function side b
-function_alike side a b e = SideAfter.function_like side b a (combo_alike a b e)
+function_alike side a b e = function_like side b a (combo_alike a b e)
 
 -- what became of a side's timer doesn't hang on the other side
 followed_alike : (side : Side) (old a b : Descriptor) (orders : List TimerOrder) → b.deadlines ≡ a.deadlines → of_side side b.running ≡ of_side side a.running → of_side side b.sequences ≡ of_side side a.sequences → Followed side old a orders → Followed side old b orders
-followed_alike side old a b orders d r q (Follows.Kept sequence running same none) =
-    Follows.Kept (q ∙ sequence) (r ∙ running) (λ on. (ap (of_side side) d ∙ (same on).0, combo_alike b a d ∙ (same on).1)) none
-followed_alike side old a b orders d r q (Follows.Armed begun running wants armed) =
-    Follows.Armed (elim begun [ inl rest ↦ inl (rest.0, q ∙ rest.1) | inr raised ↦ inr (q ∙ raised) ]) (r ∙ running) (wants_alike side b a d ∙ wants)
-    (armed ∙ orders_alike (of_side side a.deadlines) (of_side side b.deadlines) (timer_function side a) (timer_function side b) (of_side side a.sequences) (of_side side b.sequences) (sym (ap (of_side side) d)) (sym (function_alike side b a d)) (sym q))
+followed_alike side old a b orders d r q (Fate.Kept sequence running same, none) =
+    (Fate.Kept (q ∙ sequence) (r ∙ running) (λ on. (ap (of_side side) d ∙ (same on).0, combo_alike b a d ∙ (same on).1)), none)
+followed_alike side old a b orders d r q (Fate.Armed begun running wants, armed) = (
+  Fate.Armed (elim begun [ inl rest ↦ inl (rest.0, q ∙ rest.1) | inr raised ↦ inr (q ∙ raised) ]) (r ∙ running) (wants_alike side b a d ∙ wants),
+  armed ∙ orders_alike (of_side side a.deadlines) (of_side side b.deadlines) (timer_function side a) (timer_function side b) (of_side side a.sequences) (of_side side b.sequences) (sym (ap (of_side side) d)) (sym (function_alike side b a d)) (sym q),
+)
   where
     orders_alike : (x x' : ℤ) (f f' : TimerFunction) (n n' : ℕ) → x ≡ x' → f ≡ f' → n ≡ n' → ◌≡◌ {A = List TimerOrder} (Arm side x f n ∷ []) (Arm side x' f' n' ∷ [])
     orders_alike x x' f f' n n' e e' e'' = cc
-followed_alike side old a b orders d r q (Follows.Stopped raised halted stop) = Follows.Stopped (q ∙ raised) (r ∙ halted) stop
+followed_alike side old a b orders d r q (Fate.Stopped raised halted, stop) = (Fate.Stopped (q ∙ raised) (r ∙ halted), stop)
 
--- what the orders of a side left
+-- what the orders of a side left, where n was the next arming number and m is
 pub record Obeyed (side : Side) (old new : Descriptor) (before after : Sides (Option Timer)) (n m : ℕ) : Type 0 where
-  pub after_side : SideAfter side old new (of_side side before) (of_side side after)
+  pub fate : Fate side old new
+  pub timer : of_side side after ≡ timer_left side old new (of_side side before) n fate
   pub other : (s : Side) → s ≢ side → of_side s after ≡ of_side s before
-  pub fate : ((of_side side after ≡ of_side side before) × (of_side side new.sequences ≡ of_side side old.sequences)) ⊎ (Begun side old new × ((timer : Timer) → of_side side after ≡ Some timer → (n ≤ timer.number) × (timer.number < m)))
+  pub number : (t : Timer) → timer_left side old new None n fate ≡ Some t → (t.number ≡ n) × (n < m)
   pub rises : n ≤ m
   pub range : n < 2 ^ 64 → m < 2 ^ 64
 
@@ -66,40 +66,40 @@ abbrev Obeying : Side → Descriptor → Descriptor → Sides (Option Timer) →
 Obeying side old new before n orders = Ends (λ (left : Sides (Option Timer) × ℕ). Obeyed side old new before left.0 n left.1) (all_obeyed orders (before, n))
 
 -- the orders of a side, obeyed
-Ends-followed : (side : Side) (old new : Descriptor) (before : Sides (Option Timer)) (n : ℕ) (orders : List TimerOrder) → Followed side old new orders → Obeying side old new before n orders
-Ends-followed side old new before n orders (Follows.Kept sequence running same none) =
-    subst (Obeying side old new before n) (sym none)
-    (Ends-ok (record {
-      after_side = SideAfter.Kept sequence running same refl;
-      other = λ s apart. refl;
-      fate = inl (refl, sequence);
-      rises = omega arith;
-      range = λ b. b;
-    }))
-Ends-followed side old new before n orders (Follows.Armed begun running wants armed) =
-    subst (Obeying side old new before n) (sym armed)
-    (Ends-bind {P = λ (left : Sides (Option Timer) × ℕ). Obeyed side old new before left.0 n left.1}
+Ends-fate : (side : Side) (old new : Descriptor) (before : Sides (Option Timer)) (n : ℕ) (fate : Fate side old new) → Obeying side old new before n (orders_of side old new fate)
+Ends-fate side old new before n (Fate.Kept sequence running same) =
+    Ends-ok (record { fate = Fate.Kept sequence running same; timer = refl; other = λ s apart. refl; number = λ t is. cc; rises = omega arith; range = λ b. b })
+Ends-fate side old new before n (Fate.Armed begun running wants) =
+    Ends-bind {P = λ (left : Sides (Option Timer) × ℕ). Obeyed side old new before left.0 n left.1}
     (Ends-bind (Ends-raised_sequence n) λ next raised.
-    let timer : Timer = record { due = of_side side new.deadlines; number = n; function = timer_function side new; sequence = of_side side new.sequences } in
-    let now : of_side side (with_side side (Some timer) before) ≡ Some timer = of_side-with_side_same side (Some timer) before in
     let up : next ≡ n + 1 = raised.0 in
     Ends-ok (record {
-      after_side = SideAfter.Armed begun running wants timer refl refl refl now;
-      other = λ s apart. of_side-with_side_other s side (Some timer) before apart;
-      fate = inr (begun, λ t is. let number : n ≡ t.number = ap (λ (x : Timer). x.number) (same_Some _ _ (sym now ∙ is)) in (omega arith, omega arith));
+      fate = Fate.Armed begun running wants;
+      timer = of_side-with_side_same side _ before;
+      other = λ s apart. of_side-with_side_other s side _ before apart;
+      number = λ t is. (ap (λ (x : Timer). x.number) (sym (same_Some _ _ is)), omega arith);
       rises = omega arith;
       range = λ _. raised.1;
-    })) λ left p. Ends-ok p)
-Ends-followed side old new before n orders (Follows.Stopped raised halted stop) =
-    subst (Obeying side old new before n) (sym stop)
-    (let now : of_side side (with_side side None before) ≡ None = of_side-with_side_same side None before in
+    }))
+    λ left p. Ends-ok p
+Ends-fate side old new before n (Fate.Stopped raised halted) =
     Ends-ok (record {
-      after_side = SideAfter.Stopped raised halted now;
+      fate = Fate.Stopped raised halted;
+      timer = of_side-with_side_same side None before;
       other = λ s apart. of_side-with_side_other s side None before apart;
-      fate = inr (inr raised, λ t is. absurd (none-some _ (sym now ∙ is)));
+      number = λ t is. cc;
       rises = omega arith;
       range = λ b. b;
-    }))
+    })
+
+Ends-followed : (side : Side) (old new : Descriptor) (before : Sides (Option Timer)) (n : ℕ) (orders : List TimerOrder) → Followed side old new orders → Obeying side old new before n orders
+Ends-followed side old new before n orders (fate, is) = subst (Obeying side old new before n) (sym is) (Ends-fate side old new before n fate)
+
+-- a timer that is left stood before, or is left where none stood
+old_or_new : (side : Side) (old new : Descriptor) (before : Option Timer) (n : ℕ) (fate : Fate side old new) (t : Timer) → timer_left side old new before n fate ≡ Some t → (before ≡ Some t) ⊎ (timer_left side old new None n fate ≡ Some t)
+old_or_new side old new before n (Fate.Kept sequence running same) t is = inl is
+old_or_new side old new before n (Fate.Armed begun running wants) t is = inr is
+old_or_new side old new before n (Fate.Stopped raised halted) t is = inr is
 
 -- what goes on otherwise from the same beginning
 Ends-after : {A B C : Type 0} {P : B → Type 0} {Q : C → Type 0} (m : Result A Refusal) {f : A → Result B Refusal} {g : A → Result C Refusal} → Ends P (m >>= f) → ((a : A) → Ends P (f a) → Ends Q (g a)) → Ends Q (m >>= g)
@@ -122,12 +122,25 @@ module _ (w : World) (d : ℕ) (row : DescriptorRow) (new : Descriptor) (first l
   abbrev after : DescriptorRow
   after = record { descriptor = new; timers = last }
 
-  after_of : (side : Side) → SideAfter side row.descriptor new (of_side side row.timers) (of_side side last)
-  after_of Read = subst (SideAfter Read row.descriptor new row.timers.read) (sym (write.other Read reads_apart)) read.after_side
-  after_of Write = subst (λ (t : Option Timer). SideAfter Write row.descriptor new t last.write) (read.other Write writes_apart) write.after_side
+  abbrev fate_of : (side : Side) → Fate side row.descriptor new
+  fate_of Read = read.fate
+  fate_of Write = write.fate
+
+  -- the next arming number before a side's orders
+  abbrev number_of : Side → ℕ
+  number_of Read = w.next_arming
+  number_of Write = k
+
+  left_of : (side : Side) → of_side side last ≡ timer_left side row.descriptor new (of_side side row.timers) (number_of side) (fate_of side)
+  left_of Read = write.other Read reads_apart ∙ read.timer
+  left_of Write = write.timer ∙ ap (λ t. timer_left Write row.descriptor new t k write.fate) (read.other Write writes_apart)
+
+  range_of : (side : Side) (t : Timer) → timer_left side row.descriptor new None (number_of side) (fate_of side) ≡ Some t → (w.next_arming ≤ t.number) × (t.number < m)
+  range_of Read t is = let n = read.number t is in let a = n.0 in let b = n.1 in let u = write.rises in (omega arith, omega arith)
+  range_of Write t is = let n = write.number t is in let a = n.0 in let b = n.1 in let u = read.rises in (omega arith, omega arith)
 
   -- a side whose timer was ordered anew
-  begins : (side : Side) → Begun side row.descriptor new → ((timer : Timer) → of_side side last ≡ Some timer → (w.next_arming ≤ timer.number) × (timer.number < m)) → SideBegins side row after w.next_arming m
+  begins : (side : Side) → Begun side row.descriptor new → ((t : Timer) → of_side side last ≡ Some t → (w.next_arming ≤ t.number) × (t.number < m)) → SideBegins side row after w.next_arming m
   begins side begun number =
       record {
         stale = λ e same f now. none_current e row.descriptor new (subst (λ s. Begun s row.descriptor new) (sym same) begun) f (now ∙ ap (λ s. of_side s new.sequences) (sym same));
@@ -135,34 +148,30 @@ module _ (w : World) (d : ℕ) (row : DescriptorRow) (new : Descriptor) (first l
       }
 
   side_of : (side : Side) → SideStays side row after ⊎ SideBegins side row after w.next_arming m
-  side_of Read =
-      let u = write.rises in
-      let kept : last.read ≡ first.read = write.other Read reads_apart in
-      elim read.fate [
-        | inl stays ↦ inl (record { timer = kept ∙ stays.0; sequence = stays.1 })
-        | inr begun ↦ inr (begins Read begun.0 (λ timer is. let n = begun.1 timer (sym kept ∙ is) in let a = n.0 in let b = n.1 in (omega arith, omega arith)))
-      ]
-  side_of Write =
-      let u = read.rises in
-      elim write.fate [
-        | inl stays ↦ inl (record { timer = stays.0 ∙ read.other Write writes_apart; sequence = stays.1 })
-        | inr begun ↦ inr (begins Write begun.0 (λ timer is. let n = begun.1 timer is in let a = n.0 in let b = n.1 in (omega arith, omega arith)))
+  side_of side = go (fate_of side) (left_of side) (range_of side)
+    where
+      go : (fate : Fate side row.descriptor new) → of_side side last ≡ timer_left side row.descriptor new (of_side side row.timers) (number_of side) fate → ((t : Timer) → timer_left side row.descriptor new None (number_of side) fate ≡ Some t → (w.next_arming ≤ t.number) × (t.number < m)) → SideStays side row after ⊎ SideBegins side row after w.next_arming m
+      go (Fate.Kept sequence running same) left range = inl (record { timer = left; sequence = sequence })
+      go (Fate.Armed begun running wants) left range = inr (begins side begun (λ t is. range t (sym left ∙ is)))
+      go (Fate.Stopped raised halted) left range = inr (begins side (inr raised) (λ t is. range t (sym left ∙ is)))
+
+  -- a timer with a new number was ordered
+  ordered : (side : Side) (t : Timer) → of_side side last ≡ Some t → w.next_arming ≤ t.number → timer_left side row.descriptor new None (number_of side) (fate_of side) ≡ Some t
+  ordered side t is new_number =
+      elim (old_or_new side row.descriptor new (of_side side row.timers) (number_of side) (fate_of side) t (sym (left_of side) ∙ is)) [
+        | inl old ↦ let o : t.number < w.next_arming = old_number w.descriptors w.firings w.next_arming d row side t at old h.timers in absurd (omega arith)
+        | inr ordered_now ↦ ordered_now
       ]
 
   -- a new number of the read side is below one of the write side
   numbers_apart : (a b : Timer) → last.read ≡ Some a → last.write ≡ Some b → w.next_arming ≤ a.number → w.next_arming ≤ b.number → a.number < b.number
   numbers_apart a b is_a is_b new_a new_b =
-      let first_a : first.read ≡ Some a = sym (write.other Read reads_apart) ∙ is_a in
-      elim read.fate [
-        | inl stays ↦ let o : a.number < w.next_arming = old_number w.descriptors w.firings w.next_arming d row Read a at (sym stays.0 ∙ first_a) h.timers in absurd (omega arith)
-        | inr begins ↦
-            let n = begins.1 a first_a in
-            let below : a.number < k = n.1 in
-            elim write.fate [
-              | inl stays ↦ let o : b.number < w.next_arming = old_number w.descriptors w.firings w.next_arming d row Write b at (sym (read.other Write writes_apart) ∙ sym stays.0 ∙ is_b) h.timers in absurd (omega arith)
-              | inr begins' ↦ let n' = begins'.1 b is_b in let above : k ≤ b.number = n'.0 in omega arith
-            ]
-      ]
+      let x = read.number a (ordered Read a is_a new_a) in
+      let y = write.number b (ordered Write b is_b new_b) in
+      let below : w.next_arming < k = x.1 in
+      let a_is : a.number ≡ w.next_arming = x.0 in
+      let b_is : b.number ≡ k = y.0 in
+      omega arith
 
   apart_of : (s t : Side) (a b : Timer) → of_side s last ≡ Some a → of_side t last ≡ Some b → w.next_arming ≤ a.number → a.number ≡ b.number → s ≡ t
   apart_of Read Read a b is_a is_b n same = refl
@@ -178,14 +187,14 @@ module _ (w : World) (d : ℕ) (row : DescriptorRow) (new : Descriptor) (first l
       record {
         fits =
             record {
-              entries = λ side timer is. entry_fits side row.descriptor new (of_side side row.timers) (of_side side last) timer (after_of side) (λ t was. fits.entries side t was) is;
-              combo = combo_fits row.descriptor new row.timers.write last.write (after_of Write) fits.combo;
+              entries = λ side timer is. entry_fits side row.descriptor new (of_side side row.timers) (number_of side) timer (fate_of side) (fits.entries side) (sym (left_of side) ∙ is);
+              combo = combo_fits row.descriptor new write.fate fits.combo;
               closing = λ e. absurd (true≢false (sym e ∙ still_open));
               sequences = bounds;
               fdseq = fdseq;
               times = times;
             };
-        firing = λ i e _ _ f. firing_fits e row.descriptor new (of_side e.side row.timers) (of_side e.side last) (after_of e.side) f;
+        firing = λ i e _ _ f. firing_fits e row.descriptor new (fate_of e.side) f;
         sides = side_of;
         apart = apart_of;
         rises = omega arith;

@@ -18,7 +18,7 @@ use Rattle.nr_rev.specs.Step.{pollevent, changed, all_obeyed, evict, pollopen, p
 use Rattle.nr_rev.proofs.Changes.{changed_keeps, none_at_rest, set_set}
 use Rattle.nr_rev.proofs.Retimed.{Retimed, TimersFit-retimed, armed_names}
 use Rattle.std.proofs.lemmas.Option.{none-some, same_Some, slice_get_within}
-use Rattle.nr_rev.proofs.SideAfter.{none_current}
+use Rattle.nr_rev.proofs.Fate.{none_current}
 use Rattle.std.specs.Option.{option_and_then}
 use Rattle.nr_rev.specs.declared.descriptor.Word.{Word}
 use Rattle.nr_rev.specs.declared.descriptor.Word.TheVariants.{Nil, Ready, Held}
@@ -113,7 +113,7 @@ free_more k d free e = go (k == d) e
     go true e = refl
     go false e = e
 
--- 17: an open descriptor on which nobody waits goes to the free ones
+-- an open descriptor on which nobody waits goes to the free ones
 freed : (w : World) (d : ℕ) (row : DescriptorRow) (fdseq : ℕ) → WellFormed w → slice_get w.descriptors d ≡ Some row → is_free_number d w.free ≡ false → row.descriptor.closing ≡ true → ((side : Side) → is_waited d side w.goroutines ≡ false) → fdseq < 2 ^ 64 → WellFormed (record (with_row d (remarked row row.descriptor.words row.descriptor.event_error fdseq) w) { free = d ∷ w.free })
 freed w d row fdseq h at is_open closing nobody small =
     record {

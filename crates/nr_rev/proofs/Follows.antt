@@ -1,37 +1,27 @@
 -- What a side's timer does after a deadline was set, and what of the descriptor it leaves as it was.
-use Rattle.std.proofs.Common.{◌≡◌, ◌≢◌, ℕ, ◌+◌, ◌^◌, ◌<◌, Bool, true, false, not, ◌&&◌, List, [], ◌∷◌, ◌⊎◌, inl, inr, refl, sym, ap, subst, ◌∙◌, true≢false, int_eq}
+use Rattle.std.proofs.Common.{◌≡◌, ◌≢◌, ℕ, ◌+◌, ◌^◌, ◌<◌, Bool, true, false, not, ◌&&◌, List, [], ◌⊎◌, inl, inr, refl, sym, ap, subst, ◌∙◌, true≢false, int_eq}
 use Rattle.std.proofs.lemmas.Bool.Decides.{Decides-int_eq}
 use Rattle.std.specs.Prelude.{◌==◌, if◌then◌else◌}
 use Rattle.nr_rev.specs.declared.sides.Side.{Side}
 use Rattle.nr_rev.specs.Sides.{of_side, with_side}
 use Rattle.nr_rev.specs.Lock.{bit}
 use Rattle.nr_rev.specs.declared.timer.TimerOrder.{TimerOrder}
-use Rattle.nr_rev.specs.declared.timer.TimerOrder.TheVariants.{Arm, Stop}
 use Rattle.nr_rev.specs.declared.descriptor.Descriptor.{Descriptor}
 use Rattle.nr_rev.specs.Descriptor.{Change, quiet, is_combo, timer_function, wants_timer, timer_reset, timer_follows}
 use Rattle.nr_rev.proofs.Outcomes.{Ends, Ends-ok, Ends-bind, Ends-either, Ends-raised_sequence}
 use Rattle.nr_rev.proofs.Found.{both_true}
+use Rattle.nr_rev.proofs.Fate.{Fate, Kept, Armed, Stopped, Begun, orders_of, not_true}
 use Rattle.nr_rev.proofs.BothSides.{each_side, of_side-with_side_same, of_side-with_side_other}
 
--- a side's timer didn't run, or its sequence was raised
-abbrev pub Begun : Side → Descriptor → Descriptor → Type 0
-Begun side old new = ((of_side side old.running ≡ false) × (of_side side new.sequences ≡ of_side side old.sequences)) ⊎ (of_side side new.sequences ≡ of_side side old.sequences + 1)
-
--- the three things that may become of a side's timer
-pub data Followed (side : Side) (old new : Descriptor) (orders : List TimerOrder) : Type 0 where
-  Kept : of_side side new.sequences ≡ of_side side old.sequences → of_side side new.running ≡ of_side side old.running → (of_side side old.running ≡ true → (of_side side new.deadlines ≡ of_side side old.deadlines) × (is_combo new ≡ is_combo old)) → orders ≡ [] → Followed side old new orders
-  Armed : Begun side old new → of_side side new.running ≡ true → wants_timer side new ≡ true → orders ≡ Arm side (of_side side new.deadlines) (timer_function side new) (of_side side new.sequences) ∷ [] → Followed side old new orders
-  Stopped : of_side side new.sequences ≡ of_side side old.sequences + 1 → of_side side new.running ≡ false → orders ≡ Stop side ∷ [] → Followed side old new orders
+-- what became of a side's timer, and the orders for it
+abbrev pub Followed : Side → Descriptor → Descriptor → List TimerOrder → Type 0
+Followed side old new orders = (fate : Fate side old new) × (orders ≡ orders_of side old new fate)
 
 same_bits : (a b : Bool) → (bit a == bit b) ≡ true → b ≡ a
 same_bits true true e = refl
 same_bits true false e = cc
 same_bits false true e = cc
 same_bits false false e = refl
-
-pub not_true : (a : Bool) → not a ≡ true → a ≡ false
-not_true true e = cc
-not_true false e = refl
 
 -- a timer may be reset where it didn't run and is wanted, or where its sequence was raised
 abbrev MayReset : Side → Descriptor → Descriptor → Type 0
@@ -55,8 +45,8 @@ reset_followed side old d may = go (wants_timer side d) refl (of_side-with_side_
     alike = each_side _ (refl, refl) (refl, refl)
 
     go : (wants : Bool) → wants_timer side d ≡ wants → of_side side (timer_reset side d).descriptor.running ≡ wants_timer side d → Followed side old (timer_reset side d).descriptor (timer_reset side d).orders
-    go true e runs = Armed (begun side old d may) (runs ∙ e) ((alike side).0 ∙ e) (rw ((alike side).1, e) refl)
-    go false e runs = Stopped (halted side old d may e) (runs ∙ e) (rw e refl)
+    go true e runs = (Armed (begun side old d may) (runs ∙ e) ((alike side).0 ∙ e), rw ((alike side).1, e) refl)
+    go false e runs = (Stopped (halted side old d may e) (runs ∙ e), rw e refl)
 
 -- what a side's timer leaves of the descriptor when it follows its deadline
 pub record Frame (side : Side) (d : Descriptor) (change : Change) : Type 0 where
@@ -115,7 +105,7 @@ Ends-timer_follows side old d same_sequence same_running =
     Ends-either (int_eq (of_side side old.deadlines) (of_side side d.deadlines) && (bit (is_combo old) == bit (is_combo d)))
     (λ same.
     let parts = both_true (int_eq (of_side side old.deadlines) (of_side side d.deadlines)) (bit (is_combo old) == bit (is_combo d)) same in
-    Ends-ok (Kept same_sequence same_running (λ _. (sym ((Decides-int_eq _ _).0 parts.0), same_bits _ _ parts.1)) refl, frame_quiet side d))
+    Ends-ok ((Kept same_sequence same_running (λ _. (sym ((Decides-int_eq _ _).0 parts.0), same_bits _ _ parts.1)), refl), frame_quiet side d))
     (λ _.
     Ends-bind (Ends-raised_sequence (of_side side d.sequences)) λ next raised.
     Ends-ok (
@@ -126,4 +116,4 @@ Ends-timer_follows side old d same_sequence same_running =
   where
     at_rest : (wants : Bool) → wants_timer side d ≡ wants → of_side side d.running ≡ false → Followed side old (if wants then timer_reset side d else quiet d).descriptor (if wants then timer_reset side d else quiet d).orders × Frame side d (if wants then timer_reset side d else quiet d)
     at_rest true e stopped = (reset_followed side old d (inl (sym same_running ∙ stopped, same_sequence, e)), frame_reset side d)
-    at_rest false e stopped = (Kept same_sequence same_running (λ runs. absurd (true≢false (sym runs ∙ sym same_running ∙ stopped))) refl, frame_quiet side d)
+    at_rest false e stopped = ((Kept same_sequence same_running (λ runs. absurd (true≢false (sym runs ∙ sym same_running ∙ stopped))), refl), frame_quiet side d)

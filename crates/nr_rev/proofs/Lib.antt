@@ -4,6 +4,7 @@ pub mod Changes
 pub mod Deadlines
 pub mod Descriptors
 pub mod EmptyWorld
+pub mod Fate
 pub mod Follows
 pub mod Found
 pub mod Goroutines
@@ -20,7 +21,6 @@ pub mod Reworded
 pub mod RowSet
 pub mod SameViews
 pub mod Semaphores
-pub mod SideAfter
 pub mod SocketSet
 pub mod StatusSet
 pub mod StepKeeps

@@ -16,8 +16,7 @@ use Rattle.nr_rev.specs.Timer.{IsTime}
 use Rattle.nr_rev.specs.declared.timer.Entry.{Entry}
 use Rattle.nr_rev.specs.declared.descriptor.Descriptor.{Descriptor}
 use Rattle.nr_rev.specs.Descriptor.{timer_function, is_combo, is_positive}
-use Rattle.nr_rev.proofs.SideAfter
-use Rattle.nr_rev.proofs.SideAfter.{SideAfter, entry_fits, firing_fits, none_current, combo_fits}
+use Rattle.nr_rev.proofs.Fate.{covered, combo_positive, combo_of_both}
 use Rattle.nr_rev.proofs.BothSides.{other_side, of_side-with_side_same, of_side-with_side_other}
 use Rattle.nr_rev.specs.WellFormed.{Stand, ArmedAt, FiringAt, standing, armed_at, IsCurrent}
 
@@ -143,9 +142,9 @@ FiringFits-popped row e h is =
       current = λ now.
           record {
             positive = λ s covers.
-                elim (SideAfter.covered e.timer.function s e.side (function_side e.side row.descriptor ∙ sym (ap side_of_function fits.function)) covers) [
+                elim (covered e.timer.function s e.side (function_side e.side row.descriptor ∙ sym (ap side_of_function fits.function)) covers) [
                   | inl own ↦ ap is_positive (ap (λ x. of_side x row.descriptor.deadlines) own ∙ sym fits.due) ∙ is_it (is_positive e.timer.due) fits.positive
-                  | inr is_both ↦ SideAfter.combo_positive row.descriptor (SideAfter.combo_of_both e.side row.descriptor (sym fits.function ∙ is_both)) s
+                  | inr is_both ↦ combo_positive row.descriptor (combo_of_both e.side row.descriptor (sym fits.function ∙ is_both)) s
                 ];
             running = fits.running;
             function = fits.function;

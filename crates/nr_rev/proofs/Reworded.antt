@@ -57,7 +57,7 @@ reworded_still rows firings n d row words at h =
     remarked_still rows firings n d row words row.descriptor.event_error row.descriptor.fdseq at (h.entries_fit d row at).fdseq h
 
 -- a word of the changed row is a new one, any other an old one
-pub word_cases : (rows : List DescriptorRow) (d : ℕ) (row : DescriptorRow) (words : Sides Word) (k : ℕ) (side : Side) (word : Word) → slice_get rows d ≡ Some row → HasWord (set rows d (reworded row words)) k side word → ((k ≡ d) × (of_side side words ≡ word)) ⊎ ((k ≢ d) × HasWord rows k side word)
+word_cases : (rows : List DescriptorRow) (d : ℕ) (row : DescriptorRow) (words : Sides Word) (k : ℕ) (side : Side) (word : Word) → slice_get rows d ≡ Some row → HasWord (set rows d (reworded row words)) k side word → ((k ≡ d) × (of_side side words ≡ word)) ⊎ ((k ≢ d) × HasWord rows k side word)
 word_cases rows d row words k side word at has =
     elim (slice_get-set_cases rows d row (reworded row words) k at) [
       | inl here ↦ inl (here.0, same_Some _ _ (sym (ap (option_map view) here.1) ∙ has))

@@ -24,11 +24,10 @@ use Rattle.nr_rev.specs.declared.timer.TimerFunction.{TimerFunction}
 use Rattle.nr_rev.specs.declared.descriptor.Descriptor.{Descriptor}
 use Rattle.nr_rev.specs.Descriptor.{Change, timer_function, quiet, is_combo, is_positive, and_if, unblocked, fired, expire, is_current, is_timed}
 use Rattle.nr_rev.proofs.Retimed.{retimed_still}
-use Rattle.nr_rev.proofs.SideAfter.{SideAfter, combo_of_both}
+use Rattle.nr_rev.proofs.Fate.{function_like, combo_of_both}
 use Rattle.nr_rev.proofs.Changes.{changed_keeps}
 use Rattle.std.proofs.lemmas.List.Edits.{length-remove}
 use Rattle.nr_rev.proofs.Outcomes.{Ends, Keeps, KeepsFor, Ends-ok, Ends-bind, Ends-then, Ends-either, Ends-certain, Ends-found_or, Ends-refused_if, Ends-refused_unless}
-use Rattle.nr_rev.proofs.SideAfter
 
 not_negative : (t c : ℤ) → int_lt t c ≡ false → pos 0 ≤ℤ c → pos 0 ≤ℤ t
 not_negative (pos n) c e h = omega (arith, ints)
@@ -93,7 +92,7 @@ least_stands w e is =
     zero_more k q = omega arith
 
 -- a descriptor of which a side runs isn't free
-pub running_open : (w : World) (d : ℕ) (row : DescriptorRow) (side : Side) → WellFormed w → slice_get w.descriptors d ≡ Some row → of_side side row.descriptor.running ≡ true → is_free_number d w.free ≡ false
+running_open : (w : World) (d : ℕ) (row : DescriptorRow) (side : Side) → WellFormed w → slice_get w.descriptors d ≡ Some row → of_side side row.descriptor.running ≡ true → is_free_number d w.free ≡ false
 running_open w d row side h at runs = go (is_free_number d w.free) refl
   where
     go : (b : Bool) → is_free_number d w.free ≡ b → is_free_number d w.free ≡ false
@@ -179,7 +178,7 @@ untouched row TimerFunction.Read Write may apart runs = record { deadline = refl
 untouched row TimerFunction.Write Read may apart runs =
     record {
       deadline = refl;
-      function = SideAfter.function_like Read row.descriptor (passed row TimerFunction.Write).descriptor (no_combo row TimerFunction.Write ∙ sym (combo_off row may));
+      function = function_like Read row.descriptor (passed row TimerFunction.Write).descriptor (no_combo row TimerFunction.Write ∙ sym (combo_off row may));
       alone = each_side _ (λ e. refl) (λ covers. absurd (true≢false (sym covers ∙ ap (λ g. covers_side g Write) (read_alone row (combo_off row may)))));
     }
 untouched row TimerFunction.Write Write may apart runs = absurd (apart refl)
@@ -230,7 +229,7 @@ passed_firing row f e may stale h = record { side = h.side; sequence = h.sequenc
         ]
 
 -- a firing leaves
-pub removed_keeps : (w : World) (i : ℕ) (e : Entry) → WellFormed w → slice_get w.firings i ≡ Some e → WellFormed (record w { firings = remove w.firings i })
+removed_keeps : (w : World) (i : ℕ) (e : Entry) → WellFormed w → slice_get w.firings i ≡ Some e → WellFormed (record w { firings = remove w.firings i })
 removed_keeps w i e h at =
     record {
       goroutines = h.goroutines;
@@ -262,7 +261,7 @@ module _ (w : World) (i : ℕ) (e : Entry) (row : DescriptorRow) (h : WellFormed
   is_due : IsDueFor row.descriptor e
   is_due = fits_it.current now_here
 
-  pub may_fire : MayFire row e.timer.function
+  may_fire : MayFire row e.timer.function
   may_fire =
       record {
         fits = h.timers.entries_fit e.descriptor row row_at;
@@ -278,7 +277,7 @@ module _ (w : World) (i : ℕ) (e : Entry) (row : DescriptorRow) (h : WellFormed
   current_of f same same_sequence =
       ap (λ d. seq_at d f.side) same ∙ ap (option_map (λ (r : DescriptorRow). of_side f.side r.descriptor.sequences)) row_at ∙ ap Some (sym same_sequence)
 
-  pub unarmed_side : of_side (side_of_function e.timer.function) row.timers ≡ None
+  unarmed_side : of_side (side_of_function e.timer.function) row.timers ≡ None
   unarmed_side = go (of_side (side_of_function e.timer.function) row.timers) refl
     where
       go : (o : Option Timer) → of_side (side_of_function e.timer.function) row.timers ≡ o → of_side (side_of_function e.timer.function) row.timers ≡ None
@@ -293,14 +292,14 @@ module _ (w : World) (i : ℕ) (e : Entry) (row : DescriptorRow) (h : WellFormed
           in
           cc
 
-  pub others_stale : (j : ℕ) (f : Entry) → slice_get (remove w.firings i) j ≡ Some f → f.descriptor ≡ e.descriptor → f.side ≡ side_of_function e.timer.function → f.timer.sequence ≢ of_side (side_of_function e.timer.function) row.descriptor.sequences
+  others_stale : (j : ℕ) (f : Entry) → slice_get (remove w.firings i) j ≡ Some f → f.descriptor ≡ e.descriptor → f.side ≡ side_of_function e.timer.function → f.timer.sequence ≢ of_side (side_of_function e.timer.function) row.descriptor.sequences
   others_stale j f is same same_side f_now =
       skip_apart i j
       (same_firing _ _
       (h.timers.one_current (FiringAt (skip i j)) (FiringAt i) f e (sym (slice_get-remove w.firings i j e at) ∙ is) at same (same_side ∙ sym fits_it.side)
       (current_of f same (f_now ∙ ap (λ s. of_side s row.descriptor.sequences) (sym same_side))) (current_of e refl now_here)))
 
-pub current_is : (f : TimerFunction) (n : ℕ) (d : Descriptor) → not (is_current f n d) ≡ false → n ≡ of_side (side_of_function f) d.sequences
+current_is : (f : TimerFunction) (n : ℕ) (d : Descriptor) → not (is_current f n d) ≡ false → n ≡ of_side (side_of_function f) d.sequences
 current_is f n d e = same_number n (of_side (side_of_function f) d.sequences) (positive (n == of_side (side_of_function f) d.sequences) e)
   where
     positive : (b : Bool) → not b ≡ false → b ≡ true

@@ -20,7 +20,7 @@ use Rattle.nr_rev.proofs.RowSet.{row_keeps}
 use Rattle.nr_rev.proofs.WordSet.{unheld, same_place, told, held_sum, parked_at}
 
 -- a word that says nothing of a goroutine
-abbrev pub IsClear : Word → Type 0
+abbrev IsClear : Word → Type 0
 IsClear word = (is_held word ≡ false) × (word ≢ Word.Wait)
 
 if_clear : (ioready : Bool) → IsClear (if ioready then Ready else Nil)
@@ -28,7 +28,7 @@ if_clear true = (refl, λ e. cc)
 if_clear false = (refl, λ e. cc)
 
 -- a word that held nobody is cleared
-pub cleared_words : (gs : List Status) (rows : List DescriptorRow) (waiters d : ℕ) (row : DescriptorRow) (side : Side) (old new : Word) → slice_get rows d ≡ Some row → of_side side row.descriptor.words ≡ old → is_held old ≡ false → IsClear new → WordsFit gs rows waiters → WordsFit gs (with_word_at rows d row side new) waiters
+cleared_words : (gs : List Status) (rows : List DescriptorRow) (waiters d : ℕ) (row : DescriptorRow) (side : Side) (old new : Word) → slice_get rows d ≡ Some row → of_side side row.descriptor.words ≡ old → is_held old ≡ false → IsClear new → WordsFit gs rows waiters → WordsFit gs (with_word_at rows d row side new) waiters
 cleared_words gs rows waiters d row side old new at is none clear h =
     record {
       held = λ k e s. (
@@ -53,10 +53,10 @@ cleared_words gs rows waiters d row side old new at is none clear h =
     }
 
 -- the world after a side of d is unblocked
-abbrev pub unblocked_world : World → ℕ → DescriptorRow → Side → Word × List ℕ → World
+abbrev unblocked_world : World → ℕ → DescriptorRow → Side → Word × List ℕ → World
 unblocked_world w d row side new = all_woken new.1 (with_row d (reworded row (with_side side new.0 row.descriptor.words)) w)
 
-pub unblocked_quietly : (w : World) (d : ℕ) (row : DescriptorRow) (side : Side) (old new : Word) → WellFormed w → slice_get w.descriptors d ≡ Some row → is_free_number d w.free ≡ false → of_side side row.descriptor.words ≡ old → is_held old ≡ false → IsClear new → WellFormed (unblocked_world w d row side (new, []))
+unblocked_quietly : (w : World) (d : ℕ) (row : DescriptorRow) (side : Side) (old new : Word) → WellFormed w → slice_get w.descriptors d ≡ Some row → is_free_number d w.free ≡ false → of_side side row.descriptor.words ≡ old → is_held old ≡ false → IsClear new → WellFormed (unblocked_world w d row side (new, []))
 unblocked_quietly w d row side old new h at is_open is none clear =
     row_keeps w w.goroutines w.waiters d w.next_arming row _ h at is_open refl h.goroutines h.queues
     (cleared_words w.goroutines w.descriptors w.waiters d row side old new at is none clear h.words)

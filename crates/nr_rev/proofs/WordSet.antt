@@ -140,13 +140,13 @@ pub word_has : (w : World) (d : ℕ) (side : Side) (row : DescriptorRow) (word :
 word_has w d side row word at is = ap (option_map (λ (r : DescriptorRow). of_side side r.descriptor.words)) at ∙ ap Some is
 
 -- a word that holds a goroutine holds the one inside, and it is parked
-pub held_alone : (w : World) (g k d : ℕ) (side : Side) → WellFormed w → IsInside w.goroutines g d side → HasWord w.descriptors d side (Held k) → slice_get w.goroutines g ≡ Some (Parked d side)
+held_alone : (w : World) (g k d : ℕ) (side : Side) → WellFormed w → IsInside w.goroutines g d side → HasWord w.descriptors d side (Held k) → slice_get w.goroutines g ≡ Some (Parked d side)
 held_alone w g k d side h inside has =
     let at : slice_get w.goroutines k ≡ Some (Parked d side) = parked_at w.goroutines k d side ((h.words.held k d side).0 has) in
     ap (slice_get w.goroutines) (h.goroutines.one_inside g k d side inside (ap (option_and_then wait_of) at)) ∙ at
 
 -- where a word is wait the one inside leaves it so
-pub waiting_alone : (w : World) (g d : ℕ) (side : Side) → WellFormed w → IsInside w.goroutines g d side → HasWord w.descriptors d side Word.Wait → Shows awaiting_of w.goroutines g (d, side)
+waiting_alone : (w : World) (g d : ℕ) (side : Side) → WellFormed w → IsInside w.goroutines g d side → HasWord w.descriptors d side Word.Wait → Shows awaiting_of w.goroutines g (d, side)
 waiting_alone w g d side h inside has =
     let a = h.words.waited d side has in
     let same : g ≡ a.0 = h.goroutines.one_inside g a.0 d side inside (awaiting_inside _ _ a.1) in

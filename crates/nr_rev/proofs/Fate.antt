@@ -1,5 +1,5 @@
--- The facts on entries and firings last when a side's timer follows its deadline.
-use Rattle.std.proofs.Common.{◌≡◌, ◌≢◌, ◌+◌, Bool, true, false, not, Option, Some, None, ◌⊎◌, inl, inr, refl, sym, ap, subst, ◌∙◌, arith, true≢false, int_eq}
+-- What becomes of a side's timer when a deadline is set; the facts on entries and firings last.
+use Rattle.std.proofs.Common.{◌≡◌, ◌≢◌, ℕ, ◌+◌, List, [], ◌∷◌, Bool, true, false, not, Option, Some, None, ◌⊎◌, inl, inr, refl, sym, ap, subst, ◌∙◌, arith, true≢false, int_eq}
 use Rattle.std.proofs.lemmas.Option.{same_Some, none-some}
 use Rattle.std.proofs.lemmas.Bool.Decides.{Decides-int_eq}
 use Rattle.std.specs.Prelude.{if◌then◌else◌}
@@ -12,14 +12,35 @@ use Rattle.nr_rev.specs.declared.timer.Entry.{Entry}
 use Rattle.nr_rev.specs.declared.descriptor.Descriptor.{Descriptor}
 use Rattle.nr_rev.specs.Descriptor.{is_combo, is_positive, timer_function, wants_timer}
 use Rattle.nr_rev.specs.WellFormed.{EntryFits, FiringFits, IsDueFor}
-use Rattle.nr_rev.proofs.Follows.{Begun, not_true}
+use Rattle.nr_rev.specs.declared.timer.TimerOrder.{TimerOrder}
+use Rattle.nr_rev.specs.declared.timer.TimerOrder.TheVariants.{Arm, Stop}
 use Rattle.nr_rev.proofs.Found.{both_true}
 
--- what became of a side: its timer was kept, armed anew, or stopped
-pub data SideAfter (side : Side) (old new : Descriptor) (before after : Option Timer) : Type 0 where
-  Kept : of_side side new.sequences ≡ of_side side old.sequences → of_side side new.running ≡ of_side side old.running → (of_side side old.running ≡ true → (of_side side new.deadlines ≡ of_side side old.deadlines) × (is_combo new ≡ is_combo old)) → after ≡ before → SideAfter side old new before after
-  Armed : Begun side old new → of_side side new.running ≡ true → wants_timer side new ≡ true → (timer : Timer) → timer.due ≡ of_side side new.deadlines → timer.function ≡ timer_function side new → timer.sequence ≡ of_side side new.sequences → after ≡ Some timer → SideAfter side old new before after
-  Stopped : of_side side new.sequences ≡ of_side side old.sequences + 1 → of_side side new.running ≡ false → after ≡ None → SideAfter side old new before after
+-- a side's timer didn't run, or its sequence was raised
+abbrev pub Begun : Side → Descriptor → Descriptor → Type 0
+Begun side old new = ((of_side side old.running ≡ false) × (of_side side new.sequences ≡ of_side side old.sequences)) ⊎ (of_side side new.sequences ≡ of_side side old.sequences + 1)
+
+-- a side's timer is kept, armed anew, or stopped
+pub data Fate (side : Side) (old new : Descriptor) : Type 0 where
+  Kept : of_side side new.sequences ≡ of_side side old.sequences → of_side side new.running ≡ of_side side old.running → (of_side side old.running ≡ true → (of_side side new.deadlines ≡ of_side side old.deadlines) × (is_combo new ≡ is_combo old)) → Fate side old new
+  Armed : Begun side old new → of_side side new.running ≡ true → wants_timer side new ≡ true → Fate side old new
+  Stopped : of_side side new.sequences ≡ of_side side old.sequences + 1 → of_side side new.running ≡ false → Fate side old new
+
+-- the orders for it
+abbrev pub orders_of : (side : Side) (old new : Descriptor) → Fate side old new → List TimerOrder
+orders_of side old new (Kept sequence running same) = []
+orders_of side old new (Armed begun running wants) = Arm side (of_side side new.deadlines) (timer_function side new) (of_side side new.sequences) ∷ []
+orders_of side old new (Stopped raised halted) = Stop side ∷ []
+
+-- the timer that it leaves, where n is the next arming number
+abbrev pub timer_left : (side : Side) (old new : Descriptor) → Option Timer → ℕ → Fate side old new → Option Timer
+timer_left side old new before n (Kept sequence running same) = before
+timer_left side old new before n (Armed begun running wants) = Some (record { due = of_side side new.deadlines; number = n; function = timer_function side new; sequence = of_side side new.sequences })
+timer_left side old new before n (Stopped raised halted) = None
+
+pub not_true : (a : Bool) → not a ≡ true → a ≡ false
+not_true true e = cc
+not_true false e = refl
 
 wanted_positive : (side : Side) (d : Descriptor) → wants_timer side d ≡ true → is_positive (of_side side d.deadlines) ≡ true
 wanted_positive Read d e = e
@@ -29,9 +50,9 @@ pub function_like : (side : Side) (old new : Descriptor) → is_combo new ≡ is
 function_like Read old new e = ap (λ b. if b then TimerFunction.Both else TimerFunction.Read) e
 function_like Write old new e = refl
 
-pub entry_fits : (side : Side) (old new : Descriptor) (before after : Option Timer) (timer : Timer) → SideAfter side old new before after → ((t : Timer) → before ≡ Some t → EntryFits old side t) → after ≡ Some timer → EntryFits new side timer
-entry_fits side old new before after timer (Kept sequence running same kept) h is =
-    let was : EntryFits old side timer = h timer (sym kept ∙ is) in
+pub entry_fits : (side : Side) (old new : Descriptor) (before : Option Timer) (n : ℕ) (timer : Timer) (fate : Fate side old new) → ((t : Timer) → before ≡ Some t → EntryFits old side t) → timer_left side old new before n fate ≡ Some timer → EntryFits new side timer
+entry_fits side old new before n timer (Kept sequence running same) h is =
+    let was : EntryFits old side timer = h timer is in
     let alike = same was.running in
     record {
       sequence = was.sequence ∙ sym sequence;
@@ -40,17 +61,10 @@ entry_fits side old new before after timer (Kept sequence running same kept) h i
       due = was.due ∙ sym alike.0;
       function = was.function ∙ sym (function_like side old new alike.1);
     }
-entry_fits side old new before after timer (Armed begun running wants armed due function sequence now) h is =
-    let e : armed ≡ timer = same_Some _ _ (sym now ∙ is) in
-    subst (EntryFits new side) e
-    (record {
-      sequence = sequence;
-      running = running;
-      positive = ap is_positive due ∙ wanted_positive side new wants;
-      due = due;
-      function = function;
-    })
-entry_fits side old new before after timer (Stopped raised halted now) h is = absurd (none-some _ (sym now ∙ is))
+entry_fits side old new before n timer (Armed begun running wants) h is =
+    subst (EntryFits new side) (same_Some _ _ is)
+    (record { sequence = refl; running = running; positive = wanted_positive side new wants; due = refl; function = refl })
+entry_fits side old new before n timer (Stopped raised halted) h is = absurd (none-some _ is)
 
 -- under combo both deadlines are to come
 pub combo_positive : (d : Descriptor) → is_combo d ≡ true → (s : Side) → is_positive (of_side s d.deadlines) ≡ true
@@ -82,8 +96,8 @@ covered TimerFunction.Read Write side e c = cc
 covered TimerFunction.Write Read side e c = cc
 covered TimerFunction.Write Write side e c = inl (sym e)
 
-pub firing_fits : (e : Entry) (old new : Descriptor) (before after : Option Timer) → SideAfter e.side old new before after → FiringFits old e → FiringFits new e
-firing_fits e old new before after (Kept sequence running same kept) h =
+pub firing_fits : (e : Entry) (old new : Descriptor) → Fate e.side old new → FiringFits old e → FiringFits new e
+firing_fits e old new (Kept sequence running same) h =
     record {
       side = h.side;
       sequence = rw sequence h.sequence;
@@ -102,7 +116,7 @@ firing_fits e old new before after (Kept sequence running same kept) h =
             function = due.function ∙ sym (function_like e.side old new alike.1);
           };
     }
-firing_fits e old new before after (Armed begun running wants armed due function sequence now) h =
+firing_fits e old new (Armed begun running wants) h =
     elim begun [
       | inl rest ↦
           record {
@@ -115,7 +129,7 @@ firing_fits e old new before after (Armed begun running wants armed due function
           let most = h.sequence in
           record { side = h.side; sequence = omega arith; due = h.due; current = λ now. absurd (omega arith) }
     ]
-firing_fits e old new before after (Stopped raised halted now) h =
+firing_fits e old new (Stopped raised halted) h =
     let most = h.sequence in
     record { side = h.side; sequence = omega arith; due = h.due; current = λ now. absurd (omega arith) }
 
@@ -128,12 +142,12 @@ none_current e old new begun h now =
     ]
 
 -- under combo no timer of the write side runs
-pub combo_fits : (old new : Descriptor) (before after : Option Timer) → SideAfter Write old new before after → (is_combo old ≡ true → old.running.write ≡ false) → is_combo new ≡ true → new.running.write ≡ false
-combo_fits old new before after (Kept sequence running same kept) h combo = running ∙ go old.running.write refl
+pub combo_fits : (old new : Descriptor) → Fate Write old new → (is_combo old ≡ true → old.running.write ≡ false) → is_combo new ≡ true → new.running.write ≡ false
+combo_fits old new (Kept sequence running same) h combo = running ∙ go old.running.write refl
   where
     go : (b : Bool) → old.running.write ≡ b → old.running.write ≡ false
     go true e = h (sym (same e).1 ∙ combo)
     go false e = e
-combo_fits old new before after (Armed begun running wants armed due function sequence now) h combo =
+combo_fits old new (Armed begun running wants) h combo =
     absurd (true≢false (sym combo ∙ not_true (is_combo new) (both_true (is_positive new.deadlines.write) (not (is_combo new)) wants).1))
-combo_fits old new before after (Stopped raised halted now) h combo = halted
+combo_fits old new (Stopped raised halted) h combo = halted
