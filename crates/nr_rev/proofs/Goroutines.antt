@@ -11,7 +11,7 @@ use Rattle.nr_rev.specs.WellFormed.{WellFormed, GoroutinesFit, socket_named, owe
 use Rattle.nr_rev.proofs.Lists.{slice_get-push_unseen}
 use Rattle.nr_rev.proofs.Numbers.{below_of}
 use Rattle.std.specs.Prelude.{nat_lt}
-use Rattle.nr_rev.proofs.SameViews.{SameView, WordsFit-same, QueuesFit-same}
+use Rattle.nr_rev.proofs.SameViews.{SameView, reviewed}
 use Rattle.nr_rev.proofs.Found.{Ends-idle}
 use Rattle.nr_rev.proofs.StatusSet.{may_leave, moved}
 use Rattle.nr_rev.proofs.Outcomes.{Keeps, Ends-ok, Ends-then, Ends-refused_unless}
@@ -30,24 +30,11 @@ idle_goroutines gs sockets rows free h =
 
 spawned : (w : World) → WellFormed w → length w.goroutines < w.limits.goroutines → WellFormed (record w { goroutines = w.goroutines ++ Idle ∷ [] })
 spawned w h room =
-    record {
-      goroutines = idle_goroutines w.goroutines w.sockets w.descriptors w.free h.goroutines;
-      words =
-          WordsFit-same w.goroutines _ w.descriptors w.waiters
-          (λ g. slice_get-push_unseen (option_and_then parked_of) w.goroutines Idle g refl)
-          (λ g. slice_get-push_unseen (option_and_then awaiting_of) w.goroutines Idle g refl)
-          h.words;
-      queues =
-          QueuesFit-same w.goroutines _ w.sockets (λ s side g. slice_get-push_unseen (is_queued s side) w.goroutines Idle g refl) h.queues;
-      timers = h.timers;
-      free = h.free;
-      sockets = h.sockets;
-      goroutines_limited = rw length-append (omega arith);
-      sockets_limited = h.sockets_limited;
-      descriptors_limited = h.descriptors_limited;
-      firings_limited = h.firings_limited;
-      clock = h.clock;
-    }
+    reviewed w (w.goroutines ++ Idle ∷ []) h (idle_goroutines w.goroutines w.sockets w.descriptors w.free h.goroutines)
+    (λ g. slice_get-push_unseen (option_and_then parked_of) w.goroutines Idle g refl)
+    (λ g. slice_get-push_unseen (option_and_then awaiting_of) w.goroutines Idle g refl)
+    (λ s side g. slice_get-push_unseen (is_queued s side) w.goroutines Idle g refl)
+    (rw length-append (omega arith))
 
 pub spawn_sound : (w : World) → WellFormed w → Keeps (spawn w)
 spawn_sound w h =

@@ -1,5 +1,5 @@
 -- Goroutines that show the same keep what the facts say of them.
-use Rattle.std.proofs.Common.{◌≡◌, ℕ, List, Option, sym, ap, ◌∙◌}
+use Rattle.std.proofs.Common.{◌≡◌, ℕ, ◌≤◌, List, length, Option, sym, ap, ◌∙◌}
 use Rattle.std.specs.List.{slice_get}
 use Rattle.std.specs.Option.{option_and_then}
 use Rattle.nr_rev.specs.declared.sides.Side.{Side}
@@ -7,7 +7,8 @@ use Rattle.nr_rev.specs.declared.status.Status.{Status}
 use Rattle.nr_rev.specs.Socket.{Socket}
 use Rattle.nr_rev.specs.declared.descriptor.DescriptorRow.{DescriptorRow}
 use Rattle.nr_rev.specs.Lock.{bit}
-use Rattle.nr_rev.specs.WellFormed.{WordsFit, QueuesFit, parked_of, awaiting_of, is_queued}
+use Rattle.nr_rev.specs.World.{World}
+use Rattle.nr_rev.specs.WellFormed.{WellFormed, GoroutinesFit, WordsFit, QueuesFit, parked_of, awaiting_of, is_queued}
 
 -- each goroutine shows the same in both lists
 abbrev pub SameView : {B : Type 0} → (Option Status → B) → List Status → List Status → Type 0
@@ -24,3 +25,20 @@ WordsFit-same old new rows waiters parked awaiting h =
 pub QueuesFit-same : (old new : List Status) (sockets : List Socket) → ((s : ℕ) (side : Side) → SameView (is_queued s side) old new) → QueuesFit old sockets → QueuesFit new sockets
 QueuesFit-same old new sockets same h =
     record { queued = λ g s side socket at. h.queued g s side socket at ∙ sym (ap bit (same s side g)) }
+
+-- goroutines change in no way that words or queues tell of
+pub reviewed : (w : World) (gs : List Status) → WellFormed w → GoroutinesFit gs w.sockets w.descriptors w.free → SameView (option_and_then parked_of) w.goroutines gs → SameView (option_and_then awaiting_of) w.goroutines gs → ((s : ℕ) (side : Side) → SameView (is_queued s side) w.goroutines gs) → length gs ≤ w.limits.goroutines → WellFormed (record w { goroutines = gs })
+reviewed w gs h goroutines parked awaits queued limited =
+    record {
+      goroutines = goroutines;
+      words = WordsFit-same w.goroutines gs w.descriptors w.waiters parked awaits h.words;
+      queues = QueuesFit-same w.goroutines gs w.sockets queued h.queues;
+      timers = h.timers;
+      free = h.free;
+      sockets = h.sockets;
+      goroutines_limited = limited;
+      sockets_limited = h.sockets_limited;
+      descriptors_limited = h.descriptors_limited;
+      firings_limited = h.firings_limited;
+      clock = h.clock;
+    }

@@ -12,7 +12,7 @@ use Rattle.nr_rev.proofs.Lists.{slice_get-set_cases, slice_get-set_unseen}
 use Rattle.std.proofs.lemmas.Option.{none-some, same_Some}
 use Rattle.nr_rev.specs.declared.status.Status.TheVariants.{Idle, Owing}
 use Rattle.nr_rev.specs.declared.sides.Sides.{Sides}
-use Rattle.nr_rev.proofs.SameViews.{WordsFit-same, QueuesFit-same}
+use Rattle.nr_rev.proofs.SameViews.{reviewed}
 use Rattle.nr_rev.specs.Step.{owing}
 use Rattle.nr_rev.specs.declared.sides.Side.TheVariants.{Read, Write}
 use Rattle.nr_rev.specs.Sides.{of_side}
@@ -99,23 +99,11 @@ may_stay w g old new place h at from to unnamed owes_none =
 -- a goroutine moves to a status that the words and the queues can't tell from its own
 pub moved : (w : World) (g : ℕ) (old new : Status) → WellFormed w → slice_get w.goroutines g ≡ Some old → MayMove w.goroutines w.sockets w.descriptors w.free g new → parked_of new ≡ parked_of old → awaiting_of new ≡ awaiting_of old → ((s : ℕ) (side : Side) → is_queued s side (Some new) ≡ is_queued s side (Some old)) → WellFormed (with_status g new w)
 moved w g old new h at may parked awaits queued =
-    record {
-      goroutines = GoroutinesFit-moved _ w.sockets w.descriptors w.free g old new at may h.goroutines;
-      words =
-          WordsFit-same w.goroutines _ w.descriptors w.waiters
-          (λ k. slice_get-set_unseen (option_and_then parked_of) w.goroutines g old new k at parked)
-          (λ k. slice_get-set_unseen (option_and_then awaiting_of) w.goroutines g old new k at awaits)
-          h.words;
-      queues = QueuesFit-same w.goroutines _ w.sockets (λ s side k. slice_get-set_unseen (is_queued s side) w.goroutines g old new k at (queued s side)) h.queues;
-      timers = h.timers;
-      free = h.free;
-      sockets = h.sockets;
-      goroutines_limited = rw length-set h.goroutines_limited;
-      sockets_limited = h.sockets_limited;
-      descriptors_limited = h.descriptors_limited;
-      firings_limited = h.firings_limited;
-      clock = h.clock;
-    }
+    reviewed w (set w.goroutines g new) h (GoroutinesFit-moved _ w.sockets w.descriptors w.free g old new at may h.goroutines)
+    (λ k. slice_get-set_unseen (option_and_then parked_of) w.goroutines g old new k at parked)
+    (λ k. slice_get-set_unseen (option_and_then awaiting_of) w.goroutines g old new k at awaits)
+    (λ s side k. slice_get-set_unseen (is_queued s side) w.goroutines g old new k at (queued s side))
+    (rw length-set h.goroutines_limited)
 
 pub record IsOutside (status : Status) : Type 0 where
   pub waits : wait_of status ≡ None

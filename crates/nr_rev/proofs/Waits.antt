@@ -6,7 +6,7 @@ use Rattle.nr_rev.specs.declared.sides.Side.{Side}
 use Rattle.nr_rev.specs.declared.status.Status.TheVariants.{Idle, Entering, Armed, Parking, Parked, Swapping, Checking}
 use Rattle.nr_rev.specs.World.{World, is_waited, with_status, wait_of, with_row, is_free_number}
 use Rattle.nr_rev.specs.Step.{Outcome, waitbegin, blockarm, blockswap, pollreset, with_wait, armed_by, swapped_by, entering_of, swapping_of, status_of, row_of, parkcommit, parking_of, committed_by, blockcheck, waitcheck, armed_of, checking_of}
-use Rattle.nr_rev.specs.WellFormed.{WellFormed, IsOpen, awaiting_of, is_held}
+use Rattle.nr_rev.specs.WellFormed.{WellFormed, IsOpen, is_held}
 use Rattle.nr_rev.specs.declared.status.Status.{Status}
 use Rattle.nr_rev.specs.Descriptor.{check}
 use Rattle.nr_rev.specs.Refusing.{◌>>=◌}
@@ -37,22 +37,19 @@ entered w g d side h at_g is_open nobody =
 swapped : (w : World) (g d : ℕ) (side : Side) (row : DescriptorRow) (word : Word) → WellFormed w → slice_get w.goroutines g ≡ Some (Swapping d side) → slice_get w.descriptors d ≡ Some row → of_side side row.descriptor.words ≡ word → WellFormed (swapped_by g d side word row w).1
 swapped w g d side row word h at row_at is = go word is
   where
-    only : (k : ℕ) (s : Side) → awaiting_of (Swapping d side) ≡ Some (k, s) → (k ≡ d) × (s ≡ side)
-    only k s e = same_place d k side s e
-
     is_open : is_free_number d w.free ≡ false
     is_open = (h.goroutines.inside_open g d side (ap (option_and_then wait_of) at)).1
 
     checks : (was : Word) → of_side side row.descriptor.words ≡ was → is_held was ≡ false → WellFormed (with_wait g (Checking d side) d side Nil row w)
     checks was is free =
         worded w g d side row (Swapping d side) (Checking d side) was Nil h at row_at is_open is free refl
-        (record { unparked = (refl, refl); awaits = λ e. cc; only = only; unqueued = λ _ _. refl })
+        (record { unparked = (refl, refl); awaits = λ e. cc; only = λ k s e. same_place d k side s e; unqueued = λ _ _. refl })
         (may_stay w g _ _ (d, side) h at refl refl refl refl)
 
     go : (was : Word) → of_side side row.descriptor.words ≡ was → WellFormed (swapped_by g d side was row w).1
     go Ready is =
         worded w g d side row (Swapping d side) Idle Ready Nil h at row_at is_open is refl refl
-        (record { unparked = (refl, refl); awaits = λ e. cc; only = only; unqueued = λ _ _. refl })
+        (record { unparked = (refl, refl); awaits = λ e. cc; only = λ k s e. same_place d k side s e; unqueued = λ _ _. refl })
         (may_leave w g Idle refl refl refl)
     go Nil is = checks Nil is refl
     go Word.Wait is = checks Word.Wait is refl
