@@ -12,8 +12,9 @@ use Rattle.nr_rev.proofs.Found.{neither_of, nobody_inside, Ends-idle, Ends-socke
 use Rattle.nr_rev.specs.declared.sides.Mode.{Mode}
 use Rattle.nr_rev.specs.Sides.{names_side, of_side, twice, with_side}
 use Rattle.nr_rev.specs.declared.timer.Timer.{Timer}
+use Rattle.nr_rev.specs.Timer.{IsTime}
 use Rattle.nr_rev.specs.declared.timer.Entry.{Entry}
-use Rattle.nr_rev.specs.Descriptor.{quiet, stop_if, evicted}
+use Rattle.nr_rev.specs.Descriptor.{is_combo, quiet, stop_if, evicted}
 use Rattle.nr_rev.specs.Step.{pollevent, changed, all_obeyed, evict, pollopen, pollclose, taken, new_row}
 use Rattle.nr_rev.proofs.Changes.{changed_keeps, none_at_rest, set_set}
 use Rattle.nr_rev.proofs.Retimed.{Retimed, TimersFit-retimed, armed_names}
@@ -42,10 +43,18 @@ Ends-stopped false true before n read write = Ends-ok (each_side _ (read refl) r
 Ends-stopped false false before n read write = Ends-ok (each_side _ (read refl) (write refl), refl)
 
 -- both timers are gone, and both sequences were raised
-gone_retimed : (w : World) (d : ℕ) (old new : DescriptorRow) → WellFormed w → ((side : Side) → of_side side new.timers ≡ None) → BothRaised old.descriptor.sequences new.descriptor.sequences → RowFits new → Retimed w.firings d old new w.next_arming w.next_arming
-gone_retimed w d old new h none raised fits =
+gone_retimed : (w : World) (d : ℕ) (old new : DescriptorRow) → WellFormed w → ((side : Side) → of_side side new.timers ≡ None) → BothRaised old.descriptor.sequences new.descriptor.sequences → (is_combo new.descriptor ≡ true → new.descriptor.running.write ≡ false) → (new.descriptor.closing ≡ true → new.descriptor.running ≡ twice false) → new.descriptor.fdseq < 2 ^ 64 → ((side : Side) → IsTime (of_side side new.descriptor.deadlines)) → Retimed w.firings d old new w.next_arming w.next_arming
+gone_retimed w d old new h none raised combo closing fdseq times =
     record {
-      fits = fits;
+      fits =
+          record {
+            entries = λ side timer is. absurd (none-some _ (sym (none side) ∙ is));
+            combo = combo;
+            closing = closing;
+            sequences = λ side. (raised side).1;
+            fdseq = fdseq;
+            times = times;
+          };
       firing = λ i e _ _ f.
           let most = f.sequence in
           let up = (raised e.side).0 in
@@ -58,20 +67,6 @@ gone_retimed w d old new h none raised fits =
       apart = λ s t a b is_a is_b new_number same. absurd (none-some _ (sym (none s) ∙ is_a));
       rises = omega arith;
       in_range = h.timers.in_range;
-    }
-
-abbrev stopped : DescriptorRow → Sides ℕ → Sides (Option Timer) → DescriptorRow
-stopped row sequences timers = record { descriptor = record row.descriptor { closing = true; sequences = sequences; running = twice false }; timers = timers }
-
-RowFits-stopped : (row : DescriptorRow) (sequences : Sides ℕ) (timers : Sides (Option Timer)) → RowFits row → ((side : Side) → of_side side timers ≡ None) → BothRaised row.descriptor.sequences sequences → RowFits (stopped row sequences timers)
-RowFits-stopped row sequences timers h none raised =
-    record {
-      entries = λ side timer is. absurd (none-some _ (sym (none side) ∙ is));
-      combo = λ _. refl;
-      closing = λ _. refl;
-      sequences = λ side. (raised side).1;
-      fdseq = h.fdseq;
-      times = h.times;
     }
 
 swap_equal : (a b : ℕ) → (a == b) ≡ (b == a)
@@ -382,27 +377,20 @@ begun_row row s sequences =
           };
     }
 
-RowFits-begun : (s : ℕ) (row : DescriptorRow) (sequences : Sides ℕ) → RowFits row → ((side : Side) → of_side side row.timers ≡ None) → BothRaised row.descriptor.sequences sequences → RowFits (begun_row row s sequences)
-RowFits-begun s row sequences h none raised =
-    record {
-      entries = λ side timer is. absurd (none-some _ (sym (none side) ∙ is));
-      combo = λ e. cc;
-      closing = λ e. cc;
-      sequences = λ side. (raised side).1;
-      fdseq = fdseq (row.descriptor.fdseq == 0);
-      times = each_side _ (record { sfits = lit< tt }) (record { sfits = lit< tt });
-    }
-  where
-    fdseq : (b : Bool) → (if b then 1 else row.descriptor.fdseq) < 2 ^ 64
-    fdseq true = omega arith
-    fdseq false = h.fdseq
-
 begins : (w : World) (d s : ℕ) (row : DescriptorRow) (sequences : Sides ℕ) → Taken w d → slice_get w.descriptors d ≡ Some row → BothRaised row.descriptor.sequences sequences → WellFormed (with_row d (begun_row row s sequences) w)
 begins w d s row sequences t at raised =
     subst WellFormed same
     (retimed_keeps second d w.next_arming row2 _ h2 at2 t.is_open refl
-    (gone_retimed second d row2 _ h2 none raised (RowFits-begun s row2 sequences (h2.timers.entries_fit d row2 at2) none raised)))
+    (gone_retimed second d row2 _ h2 none raised (λ e. cc) (λ e. cc) (fdseq (row.descriptor.fdseq == 0))
+    (each_side _ (record { sfits = lit< tt }) (record { sfits = lit< tt }))))
   where
+    fits : RowFits row
+    fits = t.fits.timers.entries_fit d row at
+
+    fdseq : (b : Bool) → (if b then 1 else row.descriptor.fdseq) < 2 ^ 64
+    fdseq true = omega arith
+    fdseq false = fits.fdseq
+
     row1 : DescriptorRow
     row1 = reworded row (with_side Read Nil row.descriptor.words)
 
@@ -428,7 +416,7 @@ begins w d s row sequences t at raised =
     at2 = slice_get-set_here first.descriptors d row1 row2 at1
 
     none : (side : Side) → of_side side row.timers ≡ None
-    none side = none_at_rest row side (t.fits.timers.entries_fit d row at) (ap (of_side side) (t.rests row at) ∙ of_side-twice side false)
+    none side = none_at_rest row side fits (ap (of_side side) (t.rests row at) ∙ of_side-twice side false)
 
     same : with_row d (begun_row row2 s sequences) second ≡ with_row d (begun_row row s sequences) w
     same =
@@ -478,8 +466,7 @@ evict_sound w g d h =
         })
         true true false h at is_open refl refl
         (Ends-map (Ends-stopped row.descriptor.running.read row.descriptor.running.write row.timers w.next_arming (none_at_rest row Read before) (none_at_rest row Write before)) λ left stops _.
-        subst (λ n. Retimed w.firings d row (stopped row sequences left.0) w.next_arming n) stops.1
-        (gone_retimed w d row _ h stops.0 raised (RowFits-stopped row sequences left.0 before stops.0 raised))))
+        subst (Retimed w.firings d row _ w.next_arming) stops.1 (gone_retimed w d row _ h stops.0 raised (λ _. refl) (λ _. refl) before.fdseq before.times)))
 
 pub pollevent_sound : (w : World) (d tag : ℕ) (mode : Mode) (error : Bool) → WellFormed w → Keeps (pollevent d tag mode error w)
 pollevent_sound w d tag mode error h =

@@ -18,7 +18,7 @@ use Rattle.nr_rev.specs.Step.{rwlock, socket_of, may_lock, locker, incref, incre
 use Rattle.nr_rev.specs.WellFormed.{WellFormed, LockFits, SocketFits, IsField, socket_named, owed_of}
 use Rattle.nr_rev.proofs.BothSides.{each_side, with_side_all}
 use Rattle.nr_rev.proofs.Numbers.{below_of, lowered}
-use Rattle.nr_rev.proofs.StatusSet.{IsOutside, moved_outside, idle_outside, comes_to_owe}
+use Rattle.nr_rev.proofs.StatusSet.{is_outside, moved_outside, comes_to_owe}
 use Rattle.nr_rev.proofs.SocketSet.{resocketed}
 use Rattle.nr_rev.proofs.Outcomes.{Ends, Keeps, Ends-ok, Ends-bind, Ends-then, Ends-either, Ends-refused_if, Ends-refused_unless}
 use Rattle.nr_rev.proofs.Found.{Ends-idle, Ends-status_of, Ends-socket_of}
@@ -40,13 +40,13 @@ Ends-rw_lock side lock h =
     Ends-bind (Ends-raised_field lock.references) λ n small.
     Ends-ok (record { references = small; waiters = h.waiters }))
 
-lockers_are_outside : (s : ℕ) (side : Side) (answer : Answer) → IsOutside (locker s side answer)
-lockers_are_outside s side Answer.Wait = record { waits = refl; parked = refl; awaits = refl; queued = λ _ _. refl }
-lockers_are_outside s side _ = record { waits = refl; parked = refl; awaits = refl; queued = λ _ _. refl }
+lockers_are_outside : (s : ℕ) (side : Side) (answer : Answer) → is_outside (locker s side answer) ≡ true
+lockers_are_outside s side Answer.Wait = refl
+lockers_are_outside s side _ = refl
 
-may_lock_outside : (s : ℕ) (side : Side) (status : Status) → may_lock s side status ≡ true → IsOutside status
-may_lock_outside s side Idle e = record { waits = refl; parked = refl; awaits = refl; queued = λ _ _. refl }
-may_lock_outside s side (Relock k other) e = record { waits = refl; parked = refl; awaits = refl; queued = λ _ _. refl }
+may_lock_outside : (s : ℕ) (side : Side) (status : Status) → may_lock s side status ≡ true → is_outside status ≡ true
+may_lock_outside s side Idle e = refl
+may_lock_outside s side (Relock k other) e = refl
 may_lock_outside s side _ e = cc
 
 locker_named : (s : ℕ) (side : Side) (answer : Answer) (k : ℕ) → socket_named (locker s side answer) ≡ Some k → s ≡ k
@@ -74,7 +74,7 @@ lock_keeps op status w g s leaves h =
     (subst (λ x. WellFormed (with_status g x (with_socket s (record socket { lock = left.lock }) w))) (sym l.owes)
     (comes_to_owe _ g s Idle left.owed
     (resocketed w s socket _ h there (λ _. refl) (record { lock = l.lock; counts = fits.counts; bytes = fits.bytes; capacities = fits.capacities }))
-    at idle_outside (rw length-set (slice_get_within _ _ _ there)) l.owed))
+    at refl (rw length-set (slice_get_within _ _ _ there)) l.owed))
 
 none_owed : (side : Side) → IsField (of_side side (twice 0))
 none_owed = each_side _ (omega arith) (omega arith)

@@ -15,7 +15,7 @@ use Rattle.nr_rev.specs.WellFormed.{WellFormed, SocketFits, IsField, socket_name
 use Rattle.nr_rev.proofs.Lists.{slice_get-set_cases}
 use Rattle.nr_rev.proofs.BothSides.{each_side, with_side_all}
 use Rattle.nr_rev.proofs.Found.{both_true, Ends-status_of, Ends-socket_of, Ends-acquiring_of, Ends-owing_of}
-use Rattle.nr_rev.proofs.StatusSet.{MayMove, IsOutside, moved_outside, comes_to_owe}
+use Rattle.nr_rev.proofs.StatusSet.{MayMove, moved_outside, comes_to_owe}
 use Rattle.nr_rev.specs.Lock.{bit}
 use Rattle.nr_rev.specs.Semaphore.{Semaphore, is_free, front_of, released}
 use Rattle.nr_rev.specs.Step.{acquire, release, with_semaphore, tries_again}
@@ -50,9 +50,6 @@ queue_kept Read Read socket semaphore e = e
 queue_kept Read Write socket semaphore e = refl
 queue_kept Write Read socket semaphore e = refl
 queue_kept Write Write socket semaphore e = e
-
-outside_acquiring : (s : ℕ) (side : Side) → IsOutside (Acquiring s side)
-outside_acquiring s side = record { waits = refl; parked = refl; awaits = refl; queued = λ _ _. refl }
 
 queue_pushed : (side s : Side) (g k : ℕ) (socket : Socket) → count_by (λ h. h == k) (of_side s (resemaphored side socket (record (of_side side socket.semaphores) { queue = (of_side side socket.semaphores).queue ++ g ∷ [] })).semaphores).queue ≡ count_by (λ h. h == k) (of_side s socket.semaphores).queue + bit (same_side s side && (g == k))
 queue_pushed Read Read g k socket = count_push g k socket.semaphores.read.queue
@@ -117,7 +114,7 @@ goes_on w g s side socket h at there =
     let less : (of_side side socket.semaphores).count - 1 < 2 ^ 32 = omega arith in
     moved_outside _ g (Acquiring s side) (Relock s side)
     (resocketed w s socket _ h there (λ other. queue_kept side other socket _ refl) (semaphore_fits _ side socket _ less (h.sockets s socket there)))
-    at (outside_acquiring s side) (record { waits = refl; parked = refl; awaits = refl; queued = λ _ _. refl })
+    at refl refl
     (λ k e. rw length-set (subst (λ (n : ℕ). n < length w.sockets) (same_Some _ _ e) (slice_get_within _ _ _ there)))
     (λ reads writes e. cc)
 
@@ -219,5 +216,5 @@ release_sound w g h =
     let small : (s : Side) → IsField (of_side s debt.1) = each_side _ owed.0 owed.1 in
     Ends-ok
     (comes_to_owe _ g debt.0 (Owing debt.0 debt.1.read debt.1.write) _ r.fits (r.owes g debt.0 debt.1.read debt.1.write at)
-    (record { waits = refl; parked = refl; awaits = refl; queued = λ _ _. refl }) (rw r.sockets (slice_get_within _ _ _ there))
+    refl (rw r.sockets (slice_get_within _ _ _ there))
     (with_side_all IsField (if nat_lt 0 debt.1.read then Read else Write) _ debt.1 (lowered _ (small (if nat_lt 0 debt.1.read then Read else Write))) small))

@@ -10,7 +10,7 @@ use Rattle.nr_rev.specs.World.{wait_of, World, with_status}
 use Rattle.nr_rev.specs.WellFormed.{GoroutinesFit, Shows, IsInside, IsOpen, IsField, socket_named, owed_of, WellFormed, parked_of, awaiting_of, is_queued}
 use Rattle.nr_rev.proofs.Lists.{slice_get-set_cases, slice_get-set_unseen}
 use Rattle.std.proofs.lemmas.Option.{none-some, same_Some}
-use Rattle.nr_rev.specs.declared.status.Status.TheVariants.{Idle, Owing}
+use Rattle.nr_rev.specs.declared.status.Status.TheVariants.{Idle, Acquiring, Relock, Owing}
 use Rattle.nr_rev.specs.declared.sides.Sides.{Sides}
 use Rattle.nr_rev.proofs.SameViews.{reviewed}
 use Rattle.nr_rev.specs.Step.{owing}
@@ -105,14 +105,31 @@ moved w g old new h at may parked awaits queued =
     (λ s side k. slice_get-set_unseen (is_queued s side) w.goroutines g old new k at (queued s side))
     (rw length-set h.goroutines_limited)
 
-pub record IsOutside (status : Status) : Type 0 where
+-- neither parked, nor inside a wait, nor queued
+abbrev pub is_outside : Status → Bool
+is_outside Idle = true
+is_outside (Acquiring s side) = true
+is_outside (Relock s side) = true
+is_outside (Owing s reads writes) = true
+is_outside _ = false
+
+record IsOutside (status : Status) : Type 0 where
   pub waits : wait_of status ≡ None
   pub parked : parked_of status ≡ None
   pub awaits : awaiting_of status ≡ None
   pub queued : (s : ℕ) (side : Side) → is_queued s side (Some status) ≡ false
 
-pub moved_outside : (w : World) (g : ℕ) (old new : Status) → WellFormed w → slice_get w.goroutines g ≡ Some old → IsOutside old → IsOutside new → ((s : ℕ) → socket_named new ≡ Some s → s < length w.sockets) → ((reads writes : ℕ) → owed_of new ≡ Some (reads, writes) → IsField reads × IsField writes × (0 < reads + writes)) → WellFormed (with_status g new w)
-moved_outside w g old new h at from to named owes =
+outside : (status : Status) → is_outside status ≡ true → IsOutside status
+outside Idle e = record { waits = refl; parked = refl; awaits = refl; queued = λ _ _. refl }
+outside (Acquiring s side) e = record { waits = refl; parked = refl; awaits = refl; queued = λ _ _. refl }
+outside (Relock s side) e = record { waits = refl; parked = refl; awaits = refl; queued = λ _ _. refl }
+outside (Owing s reads writes) e = record { waits = refl; parked = refl; awaits = refl; queued = λ _ _. refl }
+outside _ e = cc
+
+pub moved_outside : (w : World) (g : ℕ) (old new : Status) → WellFormed w → slice_get w.goroutines g ≡ Some old → is_outside old ≡ true → is_outside new ≡ true → ((s : ℕ) → socket_named new ≡ Some s → s < length w.sockets) → ((reads writes : ℕ) → owed_of new ≡ Some (reads, writes) → IsField reads × IsField writes × (0 < reads + writes)) → WellFormed (with_status g new w)
+moved_outside w g old new h at old_outside new_outside named owes =
+    let from : IsOutside old = outside old old_outside in
+    let to : IsOutside new = outside new new_outside in
     moved w g old new h at
     (record {
       is_open = λ d side e. absurd (none-some _ (sym to.waits ∙ e));
@@ -122,20 +139,17 @@ moved_outside w g old new h at from to named owes =
     })
     (to.parked ∙ sym from.parked) (to.awaits ∙ sym from.awaits) (λ s side. to.queued s side ∙ sym (from.queued s side))
 
-owing_outside : (s : ℕ) (owed : Sides ℕ) → IsOutside (owing s owed)
+owing_outside : (s : ℕ) (owed : Sides ℕ) → is_outside (owing s owed) ≡ true
 owing_outside s owed = go (owed.read + owed.write == 0)
   where
-    go : (none : Bool) → IsOutside (if none then Idle else Owing s owed.read owed.write)
-    go true = record { waits = refl; parked = refl; awaits = refl; queued = λ _ _. refl }
-    go false = record { waits = refl; parked = refl; awaits = refl; queued = λ _ _. refl }
-
-pub idle_outside : IsOutside Idle
-idle_outside = record { waits = refl; parked = refl; awaits = refl; queued = λ _ _. refl }
+    go : (none : Bool) → is_outside (if none then Idle else Owing s owed.read owed.write) ≡ true
+    go true = refl
+    go false = refl
 
 -- a goroutine that was outside comes to owe what the operation left
-pub comes_to_owe : (w : World) (g s : ℕ) (old : Status) (owed : Sides ℕ) → WellFormed w → slice_get w.goroutines g ≡ Some old → IsOutside old → s < length w.sockets → ((side : Side) → IsField (of_side side owed)) → WellFormed (with_status g (owing s owed) w)
-comes_to_owe w g s old owed h at outside within small =
-    moved_outside w g old (owing s owed) h at outside (owing_outside s owed) (λ k e. named k (owed.read + owed.write == 0) e)
+pub comes_to_owe : (w : World) (g s : ℕ) (old : Status) (owed : Sides ℕ) → WellFormed w → slice_get w.goroutines g ≡ Some old → is_outside old ≡ true → s < length w.sockets → ((side : Side) → IsField (of_side side owed)) → WellFormed (with_status g (owing s owed) w)
+comes_to_owe w g s old owed h at was_outside within small =
+    moved_outside w g old (owing s owed) h at was_outside (owing_outside s owed) (λ k e. named k (owed.read + owed.write == 0) e)
     (λ reads writes e. owes reads writes (owed.read + owed.write == 0) refl e)
   where
     named : (k : ℕ) (none : Bool) → socket_named (if none then Idle else Owing s owed.read owed.write) ≡ Some k → k < length w.sockets
