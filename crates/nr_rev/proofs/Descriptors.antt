@@ -1,39 +1,36 @@
 -- Descriptors are opened, evicted and closed, and the poller tells of events.
-use Rattle.std.proofs.Common.{◌≡◌, ℕ, ◌^◌, ◌<◌, Bool, true, not, ◌||◌, Option, Some, refl, subst, ◌+◌, false, [], ◌++◌, None, inr, sym, ap, ◌∙◌, arith, true≢false, lit<, ◌≢◌, ◌≤◌, pos, List, ◌∷◌, ◌⊎◌, inl, ap₂, set, length, length-set, length-append, All}
-use Rattle.std.specs.Prelude.{slice_get, ◌==◌, nat_lt, if◌then◌else◌, count_by, sum_by, option_map}
+use Rattle.std.proofs.Common.{◌≡◌, ℕ, ◌^◌, ◌<◌, Bool, true, not, ◌||◌, Option, Some, refl, subst, ◌+◌, false, [], ◌++◌, None, inr, sym, ap, ◌∙◌, arith, lit<, ◌≢◌, ◌≤◌, pos, ◌∷◌, inl, ap₂, set, length, length-set, All}
+use Rattle.std.specs.Prelude.{slice_get, ◌==◌, if◌then◌else◌, count_by, option_map}
 use Rattle.nr_rev.specs.declared.sides.Side.{Side}
 use Rattle.nr_rev.specs.declared.sides.Side.TheVariants.{Read, Write}
 use Rattle.nr_rev.specs.declared.sides.Sides.{Sides}
 use Rattle.nr_rev.specs.declared.descriptor.DescriptorRow.{DescriptorRow}
 use Rattle.nr_rev.specs.World.{World, is_free_number, with_row, with_descriptor, is_waited}
-use Rattle.nr_rev.specs.WellFormed.{WellFormed, RowFits, TimersFit, IsInside, HasWord, held_count, Stand, ArmedAt, FiringAt, standing, armed_at, IsCurrent}
+use Rattle.nr_rev.specs.WellFormed.{WellFormed, RowFits, IsInside, HasWord}
 use Rattle.nr_rev.proofs.BothSides.{each_side, of_side-twice}
 use Rattle.nr_rev.proofs.Found.{neither_of, nobody_inside, Ends-idle, Ends-socket_of, Ends-row_of, Ends-idle_open}
 use Rattle.nr_rev.specs.declared.sides.Mode.{Mode}
 use Rattle.nr_rev.specs.Sides.{names_side, of_side, twice, with_side}
 use Rattle.nr_rev.specs.declared.timer.Timer.{Timer}
 use Rattle.nr_rev.specs.Timer.{IsTime}
-use Rattle.nr_rev.specs.declared.timer.Entry.{Entry}
 use Rattle.nr_rev.specs.Descriptor.{is_combo, quiet, stop_if, evicted}
-use Rattle.nr_rev.specs.Step.{pollevent, changed, all_obeyed, evict, pollopen, pollclose, taken, new_row}
+use Rattle.nr_rev.specs.Step.{pollevent, changed, all_obeyed, evict, pollopen, pollclose}
 use Rattle.nr_rev.proofs.Changes.{changed_keeps, none_at_rest, set_set}
-use Rattle.nr_rev.proofs.Retimed.{Retimed, TimersFit-retimed, armed_names}
+use Rattle.nr_rev.proofs.Retimed.{Retimed, TimersFit-retimed}
 use Rattle.std.proofs.lemmas.Option.{none-some, same_Some, slice_get_within}
 use Rattle.nr_rev.proofs.Fate.{none_current}
-use Rattle.std.specs.Option.{option_and_then}
-use Rattle.nr_rev.specs.declared.descriptor.Word.{Word}
-use Rattle.nr_rev.specs.declared.descriptor.Word.TheVariants.{Nil, Ready, Held}
-use Rattle.nr_rev.proofs.Lists.{slice_get-set_unseen, slice_get-set_cases, slice_get-set_here, slice_get-push_cases, slice_get-push_kept, slice_get-push_unseen}
+use Rattle.nr_rev.specs.declared.descriptor.Word.TheVariants.{Nil}
+use Rattle.nr_rev.proofs.Lists.{slice_get-set_unseen, slice_get-set_cases, slice_get-set_here}
 use Rattle.nr_rev.proofs.RowSet.{retimed_keeps, WordsFit-rows}
-use Rattle.std.proofs.lemmas.List.Sums.{sum_by-append}
-use Rattle.std.proofs.lemmas.List.Elements.{All-cons, All-tail, All-nil}
+use Rattle.std.proofs.lemmas.List.Elements.{All-cons}
 use Rattle.nr_rev.specs.Lock.{bit}
 use Rattle.nr_rev.proofs.Reworded.{reworded, remarked, remarked_still}
 use Rattle.nr_rev.proofs.WordSet.{word_at_rest, word_has}
 use Rattle.nr_rev.proofs.Unblocked.{cleared}
-use Rattle.nr_rev.proofs.Numbers.{below_of, count_front, number_same, number_apart, same_number}
-use Rattle.nr_rev.proofs.Restood.{TimersFit-restood}
+use Rattle.nr_rev.proofs.Numbers.{count_front, number_apart, same_number}
 use Rattle.nr_rev.proofs.Outcomes.{Ends, Keeps, BothRaised, Ends-ok, Ends-map, Ends-bind, Ends-then, Ends-either, Ends-refused_if, Ends-refused_unless, Ends-raised_sequence, Ends-both_raised}
+use Rattle.nr_rev.proofs.FreeNumbers.{uncounted, free_cases}
+use Rattle.nr_rev.proofs.Taken.{Taken, Ends-taken}
 
 -- the timers that run are stopped, and the others stand nowhere
 Ends-stopped : (r c : Bool) (before : Sides (Option Timer)) (n : ℕ) → (r ≡ false → before.read ≡ None) → (c ≡ false → before.write ≡ None) → Ends (λ left. ((side : Side) → of_side side left.0 ≡ None) × (n ≡ left.1)) (all_obeyed (stop_if r Read ++ stop_if c Write) (before, n))
@@ -68,45 +65,6 @@ gone_retimed w d old new h none raised combo closing fdseq times =
       rises = omega arith;
       in_range = h.timers.in_range;
     }
-
-swap_equal : (a b : ℕ) → (a == b) ≡ (b == a)
-swap_equal a b = grind arith
-
--- a number that isn't among the free ones stands there no time
-uncounted : (d : ℕ) (free : List ℕ) → is_free_number d free ≡ false → count_by (λ f. f == d) free ≡ 0
-uncounted d [] e = refl
-uncounted d (f ∷ free) e =
-    let n = neither_of (d == f) (is_free_number d free) e in
-    let a = count_front f d free in
-    let b : count_by (λ f. f == d) free ≡ 0 = uncounted d free n.1 in
-    let c : bit (f == d) ≡ 0 = ap bit (swap_equal f d ∙ n.0) in
-    omega arith
-
-unfree : (d : ℕ) (free : List ℕ) → count_by (λ f. f == d) free ≡ 0 → is_free_number d free ≡ false
-unfree d [] e = refl
-unfree d (f ∷ free) e =
-    let a = count_front f d free in
-    let b : is_free_number d free ≡ false = unfree d free (omega arith) in
-    let c : (d == f) ≡ false = swap_equal d f ∙ no_bit (f == d) (omega arith) in
-    ap₂ (λ x y. x || y) c b
-  where
-    no_bit : (x : Bool) → bit x ≡ 0 → x ≡ false
-    no_bit true e = absurd (omega arith)
-    no_bit false e = refl
-
-free_cases : (k d : ℕ) (free : List ℕ) → is_free_number k (d ∷ free) ≡ true → (k ≡ d) ⊎ ((k ≢ d) × (is_free_number k free ≡ true))
-free_cases k d free e = go (k == d) refl e
-  where
-    go : (b : Bool) → (k == d) ≡ b → (b || is_free_number k free) ≡ true → (k ≡ d) ⊎ ((k ≢ d) × (is_free_number k free ≡ true))
-    go true is e = inl (same_number k d is)
-    go false is e = inr ((λ same. true≢false (sym (ap (λ n. k == n) (sym same) ∙ number_same k) ∙ is)), e)
-
-free_more : (k d : ℕ) (free : List ℕ) → is_free_number k free ≡ true → is_free_number k (d ∷ free) ≡ true
-free_more k d free e = go (k == d) e
-  where
-    go : (b : Bool) → is_free_number k free ≡ true → (b || is_free_number k free) ≡ true
-    go true e = refl
-    go false e = e
 
 -- an open descriptor on which nobody waits goes to the free ones
 freed : (w : World) (d : ℕ) (row : DescriptorRow) (fdseq : ℕ) → WellFormed w → slice_get w.descriptors d ≡ Some row → is_free_number d w.free ≡ false → row.descriptor.closing ≡ true → ((side : Side) → is_waited d side w.goroutines ≡ false) → fdseq < 2 ^ 64 → WellFormed (record (with_row d (remarked row row.descriptor.words row.descriptor.event_error fdseq) w) { free = d ∷ w.free })
@@ -172,194 +130,6 @@ freed w d row fdseq h at is_open closing nobody small =
             let e : bit (d == k) ≡ 1 = ap bit is in
             omega arith
         go false is a b = let e : bit (d == k) ≡ 0 = ap bit is in omega arith
-
--- the world with a descriptor taken, and its row
-pub record Taken (next : World) (d : ℕ) : Type 0 where
-  pub fits : WellFormed next
-  pub is_open : is_free_number d next.free ≡ false
-  pub words : (side : Side) (word : Word) → HasWord next.descriptors d side word → (word ≡ Nil) ⊎ (word ≡ Ready)
-  pub rests : (row : DescriptorRow) → slice_get next.descriptors d ≡ Some row → row.descriptor.running ≡ twice false
-
-popped : (w : World) (d : ℕ) (free : List ℕ) → WellFormed w → w.free ≡ d ∷ free → Taken (record w { free = free }) d
-popped w d free h is =
-    record {
-      fits =
-          record {
-            goroutines =
-                record {
-                  one_inside = h.goroutines.one_inside;
-                  inside_open = λ g k side inside. let o = h.goroutines.inside_open g k side inside in (o.0, (neither_of _ _ (sym (ap (is_free_number k) is) ∙ o.1)).1);
-                  sockets_named = h.goroutines.sockets_named;
-                  owed = h.goroutines.owed;
-                };
-            words = h.words;
-            queues = h.queues;
-            timers = h.timers;
-            free =
-                record {
-                  made = All-tail (λ k. k < length w.descriptors) d free (subst (All (λ k. k < length w.descriptors)) is h.free.made);
-                  once = λ k.
-                      let a = count_front d k free in
-                      let b : count_by (λ f. f == k) w.free ≤ 1 = h.free.once k in
-                      let c = ap (count_by (λ f. f == k)) is in
-                      omega arith;
-                  closing = λ k row k_free at. h.free.closing k row (was_free k k_free) at;
-                  words = λ k side word k_free has. h.free.words k side word (was_free k k_free) has;
-                };
-            sockets = h.sockets;
-            goroutines_limited = h.goroutines_limited;
-            sockets_limited = h.sockets_limited;
-            descriptors_limited = h.descriptors_limited;
-            firings_limited = h.firings_limited;
-            clock = h.clock;
-          };
-      is_open =
-          unfree d free
-          (let a = count_front d d free in
-          let b : count_by (λ f. f == d) w.free ≤ 1 = h.free.once d in
-          let c = ap (count_by (λ f. f == d)) is in
-          let e : bit (d == d) ≡ 1 = ap bit (number_same d) in
-          omega arith);
-      words = λ side word has. h.free.words d side word free_d has;
-      rests = λ row at. (h.timers.entries_fit d row at).closing (h.free.closing d row free_d at);
-    }
-  where
-    was_free : (k : ℕ) → is_free_number k free ≡ true → is_free_number k w.free ≡ true
-    was_free k e = ap (is_free_number k) is ∙ free_more k d free e
-
-    free_d : is_free_number d w.free ≡ true
-    free_d = ap (is_free_number d) is ∙ ap (λ b. b || is_free_number d free) (number_same d)
-
--- the pushed row says nothing
-new_unarmed : (k : ℕ) (side : Side) → armed_at k side new_row ≡ None
-new_unarmed k = each_side _ refl refl
-
-new_word : (side : Side) → of_side side new_row.descriptor.words ≡ Nil
-new_word = each_side _ refl refl
-
-new_fits : RowFits new_row
-new_fits =
-    record {
-      entries = each_side _ (λ timer e. cc) (λ timer e. cc);
-      combo = λ e. refl;
-      closing = λ e. refl;
-      sequences = each_side _ (omega arith) (omega arith);
-      fdseq = omega arith;
-      times = each_side _ (record { sfits = lit< tt }) (record { sfits = lit< tt });
-    }
-
-pushed_word : (rows : List DescriptorRow) (k : ℕ) (side : Side) (word : Word) → HasWord (rows ++ new_row ∷ []) k side word → HasWord rows k side word ⊎ ((k ≡ length rows) × (word ≡ Nil))
-pushed_word rows k side word has = go (slice_get (rows ++ new_row ∷ []) k) refl has
-  where
-    view : DescriptorRow → Word
-    view r = of_side side r.descriptor.words
-
-    go : (o : Option DescriptorRow) → slice_get (rows ++ new_row ∷ []) k ≡ o → option_map view o ≡ Some word → HasWord rows k side word ⊎ ((k ≡ length rows) × (word ≡ Nil))
-    go None at e = cc
-    go (Some row) at e =
-        elim (slice_get-push_cases rows new_row row k at) [
-          | inl old ↦ inl (ap (option_map view) old ∙ e)
-          | inr new ↦ inr (new.0, sym (same_Some _ _ e) ∙ ap view (sym new.1) ∙ new_word side)
-        ]
-
-kept_word : (rows : List DescriptorRow) (k : ℕ) (side : Side) (word : Word) → HasWord rows k side word → HasWord (rows ++ new_row ∷ []) k side word
-kept_word rows k side word has = go (slice_get rows k) refl has
-  where
-    view : DescriptorRow → Word
-    view r = of_side side r.descriptor.words
-
-    go : (o : Option DescriptorRow) → slice_get rows k ≡ o → option_map view o ≡ Some word → HasWord (rows ++ new_row ∷ []) k side word
-    go None at e = cc
-    go (Some row) at e = ap (option_map view) (slice_get-push_kept rows new_row row k at) ∙ e
-
-pushed_timers : (rows : List DescriptorRow) (firings : List Entry) (n : ℕ) → TimersFit rows firings n → TimersFit (rows ++ new_row ∷ []) firings n
-pushed_timers rows firings n h =
-    TimersFit-restood rows (rows ++ new_row ∷ []) firings firings n (λ p q. q ≡ p) (λ p e is. (p, refl, stood p e is)) (λ p p' q q' a b e. sym a ∙ e ∙ b) now
-    (λ d row is. elim (slice_get-push_cases rows new_row row d is) [ inl old ↦ h.entries_fit d row old | inr new ↦ subst RowFits new.1 new_fits ])
-    (λ i f is. let o = h.firings_fit i f is in (o.0, slice_get-push_kept rows new_row o.0 f.descriptor o.1, o.2)) h
-  where
-    stood : (p : Stand) (e : Entry) → standing (rows ++ new_row ∷ []) firings p ≡ Some e → standing rows firings p ≡ Some e
-    stood (ArmedAt k side) e is = sym (slice_get-push_unseen (option_and_then (armed_at k side)) rows new_row k (sym (new_unarmed k side))) ∙ is
-    stood (FiringAt i) e is = is
-
-    view : Side → DescriptorRow → ℕ
-    view side r = of_side side r.descriptor.sequences
-
-    back : (e : Entry) (row : DescriptorRow) → slice_get rows e.descriptor ≡ Some row → IsCurrent (rows ++ new_row ∷ []) e → IsCurrent rows e
-    back e row at current =
-        ap (option_map (view e.side)) at ∙ sym (ap (option_map (view e.side)) (slice_get-push_kept rows new_row row e.descriptor at)) ∙ current
-
-    now : (p : Stand) (e : Entry) → standing (rows ++ new_row ∷ []) firings p ≡ Some e → IsCurrent (rows ++ new_row ∷ []) e → IsCurrent rows e
-    now (ArmedAt k side) e is current =
-        let a = armed_names rows firings k side e (stood (ArmedAt k side) e is) in
-        back e a.0 (ap (slice_get rows) a.3 ∙ a.1) current
-    now (FiringAt i) e is current = let o = h.firings_fit i e is in back e o.0 o.1 current
-
-pushed : (w : World) → WellFormed w → w.free ≡ [] → length w.descriptors < w.limits.descriptors → Taken (record w { descriptors = w.descriptors ++ new_row ∷ [] }) (length w.descriptors)
-pushed w h none room =
-    record {
-      fits =
-          record {
-            goroutines =
-                record {
-                  one_inside = h.goroutines.one_inside;
-                  inside_open = λ g k side inside. let o = h.goroutines.inside_open g k side inside in (longer o.0, o.1);
-                  sockets_named = h.goroutines.sockets_named;
-                  owed = h.goroutines.owed;
-                };
-            words =
-                record {
-                  held = λ g k side. (
-                    λ has. elim (pushed_word w.descriptors k side (Held g) has) [ inl old ↦ (h.words.held g k side).0 old | inr new ↦ let e : Held g ≡ Nil = new.1 in cc ],
-                    λ shows. kept_word w.descriptors k side (Held g) ((h.words.held g k side).1 shows),
-                  );
-                  waited = λ k side has. elim (pushed_word w.descriptors k side Word.Wait has) [ inl old ↦ h.words.waited k side old | inr new ↦ let e : Word.Wait ≡ Nil = new.1 in cc ];
-                  counted =
-                      let a : sum_by held_count (w.descriptors ++ new_row ∷ []) ≡ sum_by held_count w.descriptors + sum_by held_count (new_row ∷ []) = sum_by-append held_count w.descriptors (new_row ∷ []) in
-                      let c : w.waiters ≡ sum_by held_count w.descriptors = h.words.counted in
-                      omega arith;
-                };
-            queues = h.queues;
-            timers = pushed_timers w.descriptors w.firings w.next_arming h.timers;
-            free =
-                record {
-                  made = subst (All (λ k. k < length (w.descriptors ++ new_row ∷ []))) (sym none) (All-nil _);
-                  once = h.free.once;
-                  closing = λ k row k_free at. absurd (true≢false (sym k_free ∙ ap (is_free_number k) none));
-                  words = λ k side word k_free has. absurd (true≢false (sym k_free ∙ ap (is_free_number k) none));
-                };
-            sockets = h.sockets;
-            goroutines_limited = h.goroutines_limited;
-            sockets_limited = h.sockets_limited;
-            descriptors_limited = rw length-append (omega arith);
-            firings_limited = h.firings_limited;
-            clock = h.clock;
-          };
-      is_open = ap (is_free_number (length w.descriptors)) none;
-      words = λ side word has.
-          elim (pushed_word w.descriptors (length w.descriptors) side word has) [
-            | inl old ↦ absurd (past_end w.descriptors side word old)
-            | inr new ↦ inl new.1
-          ];
-      rests = λ row at.
-          elim (slice_get-push_cases w.descriptors new_row row (length w.descriptors) at) [
-            | inl old ↦ let b : length w.descriptors < length w.descriptors = slice_get_within _ _ _ old in absurd (omega arith)
-            | inr new ↦ ap (λ (r : DescriptorRow). r.descriptor.running) (sym new.1)
-          ];
-    }
-  where
-    longer : {k : ℕ} → k < length w.descriptors → k < length (w.descriptors ++ new_row ∷ [])
-    longer b = rw length-append (omega arith)
-
-    past_end : (rows : List DescriptorRow) (side : Side) (word : Word) → HasWord rows (length rows) side word → ⊥
-    past_end [] side word e = cc
-    past_end (row ∷ rows) side word e = past_end rows side word e
-
-Ends-taken : (w : World) (free : List ℕ) → WellFormed w → w.free ≡ free → Ends (λ (took : ℕ × World). Taken took.1 took.0) (taken free w)
-Ends-taken w (k ∷ free) h is = Ends-ok (popped w k free h is)
-Ends-taken w [] h is =
-    Ends-then (Ends-refused_unless (nat_lt (length w.descriptors) w.limits.descriptors) _ refl) λ room.
-    Ends-ok (pushed w h is (below_of _ _ room))
 
 -- a descriptor at rest begins anew
 abbrev begun_row : DescriptorRow → ℕ → Sides ℕ → DescriptorRow

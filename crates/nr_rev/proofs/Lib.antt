@@ -7,6 +7,7 @@ pub mod EmptyWorld
 pub mod Fate
 pub mod Follows
 pub mod Found
+pub mod FreeNumbers
 pub mod Goroutines
 pub mod FoundNames
 pub mod Lists
@@ -24,6 +25,7 @@ pub mod Semaphores
 pub mod SocketSet
 pub mod StatusSet
 pub mod StepKeeps
+pub mod Taken
 pub mod Timers
 pub mod Transfers
 pub mod Unblocked
