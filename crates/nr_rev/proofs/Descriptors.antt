@@ -7,8 +7,9 @@ use Rattle.nr_rev.specs.declared.sides.Sides.{Sides}
 use Rattle.nr_rev.specs.declared.descriptor.DescriptorRow.{DescriptorRow}
 use Rattle.nr_rev.specs.World.{World, is_free_number, with_row, with_descriptor, is_waited}
 use Rattle.nr_rev.specs.WellFormed.{WellFormed, RowFits, IsInside, HasWord}
+use Rattle.nr_rev.proofs.Tests.{neither_of}
 use Rattle.nr_rev.proofs.BothSides.{each_side, of_side-twice}
-use Rattle.nr_rev.proofs.Found.{neither_of, nobody_inside, Ends-idle, Ends-socket_of, Ends-row_of, Ends-idle_open}
+use Rattle.nr_rev.proofs.Found.{nobody_inside, Ends-idle, Ends-socket_of, Ends-row_of, Ends-idle_open}
 use Rattle.nr_rev.specs.declared.sides.Mode.{Mode}
 use Rattle.nr_rev.specs.Sides.{names_side, of_side, twice, with_side}
 use Rattle.nr_rev.specs.declared.timer.Timer.{Timer}

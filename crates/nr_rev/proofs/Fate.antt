@@ -14,7 +14,7 @@ use Rattle.nr_rev.specs.Descriptor.{is_combo, is_positive, timer_function, wants
 use Rattle.nr_rev.specs.WellFormed.{EntryFits, FiringFits, IsDueFor}
 use Rattle.nr_rev.specs.declared.timer.TimerOrder.{TimerOrder}
 use Rattle.nr_rev.specs.declared.timer.TimerOrder.TheVariants.{Arm, Stop}
-use Rattle.nr_rev.proofs.Found.{both_true}
+use Rattle.nr_rev.proofs.Tests.{both_true, not_true, never_true}
 
 -- a side's timer didn't run, or its sequence was raised
 abbrev pub Begun : Side → Descriptor → Descriptor → Type 0
@@ -37,10 +37,6 @@ abbrev pub timer_left : (side : Side) (old new : Descriptor) → Option Timer �
 timer_left side old new before n (Kept sequence running same) = before
 timer_left side old new before n (Armed begun running wants) = Some (record { due = of_side side new.deadlines; number = n; function = timer_function side new; sequence = of_side side new.sequences })
 timer_left side old new before n (Stopped raised halted) = None
-
-pub not_true : (a : Bool) → not a ≡ true → a ≡ false
-not_true true e = cc
-not_true false e = refl
 
 wanted_positive : (side : Side) (d : Descriptor) → wants_timer side d ≡ true → is_positive (of_side side d.deadlines) ≡ true
 wanted_positive Read d e = e
@@ -143,11 +139,7 @@ none_current e old new begun h now =
 
 -- under combo no timer of the write side runs
 pub combo_fits : (old new : Descriptor) → Fate Write old new → (is_combo old ≡ true → old.running.write ≡ false) → is_combo new ≡ true → new.running.write ≡ false
-combo_fits old new (Kept sequence running same) h combo = running ∙ go old.running.write refl
-  where
-    go : (b : Bool) → old.running.write ≡ b → old.running.write ≡ false
-    go true e = h (sym (same e).1 ∙ combo)
-    go false e = e
+combo_fits old new (Kept sequence running same) h combo = running ∙ never_true old.running.write (λ e. true≢false (sym e ∙ h (sym (same e).1 ∙ combo)))
 combo_fits old new (Armed begun running wants) h combo =
     absurd (true≢false (sym combo ∙ not_true (is_combo new) (both_true (is_positive new.deadlines.write) (not (is_combo new)) wants).1))
 combo_fits old new (Stopped raised halted) h combo = halted

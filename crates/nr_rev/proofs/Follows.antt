@@ -3,14 +3,15 @@ use Rattle.std.proofs.Common.{◌≡◌, ◌≢◌, ℕ, ◌+◌, ◌^◌, ◌<�
 use Rattle.std.proofs.lemmas.Bool.Decides.{Decides-int_eq}
 use Rattle.std.specs.Prelude.{◌==◌, if◌then◌else◌}
 use Rattle.nr_rev.specs.declared.sides.Side.{Side}
+use Rattle.nr_rev.specs.declared.sides.Sides.{Sides}
 use Rattle.nr_rev.specs.Sides.{of_side, with_side}
 use Rattle.nr_rev.specs.Lock.{bit}
 use Rattle.nr_rev.specs.declared.timer.TimerOrder.{TimerOrder}
 use Rattle.nr_rev.specs.declared.descriptor.Descriptor.{Descriptor}
 use Rattle.nr_rev.specs.Descriptor.{Change, quiet, is_combo, timer_function, wants_timer, timer_reset, timer_follows}
 use Rattle.nr_rev.proofs.Outcomes.{Ends, Ends-ok, Ends-bind, Ends-either, Ends-raised_sequence}
-use Rattle.nr_rev.proofs.Found.{both_true}
-use Rattle.nr_rev.proofs.Fate.{Fate, Kept, Armed, Stopped, Begun, orders_of, not_true}
+use Rattle.nr_rev.proofs.Tests.{both_true, not_true}
+use Rattle.nr_rev.proofs.Fate.{Fate, Kept, Armed, Stopped, Begun, orders_of}
 use Rattle.nr_rev.proofs.BothSides.{each_side, of_side-with_side_same, of_side-with_side_other}
 
 -- what became of a side's timer, and the orders for it
@@ -59,44 +60,25 @@ pub record Frame (side : Side) (d : Descriptor) (change : Change) : Type 0 where
   pub bound : of_side side d.sequences < 2 ^ 64 → of_side side change.descriptor.sequences < 2 ^ 64
   pub woken : change.woken ≡ []
 
+-- only the side's running mark and sequence may be others
+frame : (side : Side) (d : Descriptor) (running : Sides Bool) (sequences : Sides ℕ) (orders : List TimerOrder) → ((s : Side) → s ≢ side → of_side s running ≡ of_side s d.running) → ((s : Side) → s ≢ side → of_side s sequences ≡ of_side s d.sequences) → (of_side side d.sequences < 2 ^ 64 → of_side side sequences < 2 ^ 64) → Frame side d (record { descriptor = record d { running = running; sequences = sequences }; orders = orders; woken = [] })
+frame side d running sequences orders running_kept sequences_kept bound =
+    record {
+      words = refl;
+      closing = refl;
+      deadlines = refl;
+      fdseq = refl;
+      running = running_kept;
+      sequences = sequences_kept;
+      bound = bound;
+      woken = refl;
+    }
+
 frame_quiet : (side : Side) (d : Descriptor) → Frame side d (quiet d)
-frame_quiet side d =
-    record {
-      words = refl;
-      closing = refl;
-      deadlines = refl;
-      fdseq = refl;
-      running = λ s apart. refl;
-      sequences = λ s apart. refl;
-      bound = λ b. b;
-      woken = refl;
-    }
+frame_quiet side d = frame side d d.running d.sequences [] (λ s apart. refl) (λ s apart. refl) (λ b. b)
 
-frame_reset : (side : Side) (d : Descriptor) → Frame side d (timer_reset side d)
-frame_reset side d =
-    record {
-      words = refl;
-      closing = refl;
-      deadlines = refl;
-      fdseq = refl;
-      running = λ s apart. of_side-with_side_other s side (wants_timer side d) d.running apart;
-      sequences = λ s apart. refl;
-      bound = λ b. b;
-      woken = refl;
-    }
-
-frame_raised : (side : Side) (d : Descriptor) (q : ℕ) → q < 2 ^ 64 → Frame side d (timer_reset side (record d { sequences = with_side side q d.sequences }))
-frame_raised side d q small =
-    record {
-      words = refl;
-      closing = refl;
-      deadlines = refl;
-      fdseq = refl;
-      running = λ s apart. of_side-with_side_other s side (wants_timer side (record d { sequences = with_side side q d.sequences })) d.running apart;
-      sequences = λ s apart. of_side-with_side_other s side q d.sequences apart;
-      bound = λ b. subst (λ n. n < 2 ^ 64) (sym (of_side-with_side_same side q d.sequences)) small;
-      woken = refl;
-    }
+frame_reset : (side : Side) (d : Descriptor) (sequences : Sides ℕ) → ((s : Side) → s ≢ side → of_side s sequences ≡ of_side s d.sequences) → (of_side side d.sequences < 2 ^ 64 → of_side side sequences < 2 ^ 64) → Frame side d (timer_reset side (record d { sequences = sequences }))
+frame_reset side d sequences kept bound = frame side d _ sequences _ (λ s apart. of_side-with_side_other s side _ d.running apart) kept bound
 
 -- what becomes of a side's timer, and what it leaves
 pub Ends-timer_follows : (side : Side) (old d : Descriptor) → of_side side d.sequences ≡ of_side side old.sequences → of_side side d.running ≡ of_side side old.running → Ends (λ change. Followed side old change.descriptor change.orders × Frame side d change) (timer_follows side old d)
@@ -111,9 +93,10 @@ Ends-timer_follows side old d same_sequence same_running =
     Ends-ok (
       reset_followed side old (record d { sequences = with_side side next d.sequences })
           (inr (of_side-with_side_same side next d.sequences ∙ raised.0 ∙ ap (λ n. n + 1) same_sequence)),
-      frame_raised side d next raised.1,
+      frame_reset side d (with_side side next d.sequences) (λ s apart. of_side-with_side_other s side next d.sequences apart)
+          (λ _. subst (λ n. n < 2 ^ 64) (sym (of_side-with_side_same side next d.sequences)) raised.1),
     ))
   where
     at_rest : (wants : Bool) → wants_timer side d ≡ wants → of_side side d.running ≡ false → Followed side old (if wants then timer_reset side d else quiet d).descriptor (if wants then timer_reset side d else quiet d).orders × Frame side d (if wants then timer_reset side d else quiet d)
-    at_rest true e stopped = (reset_followed side old d (inl (sym same_running ∙ stopped, same_sequence, e)), frame_reset side d)
+    at_rest true e stopped = (reset_followed side old d (inl (sym same_running ∙ stopped, same_sequence, e)), frame_reset side d d.sequences (λ s apart. refl) (λ b. b))
     at_rest false e stopped = ((Kept same_sequence same_running (λ runs. absurd (true≢false (sym runs ∙ sym same_running ∙ stopped))), refl), frame_quiet side d)

@@ -1,5 +1,5 @@
 -- What each look-up of a step finds.
-use Rattle.std.proofs.Common.{◌≡◌, ℕ, Bool, true, false, ◌&&◌, ◌||◌, List, [], ◌∷◌, Option, Some, None, Result, refl, sym, ap, ◌∙◌, zero, suc, true≢false, eq-eqb, ◌<◌, ◌≤◌}
+use Rattle.std.proofs.Common.{◌≡◌, ℕ, true, false, ◌&&◌, List, [], ◌∷◌, Option, Some, None, Result, refl, sym, ap, ◌∙◌, zero, suc, true≢false, eq-eqb, ◌<◌, ◌≤◌}
 use Rattle.std.specs.Prelude.{slice_get, nat_lt, nat_le}
 use Rattle.nr_rev.specs.declared.sides.Side.{Side}
 use Rattle.nr_rev.specs.declared.sides.Side.TheVariants.{Read, Write}
@@ -13,6 +13,7 @@ use Rattle.nr_rev.specs.Refusing.{◌>>=◌, ◌>>◌}
 use Rattle.nr_rev.specs.World.{World, is_waited, is_place, is_free_number}
 use Rattle.nr_rev.specs.WellFormed.{IsInside}
 use Rattle.nr_rev.specs.Step.{alive, status_of, idle, is_idle, socket_of, row_of, open_row_of, sized, acquiring_of, owing_of, entering_of, armed_of, parking_of, swapping_of, checking_of}
+use Rattle.nr_rev.proofs.Tests.{both_true, neither_of}
 use Rattle.nr_rev.proofs.Numbers.{below_of, most_of}
 use Rattle.nr_rev.proofs.Outcomes.{Ends, Ends-ok, Ends-refused, Ends-map, Ends-bind, Ends-then, Ends-refused_if, Ends-refused_unless, Ends-found_or}
 
@@ -49,14 +50,6 @@ pub Ends-idle_open : {A : Type 0} {P : A → Type 0} (g d : ℕ) (w : World) {re
 Ends-idle_open g d w next =
     Ends-then (Ends-idle g w) λ at.
     Ends-bind (Ends-open_row_of d w) λ row found. next row at found.0 found.1
-
-pub both_true : (a b : Bool) → (a && b) ≡ true → (a ≡ true) × (b ≡ true)
-both_true true b e = (refl, e)
-both_true false b e = cc
-
-pub neither_of : (a b : Bool) → (a || b) ≡ false → (a ≡ false) × (b ≡ false)
-neither_of true b e = cc
-neither_of false b e = (refl, e)
 
 pub Ends-sized : (n : ℕ) (w : World) → Ends (λ _. (0 < n) × (n ≤ w.limits.buffer)) (sized n w)
 Ends-sized n w =

@@ -2,8 +2,8 @@
 use Rattle.std.proofs.Common.{◌≡◌, ℕ, Bool, true, ◌||◌, refl, false, [], inr, sym, ap, ◌∙◌, arith, true≢false, ◌≢◌, List, ◌∷◌, ◌⊎◌, inl, ap₂}
 use Rattle.std.specs.Prelude.{◌==◌, count_by}
 use Rattle.nr_rev.specs.World.{is_free_number}
-use Rattle.nr_rev.proofs.Found.{neither_of}
 use Rattle.nr_rev.specs.Lock.{bit}
+use Rattle.nr_rev.proofs.Tests.{neither_of}
 use Rattle.nr_rev.proofs.Numbers.{count_front, number_same, same_number}
 
 swap_equal : (a b : ℕ) → (a == b) ≡ (b == a)

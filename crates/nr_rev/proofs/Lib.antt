@@ -26,6 +26,7 @@ pub mod SocketSet
 pub mod StatusSet
 pub mod StepKeeps
 pub mod Taken
+pub mod Tests
 pub mod Timers
 pub mod Transfers
 pub mod Unblocked

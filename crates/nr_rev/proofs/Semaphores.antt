@@ -14,7 +14,8 @@ use Rattle.nr_rev.specs.Socket.{Socket}
 use Rattle.nr_rev.specs.WellFormed.{WellFormed, SocketFits, IsField, socket_named, owed_of, is_queued}
 use Rattle.nr_rev.proofs.Lists.{slice_get-set_cases}
 use Rattle.nr_rev.proofs.BothSides.{each_side, with_side_all}
-use Rattle.nr_rev.proofs.Found.{both_true, Ends-status_of, Ends-socket_of, Ends-acquiring_of, Ends-owing_of}
+use Rattle.nr_rev.proofs.Tests.{both_true, and_true, and_false}
+use Rattle.nr_rev.proofs.Found.{Ends-status_of, Ends-socket_of, Ends-acquiring_of, Ends-owing_of}
 use Rattle.nr_rev.proofs.StatusSet.{MayMove, moved_outside, comes_to_owe}
 use Rattle.nr_rev.specs.Lock.{bit}
 use Rattle.nr_rev.specs.Semaphore.{Semaphore, is_free, front_of, released}
@@ -62,14 +63,6 @@ queue_popped Read Read f k count q socket e = let a = ap (count_by (λ h. h == k
 queue_popped Read Write f k count q socket e = omega arith
 queue_popped Write Read f k count q socket e = omega arith
 queue_popped Write Write f k count q socket e = let a = ap (count_by (λ h. h == k)) e in let b = count_front f k q in omega arith
-
-and_false : (a : Bool) → (a && false) ≡ false
-and_false true = refl
-and_false false = refl
-
-and_true : (a : Bool) → (a && true) ≡ a
-and_true true = refl
-and_true false = refl
 
 -- a view's bit at k, after g moved
 bits_moved : (view : Option Status → Bool) (gs : List Status) (g k : ℕ) (from to : Status) → slice_get gs g ≡ Some from → bit (view (slice_get (set gs g to) k)) + bit (view (Some from) && (g == k)) ≡ bit (view (slice_get gs k)) + bit (view (Some to) && (g == k))

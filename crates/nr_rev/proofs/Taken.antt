@@ -5,8 +5,8 @@ use Rattle.nr_rev.specs.declared.sides.Side.{Side}
 use Rattle.nr_rev.specs.declared.descriptor.DescriptorRow.{DescriptorRow}
 use Rattle.nr_rev.specs.World.{World, is_free_number}
 use Rattle.nr_rev.specs.WellFormed.{WellFormed, RowFits, TimersFit, HasWord, held_count, Stand, ArmedAt, FiringAt, standing, armed_at, IsCurrent}
+use Rattle.nr_rev.proofs.Tests.{neither_of}
 use Rattle.nr_rev.proofs.BothSides.{each_side}
-use Rattle.nr_rev.proofs.Found.{neither_of}
 use Rattle.nr_rev.specs.Sides.{of_side, twice}
 use Rattle.nr_rev.specs.declared.timer.Entry.{Entry}
 use Rattle.nr_rev.specs.Step.{taken, new_row}

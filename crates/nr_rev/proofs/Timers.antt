@@ -10,6 +10,7 @@ use Rattle.nr_rev.specs.Timer.{IsTime, least_of, earlier_of, is_before, entries_
 use Rattle.nr_rev.specs.WellFormed.{WellFormed, RowFits, EntryFits, FiringFits, IsDueFor, ArmedAt, FiringAt, armed_at, IsCurrent}
 use Rattle.nr_rev.proofs.BothSides.{each_side, other_side, of_side-twice, with_side_all}
 use Rattle.nr_rev.proofs.Numbers.{below_of, same_number}
+use Rattle.nr_rev.proofs.Tests.{not_false, never_true, and_false}
 use Rattle.nr_rev.proofs.Found.{Ends-row_of}
 use Rattle.nr_rev.specs.Step.{tick, pop, fire, fired_with}
 use Rattle.std.proofs.lemmas.Int.{ints}
@@ -93,13 +94,10 @@ least_stands w e is =
 
 -- a descriptor of which a side runs isn't free
 running_open : (w : World) (d : ℕ) (row : DescriptorRow) (side : Side) → WellFormed w → slice_get w.descriptors d ≡ Some row → of_side side row.descriptor.running ≡ true → is_free_number d w.free ≡ false
-running_open w d row side h at runs = go (is_free_number d w.free) refl
-  where
-    go : (b : Bool) → is_free_number d w.free ≡ b → is_free_number d w.free ≡ false
-    go false is = is
-    go true is =
-        let fits : RowFits row = h.timers.entries_fit d row at in
-        absurd (true≢false (sym runs ∙ ap (of_side side) (fits.closing (h.free.closing d row is at)) ∙ of_side-twice side false))
+running_open w d row side h at runs =
+    never_true (is_free_number d w.free) λ is.
+    let fits : RowFits row = h.timers.entries_fit d row at in
+    true≢false (sym runs ∙ ap (of_side side) (fits.closing (h.free.closing d row is at)) ∙ of_side-twice side false)
 
 popped : (w : World) (e : Entry) (row : DescriptorRow) → WellFormed w → slice_get w.descriptors e.descriptor ≡ Some row → of_side e.side row.timers ≡ Some e.timer → length w.firings < 2 * w.limits.descriptors → WellFormed (record (with_row e.descriptor (unarmed row e.side) w) { firings = w.firings ++ e ∷ [] })
 popped w e row h at is room =
@@ -132,11 +130,7 @@ fired_change TimerFunction.Write d = refl
 fired_change TimerFunction.Both d = refl
 
 past_positive : (x : ℤ) → (is_positive x && int_eq x (negsuc 0)) ≡ false
-past_positive (pos n) = go (is_positive (pos n))
-  where
-    go : (b : Bool) → (b && false) ≡ false
-    go true = refl
-    go false = refl
+past_positive (pos n) = and_false (is_positive (pos n))
 past_positive (negsuc n) = refl
 
 -- no deadline to come is left to both sides
@@ -157,11 +151,7 @@ quiet_write : (row : DescriptorRow) → MayFire row TimerFunction.Both → row.d
 quiet_write row may = may.fits.combo (combo_of_both Read row.descriptor (sym may.function))
 
 combo_off : (row : DescriptorRow) → MayFire row TimerFunction.Write → is_combo row.descriptor ≡ false
-combo_off row may = go (is_combo row.descriptor) refl
-  where
-    go : (b : Bool) → is_combo row.descriptor ≡ b → is_combo row.descriptor ≡ false
-    go false is = is
-    go true is = absurd (true≢false (sym may.running ∙ may.fits.combo is))
+combo_off row may = never_true (is_combo row.descriptor) (λ is. true≢false (sym may.running ∙ may.fits.combo is))
 
 read_alone : (row : DescriptorRow) → is_combo row.descriptor ≡ false → timer_function Read row.descriptor ≡ TimerFunction.Read
 read_alone row e = ap (λ b. if b then TimerFunction.Both else TimerFunction.Read) e
@@ -300,11 +290,7 @@ module _ (w : World) (i : ℕ) (e : Entry) (row : DescriptorRow) (h : WellFormed
       (current_of f same (f_now ∙ ap (λ s. of_side s row.descriptor.sequences) (sym same_side))) (current_of e refl now_here)))
 
 current_is : (f : TimerFunction) (n : ℕ) (d : Descriptor) → not (is_current f n d) ≡ false → n ≡ of_side (side_of_function f) d.sequences
-current_is f n d e = same_number n (of_side (side_of_function f) d.sequences) (positive (n == of_side (side_of_function f) d.sequences) e)
-  where
-    positive : (b : Bool) → not b ≡ false → b ≡ true
-    positive true e = refl
-    positive false e = cc
+current_is f n d e = same_number n (of_side (side_of_function f) d.sequences) (not_false (n == of_side (side_of_function f) d.sequences) e)
 
 pub tick_sound : (w : World) (t : ℤ) → WellFormed w → KeepsFor (IsTime t) (tick t w)
 tick_sound w t h =
