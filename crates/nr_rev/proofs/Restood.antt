@@ -1,6 +1,6 @@
 -- Entries and firings stand at other places.
 use Rattle.std.proofs.Common.{◌≡◌, ◌≢◌, ℕ, zero, suc, Bool, true, false, List, [], ◌∷◌, ◌++◌, Option, Some, None, ◌⊎◌, inl, inr, refl, sym, ap, subst, ◌∙◌, set, length, arith}
-use Rattle.std.proofs.lemmas.Option.{same_Some, none-some}
+use Rattle.std.proofs.lemmas.Option.{none-some}
 use Rattle.std.specs.Prelude.{slice_get, if◌then◌else◌, option_map, remove}
 use Rattle.std.specs.Option.{option_and_then}
 use Rattle.nr_rev.specs.declared.sides.Side.{Side}
@@ -8,7 +8,7 @@ use Rattle.nr_rev.specs.declared.sides.Side.TheVariants.{Read, Write}
 use Rattle.nr_rev.specs.Sides.{of_side, with_side}
 use Rattle.nr_rev.specs.declared.descriptor.DescriptorRow.{DescriptorRow}
 use Rattle.nr_rev.specs.WellFormed.{TimersFit, RowFits, EntryFits, FiringFits}
-use Rattle.nr_rev.proofs.Lists.{slice_get-set_unseen, slice_get-set_cases, slice_get-push_cases}
+use Rattle.nr_rev.proofs.Lists.{slice_get-set_unseen, slice_get-set_cases, slice_get-push_cases, slice_get-set_all, slice_get-set_found}
 use Rattle.nr_rev.specs.declared.timer.TimerFunction.{TimerFunction}
 use Rattle.nr_rev.specs.Sides.{side_of_function}
 use Rattle.nr_rev.specs.declared.timer.Timer.{Timer}
@@ -158,11 +158,7 @@ pub TimersFit-popped : (rows : List DescriptorRow) (firings : List Entry) (n : �
 TimersFit-popped rows firings n row e at is h =
     TimersFit-restood rows (set rows e.descriptor (unarmed row e.side)) firings (firings ++ e ∷ []) n (WasPopped (length firings) e.descriptor e.side) was (once_popped (length firings) e.descriptor e.side)
     (λ p f f_is now. sym (slice_get-set_unseen (option_map (λ (r : DescriptorRow). of_side f.side r.descriptor.sequences)) rows e.descriptor row (unarmed row e.side) f.descriptor at refl) ∙ now)
-    (λ k other other_is.
-    elim (slice_get-set_cases rows e.descriptor row (unarmed row e.side) k at) [
-      | inl here ↦ subst RowFits (same_Some _ _ (sym here.1 ∙ other_is)) (RowFits-unarmed row e.side (h.entries_fit e.descriptor row at))
-      | inr there ↦ h.entries_fit k other (sym there.1 ∙ other_is)
-    ])
+    (slice_get-set_all RowFits rows e.descriptor row (unarmed row e.side) at (RowFits-unarmed row e.side (h.entries_fit e.descriptor row at)) h.entries_fit)
     (λ i f f_is.
     elim (slice_get-push_cases firings e f i f_is) [
       | inl old ↦ let o = h.firings_fit i f old in still_fits f o.0 o.1 o.2
@@ -174,12 +170,7 @@ TimersFit-popped rows firings n row e at is h =
   where
     still_fits : (f : Entry) (r : DescriptorRow) → slice_get rows f.descriptor ≡ Some r → FiringFits r.descriptor f → (r : DescriptorRow) × (slice_get (set rows e.descriptor (unarmed row e.side)) f.descriptor ≡ Some r) × FiringFits r.descriptor f
     still_fits f r r_is fits =
-        elim (slice_get-set_cases rows e.descriptor row (unarmed row e.side) f.descriptor at) [
-          | inl here ↦
-              let same : r ≡ row = same_Some _ _ (sym r_is ∙ ap (slice_get rows) here.0 ∙ at) in
-              (unarmed row e.side, here.1, subst (λ (r : DescriptorRow). FiringFits r.descriptor f) same fits)
-          | inr there ↦ (r, there.1 ∙ r_is, fits)
-        ]
+        slice_get-set_found (λ (r : DescriptorRow). FiringFits r.descriptor f) rows e.descriptor row (unarmed row e.side) f.descriptor r at (λ _ x. x) r_is fits
 
     was_armed : (k : ℕ) (s : Side) (f : Entry) → option_and_then (armed_at k s) (slice_get (set rows e.descriptor (unarmed row e.side)) k) ≡ Some f → (q : Stand) × WasPopped (length firings) e.descriptor e.side (ArmedAt k s) q × (standing rows firings q ≡ Some f)
     was_armed k s f f_is =

@@ -9,7 +9,7 @@ use Rattle.nr_rev.specs.declared.timer.Timer.{Timer}
 use Rattle.nr_rev.specs.declared.timer.Entry.{Entry}
 use Rattle.nr_rev.specs.declared.descriptor.DescriptorRow.{DescriptorRow}
 use Rattle.nr_rev.specs.WellFormed.{TimersFit, RowFits, FiringFits, Stand, ArmedAt, FiringAt, armed_at, standing, IsCurrent}
-use Rattle.nr_rev.proofs.Lists.{slice_get-set_cases}
+use Rattle.nr_rev.proofs.Lists.{slice_get-set_cases, slice_get-set_all, slice_get-set_found}
 
 -- a side whose timer and sequence stay
 pub record SideStays (side : Side) (old new : DescriptorRow) : Type 0 where
@@ -198,19 +198,10 @@ module _ (rows : List DescriptorRow) (firings : List Entry) (n m d : ℕ) (old n
   pub TimersFit-retimed : TimersFit after firings m
   TimersFit-retimed =
       record {
-        entries_fit = λ k other is.
-            elim (slice_get-set_cases rows d old new k at) [
-              | inl here ↦ subst RowFits (same_Some _ _ (sym here.1 ∙ is)) change.fits
-              | inr there ↦ h.entries_fit k other (sym there.1 ∙ is)
-            ];
+        entries_fit = slice_get-set_all RowFits rows d old new at change.fits h.entries_fit;
         firings_fit = λ i firing is.
             let f = h.firings_fit i firing is in
-            elim (slice_get-set_cases rows d old new firing.descriptor at) [
-              | inl here ↦
-                  let same : f.0 ≡ old = same_Some _ _ (sym f.1 ∙ ap (slice_get rows) here.0 ∙ at) in
-                  (new, here.1, change.firing i firing is here.0 (subst (λ (r : DescriptorRow). FiringFits r.descriptor firing) same f.2))
-              | inr there ↦ (f.0, there.1 ∙ f.1, f.2)
-            ];
+            slice_get-set_found (λ (r : DescriptorRow). FiringFits r.descriptor firing) rows d old new firing.descriptor f.0 at (change.firing i firing is) f.1 f.2;
         one_current = one_current;
         armed_before = armed_before;
         armed_once = armed_once;

@@ -1,5 +1,5 @@
 -- A socket is set, alone or together with a goroutine's status.
-use Rattle.std.proofs.Common.{◌≡◌, ℕ, List, Some, ap, subst, ◌∙◌, length, length-set, refl, inl, inr, sym, ◌≢◌, set}
+use Rattle.std.proofs.Common.{◌≡◌, ℕ, List, Some, ap, ◌∙◌, length, length-set, refl, inl, inr, sym, ◌≢◌, set}
 use Rattle.std.proofs.lemmas.Option.{same_Some}
 use Rattle.std.specs.Prelude.{slice_get, ◌==◌, count_by}
 use Rattle.nr_rev.specs.declared.sides.Side.{Side}
@@ -10,7 +10,7 @@ use Rattle.nr_rev.specs.Socket.{Socket}
 use Rattle.nr_rev.specs.WellFormed.{WellFormed, SocketFits, GoroutinesFit, WordsFit, parked_of, awaiting_of, is_queued}
 use Rattle.nr_rev.specs.Lock.{bit}
 use Rattle.nr_rev.proofs.StatusSet.{MayMove, GoroutinesFit-moved}
-use Rattle.nr_rev.proofs.Lists.{slice_get-set_cases, slice_get-set_unseen}
+use Rattle.nr_rev.proofs.Lists.{slice_get-set_cases, slice_get-set_unseen, slice_get-set_all}
 use Rattle.std.specs.Option.{option_and_then}
 use Rattle.nr_rev.proofs.SameViews.{WordsFit-same}
 
@@ -39,11 +39,7 @@ socket_keeps w gs s old new h at as_many goroutines words elsewhere counts fits 
           };
       timers = h.timers;
       free = h.free;
-      sockets = λ k socket is.
-          elim (slice_get-set_cases w.sockets s old new k at) [
-            | inl here ↦ subst (SocketFits w.limits.buffer) (same_Some _ _ (sym here.1 ∙ is)) fits
-            | inr other ↦ h.sockets k socket (sym other.1 ∙ is)
-          ];
+      sockets = slice_get-set_all (SocketFits w.limits.buffer) w.sockets s old new at fits h.sockets;
       goroutines_limited = rw as_many h.goroutines_limited;
       sockets_limited = rw length-set h.sockets_limited;
       descriptors_limited = h.descriptors_limited;

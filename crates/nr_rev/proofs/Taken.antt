@@ -15,7 +15,7 @@ use Rattle.std.proofs.lemmas.Option.{same_Some, slice_get_within}
 use Rattle.std.specs.Option.{option_and_then}
 use Rattle.nr_rev.specs.declared.descriptor.Word.{Word}
 use Rattle.nr_rev.specs.declared.descriptor.Word.TheVariants.{Nil, Ready, Held}
-use Rattle.nr_rev.proofs.Lists.{slice_get-push_cases, slice_get-push_kept, slice_get-push_unseen}
+use Rattle.nr_rev.proofs.Lists.{slice_get-push_cases, slice_get-push_kept, slice_get-push_unseen, slice_get-push_all}
 use Rattle.std.proofs.lemmas.List.Sums.{sum_by-append}
 use Rattle.std.proofs.lemmas.List.Elements.{All-tail, All-nil}
 use Rattle.nr_rev.specs.Lock.{bit}
@@ -126,7 +126,7 @@ kept_word rows k side word has = go (slice_get rows k) refl has
 pushed_timers : (rows : List DescriptorRow) (firings : List Entry) (n : ℕ) → TimersFit rows firings n → TimersFit (rows ++ new_row ∷ []) firings n
 pushed_timers rows firings n h =
     TimersFit-restood rows (rows ++ new_row ∷ []) firings firings n (λ p q. q ≡ p) (λ p e is. (p, refl, stood p e is)) (λ p p' q q' a b e. sym a ∙ e ∙ b) now
-    (λ d row is. elim (slice_get-push_cases rows new_row row d is) [ inl old ↦ h.entries_fit d row old | inr new ↦ subst RowFits new.1 new_fits ])
+    (slice_get-push_all RowFits rows new_row new_fits h.entries_fit)
     (λ i f is. let o = h.firings_fit i f is in (o.0, slice_get-push_kept rows new_row o.0 f.descriptor o.1, o.2)) h
   where
     stood : (p : Stand) (e : Entry) → standing (rows ++ new_row ∷ []) firings p ≡ Some e → standing rows firings p ≡ Some e

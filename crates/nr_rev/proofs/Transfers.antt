@@ -1,5 +1,5 @@
 -- Sockets are opened, and bytes move into their buffers and out of them.
-use Rattle.std.proofs.Common.{◌≡◌, ◌≢◌, ℕ, ◌<◌, ◌≤◌, Bool, true, false, ◌&&◌, List, [], ◌∷◌, ◌++◌, Option, Some, None, inl, inr, refl, sym, ap, subst, ◌∙◌, length, length-append, arith, min, take, drop}
+use Rattle.std.proofs.Common.{◌≡◌, ◌≢◌, ℕ, ◌<◌, ◌≤◌, Bool, true, false, ◌&&◌, List, [], ◌∷◌, ◌++◌, Option, Some, None, inl, inr, refl, sym, ap, ◌∙◌, length, length-append, arith, min, take, drop}
 use Rattle.std.specs.Prelude.{slice_get, ◌==◌, nat_lt, nat_le, count_by}
 use Rattle.std.specs.Option.{option_and_then}
 use Rattle.nr_rev.specs.declared.sides.Side.{Side}
@@ -10,7 +10,7 @@ use Rattle.nr_rev.specs.Sides.{of_side, same_side}
 use Rattle.nr_rev.specs.World.{World, with_socket}
 use Rattle.nr_rev.specs.Socket.{Socket, Buffer, new_socket, room_of}
 use Rattle.nr_rev.specs.WellFormed.{WellFormed, SocketFits, Shows, socket_named, is_queued}
-use Rattle.nr_rev.proofs.Lists.{slice_get-push_cases}
+use Rattle.nr_rev.proofs.Lists.{slice_get-push_cases, slice_get-push_all}
 use Rattle.nr_rev.proofs.BothSides.{each_side, with_side_all}
 use Rattle.nr_rev.specs.Step.{sockopen, arrive, peerclose, sysread, syswrite, drain, with_buffer}
 use Rattle.nr_rev.proofs.Numbers.{below_of, most_of, same_number}
@@ -72,11 +72,7 @@ opened w rc wc h room r c =
           };
       timers = h.timers;
       free = h.free;
-      sockets = λ s socket is.
-          elim (slice_get-push_cases w.sockets (new_socket rc wc) socket s is) [
-            | inl old ↦ h.sockets s socket old
-            | inr new ↦ subst (SocketFits w.limits.buffer) new.1 (new_fits w.limits.buffer rc wc r c)
-          ];
+      sockets = slice_get-push_all (SocketFits w.limits.buffer) w.sockets (new_socket rc wc) (new_fits w.limits.buffer rc wc r c) h.sockets;
       goroutines_limited = h.goroutines_limited;
       sockets_limited = rw length-append (omega arith);
       descriptors_limited = h.descriptors_limited;
