@@ -1,4 +1,4 @@
--- Equal numbers, and how often a number stands in a list.
+-- Numbers compared, lowered, and counted in a list.
 use Rattle.std.proofs.Common.{◌≡◌, ◌≢◌, ℕ, ◌≤◌, ◌<◌, Bool, true, false, List, [], ◌∷◌, ◌++◌, refl, arith, ◌+◌, ◌-◌, cond}
 use Rattle.std.specs.Prelude.{◌==◌, nat_le, nat_lt, count_by}
 use Rattle.nr_rev.specs.Lock.{bit}

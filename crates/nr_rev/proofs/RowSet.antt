@@ -67,7 +67,7 @@ WordsFit-rows gs rows waiters d old new at same h =
     word : (k : ℕ) (side : Side) → option_map (λ (r : DescriptorRow). of_side side r.descriptor.words) (slice_get (set rows d new) k) ≡ option_map (λ (r : DescriptorRow). of_side side r.descriptor.words) (slice_get rows k)
     word k side = slice_get-set_unseen (option_map (λ (r : DescriptorRow). of_side side r.descriptor.words)) rows d old new k at (ap (λ (w : Sides Word). Some (of_side side w)) same)
 
--- a row and what goroutines show of it change, and it says nothing else of the free ones
+-- an open descriptor's row changes, and goroutines with it
 pub row_keeps : (w : World) (gs : List Status) (waiters d m : ℕ) (old new : DescriptorRow) → WellFormed w → slice_get w.descriptors d ≡ Some old → is_free_number d w.free ≡ false → length gs ≡ length w.goroutines → GoroutinesFit gs w.sockets w.descriptors w.free → QueuesFit gs w.sockets → WordsFit gs (set w.descriptors d new) waiters → Retimed w.firings d old new w.next_arming m → WellFormed (record w { goroutines = gs; descriptors = set w.descriptors d new; waiters = waiters; next_arming = m })
 row_keeps w gs waiters d m old new h at is_open as_many goroutines queues words change =
     record {
