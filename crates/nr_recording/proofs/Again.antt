@@ -9,14 +9,17 @@ use Rattle.nr_rev.specs.declared.sides.Side.TheVariants as sides
 use Rattle.nr_rev.specs.declared.sides.Mode.{Mode}
 use Rattle.nr_rev.specs.declared.sides.Mode.TheVariants as modes
 use Rattle.nr_rev.specs.declared.step.Step.{Step}
-use Rattle.nr_rev.specs.declared.step.Step.TheVariants.{Spawn, Exit, SockOpen, Arrive, PeerClose, SysRead, SysWrite, Drain, Incref, IncrefClose, Decref, RwLock, RwUnlock, Acquire, Release, PollOpen, PollClose, PollReset, WaitBegin, BlockArm, BlockCheck, ParkCommit, BlockSwap, WaitCheck, SetDeadline, Evict, PollEvent, Tick, Pop, Fire}
+use Rattle.nr_rev.specs.declared.kind.Kind.{Kind}
+use Rattle.nr_rev.specs.Kind.{kind_name, kind_named, kind_of}
 use Rattle.nr_rev.specs.Limits.{AreInRange}
 use Rattle.nr_recording.specs.declared.version.Version.TheVariants.{One}
 use Rattle.nr_recording.specs.Recording.{is_writable}
 use Rattle.nr_recording.specs.Arguments.{number_of, side_of, mode_of, bit_of, bytes_of, moment_of, from_zero}
 use Rattle.nr_recording.specs.Header.{version_of, limit_of, limits_of, header_of}
-use Rattle.nr_recording.specs.Steps.{step_of}
-use Rattle.nr_recording.specs.Writing.{numeral, time, side, mode, bit, digits, argument_data, IsMoment, step_data, IsTyped, limits_data}
+use Rattle.serde_json.specs.Data.{no_items}
+use Rattle.nr_recording.specs.Steps.{step_in, arguments_of, step_of}
+use Rattle.nr_recording.specs.Spelling.{numeral, tag, time, side, mode, bit, digits, argument_data, arguments_data, IsMoment}
+use Rattle.nr_recording.specs.Writing.{step_data, IsTyped, limits_data}
 
 number_again : (n : ℕ) → n < 2 ^ 32 → number_of (argument_data (numeral n)) ≡ Some n
 number_again n h = rw (lt-ltb n (2 ^ 32) h) refl
@@ -38,7 +41,7 @@ moment_again : (t : ℤ) → IsMoment t → moment_of (argument_data (time t)) �
 moment_again (pos n) h = rw (lt-ltb n (2 ^ 63) h) refl
 moment_again (negsuc n) h = refl
 
-from_zero_again : (t : ℤ) → is_writable (Tick t) ≡ true → from_zero t ≡ Some t
+from_zero_again : (t : ℤ) → is_writable (Step.Tick t) ≡ true → from_zero t ≡ Some t
 from_zero_again (pos n) h = rw (le-ltb n 0 (omega arith)) refl
 from_zero_again (negsuc n) h = absurd cc
 
@@ -48,38 +51,20 @@ bytes_again bytes below few =
     let short : ltb 131072 (length (encode_lower bytes)) ≡ false = le-ltb _ _ (omega (arith, length-encode_with lower_digits bytes)) in
     rw (short, decode_of-encode_lower bytes below) refl
 
+kind_again : (k : Kind) → kind_named (kind_name k) ≡ Some k
+kind_again Kind.Spawn = refl
+kind_again _ = refl
+
+-- the arguments of a step, read as those of its kind, make that step
+arguments_again : (s : Step) → IsTyped s → is_writable s ≡ true → step_in (kind_of s) (arguments_data (arguments_of s)) ≡ Ok (s, no_items)
+arguments_again (Step.Tick t) h w = rw (moment_again t h.0, from_zero_again t w) refl
+arguments_again (Step.Arrive s bytes) h w = rw (number_again s h.0, bytes_again bytes h.1.0 w) refl
+arguments_again (Step.SysWrite g s bytes) h w = rw (number_again g h.0, number_again s h.1.0, bytes_again bytes h.1.1.0 w) refl
+arguments_again s h w = grind (arith, number_again, side_again, mode_again, bit_again, moment_again)
+
 pub step_again : (s : Step) → IsTyped s → is_writable s ≡ true → step_of One (step_data s) ≡ Ok s
 unfolding step_of
-step_again Spawn h w = refl
-step_again (Exit g) h w = rw (number_again g h.0) refl
-step_again (SockOpen rc wc) h w = rw (number_again rc h.0, number_again wc h.1.0) refl
-step_again (Arrive s bytes) h w = rw (number_again s h.0, bytes_again bytes h.1.0 w) refl
-step_again (PeerClose s) h w = rw (number_again s h.0) refl
-step_again (SysRead g s n) h w = rw (number_again g h.0, number_again s h.1.0, number_again n h.1.1.0) refl
-step_again (SysWrite g s bytes) h w = rw (number_again g h.0, number_again s h.1.0, bytes_again bytes h.1.1.0 w) refl
-step_again (Drain s n) h w = rw (number_again s h.0, number_again n h.1.0) refl
-step_again (Incref g s) h w = rw (number_again g h.0, number_again s h.1.0) refl
-step_again (IncrefClose g s) h w = rw (number_again g h.0, number_again s h.1.0) refl
-step_again (Decref g s) h w = rw (number_again g h.0, number_again s h.1.0) refl
-step_again (RwLock g s way) h w = rw (number_again g h.0, number_again s h.1.0, side_again way) refl
-step_again (RwUnlock g s way) h w = rw (number_again g h.0, number_again s h.1.0, side_again way) refl
-step_again (Acquire g) h w = rw (number_again g h.0) refl
-step_again (Release g) h w = rw (number_again g h.0) refl
-step_again (PollOpen g s) h w = rw (number_again g h.0, number_again s h.1.0) refl
-step_again (PollClose g d) h w = rw (number_again g h.0, number_again d h.1.0) refl
-step_again (PollReset g d way) h w = rw (number_again g h.0, number_again d h.1.0, side_again way) refl
-step_again (WaitBegin g d way) h w = rw (number_again g h.0, number_again d h.1.0, side_again way) refl
-step_again (BlockArm g) h w = rw (number_again g h.0) refl
-step_again (BlockCheck g) h w = rw (number_again g h.0) refl
-step_again (ParkCommit g) h w = rw (number_again g h.0) refl
-step_again (BlockSwap g) h w = rw (number_again g h.0) refl
-step_again (WaitCheck g) h w = rw (number_again g h.0) refl
-step_again (SetDeadline g d ways t) h w = rw (number_again g h.0, number_again d h.1.0, mode_again ways, moment_again t h.1.1.1.0) refl
-step_again (Evict g d) h w = rw (number_again g h.0, number_again d h.1.0) refl
-step_again (PollEvent d t ways err) h w = rw (number_again d h.0, mode_again ways, bit_again err) refl
-step_again (Tick t) h w = rw (moment_again t h.0, from_zero_again t w) refl
-step_again Pop h w = refl
-step_again (Fire i) h w = rw (number_again i h.0) refl
+step_again s h w = rw (kind_again (kind_of s), arguments_again s h w) refl
 
 limit_again : (most n : ℕ) → 0 < n → n ≤ most → limit_of most n ≡ Ok n
 limit_again most n low high = rw (lt-ltb 0 n low, le-leb n most high) refl

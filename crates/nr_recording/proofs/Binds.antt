@@ -4,6 +4,12 @@ use Rattle.std.specs.Prelude.{option_map, option_and_then}
 use Rattle.nr_recording.specs.declared.fault.Fault.{Fault}
 use Rattle.nr_recording.specs.Faults.{◌>>=◌, or_fault}
 
+abbrev ok : {A E : Type 0} → A → Result A E
+ok x = Ok x
+
+pub same_ok : {A E : Type 0} (x y : A) → ok {E = E} x ≡ ok y → x ≡ y
+same_ok x y e = cc
+
 -- the value of a step that did not fail
 pub bind_ok : {A B E : Type 0} (r : Result A E) (f : A → Result B E) (y : B) → (r >>= f) ≡ Ok y → (x : A) × (r ≡ Ok x) × (f x ≡ Ok y)
 bind_ok (Ok x) f y e = (x, refl, e)

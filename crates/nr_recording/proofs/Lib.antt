@@ -1,4 +1,4 @@
-pub mod Rests
+pub mod Versions
 pub mod Lines
 pub mod Members
 pub mod Loop

@@ -1,8 +1,6 @@
 -- What was read keeps the ranges of a recording.
 use Rattle.std.proofs.Common.{◌≡◌, ◌<◌, ◌≤◌, ℕ, ℤ, pos, negsuc, true, false, ltb, leb, List, [], ◌∷◌, length, Option, Some, Result, Ok, Err, refl, ap, ◌∙◌, subst, inl, inr, arith}
-use Rattle.std.specs.Prelude.{option_and_then, codes, ◌==◌}
-use Rattle.std.specs.List.{AllByRecursion}
-use Rattle.std.specs.Str.{bytes_eq}
+use Rattle.std.specs.Prelude.{option_map, option_and_then, codes, ◌==◌}
 use Rattle.std.specs.Result.{result_ok}
 use Rattle.std.proofs.lemmas.Bool.{ltb-true, ltb-false, leb-true, le-leb, le-ltb, and_parts}
 use Rattle.std.proofs.lemmas.Option.{same_Some}
@@ -10,20 +8,23 @@ use Rattle.hex.specs.Hex.{decode_of}
 use Rattle.hex.proofs.HexLemmas.{decode_of-ok}
 use Rattle.serde_json.specs.Data.{Data, Items, no_items, item}
 use Rattle.serde_json.specs.Find.{as_str, as_array}
+use Rattle.nr_rev.specs.declared.kind.Kind.{Kind}
 use Rattle.nr_rev.specs.declared.limits.Limits.{Limits}
 use Rattle.nr_rev.specs.declared.step.Step.{Step}
 use Rattle.nr_rev.specs.declared.step.Step.TheVariants.{Tick}
+use Rattle.nr_recording.specs.declared.fault.Fault.{Fault}
 use Rattle.nr_recording.specs.declared.fault.Fault.TheVariants as fault
 use Rattle.nr_recording.specs.Faults.{or_fault}
 use Rattle.nr_rev.specs.Limits.{is_limit, are_in_range, AreInRange}
 use Rattle.nr_recording.specs.Recording.{is_writable, are_writable, recording_of}
 use Rattle.nr_recording.specs.declared.version.Version.{Version}
 use Rattle.nr_recording.specs.declared.version.Version.TheVariants.{One}
-use Rattle.nr_recording.specs.Version.{may_end_with}
-use Rattle.nr_recording.specs.Arguments.{number_of, bytes_named, bytes_of, moment_of, from_zero, time_of, first_by, arrival_in, transfer_in}
-use Rattle.nr_recording.specs.Steps.{made, bare, kinds, first_of, step_among, step_named, step_of}
+use Rattle.nr_recording.specs.Version.{kind_in, may_end_with}
+use Rattle.nr_recording.specs.Arguments.{bytes_named, bytes_of, moment_of, from_zero, time_of, first_by, number, bytes, time, ◌and◌}
+use Rattle.nr_recording.specs.Shapes.{made, bare}
+use Rattle.nr_recording.specs.Steps.{first_of, step_in, step_of}
 use Rattle.nr_recording.specs.Header.{limit_of, limits_of, unsigned_at, member_count, header_of}
-use Rattle.nr_recording.proofs.Binds.{bind_ok, passed_ok, choice, found_ok, map_some, then_some, kept_some}
+use Rattle.nr_recording.proofs.Binds.{bind_ok, passed_ok, found_ok, map_some, then_some, kept_some, same_ok}
 
 -- ---- limits
 
@@ -85,33 +86,30 @@ bytes_few d bytes e =
     from_ok (Ok x) h = cc
     from_ok (Err x) h = absurd cc
 
--- the first argument is what it is read as
-first_ok : {A : Type 0} (read : Data → Option A) (ds : Items) (p : A × Items) → first_by read ds ≡ Some p → (d : Data) × (read d ≡ Some p.0)
-first_ok read no_items p e = absurd cc
-first_ok read (item d ds) p e =
-    let m = map_some (λ x. (x, ds)) (read d) p e in
-    (d, m.1 ∙ ap Some (ap (λ q. q.0) m.2))
+-- what these arguments are read as, wherever they stand, has a property
+abbrev Gives : {A : Type 0} → (A → Type 0) → (Items → Result (A × Items) Fault) → Type 0
+Gives {A = A} P read = (ds : Items) (p : A × Items) → read ds ≡ Ok p → P p.0
 
-arrival_few : (ds : Items) (p : (ℕ × List ℕ) × Items) → arrival_in ds ≡ Some p → leb (length p.0.1) 65536 ≡ true
-arrival_few ds p e =
-    let s = then_some _ (first_by number_of ds) p e in
-    let bytes = then_some _ (first_by bytes_of s.0.1) p s.2 in
-    let d = first_ok bytes_of s.0.1 bytes.0 bytes.1 in
-    subst (λ (q : (ℕ × List ℕ) × Items). leb (length q.0.1) 65536 ≡ true) (same_Some ((s.0.0, bytes.0.0), bytes.0.1) p bytes.2) (bytes_few d.0 bytes.0.0 d.1)
+first_gives : {A : Type 0} (P : A → Type 0) (read : Data → Option A) → ((d : Data) (x : A) → read d ≡ Some x → P x) → Gives P (first_by read)
+first_gives P read h no_items p e = absurd cc
+first_gives P read h (item d ds) p e =
+    let m = map_some (λ x. (x, ds)) (read d) p (found_ok fault.Arguments (option_map (λ x. (x, ds)) (read d)) p e) in
+    subst (λ q. P q.0) m.2 (h d m.0 m.1)
 
-transfer_few : (ds : Items) (p : (ℕ × ℕ × List ℕ) × Items) → transfer_in ds ≡ Some p → leb (length p.0.2) 65536 ≡ true
-transfer_few ds p e =
-    let g = then_some _ (first_by number_of ds) p e in
-    let s = then_some _ (first_by number_of g.0.1) p g.2 in
-    let bytes = then_some _ (first_by bytes_of s.0.1) p s.2 in
-    let d = first_ok bytes_of s.0.1 bytes.0 bytes.1 in
-    subst (λ (q : (ℕ × ℕ × List ℕ) × Items). leb (length q.0.2) 65536 ≡ true) (same_Some ((g.0.0, s.0.0, bytes.0.0), bytes.0.1) p bytes.2) (bytes_few d.0 bytes.0.0 d.1)
+second_gives : {A B : Type 0} (P : B → Type 0) (first : Items → Result (A × Items) Fault) (second : Items → Result (B × Items) Fault) → Gives P second → Gives (λ p. P p.1) (first and second)
+second_gives P first second h ds p e =
+    let x = bind_ok (first ds) _ p e in
+    let y = bind_ok (second x.0.1) _ p x.2 in
+    subst (λ q. P q.0.1) (same_ok {E = Fault} ((x.0.0, y.0.0), y.0.1) p y.2) (h x.0.1 y.0 y.1)
 
-time_least : (ds : Items) (p : ℤ × Items) → first_by time_of ds ≡ Some p → is_writable (Tick p.0) ≡ true
-time_least ds p e =
-    let d = first_ok time_of ds p e in
-    let moment = then_some from_zero (moment_of d.0) p.0 d.1 in
-    from moment.0 p.0 moment.2
+abbrev AreFew : List ℕ → Type 0
+AreFew bytes = leb (length bytes) 65536 ≡ true
+
+few_bytes : Gives AreFew bytes
+few_bytes = first_gives AreFew bytes_of bytes_few
+
+time_least : Gives (λ t. is_writable (Tick t) ≡ true) time
+time_least = first_gives (λ t. is_writable (Tick t) ≡ true) time_of (λ d t e. let m = then_some from_zero (moment_of d) t e in from m.0 t m.2)
   where
     from : (z t : ℤ) → from_zero z ≡ Some t → is_writable (Tick t) ≡ true
     from (pos n) t h =
@@ -121,41 +119,42 @@ time_least ds p e =
     from (negsuc n) t h = absurd cc
 
 -- a way to make steps makes none that could not be written
-abbrev MakesWritable : (Items → Option (Step × Items)) → Type 0
-MakesWritable make = (ds : Items) (p : Step × Items) → make ds ≡ Some p → is_writable p.0 ≡ true
+abbrev MakesWritable : (Items → Result (Step × Items) Fault) → Type 0
+MakesWritable make = Gives (λ step. is_writable step ≡ true) make
 
-of_found : {A : Type 0} (step : A → Step) (found : Items → Option (A × Items)) → ((ds : Items) (p : A × Items) → found ds ≡ Some p → is_writable (step p.0) ≡ true) → MakesWritable (λ ds. made step (found ds))
-of_found step found h ds p e =
-    let m = map_some (λ q. (step q.0, q.1)) (found ds) p e in
-    subst (λ (q : Step × Items). is_writable q.0 ≡ true) m.2 (h ds m.0 m.1)
+of_found : {A : Type 0} (step : A → Step) (found : Items → Result (A × Items) Fault) → Gives (λ x. is_writable (step x) ≡ true) found → MakesWritable (λ ds. made step (found ds))
+of_found {A = A} step found h ds p e = from (found ds) p (h ds) e
+  where
+    from : (r : Result (A × Items) Fault) (p : Step × Items) → ((q : A × Items) → r ≡ Ok q → is_writable (step q.0) ≡ true) → made step r ≡ Ok p → is_writable p.0 ≡ true
+    from (Ok q) p h e = subst (λ (s : Step × Items). is_writable s.0 ≡ true) (same_ok {E = Fault} (step q.0, q.1) p e) (h q refl)
+    from (Err f) p h e = absurd cc
 
 -- a kind that always makes steps that can be written
-usual : {A : Type 0} (step : A → Step) (found : Items → Option (A × Items)) → ((x : A) → is_writable (step x) ≡ true) → MakesWritable (λ ds. made step (found ds))
+usual : {A : Type 0} (step : A → Step) (found : Items → Result (A × Items) Fault) → ((x : A) → is_writable (step x) ≡ true) → MakesWritable (λ ds. made step (found ds))
 usual step found h = of_found step found (λ ds p e. h p.0)
 
 bare_made : (step : Step) → is_writable step ≡ true → MakesWritable (bare step)
-bare_made step h ds p e = subst (λ (q : Step × Items). is_writable q.0 ≡ true) (same_Some (step, ds) p e) h
+bare_made step h ds p e = subst (λ (q : Step × Items). is_writable q.0 ≡ true) (same_ok {E = Fault} (step, ds) p e) h
 
-all_made : (version : Version) → AllByRecursion (λ kind. MakesWritable kind.1) (kinds version)
-all_made One = (bare_made _ refl, (usual _ _ (λ x. refl), (usual _ _ (λ x. refl), (of_found _ _ arrival_few, (usual _ _ (λ x. refl), (usual _ _ (λ x. refl), (of_found _ _ transfer_few, (usual _ _ (λ x. refl), (usual _ _ (λ x. refl), (usual _ _ (λ x. refl), (usual _ _ (λ x. refl), (usual _ _ (λ x. refl), (usual _ _ (λ x. refl), (usual _ _ (λ x. refl), (usual _ _ (λ x. refl), (usual _ _ (λ x. refl), (usual _ _ (λ x. refl), (usual _ _ (λ x. refl), (usual _ _ (λ x. refl), (usual _ _ (λ x. refl), (usual _ _ (λ x. refl), (usual _ _ (λ x. refl), (usual _ _ (λ x. refl), (usual _ _ (λ x. refl), (usual _ _ (λ x. refl), (usual _ _ (λ x. refl), (usual _ _ (λ x. refl), (of_found _ _ time_least, (bare_made _ refl, (usual _ _ (λ x. refl), tt))))))))))))))))))))))))))))))
-
-among_writable : (some : List (List ℕ × (Items → Option (Step × Items)))) → AllByRecursion (λ kind. MakesWritable kind.1) some → (name : List ℕ) (ds : Items) (p : Step × Items) → step_among some name ds ≡ Ok p → is_writable p.0 ≡ true
-among_writable [] all name ds p e = absurd cc
-among_writable (kind ∷ more) all name ds p e =
-    elim (choice (bytes_eq name kind.0) (or_fault fault.Arguments (kind.1 ds)) (step_among more name ds) (Ok p) e) [
-      | inl this ↦ all.0 ds p (found_ok fault.Arguments (kind.1 ds) p this.1)
-      | inr other ↦ among_writable more all.1 name ds p other.1
-    ]
+-- only these kinds make steps that might be none that can be written
+kind_made : (kind : Kind) → MakesWritable (step_in kind)
+kind_made Kind.Arrive = of_found _ _ (second_gives AreFew number bytes few_bytes)
+kind_made Kind.SysWrite = of_found _ _ (second_gives (λ p. AreFew p.1) number (number and bytes) (second_gives AreFew number bytes few_bytes))
+kind_made Kind.Tick = of_found _ _ time_least
+kind_made Kind.Spawn = bare_made _ refl
+kind_made Kind.Pop = bare_made _ refl
+kind_made _ = usual _ _ (λ x. refl)
 
 pub step_writable : (version : Version) (d : Data) (step : Step) → step_of version d ≡ Ok step → is_writable step ≡ true
 unfolding step_of
 step_writable version d step e =
     let parts = bind_ok (or_fault fault.UnknownStep (option_and_then first_of (as_array d))) _ step e in
     let name = bind_ok (or_fault fault.UnknownStep (as_str parts.0.0)) _ step parts.2 in
-    let found = bind_ok (step_named version name.0 parts.0.1) _ step name.2 in
+    let kind = bind_ok (or_fault fault.UnknownStep (kind_in version name.0)) _ step name.2 in
+    let found = bind_ok (step_in kind.0 parts.0.1) _ step kind.2 in
     let ended = passed_ok (may_end_with version found.0.1) fault.Arguments (Ok found.0.0) step found.2 in
     let same : found.0.0 ≡ step = cc (ended.1) in
-    subst (λ (s : Step). is_writable s ≡ true) same (among_writable (kinds version) (all_made version) name.0 parts.0.1 found.0 found.1)
+    subst (λ (s : Step). is_writable s ≡ true) same (kind_made kind.0 parts.0.1 found.0 found.1)
 
 -- ---- what is made
 

@@ -14,7 +14,8 @@ use Rattle.serde_json.proofs.Numbers.{number_of-decimal, number_of-negative}
 use Rattle.serde_json.proofs.Texts.{print-outline}
 use Rattle.serde_json.proofs.OnLiterals.{serde_json_on_literals}
 use Rattle.nr_rev.specs.declared.limits.Limits.{Limits}
-use Rattle.nr_recording.specs.Writing.{Argument, numeral, tag, time, side, mode, bit, digits, argument_data, arguments_data, IsInType, AreInTypes, line_data, limits_data}
+use Rattle.nr_recording.specs.Spelling.{Argument, numeral, tag, time, side, mode, bit, digits, argument_data, arguments_data, IsInType, AreInTypes, line_data}
+use Rattle.nr_recording.specs.Writing.{limits_data}
 use Rattle.nr_rev.specs.Limits.{AreInRange}
 
 text_read : (d : Data) → tree.HasNumbers (outline d) → tree.depth (outline d) ≤ 127 → of_json (outline d) ≡ Some d → read (compact_text d) ≡ Some d

@@ -19,7 +19,8 @@ use Rattle.nr_rev.specs.declared.limits.Limits.{Limits}
 use Rattle.nr_rev.specs.declared.sides.Side.TheVariants as sides
 use Rattle.nr_rev.specs.declared.sides.Mode.TheVariants as modes
 use Rattle.nr_recording.specs.Reading.{lines}
-use Rattle.nr_recording.specs.Writing.{Argument, numeral, tag, time, side, mode, bit, digits, argument_data, arguments_data, IsInType, AreInTypes, line_data, limits_data, line_of}
+use Rattle.nr_recording.specs.Spelling.{Argument, numeral, tag, time, side, mode, bit, digits, argument_data, arguments_data, IsInType, AreInTypes, line_data}
+use Rattle.nr_recording.specs.Writing.{limits_data, line_of}
 
 -- ---- bytes
 

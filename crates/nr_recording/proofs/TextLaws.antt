@@ -12,7 +12,7 @@ use Rattle.nr_recording.specs.declared.version.Version.{Version}
 use Rattle.nr_rev.specs.declared.step.Step.{Step}
 use Rattle.nr_rev.specs.Run.{Recording}
 use Rattle.nr_recording.specs.Faults.{◌>>=◌}
-use Rattle.nr_recording.proofs.Binds.{bind_ok, guard_ok, choice}
+use Rattle.nr_recording.proofs.Binds.{bind_ok, guard_ok, choice, same_ok}
 use Rattle.nr_recording.specs.Header.{version_of, header_of}
 use Rattle.nr_recording.specs.Steps.{step_of}
 use Rattle.nr_recording.specs.Reading.{Seen, nothing, lines, is_blank, value_of, with_value, with_line, at_line, with_lines, finished, reading, Answers}
@@ -21,12 +21,6 @@ use Rattle.nr_recording.specs.Text.{IsSkipped, IsValueLine, AreSteps, AreLinesOf
 at_line_ok : {A : Type 0} (n : ℕ) (r : Result A Fault) (x : A) → at_line n r ≡ Ok x → r ≡ Ok x
 at_line_ok n (Ok y) x e = cc
 at_line_ok n (Err f) x e = absurd cc
-
-abbrev done : {A E : Type 0} → A → Result A E
-done x = Ok x
-
-ok_is : {A : Type 0} (x y : A) → done {E = Fault} x ≡ done y → x ≡ y
-ok_is x y e = cc
 
 -- what a line that is no fault leaves
 abbrev Passes : Seen → List ℕ → Seen → Type 0
@@ -38,7 +32,7 @@ with_line_ok seen line next e =
     let g = guard_ok (ltb 200000 (length line)) fault.Limit (cond (is_blank line) (Ok seen) (value_of line >>= λ d. with_value seen seen.header d)) next e in
     let short : length line ≤ 200000 = ltb-false _ _ g.0 in
     elim (choice (is_blank line) (Ok seen) (value_of line >>= λ d. with_value seen seen.header d) (Ok next) g.1) [
-      | inl p ↦ inl (record { short = short; blank = p.0 }, ok_is seen next p.1)
+      | inl p ↦ inl (record { short = short; blank = p.0 }, same_ok {E = Fault} seen next p.1)
       | inr p ↦ (let b = bind_ok (value_of line) (λ d. with_value seen seen.header d) next p.1 in inr (b.0, record { short = short; shown = p.0; value = b.1 }, b.2))
     ]
 
@@ -74,7 +68,7 @@ with_step_ok : (header : Header) (steps : List Step) (d : Data) (next : Seen) �
 with_step_ok header steps d next h =
     let g = guard_ok (eqb (length steps) 1000000) fault.TooManySteps (step_of header.version d >>= λ e. Ok (after_header header (steps ++ e ∷ []))) next h in
     let b = bind_ok (step_of header.version d) (λ e. Ok (after_header header (steps ++ e ∷ []))) next g.1 in
-    (g.0, (b.0, b.1, ok_is (after_header header (steps ++ b.0 ∷ [])) next b.2))
+    (g.0, (b.0, b.1, same_ok {E = Fault} (after_header header (steps ++ b.0 ∷ [])) next b.2))
 
 skip_more : (version : Version) (line : List ℕ) (rest : List (List ℕ)) (es : List Step) → IsSkipped line → AreSteps version rest es → AreSteps version (line ∷ rest) es
 skip_more version line rest [] s more = (s, more)
@@ -89,10 +83,7 @@ record Continues (header : Header) (steps : List Step) (rest : List (List ℕ)) 
 
 steps_found : (rest : List (List ℕ)) (n : ℕ) (header : Header) (steps : List Step) (last : Seen) → length steps ≤ 1000000 → with_lines n (after_header header steps) rest ≡ Ok last → Continues header steps rest last
 unfolding with_lines
-steps_found [] n header steps last le h = record { es = []; are = tt; ends = rw (append-nil steps) (sym (ap_ok (after_header header steps) last h)); fits = rw (append-nil steps) le }
-  where
-    ap_ok : (x y : Seen) → done {E = ReadFault} x ≡ done y → x ≡ y
-    ap_ok x y e = cc
+steps_found [] n header steps last le h = record { es = []; are = tt; ends = rw (append-nil steps) (sym (same_ok {E = ReadFault} (after_header header steps) last h)); fits = rw (append-nil steps) le }
 steps_found (line ∷ rest) n header steps last le h =
     let f = first_ok n (after_header header steps) last line rest h in
     elim (with_line_ok (after_header header steps) line f.0 f.1) [
@@ -107,13 +98,10 @@ steps_found (line ∷ rest) n header steps last le h =
           record { es = e ∷ more.es; are = inr ((v.0, v.1, one.1.1), more.are); ends = rw (← append_assoc steps (e ∷ []) more.es) more.ends; fits = rw (← append_assoc steps (e ∷ []) more.es) more.fits })
     ]
 
-whole_is : {A : Type 0} (x y : A) → done {E = ReadFault} x ≡ done y → x ≡ y
-whole_is x y e = cc
-
 lines_found : (rest : List (List ℕ)) (n m : ℕ) (last : Seen) (w : Recording) → with_lines n nothing rest ≡ Ok last → finished m last ≡ Ok w → (version : Version) × AreLinesOf version rest w
 unfolding with_lines
 lines_found [] n m last w h done_is =
-    absurd (let e : nothing ≡ last = whole_is nothing last h in let f : finished m nothing ≡ Ok w = subst (λ (x : Seen). finished m x ≡ Ok w) (sym e) done_is in cc)
+    absurd (let e : nothing ≡ last = same_ok {E = ReadFault} nothing last h in let f : finished m nothing ≡ Ok w = subst (λ (x : Seen). finished m x ≡ Ok w) (sym e) done_is in cc)
 lines_found (line ∷ rest) n m last w h done_is =
     let f = first_ok n nothing last line rest h in
     elim (with_line_ok nothing line f.0 f.1) [
@@ -124,10 +112,10 @@ lines_found (line ∷ rest) n m last w h done_is =
           let version = bind_ok (version_of v.0) _ f.0 v.2 in
           let limits = bind_ok (header_of version.0 v.0) (λ limits. Ok (after_header (record { version = version.0; limits = limits }) [])) f.0 version.2 in
           let header : Header = record { version = version.0; limits = limits.0 } in
-          let next = ok_is (after_header header []) f.0 limits.2 in
+          let next = same_ok {E = Fault} (after_header header []) f.0 limits.2 in
           let more = steps_found rest (suc n) header [] last (omega arith) (subst (λ (x : Seen). with_lines (suc n) x rest ≡ Ok last) (sym next) f.2) in
           let made : Recording = record { limits = limits.0; steps = more.es } in
-          let is : made ≡ w = whole_is made w (subst (λ (x : Seen). finished m x ≡ Ok w) more.ends done_is) in
+          let is : made ≡ w = same_ok {E = ReadFault} made w (subst (λ (x : Seen). finished m x ≡ Ok w) more.ends done_is) in
           (version.0, subst (λ (x : Recording). AreLinesOf version.0 (line ∷ rest) x) is (inr ((v.0, v.1, version.1, limits.1), more.are, more.fits))))
     ]
 

@@ -6,13 +6,14 @@ use Rattle.serde_json.specs.Data.{Data}
 use Rattle.serde_json.specs.Read.{read}
 use Rattle.serde_json.specs.Written.{compact_text}
 use Rattle.nr_rev.specs.declared.step.Step.{Step}
-use Rattle.nr_rev.specs.declared.step.Step.TheVariants.{Spawn, Exit, SockOpen, Arrive, PeerClose, SysRead, SysWrite, Drain, Incref, IncrefClose, Decref, RwLock, RwUnlock, Acquire, Release, PollOpen, PollClose, PollReset, WaitBegin, BlockArm, BlockCheck, ParkCommit, BlockSwap, WaitCheck, SetDeadline, Evict, PollEvent, Tick, Pop, Fire}
 use Rattle.nr_rev.specs.Run.{Recording}
 use Rattle.nr_recording.specs.declared.version.Version.TheVariants.{One}
 use Rattle.nr_recording.specs.Recording.{is_writable, are_writable, IsRecording}
 use Rattle.nr_recording.specs.Reading.{lines, value_of, reading}
 use Rattle.nr_recording.specs.Text.{AreSteps, AreLinesOf, IsTextOf}
-use Rattle.nr_recording.specs.Writing.{Argument, spelled, step_data, IsTyped, limits_data, line_of, text}
+use Rattle.nr_recording.specs.Spelling.{Argument}
+use Rattle.nr_recording.specs.Steps.{spelling_of}
+use Rattle.nr_recording.specs.Writing.{step_data, IsTyped, limits_data, line_of, text}
 use Rattle.nr_recording.proofs.Again.{step_again, version_again, header_again}
 use Rattle.nr_recording.proofs.ReadBack.{line_read, header_read}
 use Rattle.nr_recording.proofs.Shown.{are_shown, are_plain, widths, line_shown, line_short, header_shown, header_short, utf8_shown, lines-line_of}
@@ -24,37 +25,10 @@ record IsNarrow (line : List ℕ × List Argument) : Type 0 where
   short : length line.0 ≤ 11
   narrow : widths line.1 ≤ 199000
 
-narrow : (s : Step) → is_writable s ≡ true → IsNarrow (spelled s)
-narrow Spawn w = record { plain = refl; short = lit≤ tt; narrow = lit≤ tt }
-narrow (Exit g) w = record { plain = refl; short = lit≤ tt; narrow = lit≤ tt }
-narrow (SockOpen rc wc) w = record { plain = refl; short = lit≤ tt; narrow = lit≤ tt }
-narrow (Arrive s bytes) w = record { plain = refl; short = lit≤ tt; narrow = omega (arith, leb-true (length bytes) 65536 w) }
-narrow (PeerClose s) w = record { plain = refl; short = lit≤ tt; narrow = lit≤ tt }
-narrow (SysRead g s n) w = record { plain = refl; short = lit≤ tt; narrow = lit≤ tt }
-narrow (SysWrite g s bytes) w = record { plain = refl; short = lit≤ tt; narrow = omega (arith, leb-true (length bytes) 65536 w) }
-narrow (Drain s n) w = record { plain = refl; short = lit≤ tt; narrow = lit≤ tt }
-narrow (Incref g s) w = record { plain = refl; short = lit≤ tt; narrow = lit≤ tt }
-narrow (IncrefClose g s) w = record { plain = refl; short = lit≤ tt; narrow = lit≤ tt }
-narrow (Decref g s) w = record { plain = refl; short = lit≤ tt; narrow = lit≤ tt }
-narrow (RwLock g s way) w = record { plain = refl; short = lit≤ tt; narrow = lit≤ tt }
-narrow (RwUnlock g s way) w = record { plain = refl; short = lit≤ tt; narrow = lit≤ tt }
-narrow (Acquire g) w = record { plain = refl; short = lit≤ tt; narrow = lit≤ tt }
-narrow (Release g) w = record { plain = refl; short = lit≤ tt; narrow = lit≤ tt }
-narrow (PollOpen g s) w = record { plain = refl; short = lit≤ tt; narrow = lit≤ tt }
-narrow (PollClose g d) w = record { plain = refl; short = lit≤ tt; narrow = lit≤ tt }
-narrow (PollReset g d way) w = record { plain = refl; short = lit≤ tt; narrow = lit≤ tt }
-narrow (WaitBegin g d way) w = record { plain = refl; short = lit≤ tt; narrow = lit≤ tt }
-narrow (BlockArm g) w = record { plain = refl; short = lit≤ tt; narrow = lit≤ tt }
-narrow (BlockCheck g) w = record { plain = refl; short = lit≤ tt; narrow = lit≤ tt }
-narrow (ParkCommit g) w = record { plain = refl; short = lit≤ tt; narrow = lit≤ tt }
-narrow (BlockSwap g) w = record { plain = refl; short = lit≤ tt; narrow = lit≤ tt }
-narrow (WaitCheck g) w = record { plain = refl; short = lit≤ tt; narrow = lit≤ tt }
-narrow (SetDeadline g d ways t) w = record { plain = refl; short = lit≤ tt; narrow = lit≤ tt }
-narrow (Evict g d) w = record { plain = refl; short = lit≤ tt; narrow = lit≤ tt }
-narrow (PollEvent d t ways err) w = record { plain = refl; short = lit≤ tt; narrow = lit≤ tt }
-narrow (Tick t) w = record { plain = refl; short = lit≤ tt; narrow = lit≤ tt }
-narrow Pop w = record { plain = refl; short = lit≤ tt; narrow = lit≤ tt }
-narrow (Fire i) w = record { plain = refl; short = lit≤ tt; narrow = lit≤ tt }
+narrow : (s : Step) → is_writable s ≡ true → IsNarrow (spelling_of s)
+narrow (Step.Arrive s bytes) w = record { plain = refl; short = lit≤ tt; narrow = omega (arith, leb-true (length bytes) 65536 w) }
+narrow (Step.SysWrite g s bytes) w = record { plain = refl; short = lit≤ tt; narrow = omega (arith, leb-true (length bytes) 65536 w) }
+narrow s w = record { plain = refl; short = lit≤ tt; narrow = lit≤ tt }
 
 -- a shown text that JSON reads has a value
 value_read : (bytes : List ℕ) (d : Data) → are_shown bytes ≡ true → read bytes ≡ Some d → value_of bytes ≡ Ok d
@@ -67,11 +41,11 @@ steps_text (s ∷ steps) writable typed =
     let w = and_parts (is_writable s) (are_writable steps) writable in
     let own : IsTyped s = typed 0 s (omega arith) in
     let fits = narrow s w.0 in
-    let shown = line_shown (spelled s) fits.plain own in
-    let long = line_short (spelled s) fits.plain own in
+    let shown = line_shown (spelling_of s) fits.plain own in
+    let long = line_short (spelling_of s) fits.plain own in
     let name = fits.short in
     let rest = fits.narrow in
-    let read_again = value_read (compact_text (step_data s)) (step_data s) shown (line_read (spelled s) own) in
+    let read_again = value_read (compact_text (step_data s)) (step_data s) shown (line_read (spelling_of s) own) in
     let more = steps_text steps w.1 (λ k d lt. typed (suc k) d (omega arith)) in
     subst (λ (ls : List (List ℕ)). AreSteps One ls (s ∷ steps)) (sym (lines-line_of (step_data s) (concat (map (λ x. line_of (step_data x)) steps)) shown))
     (inr ((step_data s, record { short = omega arith; shown = refl; value = read_again }, step_again s own w.0), more))

@@ -1,5 +1,5 @@
 -- The arguments of a step, by their shapes.
-use Rattle.std.specs.Prelude.{ℕ, ◌^◌, ◌*◌, ◌%◌, ◌==◌, List, length, Bool, true, false, not, ◌&&◌, ℤ, pos, int_lt, Option, Some, None, option_map, option_and_then, nat_lt, if◌then◌else◌, codes}
+use Rattle.std.specs.Prelude.{ℕ, ◌^◌, ◌*◌, ◌%◌, ◌==◌, List, length, Bool, true, false, not, ◌&&◌, ℤ, pos, int_lt, Option, Some, None, option_map, option_and_then, Result, Ok, Err, nat_lt, if◌then◌else◌, codes}
 use Rattle.std.specs.Option.{option_map_or}
 use Rattle.std.specs.Str.{bytes_eq}
 use Rattle.std.specs.Result.{result_ok}
@@ -10,11 +10,14 @@ use Rattle.serde_json.specs.Data.{Data, Items, no_items, item}
 use Rattle.serde_json.specs.View.{items_view}
 use Rattle.serde_json.specs.declared.value.Value.{Value}
 use Rattle.serde_json.specs.Find.{as_number, as_u64, as_i64, as_str}
+use Rattle.nr_recording.specs.declared.fault.Fault.{Fault}
+use Rattle.nr_recording.specs.declared.fault.Fault.TheVariants as fault
 use Rattle.nr_recording.specs.declared.recording.TheConstants.{MOST_BYTES}
+use Rattle.nr_recording.specs.Faults.{◌>>=◌, or_fault}
 use Rattle.nr_rev.specs.declared.sides.Side.{Side}
-use Rattle.nr_rev.specs.declared.sides.Side.TheVariants as side
+use Rattle.nr_rev.specs.declared.sides.Side.TheVariants as sides
 use Rattle.nr_rev.specs.declared.sides.Mode.{Mode}
-use Rattle.nr_rev.specs.declared.sides.Mode.TheVariants as mode
+use Rattle.nr_rev.specs.declared.sides.Mode.TheVariants as modes
 
 -- ---- one argument
 
@@ -48,14 +51,14 @@ time_of d = option_and_then from_zero (moment_of d)
 
 -- one side
 abbrev pub side_named : List ℕ → Option Side
-side_named text = if bytes_eq text (codes "r") then Some side.Read else (if bytes_eq text (codes "w") then Some side.Write else None)
+side_named text = if bytes_eq text (codes "r") then Some sides.Read else (if bytes_eq text (codes "w") then Some sides.Write else None)
 
 abbrev pub side_of : Data → Option Side
 side_of d = option_and_then side_named (as_str d)
 
 -- one side or both
 abbrev pub mode_named : List ℕ → Option Mode
-mode_named text = if bytes_eq text (codes "r") then Some mode.Read else (if bytes_eq text (codes "w") then Some mode.Write else (if bytes_eq text (codes "rw") then Some mode.Both else None))
+mode_named text = if bytes_eq text (codes "r") then Some modes.Read else (if bytes_eq text (codes "w") then Some modes.Write else (if bytes_eq text (codes "rw") then Some modes.Both else None))
 
 abbrev pub mode_of : Data → Option Mode
 mode_of d = option_and_then mode_named (as_str d)
@@ -79,77 +82,53 @@ digits_take_memory text = not (nat_lt most_digits (length text)) && (length text
 abbrev pub argument_takes_memory : Data → Bool
 argument_takes_memory d = option_map_or digits_take_memory (as_str d) false
 
--- ---- the arguments at the front of a list
-
-infixl 10 ◌>>=◌
--- goes on with what was found
-abbrev pub ◌>>=◌ : {A B : Type 0} → Option A → (A → Option B) → Option B
-found >>= f = option_and_then f found
+-- ---- the arguments at the front of a list, each read with what is left behind it
 
 -- the arguments of a line that are still to be read
 abbrev pub left : Iter Value → Items
 left arguments = items_view (iter_rest arguments)
 
--- the first argument, and those behind it
-abbrev pub first_by : {A : Type 0} → (Data → Option A) → Items → Option (A × Items)
-first_by read no_items = None
-first_by read (item d ds) = option_map (λ x. (x, ds)) (read d)
+-- the first argument; where there is none, or it is none of these, the arguments are faulty
+abbrev pub first_by : {A : Type 0} → (Data → Option A) → Items → Result (A × Items) Fault
+first_by read no_items = Err fault.Arguments
+first_by read (item d ds) = or_fault fault.Arguments (option_map (λ x. (x, ds)) (read d))
 
--- two numbers, and what is left
-abbrev pub pair_in : Items → Option ((ℕ × ℕ) × Items)
-pair_in ds = do
-  x ← first_by number_of ds
-  y ← first_by number_of x.1
-  Some ((x.0, y.0), y.1)
+abbrev pub number : Items → Result (ℕ × Items) Fault
+number ds = first_by number_of ds
 
--- three numbers, and what is left
-abbrev pub triple_in : Items → Option ((ℕ × ℕ × ℕ) × Items)
-triple_in ds = do
-  x ← first_by number_of ds
-  y ← first_by number_of x.1
-  z ← first_by number_of y.1
-  Some ((x.0, y.0, z.0), z.1)
+abbrev pub tag : Items → Result (ℕ × Items) Fault
+tag ds = first_by tag_of ds
 
--- two numbers and a side, and what is left
-abbrev pub sided_in : Items → Option ((ℕ × ℕ × Side) × Items)
-sided_in ds = do
-  x ← first_by number_of ds
-  y ← first_by number_of x.1
-  z ← first_by side_of y.1
-  Some ((x.0, y.0, z.0), z.1)
+abbrev pub bit : Items → Result (Bool × Items) Fault
+bit ds = first_by bit_of ds
 
--- a number and bytes, and what is left
-abbrev pub arrival_in : Items → Option ((ℕ × List ℕ) × Items)
-arrival_in ds = do
-  x ← first_by number_of ds
-  y ← first_by bytes_of x.1
-  Some ((x.0, y.0), y.1)
+abbrev pub moment : Items → Result (ℤ × Items) Fault
+moment ds = first_by moment_of ds
 
--- two numbers and bytes, and what is left
-abbrev pub transfer_in : Items → Option ((ℕ × ℕ × List ℕ) × Items)
-transfer_in ds = do
-  x ← first_by number_of ds
-  y ← first_by number_of x.1
-  z ← first_by bytes_of y.1
-  Some ((x.0, y.0, z.0), z.1)
+abbrev pub time : Items → Result (ℤ × Items) Fault
+time ds = first_by time_of ds
 
--- two numbers, a mode and a time, and what is left
-abbrev pub deadline_in : Items → Option ((ℕ × ℕ × Mode × ℤ) × Items)
-deadline_in ds = do
-  x ← first_by number_of ds
-  y ← first_by number_of x.1
-  z ← first_by mode_of y.1
-  w ← first_by moment_of z.1
-  Some ((x.0, y.0, z.0, w.0), w.1)
+abbrev pub side : Items → Result (Side × Items) Fault
+side ds = first_by side_of ds
 
--- a number, a tag, a mode and a bit, and what is left
-abbrev pub event_in : Items → Option ((ℕ × ℕ × Mode × Bool) × Items)
-event_in ds = do
-  x ← first_by number_of ds
-  y ← first_by tag_of x.1
-  z ← first_by mode_of y.1
-  w ← first_by bit_of z.1
-  Some ((x.0, y.0, z.0, w.0), w.1)
+abbrev pub mode : Items → Result (Mode × Items) Fault
+mode ds = first_by mode_of ds
+
+abbrev pub bytes : Items → Result (List ℕ × Items) Fault
+bytes ds = first_by bytes_of ds
+
+infixr 20 ◌and◌
+-- some arguments, and then others
+abbrev pub ◌and◌ : {A B : Type 0} → (Items → Result (A × Items) Fault) → (Items → Result (B × Items) Fault) → Items → Result ((A × B) × Items) Fault
+(first and second) ds = do
+  x ← first ds
+  y ← second x.1
+  Ok ((x.0, y.0), y.1)
+
+-- what a function returned that reads arguments, and what it left
+abbrev pub leaving : {A : Type 0} → Items → Result A Fault → Result (A × Items) Fault
+leaving ds (Ok x) = Ok (x, ds)
+leaving ds (Err f) = Err f
 
 -- ---- what takes memory to read
 
@@ -158,10 +137,7 @@ abbrev pub first_takes_memory : Items → Bool
 first_takes_memory no_items = false
 first_takes_memory (item d ds) = argument_takes_memory d
 
--- a number and bytes do
-abbrev pub arrival_takes_memory : Items → Bool
-arrival_takes_memory ds = option_map_or (λ socket. first_takes_memory socket.1) (first_by number_of ds) false
-
--- two numbers and bytes do
-abbrev pub transfer_takes_memory : Items → Bool
-transfer_takes_memory ds = option_map_or (λ numbers. first_takes_memory numbers.1) (pair_in ds) false
+-- the argument behind these does
+abbrev pub next_takes_memory : {A : Type 0} → Result (A × Items) Fault → Bool
+next_takes_memory (Ok found) = first_takes_memory found.1
+next_takes_memory (Err f) = false

@@ -2,6 +2,8 @@ pub mod Faults
 pub mod Version
 pub mod Recording
 pub mod Arguments
+pub mod Spelling
+pub mod Shapes
 pub mod Steps
 pub mod Header
 pub mod Reading

@@ -69,7 +69,7 @@ with_value seen (Some header) d =
 -- one more value takes memory: for the bytes of a step, or to keep a right step
 abbrev pub value_takes_memory : Seen → Option Header → Data → Bool
 value_takes_memory seen None d = false
-value_takes_memory seen (Some header) d = not (length seen.steps == 1000000) && (step_takes_memory d || is_ok (step_of header.version d))
+value_takes_memory seen (Some header) d = not (length seen.steps == 1000000) && (step_takes_memory header.version d || is_ok (step_of header.version d))
 
 -- what was seen, and one more line
 unfoldable pub with_line : Seen → List ℕ → Result Seen Fault

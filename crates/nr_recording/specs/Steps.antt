@@ -1,102 +1,99 @@
--- What step the value of a line is.
-use Rattle.std.specs.Prelude.{ℕ, ℤ, List, [], ◌∷◌, Bool, false, ◌&&◌, ◌||◌, Option, Some, None, option_map, option_and_then, Result, Ok, Err, if◌then◌else◌, codes}
+-- What step the value of a line is, and what line a step has: two rows a kind.
+use Rattle.std.specs.Prelude.{ℕ, List, [], ◌∷◌, Bool, false, Option, Some, None, option_and_then, Result, Ok, Err, if◌then◌else◌}
 use Rattle.std.specs.Option.{option_map_or}
-use Rattle.std.specs.Str.{bytes_eq}
 use Rattle.serde_json.specs.Data.{Data, Items, no_items, item}
 use Rattle.serde_json.specs.Find.{as_str, as_array}
-use Rattle.nr_rev.specs.declared.sides.Side.{Side}
-use Rattle.nr_rev.specs.declared.sides.Mode.{Mode}
+use Rattle.nr_rev.specs.declared.kind.Kind.{Kind}
 use Rattle.nr_rev.specs.declared.step.Step.{Step}
-use Rattle.nr_rev.specs.declared.step.Step.TheVariants.{Spawn, Exit, SockOpen, Arrive, PeerClose, SysRead, SysWrite, Drain, Incref, IncrefClose, Decref, RwLock, RwUnlock, Acquire, Release, PollOpen, PollClose, PollReset, WaitBegin, BlockArm, BlockCheck, ParkCommit, BlockSwap, WaitCheck, SetDeadline, Evict, PollEvent, Tick, Pop, Fire}
+use Rattle.nr_rev.specs.Kind.{kind_name, kind_of}
 use Rattle.nr_recording.specs.declared.fault.Fault.{Fault}
 use Rattle.nr_recording.specs.declared.fault.Fault.TheVariants as fault
 use Rattle.nr_recording.specs.declared.version.Version.{Version}
-use Rattle.nr_recording.specs.declared.version.Version.TheVariants.{One}
 use Rattle.nr_recording.specs.Faults.{◌>>=◌, or_fault}
-use Rattle.nr_recording.specs.Arguments.{number_of, time_of, first_by, pair_in, triple_in, sided_in, arrival_in, transfer_in, deadline_in, event_in, arrival_takes_memory, transfer_takes_memory}
-use Rattle.nr_recording.specs.Version.{may_end_with}
-
--- ---- the step that the arguments at the front of a list make, and what is left
-
--- of these arguments the step, and what is left
-abbrev pub made : {A : Type 0} → (A → Step) → Option (A × Items) → Option (Step × Items)
-made step found = option_map (λ p. (step p.0, p.1)) found
-
-abbrev pub bare : Step → Items → Option (Step × Items)
-bare step ds = Some (step, ds)
-
-abbrev pub one : (ℕ → Step) → Items → Option (Step × Items)
-one step ds = made step (first_by number_of ds)
-
-abbrev pub pair : (ℕ → ℕ → Step) → Items → Option (Step × Items)
-pair step ds = made (λ p. step p.0 p.1) (pair_in ds)
-
-abbrev pub triple : (ℕ → ℕ → ℕ → Step) → Items → Option (Step × Items)
-triple step ds = made (λ p. step p.0 p.1 p.2) (triple_in ds)
-
-abbrev pub sided : (ℕ → ℕ → Side → Step) → Items → Option (Step × Items)
-sided step ds = made (λ p. step p.0 p.1 p.2) (sided_in ds)
-
-abbrev pub arrival : (ℕ → List ℕ → Step) → Items → Option (Step × Items)
-arrival step ds = made (λ p. step p.0 p.1) (arrival_in ds)
-
-abbrev pub transfer : (ℕ → ℕ → List ℕ → Step) → Items → Option (Step × Items)
-transfer step ds = made (λ p. step p.0 p.1 p.2) (transfer_in ds)
-
-abbrev pub deadline : (ℕ → ℕ → Mode → ℤ → Step) → Items → Option (Step × Items)
-deadline step ds = made (λ p. step p.0 p.1 p.2 p.3) (deadline_in ds)
-
-abbrev pub event : (ℕ → ℕ → Mode → Bool → Step) → Items → Option (Step × Items)
-event step ds = made (λ p. step p.0 p.1 p.2 p.3) (event_in ds)
-
-abbrev pub time : (ℤ → Step) → Items → Option (Step × Items)
-time step ds = made step (first_by time_of ds)
+use Rattle.nr_recording.specs.Arguments.{◌and◌, number, next_takes_memory}
+use Rattle.nr_recording.specs.Shapes.{bare, one, pair, triple, sided, arrival, transfer, deadline, event, timed}
+use Rattle.nr_recording.specs.Spelling.{Argument, numeral, tag, time, side, mode, bit, digits}
+use Rattle.nr_recording.specs.Version.{kind_in, may_end_with}
 
 -- ---- the kinds
 
--- each kind's name, and the steps of that kind
-abbrev pub kinds : Version → List (List ℕ × (Items → Option (Step × Items)))
-kinds One =
-    (codes "spawn", bare Spawn) ∷
-    (codes "exit", one Exit) ∷
-    (codes "sockopen", pair SockOpen) ∷
-    (codes "arrive", arrival Arrive) ∷
-    (codes "peerclose", one PeerClose) ∷
-    (codes "sysread", triple SysRead) ∷
-    (codes "syswrite", transfer SysWrite) ∷
-    (codes "drain", pair Drain) ∷
-    (codes "incref", pair Incref) ∷
-    (codes "increfclose", pair IncrefClose) ∷
-    (codes "decref", pair Decref) ∷
-    (codes "rwlock", sided RwLock) ∷
-    (codes "rwunlock", sided RwUnlock) ∷
-    (codes "acquire", one Acquire) ∷
-    (codes "release", one Release) ∷
-    (codes "pollopen", pair PollOpen) ∷
-    (codes "pollclose", pair PollClose) ∷
-    (codes "pollreset", sided PollReset) ∷
-    (codes "waitbegin", sided WaitBegin) ∷
-    (codes "blockarm", one BlockArm) ∷
-    (codes "blockcheck", one BlockCheck) ∷
-    (codes "parkcommit", one ParkCommit) ∷
-    (codes "blockswap", one BlockSwap) ∷
-    (codes "waitcheck", one WaitCheck) ∷
-    (codes "setdeadline", deadline SetDeadline) ∷
-    (codes "evict", pair Evict) ∷
-    (codes "pollevent", event PollEvent) ∷
-    (codes "tick", time Tick) ∷
-    (codes "pop", bare Pop) ∷
-    (codes "fire", one Fire) ∷
-    []
+-- the step of this kind that the arguments at the front of a list make, and what is left
+abbrev pub step_in : Kind → Items → Result (Step × Items) Fault
+step_in Kind.Spawn = bare Step.Spawn
+step_in Kind.Exit = one Step.Exit
+step_in Kind.SockOpen = pair Step.SockOpen
+step_in Kind.Arrive = arrival Step.Arrive
+step_in Kind.PeerClose = one Step.PeerClose
+step_in Kind.SysRead = triple Step.SysRead
+step_in Kind.SysWrite = transfer Step.SysWrite
+step_in Kind.Drain = pair Step.Drain
+step_in Kind.Incref = pair Step.Incref
+step_in Kind.IncrefClose = pair Step.IncrefClose
+step_in Kind.Decref = pair Step.Decref
+step_in Kind.RwLock = sided Step.RwLock
+step_in Kind.RwUnlock = sided Step.RwUnlock
+step_in Kind.Acquire = one Step.Acquire
+step_in Kind.Release = one Step.Release
+step_in Kind.PollOpen = pair Step.PollOpen
+step_in Kind.PollClose = pair Step.PollClose
+step_in Kind.PollReset = sided Step.PollReset
+step_in Kind.WaitBegin = sided Step.WaitBegin
+step_in Kind.BlockArm = one Step.BlockArm
+step_in Kind.BlockCheck = one Step.BlockCheck
+step_in Kind.ParkCommit = one Step.ParkCommit
+step_in Kind.BlockSwap = one Step.BlockSwap
+step_in Kind.WaitCheck = one Step.WaitCheck
+step_in Kind.SetDeadline = deadline Step.SetDeadline
+step_in Kind.Evict = pair Step.Evict
+step_in Kind.PollEvent = event Step.PollEvent
+step_in Kind.Tick = timed Step.Tick
+step_in Kind.Pop = bare Step.Pop
+step_in Kind.Fire = one Step.Fire
 
--- the step of this name among some kinds, and what is left: an unknown name is found before faulty arguments
-abbrev pub step_among : List (List ℕ × (Items → Option (Step × Items))) → List ℕ → Items → Result (Step × Items) Fault
-step_among [] name ds = Err fault.UnknownStep
-step_among (kind ∷ more) name ds = if bytes_eq name kind.0 then or_fault fault.Arguments (kind.1 ds) else step_among more name ds
+-- the arguments of a step, in their order in the line
+abbrev pub arguments_of : Step → List Argument
+arguments_of Step.Spawn = []
+arguments_of (Step.Exit g) = numeral g ∷ []
+arguments_of (Step.SockOpen r w) = numeral r ∷ numeral w ∷ []
+arguments_of (Step.Arrive s bytes) = numeral s ∷ digits bytes ∷ []
+arguments_of (Step.PeerClose s) = numeral s ∷ []
+arguments_of (Step.SysRead g s n) = numeral g ∷ numeral s ∷ numeral n ∷ []
+arguments_of (Step.SysWrite g s bytes) = numeral g ∷ numeral s ∷ digits bytes ∷ []
+arguments_of (Step.Drain s n) = numeral s ∷ numeral n ∷ []
+arguments_of (Step.Incref g s) = numeral g ∷ numeral s ∷ []
+arguments_of (Step.IncrefClose g s) = numeral g ∷ numeral s ∷ []
+arguments_of (Step.Decref g s) = numeral g ∷ numeral s ∷ []
+arguments_of (Step.RwLock g s way) = numeral g ∷ numeral s ∷ side way ∷ []
+arguments_of (Step.RwUnlock g s way) = numeral g ∷ numeral s ∷ side way ∷ []
+arguments_of (Step.Acquire g) = numeral g ∷ []
+arguments_of (Step.Release g) = numeral g ∷ []
+arguments_of (Step.PollOpen g s) = numeral g ∷ numeral s ∷ []
+arguments_of (Step.PollClose g d) = numeral g ∷ numeral d ∷ []
+arguments_of (Step.PollReset g d way) = numeral g ∷ numeral d ∷ side way ∷ []
+arguments_of (Step.WaitBegin g d way) = numeral g ∷ numeral d ∷ side way ∷ []
+arguments_of (Step.BlockArm g) = numeral g ∷ []
+arguments_of (Step.BlockCheck g) = numeral g ∷ []
+arguments_of (Step.ParkCommit g) = numeral g ∷ []
+arguments_of (Step.BlockSwap g) = numeral g ∷ []
+arguments_of (Step.WaitCheck g) = numeral g ∷ []
+arguments_of (Step.SetDeadline g d ways t) = numeral g ∷ numeral d ∷ mode ways ∷ time t ∷ []
+arguments_of (Step.Evict g d) = numeral g ∷ numeral d ∷ []
+arguments_of (Step.PollEvent d t ways err) = numeral d ∷ tag t ∷ mode ways ∷ bit err ∷ []
+arguments_of (Step.Tick t) = time t ∷ []
+arguments_of Step.Pop = []
+arguments_of (Step.Fire i) = numeral i ∷ []
 
--- the step of this name among all kinds of the version
-abbrev pub step_named : Version → List ℕ → Items → Result (Step × Items) Fault
-step_named version name ds = step_among (kinds version) name ds
+-- the arguments of this kind take memory to read: only those with bytes do
+abbrev pub kind_takes_memory : Kind → Items → Bool
+kind_takes_memory Kind.Arrive ds = next_takes_memory (number ds)
+kind_takes_memory Kind.SysWrite ds = next_takes_memory ((number and number) ds)
+kind_takes_memory _ ds = false
+
+-- ---- lines
+
+-- the name of a step's kind, and its arguments
+abbrev pub spelling_of : Step → List ℕ × List Argument
+spelling_of step = (kind_name (kind_of step), arguments_of step)
 
 -- the first of some values, and the others
 abbrev pub first_of : Items → Option (Data × Items)
@@ -108,15 +105,15 @@ unfoldable pub step_of : Version → Data → Result Step Fault
 step_of version d = do
   parts ← or_fault fault.UnknownStep (option_and_then first_of (as_array d))
   name ← or_fault fault.UnknownStep (as_str parts.0)
-  found ← step_named version name parts.1
+  kind ← or_fault fault.UnknownStep (kind_in version name)
+  found ← step_in kind parts.1
   if may_end_with version found.1 then Ok found.0 else Err fault.Arguments
 
--- the arguments of this kind take memory to read: only those with bytes do
-abbrev pub named_takes_memory : List ℕ → Items → Bool
-named_takes_memory name ds =
-    (bytes_eq name (codes "arrive") && arrival_takes_memory ds) || (bytes_eq name (codes "syswrite") && transfer_takes_memory ds)
+-- a line with this name and these arguments takes memory to read
+abbrev pub named_takes_memory : Version → List ℕ → Items → Bool
+named_takes_memory version name ds = option_map_or (λ kind. kind_takes_memory kind ds) (kind_in version name) false
 
 -- the value of a line does
-abbrev pub step_takes_memory : Data → Bool
-step_takes_memory d =
-    option_map_or (λ parts. option_map_or (λ name. named_takes_memory name parts.1) (as_str parts.0) false) (option_and_then first_of (as_array d)) false
+unfoldable pub step_takes_memory : Version → Data → Bool
+step_takes_memory version d =
+    option_map_or (λ parts. option_map_or (λ name. named_takes_memory version name parts.1) (as_str parts.0) false) (option_and_then first_of (as_array d)) false

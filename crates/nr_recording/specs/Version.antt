@@ -1,6 +1,8 @@
 -- The versions of the format: which number each has, and what it allows.
-use Rattle.std.specs.Prelude.{ℕ, ◌==◌, Bool, true, false, Option, Some, None, if◌then◌else◌}
+use Rattle.std.specs.Prelude.{ℕ, ◌==◌, List, Bool, true, false, Option, Some, None, if◌then◌else◌}
 use Rattle.serde_json.specs.Data.{Items, no_items, item}
+use Rattle.nr_rev.specs.Kind.{kind_named}
+use Rattle.nr_rev.specs.declared.kind.Kind.{Kind}
 use Rattle.nr_rev.specs.declared.limits.TheConstants.{MOST_BUFFER}
 use Rattle.nr_recording.specs.declared.version.Version.{Version}
 use Rattle.nr_recording.specs.declared.version.Version.TheVariants.{One}
@@ -16,6 +18,10 @@ version_numbered n = if n == version_number One then Some One else None
 -- the greatest buf
 abbrev pub most_buffer : Version → ℕ
 most_buffer One = MOST_BUFFER
+
+-- the kind of this name
+abbrev pub kind_in : Version → List ℕ → Option Kind
+kind_in One name = kind_named name
 
 -- what is left of a step's line behind its arguments may stand there: in version 1 nothing may
 abbrev pub may_end_with : Version → Items → Bool

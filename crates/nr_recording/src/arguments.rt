@@ -1,9 +1,9 @@
-//! The arguments of a step, read from the front of what is left of its line.
+//! The arguments of a step, each read from the front of what is left of its line.
 
-ghost use Rattle.std.specs.Prelude.{◌≡◌, true, option_map};
-ghost use Rattle.nr_recording.specs.declared.fault.Fault.TheVariants.{Arguments};
-ghost use Rattle.nr_recording.specs.Faults.{GivesBy, or_fault};
-ghost use Rattle.nr_recording.specs.Arguments.{number_of, side_named, side_of, bytes_of, mode_named, mode_of, tag_of, bit_named, bit_of, moment_of, time_of, left, first_by, pair_in, triple_in, sided_in, arrival_in, transfer_in, deadline_in, event_in, first_takes_memory, arrival_takes_memory, transfer_takes_memory};
+ghost use Rattle.std.specs.Prelude.{◌≡◌, true};
+ghost use Rattle.serde_json.specs.View.{view};
+ghost use Rattle.nr_recording.specs.Arguments.{number_of, side_named, side_of, mode_named, mode_of, bit_named, bit_of, time_of, left, leaving, first_takes_memory, number as number_in, side as side_in, mode as mode_in, tag as tag_in, bit as bit_in, moment as moment_in, time as time_in, bytes as bytes_in};
+ghost use Rattle.nr_recording.specs.Faults.{GivesBy};
 
 use crate::fault::{Fault, LineError};
 use crate::recording::MOST_BYTES;
@@ -14,11 +14,32 @@ use std::slice::Iter;
 
 const MOST_DIGITS: usize = 2 * MOST_BYTES;
 
-pub(crate) fn number(arguments: &mut Iter<'_, Value>) -> Option<u32>
-    ensures { first_by number_of (left arguments.old)
-        ≡ option_map (λ n. (n, left arguments.new)) result }
+fn number_of(value: &Value) -> Option<u32>
+    ensures { result ≡ number_of (view value.now) }
 {
-    u32::try_from(arguments.next()?.as_u64()?).ok()
+    u32::try_from(value.as_u64()?).ok()
+}
+
+fn bit_named(number: u64) -> Option<bool>
+    ensures { result ≡ bit_named number }
+{
+    match number {
+        0 => Some(false),
+        1 => Some(true),
+        _ => None,
+    }
+}
+
+fn bit_of(value: &Value) -> Option<bool>
+    ensures { result ≡ bit_of (view value.now) }
+{
+    bit_named(value.as_u64()?)
+}
+
+fn time_of(value: &Value) -> Option<i64>
+    ensures { result ≡ time_of (view value.now) }
+{
+    value.as_i64().filter(|time| *time >= 0)
 }
 
 fn side_named(name: &str) -> Option<Side>
@@ -31,11 +52,10 @@ fn side_named(name: &str) -> Option<Side>
     }
 }
 
-fn side(arguments: &mut Iter<'_, Value>) -> Option<Side>
-    ensures { first_by side_of (left arguments.old)
-        ≡ option_map (λ side. (side, left arguments.new)) result }
+fn side_of(value: &Value) -> Option<Side>
+    ensures { result ≡ side_of (view value.now) }
 {
-    side_named(arguments.next()?.as_str()?)
+    side_named(value.as_str()?)
 }
 
 fn mode_named(name: &str) -> Option<Mode>
@@ -49,55 +69,71 @@ fn mode_named(name: &str) -> Option<Mode>
     }
 }
 
-fn mode(arguments: &mut Iter<'_, Value>) -> Option<Mode>
-    ensures { first_by mode_of (left arguments.old)
-        ≡ option_map (λ mode. (mode, left arguments.new)) result }
+fn mode_of(value: &Value) -> Option<Mode>
+    ensures { result ≡ mode_of (view value.now) }
 {
-    mode_named(arguments.next()?.as_str()?)
+    mode_named(value.as_str()?)
 }
 
-fn tag(arguments: &mut Iter<'_, Value>) -> Option<u64>
-    ensures { first_by tag_of (left arguments.old)
-        ≡ option_map (λ n. (n, left arguments.new)) result }
+/// A number of 32 bits.
+pub(crate) fn number(arguments: &mut Iter<'_, Value>) -> Result<u32, Fault>
+    ensures { number_in (left arguments.old) ≡ leaving (left arguments.new) result }
 {
-    arguments.next()?.as_u64()
+    arguments.next().and_then(number_of).ok_or(Fault::Arguments)
 }
 
-fn bit_named(number: u64) -> Option<bool>
-    ensures { result ≡ bit_named number }
+/// A number of 64 bits.
+pub(crate) fn tag(arguments: &mut Iter<'_, Value>) -> Result<u64, Fault>
+    ensures { tag_in (left arguments.old) ≡ leaving (left arguments.new) result }
 {
-    match number {
-        0 => Some(false),
-        1 => Some(true),
-        _ => None,
-    }
+    arguments
+        .next()
+        .and_then(Value::as_u64)
+        .ok_or(Fault::Arguments)
 }
 
-fn bit(arguments: &mut Iter<'_, Value>) -> Option<bool>
-    ensures { first_by bit_of (left arguments.old)
-        ≡ option_map (λ bit. (bit, left arguments.new)) result }
+/// Whether it is 1, and not 0.
+pub(crate) fn bit(arguments: &mut Iter<'_, Value>) -> Result<bool, Fault>
+    ensures { bit_in (left arguments.old) ≡ leaving (left arguments.new) result }
 {
-    bit_named(arguments.next()?.as_u64()?)
+    arguments.next().and_then(bit_of).ok_or(Fault::Arguments)
 }
 
-fn moment(arguments: &mut Iter<'_, Value>) -> Option<i64>
-    ensures { first_by moment_of (left arguments.old)
-        ≡ option_map (λ time. (time, left arguments.new)) result }
+/// A time, in nanoseconds, that may be below 0.
+pub(crate) fn moment(arguments: &mut Iter<'_, Value>) -> Result<i64, Fault>
+    ensures { moment_in (left arguments.old) ≡ leaving (left arguments.new) result }
 {
-    arguments.next()?.as_i64()
+    arguments
+        .next()
+        .and_then(Value::as_i64)
+        .ok_or(Fault::Arguments)
 }
 
-/// A time that is not below 0.
-pub(crate) fn time(arguments: &mut Iter<'_, Value>) -> Option<i64>
-    ensures { first_by time_of (left arguments.old)
-        ≡ option_map (λ time. (time, left arguments.new)) result }
+/// A time, in nanoseconds, that is not below 0.
+pub(crate) fn time(arguments: &mut Iter<'_, Value>) -> Result<i64, Fault>
+    ensures { time_in (left arguments.old) ≡ leaving (left arguments.new) result }
 {
-    moment(arguments).filter(|time| *time >= 0)
+    arguments.next().and_then(time_of).ok_or(Fault::Arguments)
 }
 
-fn bytes(alloc: Global, arguments: &mut Iter<'_, Value>) -> Result<Bytes, LineError>
+/// One side.
+pub(crate) fn side(arguments: &mut Iter<'_, Value>) -> Result<Side, Fault>
+    ensures { side_in (left arguments.old) ≡ leaving (left arguments.new) result }
+{
+    arguments.next().and_then(side_of).ok_or(Fault::Arguments)
+}
+
+/// One side or both.
+pub(crate) fn mode(arguments: &mut Iter<'_, Value>) -> Result<Mode, Fault>
+    ensures { mode_in (left arguments.old) ≡ leaving (left arguments.new) result }
+{
+    arguments.next().and_then(mode_of).ok_or(Fault::Arguments)
+}
+
+/// Bytes, as hexadecimal digits.
+pub(crate) fn bytes(alloc: Global, arguments: &mut Iter<'_, Value>) -> Result<Bytes, LineError>
     ensures found { GivesBy (λ bytes. (bytes, left arguments.new)) result
-        (or_fault Arguments (first_by bytes_of (left arguments.old))) }
+        (bytes_in (left arguments.old)) }
     ensures memory { result ≡ Err LineError.Memory
         → first_takes_memory (left arguments.old) ≡ true }
 {
@@ -109,75 +145,4 @@ fn bytes(alloc: Global, arguments: &mut Iter<'_, Value>) -> Result<Bytes, LineEr
         return Err(LineError::Fault(Fault::Arguments));
     }
     Ok(Bytes::new(hex::decode(alloc, text)?))
-}
-
-pub(crate) fn pair(arguments: &mut Iter<'_, Value>) -> Option<(u32, u32)>
-    ensures { pair_in (left arguments.old)
-        ≡ option_map (λ found. (found, left arguments.new)) result }
-{
-    Some((number(arguments)?, number(arguments)?))
-}
-
-pub(crate) fn triple(arguments: &mut Iter<'_, Value>) -> Option<(u32, u32, u32)>
-    ensures { triple_in (left arguments.old)
-        ≡ option_map (λ found. (found, left arguments.new)) result }
-{
-    Some((number(arguments)?, number(arguments)?, number(arguments)?))
-}
-
-pub(crate) fn sided(arguments: &mut Iter<'_, Value>) -> Option<(u32, u32, Side)>
-    ensures { sided_in (left arguments.old)
-        ≡ option_map (λ found. (found, left arguments.new)) result }
-{
-    Some((number(arguments)?, number(arguments)?, side(arguments)?))
-}
-
-pub(crate) fn deadline(arguments: &mut Iter<'_, Value>) -> Option<(u32, u32, Mode, i64)>
-    ensures { deadline_in (left arguments.old)
-        ≡ option_map (λ found. (found, left arguments.new)) result }
-{
-    Some((
-        number(arguments)?,
-        number(arguments)?,
-        mode(arguments)?,
-        moment(arguments)?,
-    ))
-}
-
-pub(crate) fn event(arguments: &mut Iter<'_, Value>) -> Option<(u32, u64, Mode, bool)>
-    ensures { event_in (left arguments.old)
-        ≡ option_map (λ found. (found, left arguments.new)) result }
-{
-    Some((
-        number(arguments)?,
-        tag(arguments)?,
-        mode(arguments)?,
-        bit(arguments)?,
-    ))
-}
-
-pub(crate) fn arrival(
-    alloc: Global,
-    arguments: &mut Iter<'_, Value>,
-) -> Result<(u32, Bytes), LineError>
-    ensures found { GivesBy (λ found. (found, left arguments.new)) result
-        (or_fault Arguments (arrival_in (left arguments.old))) }
-    ensures memory { result ≡ Err LineError.Memory
-        → arrival_takes_memory (left arguments.old) ≡ true }
-{
-    let socket = number(arguments).ok_or(Fault::Arguments)?;
-    Ok((socket, bytes(alloc, arguments)?))
-}
-
-pub(crate) fn transfer(
-    alloc: Global,
-    arguments: &mut Iter<'_, Value>,
-) -> Result<(u32, u32, Bytes), LineError>
-    ensures found { GivesBy (λ found. (found, left arguments.new)) result
-        (or_fault Arguments (transfer_in (left arguments.old))) }
-    ensures memory { result ≡ Err LineError.Memory
-        → transfer_takes_memory (left arguments.old) ≡ true }
-{
-    let (goroutine, socket) = pair(arguments).ok_or(Fault::Arguments)?;
-    Ok((goroutine, socket, bytes(alloc, arguments)?))
 }

@@ -7,6 +7,7 @@ mod header;
 pub mod laws;
 mod reading;
 mod recording;
+mod spelling;
 mod steps;
 mod version;
 mod writing;

@@ -1,172 +1,241 @@
-//! The step that the value of a line says.
+//! The step that the value of a line says, and the value of a step's line: two rows a kind.
 
-ghost use Rattle.std.specs.Prelude.{◌≡◌, true, IfNone, IfSome};
+ghost use Rattle.std.specs.Prelude.{◌≡◌, true, IfOk};
 ghost use Rattle.serde_json.specs.View.{view};
-ghost use Rattle.nr_recording.specs.declared.fault.Fault.TheVariants.{Arguments};
-ghost use Rattle.nr_recording.specs.declared.fault.LineError.TheVariants as errors;
 ghost use Rattle.nr_recording.specs.Arguments.{left};
 ghost use Rattle.nr_recording.specs.Faults.{Gives, GivesBy};
-ghost use Rattle.nr_recording.specs.Steps.{step_named, step_of, named_takes_memory, step_takes_memory};
+ghost use Rattle.nr_recording.specs.Spelling.{IsSpelling};
+ghost use Rattle.nr_recording.specs.Steps.{step_in, kind_takes_memory, spelling_of, step_of, step_takes_memory};
 
-use crate::arguments::{arrival, deadline, event, number, pair, sided, time, transfer, triple};
+use crate::arguments::{bit, bytes, mode, moment, number, side, tag, time};
 use crate::fault::{Fault, LineError};
+use crate::spelling::{arrival, bare, deadline, event, one, pair, sided, timed, transfer, triple};
 use crate::version::Version;
-use nr_rev::Step;
+use nr_rev::{Kind, Step};
 use serde_json::Value;
-use std::alloc::Global;
+use std::alloc::{AllocError, Global};
 use std::slice::Iter;
 
-fn found(step: Option<Step>) -> Result<Step, LineError>
-    ensures none { IfNone step (result ≡ Err (errors.Fault Arguments)) }
-    ensures some { IfSome step (λ step. result ≡ Ok step) }
-{
-    step.ok_or(LineError::Fault(Fault::Arguments))
-}
-
 /// The step of this kind; what is behind its arguments is left.
-fn named(
-    version: Version,
-    alloc: Global,
-    name: &str,
-    arguments: &mut Iter<'_, Value>,
-) -> Result<Step, LineError>
+fn step_in(alloc: Global, kind: Kind, arguments: &mut Iter<'_, Value>) -> Result<Step, LineError>
     ensures found { GivesBy (λ step. (step, left arguments.new)) result
-        (step_named version name.now (left arguments.old)) }
+        (step_in kind (left arguments.old)) }
     ensures memory { result ≡ Err LineError.Memory
-        → named_takes_memory name.now (left arguments.old) ≡ true }
+        → kind_takes_memory kind (left arguments.old) ≡ true }
 {
-    match version {
-        Version::One => named_in_one(alloc, name, arguments),
+    match kind {
+        Kind::Spawn => Ok(Step::Spawn),
+        Kind::Exit => Ok(Step::Exit {
+            goroutine: number(arguments)?,
+        }),
+        Kind::SockOpen => Ok(Step::SockOpen {
+            read_capacity: number(arguments)?,
+            write_capacity: number(arguments)?,
+        }),
+        Kind::Arrive => Ok(Step::Arrive {
+            socket: number(arguments)?,
+            bytes: bytes(alloc, arguments)?,
+        }),
+        Kind::PeerClose => Ok(Step::PeerClose {
+            socket: number(arguments)?,
+        }),
+        Kind::SysRead => Ok(Step::SysRead {
+            goroutine: number(arguments)?,
+            socket: number(arguments)?,
+            count: number(arguments)?,
+        }),
+        Kind::SysWrite => Ok(Step::SysWrite {
+            goroutine: number(arguments)?,
+            socket: number(arguments)?,
+            bytes: bytes(alloc, arguments)?,
+        }),
+        Kind::Drain => Ok(Step::Drain {
+            socket: number(arguments)?,
+            count: number(arguments)?,
+        }),
+        Kind::Incref => Ok(Step::Incref {
+            goroutine: number(arguments)?,
+            socket: number(arguments)?,
+        }),
+        Kind::IncrefClose => Ok(Step::IncrefClose {
+            goroutine: number(arguments)?,
+            socket: number(arguments)?,
+        }),
+        Kind::Decref => Ok(Step::Decref {
+            goroutine: number(arguments)?,
+            socket: number(arguments)?,
+        }),
+        Kind::RwLock => Ok(Step::RwLock {
+            goroutine: number(arguments)?,
+            socket: number(arguments)?,
+            side: side(arguments)?,
+        }),
+        Kind::RwUnlock => Ok(Step::RwUnlock {
+            goroutine: number(arguments)?,
+            socket: number(arguments)?,
+            side: side(arguments)?,
+        }),
+        Kind::Acquire => Ok(Step::Acquire {
+            goroutine: number(arguments)?,
+        }),
+        Kind::Release => Ok(Step::Release {
+            goroutine: number(arguments)?,
+        }),
+        Kind::PollOpen => Ok(Step::PollOpen {
+            goroutine: number(arguments)?,
+            socket: number(arguments)?,
+        }),
+        Kind::PollClose => Ok(Step::PollClose {
+            goroutine: number(arguments)?,
+            descriptor: number(arguments)?,
+        }),
+        Kind::PollReset => Ok(Step::PollReset {
+            goroutine: number(arguments)?,
+            descriptor: number(arguments)?,
+            side: side(arguments)?,
+        }),
+        Kind::WaitBegin => Ok(Step::WaitBegin {
+            goroutine: number(arguments)?,
+            descriptor: number(arguments)?,
+            side: side(arguments)?,
+        }),
+        Kind::BlockArm => Ok(Step::BlockArm {
+            goroutine: number(arguments)?,
+        }),
+        Kind::BlockCheck => Ok(Step::BlockCheck {
+            goroutine: number(arguments)?,
+        }),
+        Kind::ParkCommit => Ok(Step::ParkCommit {
+            goroutine: number(arguments)?,
+        }),
+        Kind::BlockSwap => Ok(Step::BlockSwap {
+            goroutine: number(arguments)?,
+        }),
+        Kind::WaitCheck => Ok(Step::WaitCheck {
+            goroutine: number(arguments)?,
+        }),
+        Kind::SetDeadline => Ok(Step::SetDeadline {
+            goroutine: number(arguments)?,
+            descriptor: number(arguments)?,
+            mode: mode(arguments)?,
+            time: moment(arguments)?,
+        }),
+        Kind::Evict => Ok(Step::Evict {
+            goroutine: number(arguments)?,
+            descriptor: number(arguments)?,
+        }),
+        Kind::PollEvent => Ok(Step::PollEvent {
+            descriptor: number(arguments)?,
+            tag: tag(arguments)?,
+            mode: mode(arguments)?,
+            error: bit(arguments)?,
+        }),
+        Kind::Tick => Ok(Step::Tick {
+            time: time(arguments)?,
+        }),
+        Kind::Pop => Ok(Step::Pop),
+        Kind::Fire => Ok(Step::Fire {
+            place: number(arguments)?,
+        }),
     }
 }
 
-fn named_in_one(
-    alloc: Global,
-    name: &str,
-    arguments: &mut Iter<'_, Value>,
-) -> Result<Step, LineError>
-    ensures found { GivesBy (λ step. (step, left arguments.new)) result
-        (step_named Version.One name.now (left arguments.old)) }
-    ensures memory { result ≡ Err LineError.Memory
-        → named_takes_memory name.now (left arguments.old) ≡ true }
+/// The value of the step's line: the name of its kind, and its arguments.
+pub(crate) fn step_value(alloc: Global, step: &Step) -> Result<Value, AllocError>
+    ensures { IfOk result (λ v. IsSpelling (view v) (spelling_of step.now)) }
 {
-    match name {
-        "spawn" => Ok(Step::Spawn),
-        "exit" => found(number(arguments).map(|goroutine| Step::Exit { goroutine })),
-        "sockopen" => found(pair(arguments).map(|(read_capacity, write_capacity)| {
-            Step::SockOpen {
-                read_capacity,
-                write_capacity,
-            }
-        })),
-        "arrive" => {
-            let (socket, bytes) = arrival(alloc, arguments)?;
-            Ok(Step::Arrive { socket, bytes })
-        }
-        "peerclose" => found(number(arguments).map(|socket| Step::PeerClose { socket })),
-        "sysread" => found(triple(arguments).map(|(goroutine, socket, count)| Step::SysRead {
+    let name = step.kind().name();
+    match step {
+        Step::Spawn => bare(alloc, name),
+        Step::Exit { goroutine } => one(alloc, name, *goroutine),
+        Step::SockOpen {
+            read_capacity,
+            write_capacity,
+        } => pair(alloc, name, *read_capacity, *write_capacity),
+        Step::Arrive { socket, bytes } => arrival(alloc, name, *socket, bytes.as_slice()),
+        Step::PeerClose { socket } => one(alloc, name, *socket),
+        Step::SysRead {
             goroutine,
             socket,
             count,
-        })),
-        "syswrite" => {
-            let (goroutine, socket, bytes) = transfer(alloc, arguments)?;
-            Ok(Step::SysWrite {
-                goroutine,
-                socket,
-                bytes,
-            })
-        }
-        "drain" => found(pair(arguments).map(|(socket, count)| Step::Drain { socket, count })),
-        "incref" => found(pair(arguments).map(|(goroutine, socket)| Step::Incref {
+        } => triple(alloc, name, *goroutine, *socket, *count),
+        Step::SysWrite {
             goroutine,
             socket,
-        })),
-        "increfclose" => found(pair(arguments).map(|(goroutine, socket)| Step::IncrefClose {
-            goroutine,
-            socket,
-        })),
-        "decref" => found(pair(arguments).map(|(goroutine, socket)| Step::Decref {
-            goroutine,
-            socket,
-        })),
-        "rwlock" => found(sided(arguments).map(|(goroutine, socket, side)| Step::RwLock {
+            bytes,
+        } => transfer(alloc, name, *goroutine, *socket, bytes.as_slice()),
+        Step::Drain { socket, count } => pair(alloc, name, *socket, *count),
+        Step::Incref { goroutine, socket } => pair(alloc, name, *goroutine, *socket),
+        Step::IncrefClose { goroutine, socket } => pair(alloc, name, *goroutine, *socket),
+        Step::Decref { goroutine, socket } => pair(alloc, name, *goroutine, *socket),
+        Step::RwLock {
             goroutine,
             socket,
             side,
-        })),
-        "rwunlock" => found(sided(arguments).map(|(goroutine, socket, side)| Step::RwUnlock {
+        } => sided(alloc, name, *goroutine, *socket, *side),
+        Step::RwUnlock {
             goroutine,
             socket,
             side,
-        })),
-        "acquire" => found(number(arguments).map(|goroutine| Step::Acquire { goroutine })),
-        "release" => found(number(arguments).map(|goroutine| Step::Release { goroutine })),
-        "pollopen" => found(pair(arguments).map(|(goroutine, socket)| Step::PollOpen {
-            goroutine,
-            socket,
-        })),
-        "pollclose" => found(pair(arguments).map(|(goroutine, descriptor)| Step::PollClose {
+        } => sided(alloc, name, *goroutine, *socket, *side),
+        Step::Acquire { goroutine } => one(alloc, name, *goroutine),
+        Step::Release { goroutine } => one(alloc, name, *goroutine),
+        Step::PollOpen { goroutine, socket } => pair(alloc, name, *goroutine, *socket),
+        Step::PollClose {
             goroutine,
             descriptor,
-        })),
-        "pollreset" => found(sided(arguments).map(|(goroutine, descriptor, side)| {
-            Step::PollReset {
-                goroutine,
-                descriptor,
-                side,
-            }
-        })),
-        "waitbegin" => found(sided(arguments).map(|(goroutine, descriptor, side)| {
-            Step::WaitBegin {
-                goroutine,
-                descriptor,
-                side,
-            }
-        })),
-        "blockarm" => found(number(arguments).map(|goroutine| Step::BlockArm { goroutine })),
-        "blockcheck" => found(number(arguments).map(|goroutine| Step::BlockCheck { goroutine })),
-        "parkcommit" => found(number(arguments).map(|goroutine| Step::ParkCommit { goroutine })),
-        "blockswap" => found(number(arguments).map(|goroutine| Step::BlockSwap { goroutine })),
-        "waitcheck" => found(number(arguments).map(|goroutine| Step::WaitCheck { goroutine })),
-        "setdeadline" => found(deadline(arguments).map(|(goroutine, descriptor, mode, time)| {
-            Step::SetDeadline {
-                goroutine,
-                descriptor,
-                mode,
-                time,
-            }
-        })),
-        "evict" => found(pair(arguments).map(|(goroutine, descriptor)| Step::Evict {
+        } => pair(alloc, name, *goroutine, *descriptor),
+        Step::PollReset {
             goroutine,
             descriptor,
-        })),
-        "pollevent" => found(event(arguments).map(|(descriptor, tag, mode, error)| {
-            Step::PollEvent {
-                descriptor,
-                tag,
-                mode,
-                error,
-            }
-        })),
-        "tick" => found(time(arguments).map(|time| Step::Tick { time })),
-        "pop" => Ok(Step::Pop),
-        "fire" => found(number(arguments).map(|place| Step::Fire { place })),
-        _ => Err(LineError::Fault(Fault::UnknownStep)),
+            side,
+        } => sided(alloc, name, *goroutine, *descriptor, *side),
+        Step::WaitBegin {
+            goroutine,
+            descriptor,
+            side,
+        } => sided(alloc, name, *goroutine, *descriptor, *side),
+        Step::BlockArm { goroutine } => one(alloc, name, *goroutine),
+        Step::BlockCheck { goroutine } => one(alloc, name, *goroutine),
+        Step::ParkCommit { goroutine } => one(alloc, name, *goroutine),
+        Step::BlockSwap { goroutine } => one(alloc, name, *goroutine),
+        Step::WaitCheck { goroutine } => one(alloc, name, *goroutine),
+        Step::SetDeadline {
+            goroutine,
+            descriptor,
+            mode,
+            time,
+        } => deadline(alloc, name, *goroutine, *descriptor, *mode, *time),
+        Step::Evict {
+            goroutine,
+            descriptor,
+        } => pair(alloc, name, *goroutine, *descriptor),
+        Step::PollEvent {
+            descriptor,
+            tag,
+            mode,
+            error,
+        } => event(alloc, name, *descriptor, *tag, *mode, *error),
+        Step::Tick { time } => timed(alloc, name, *time),
+        Step::Pop => bare(alloc, name),
+        Step::Fire { place } => one(alloc, name, *place),
     }
 }
 
-#[tactic(auto, unfolding(crate::specs::Steps::step_of))]
+/// The step that the value of a line is.
+#[tactic(auto, unfolding(crate::specs::Steps::step_of, crate::specs::Steps::step_takes_memory))]
 pub(crate) fn step(version: Version, alloc: Global, value: &Value) -> Result<Step, LineError>
     ensures found { Gives result (step_of version (view value.now)) }
-    ensures memory { result ≡ Err LineError.Memory → step_takes_memory (view value.now) ≡ true }
+    ensures memory { result ≡ Err LineError.Memory
+        → step_takes_memory version (view value.now) ≡ true }
 {
     let mut parts = value.as_array().ok_or(Fault::UnknownStep)?.iter();
     let name = parts
         .next()
         .and_then(Value::as_str)
         .ok_or(Fault::UnknownStep)?;
-    let step = named(version, alloc, name, &mut parts)?;
+    let kind = version.kind(name).ok_or(Fault::UnknownStep)?;
+    let step = step_in(alloc, kind, &mut parts)?;
     if !version.may_end_with(parts.as_slice()) {
         return Err(LineError::Fault(Fault::Arguments));
     }

@@ -3,7 +3,7 @@
 ghost use Rattle.std.specs.Prelude.{◌≡◌};
 ghost use Rattle.serde_json.specs.View.{items_view};
 
-use nr_rev::MOST_BUFFER;
+use nr_rev::{Kind, MOST_BUFFER};
 use serde_json::Value;
 
 /// A version of the format. There is one so far.
@@ -13,7 +13,7 @@ pub(crate) enum Version {
 }
 
 impl Version {
-    ghost use Rattle.nr_recording.specs.Version.{version_number, version_numbered, most_buffer, may_end_with};
+    ghost use Rattle.nr_recording.specs.Version.{version_number, version_numbered, most_buffer, kind_in, may_end_with};
 
     /// The version that a header of this number is of.
     pub(crate) fn numbered(number: u64) -> Option<Self>
@@ -43,8 +43,17 @@ impl Version {
         }
     }
 
+    /// The kind of this name.
+    pub(crate) fn kind(self, name: &str) -> Option<Kind>
+        ensures { result ≡ kind_in self name.now }
+    {
+        match self {
+            Version::One => Kind::named(name.as_bytes()),
+        }
+    }
+
     /// Whether this may stand behind a step's arguments.
-    #[tactic(auto, using(crate::proofs::Rests::one_ends_at_once))]
+    #[tactic(auto, using(crate::proofs::Versions::one_ends_at_once))]
     pub(crate) fn may_end_with(self, rest: &[Value]) -> bool
         ensures { result ≡ may_end_with self (items_view rest.now) }
     {
