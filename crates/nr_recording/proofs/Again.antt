@@ -12,9 +12,11 @@ use Rattle.nr_rev.specs.declared.step.Step.{Step}
 use Rattle.nr_rev.specs.declared.kind.Kind.{Kind}
 use Rattle.nr_rev.specs.Kind.{kind_name, kind_named, kind_of}
 use Rattle.nr_rev.specs.Limits.{AreInRange}
+use Rattle.nr_rev.specs.declared.limits.TheConstants.{MOST_GOROUTINES, MOST_SOCKETS, MOST_DESCRIPTORS, MOST_BUFFER}
+use Rattle.nr_recording.specs.declared.recording.TheConstants.{MOST_BYTES}
 use Rattle.nr_recording.specs.declared.version.Version.TheVariants.{One}
 use Rattle.nr_recording.specs.Recording.{is_writable}
-use Rattle.nr_recording.specs.Arguments.{number_of, side_of, mode_of, bit_of, bytes_of, moment_of, from_zero}
+use Rattle.nr_recording.specs.Arguments.{most_digits, number_of, side_of, mode_of, bit_of, bytes_of, moment_of, from_zero}
 use Rattle.nr_recording.specs.Header.{version_of, limit_of, limits_of, header_of}
 use Rattle.serde_json.specs.Data.{no_items}
 use Rattle.nr_recording.specs.Steps.{step_in, arguments_of, step_of}
@@ -45,10 +47,10 @@ from_zero_again : (t : ℤ) → is_writable (Step.Tick t) ≡ true → from_zero
 from_zero_again (pos n) h = rw (le-ltb n 0 (omega arith)) refl
 from_zero_again (negsuc n) h = absurd cc
 
-bytes_again : (bytes : List ℕ) → ((i : ℕ) → get_or bytes i 0 < 256) → leb (length bytes) 65536 ≡ true → bytes_of (argument_data (digits bytes)) ≡ Some bytes
+bytes_again : (bytes : List ℕ) → ((i : ℕ) → get_or bytes i 0 < 256) → leb (length bytes) MOST_BYTES ≡ true → bytes_of (argument_data (digits bytes)) ≡ Some bytes
 bytes_again bytes below few =
-    let most = leb-true (length bytes) 65536 few in
-    let short : ltb 131072 (length (encode_lower bytes)) ≡ false = le-ltb _ _ (omega (arith, length-encode_with lower_digits bytes)) in
+    let most = leb-true (length bytes) MOST_BYTES few in
+    let short : ltb most_digits (length (encode_lower bytes)) ≡ false = le-ltb _ _ (omega (arith, length-encode_with lower_digits bytes)) in
     rw (short, decode_of-encode_lower bytes below) refl
 
 kind_again : (k : Kind) → kind_named (kind_name k) ≡ Some k
@@ -71,7 +73,7 @@ limit_again most n low high = rw (lt-ltb 0 n low, le-leb n most high) refl
 
 pub header_again : (l : Limits) → AreInRange l → header_of One (limits_data l) ≡ Ok l
 unfolding header_of limits_of
-header_again l h = rw (limit_again 4096 l.goroutines h.goroutines h.goroutines_most, limit_again 256 l.sockets h.sockets h.sockets_most, limit_again 256 l.descriptors h.descriptors h.descriptors_most, limit_again 65536 l.buffer h.buffer h.buffer_most) refl
+header_again l h = rw (limit_again MOST_GOROUTINES l.goroutines h.goroutines h.goroutines_most, limit_again MOST_SOCKETS l.sockets h.sockets h.sockets_most, limit_again MOST_DESCRIPTORS l.descriptors h.descriptors h.descriptors_most, limit_again MOST_BUFFER l.buffer h.buffer h.buffer_most) refl
 
 pub version_again : (l : Limits) → version_of (limits_data l) ≡ Ok One
 version_again l = refl

@@ -12,6 +12,8 @@ use Rattle.nr_rev.specs.declared.kind.Kind.{Kind}
 use Rattle.nr_rev.specs.declared.limits.Limits.{Limits}
 use Rattle.nr_rev.specs.declared.step.Step.{Step}
 use Rattle.nr_rev.specs.declared.step.Step.TheVariants.{Tick}
+use Rattle.nr_rev.specs.declared.limits.TheConstants.{MOST_GOROUTINES, MOST_SOCKETS, MOST_DESCRIPTORS, MOST_BUFFER}
+use Rattle.nr_recording.specs.declared.recording.TheConstants.{MOST_STEPS, MOST_BYTES}
 use Rattle.nr_recording.specs.declared.fault.Fault.{Fault}
 use Rattle.nr_recording.specs.declared.fault.Fault.TheVariants as fault
 use Rattle.nr_recording.specs.Faults.{or_fault}
@@ -20,8 +22,8 @@ use Rattle.nr_recording.specs.Recording.{is_writable, are_writable, recording_of
 use Rattle.nr_recording.specs.declared.version.Version.{Version}
 use Rattle.nr_recording.specs.declared.version.Version.TheVariants.{One}
 use Rattle.nr_recording.specs.Version.{kind_in, may_end_with}
-use Rattle.nr_recording.specs.Arguments.{bytes_named, bytes_of, moment_of, from_zero, time_of, first_by, number, bytes, time, ◌and◌}
-use Rattle.nr_recording.specs.Shapes.{made, bare}
+use Rattle.nr_recording.specs.Arguments.{most_digits, bytes_named, bytes_of, moment_of, from_zero, time_of, first_by, number, bytes, time, ◌and◌}
+use Rattle.nr_recording.specs.Shapes.{step_from, bare}
 use Rattle.nr_recording.specs.Steps.{first_of, step_in, step_of}
 use Rattle.nr_recording.specs.Header.{limit_of, limits_of, unsigned_at, member_count, header_of}
 use Rattle.nr_recording.proofs.Binds.{bind_ok, passed_ok, found_ok, map_some, then_some, kept_some, same_ok}
@@ -40,16 +42,16 @@ limit_ok most n m e =
 limits_ok : (version : Version) (gor sock desc buf : ℕ) (l : Limits) → limits_of version gor sock desc buf ≡ Ok l → AreInRange l
 unfolding limits_of
 limits_ok One gor sock desc buf l e =
-    let g = bind_ok (limit_of 4096 gor) _ l e in
-    let s = bind_ok (limit_of 256 sock) _ l g.2 in
-    let d = bind_ok (limit_of 256 desc) _ l s.2 in
-    let b = bind_ok (limit_of 65536 buf) _ l d.2 in
+    let g = bind_ok (limit_of MOST_GOROUTINES gor) _ l e in
+    let s = bind_ok (limit_of MOST_SOCKETS sock) _ l g.2 in
+    let d = bind_ok (limit_of MOST_DESCRIPTORS desc) _ l s.2 in
+    let b = bind_ok (limit_of MOST_BUFFER buf) _ l d.2 in
     let made : Limits = record { goroutines = g.0; sockets = s.0; descriptors = d.0; buffer = b.0 } in
     let same : made ≡ l = cc (b.2) in
-    let gs = limit_ok 4096 gor g.0 g.1 in
-    let ss = limit_ok 256 sock s.0 s.1 in
-    let ds = limit_ok 256 desc d.0 d.1 in
-    let bs = limit_ok 65536 buf b.0 b.1 in
+    let gs = limit_ok MOST_GOROUTINES gor g.0 g.1 in
+    let ss = limit_ok MOST_SOCKETS sock s.0 s.1 in
+    let ds = limit_ok MOST_DESCRIPTORS desc d.0 d.1 in
+    let bs = limit_ok MOST_BUFFER buf b.0 b.1 in
     subst AreInRange same (record {
       goroutines = gs.0;
       goroutines_most = gs.1;
@@ -73,13 +75,13 @@ header_fits version d l e =
 
 -- ---- steps
 
-bytes_few : (d : Data) (bytes : List ℕ) → bytes_of d ≡ Some bytes → leb (length bytes) 65536 ≡ true
+bytes_few : (d : Data) (bytes : List ℕ) → bytes_of d ≡ Some bytes → leb (length bytes) MOST_BYTES ≡ true
 bytes_few d bytes e =
     let named = then_some bytes_named (as_str d) bytes e in
-    let kept = kept_some (ltb 131072 (length named.0)) (result_ok (decode_of named.0)) bytes named.2 in
+    let kept = kept_some (ltb most_digits (length named.0)) (result_ok (decode_of named.0)) bytes named.2 in
     let decoded : decode_of named.0 ≡ Ok bytes = from_ok (decode_of named.0) kept.1 in
     let twice = (decode_of-ok named.0 bytes decoded).2 in
-    let most : length named.0 ≤ 131072 = ltb-false _ _ kept.0 in
+    let most : length named.0 ≤ most_digits = ltb-false _ _ kept.0 in
     le-leb _ _ (omega (arith, twice, most))
   where
     from_ok : {E : Type 0} (r : Result (List ℕ) E) → result_ok r ≡ Some bytes → r ≡ Ok bytes
@@ -87,28 +89,28 @@ bytes_few d bytes e =
     from_ok (Err x) h = absurd cc
 
 -- what these arguments are read as, wherever they stand, has a property
-abbrev Gives : {A : Type 0} → (A → Type 0) → (Items → Result (A × Items) Fault) → Type 0
-Gives {A = A} P read = (ds : Items) (p : A × Items) → read ds ≡ Ok p → P p.0
+abbrev OnlyReads : {A : Type 0} → (A → Type 0) → (Items → Result (A × Items) Fault) → Type 0
+OnlyReads {A = A} P read = (ds : Items) (p : A × Items) → read ds ≡ Ok p → P p.0
 
-first_gives : {A : Type 0} (P : A → Type 0) (read : Data → Option A) → ((d : Data) (x : A) → read d ≡ Some x → P x) → Gives P (first_by read)
+first_gives : {A : Type 0} (P : A → Type 0) (read : Data → Option A) → ((d : Data) (x : A) → read d ≡ Some x → P x) → OnlyReads P (first_by read)
 first_gives P read h no_items p e = absurd cc
 first_gives P read h (item d ds) p e =
     let m = map_some (λ x. (x, ds)) (read d) p (found_ok fault.Arguments (option_map (λ x. (x, ds)) (read d)) p e) in
     subst (λ q. P q.0) m.2 (h d m.0 m.1)
 
-second_gives : {A B : Type 0} (P : B → Type 0) (first : Items → Result (A × Items) Fault) (second : Items → Result (B × Items) Fault) → Gives P second → Gives (λ p. P p.1) (first and second)
+second_gives : {A B : Type 0} (P : B → Type 0) (first : Items → Result (A × Items) Fault) (second : Items → Result (B × Items) Fault) → OnlyReads P second → OnlyReads (λ p. P p.1) (first and second)
 second_gives P first second h ds p e =
     let x = bind_ok (first ds) _ p e in
     let y = bind_ok (second x.0.1) _ p x.2 in
     subst (λ q. P q.0.1) (same_ok {E = Fault} ((x.0.0, y.0.0), y.0.1) p y.2) (h x.0.1 y.0 y.1)
 
 abbrev AreFew : List ℕ → Type 0
-AreFew bytes = leb (length bytes) 65536 ≡ true
+AreFew bytes = leb (length bytes) MOST_BYTES ≡ true
 
-few_bytes : Gives AreFew bytes
+few_bytes : OnlyReads AreFew bytes
 few_bytes = first_gives AreFew bytes_of bytes_few
 
-time_least : Gives (λ t. is_writable (Tick t) ≡ true) time
+time_least : OnlyReads (λ t. is_writable (Tick t) ≡ true) time
 time_least = first_gives (λ t. is_writable (Tick t) ≡ true) time_of (λ d t e. let m = then_some from_zero (moment_of d) t e in from m.0 t m.2)
   where
     from : (z t : ℤ) → from_zero z ≡ Some t → is_writable (Tick t) ≡ true
@@ -120,17 +122,17 @@ time_least = first_gives (λ t. is_writable (Tick t) ≡ true) time_of (λ d t e
 
 -- a way to make steps makes none that could not be written
 abbrev MakesWritable : (Items → Result (Step × Items) Fault) → Type 0
-MakesWritable make = Gives (λ step. is_writable step ≡ true) make
+MakesWritable make = OnlyReads (λ step. is_writable step ≡ true) make
 
-of_found : {A : Type 0} (step : A → Step) (found : Items → Result (A × Items) Fault) → Gives (λ x. is_writable (step x) ≡ true) found → MakesWritable (λ ds. made step (found ds))
+of_found : {A : Type 0} (step : A → Step) (found : Items → Result (A × Items) Fault) → OnlyReads (λ x. is_writable (step x) ≡ true) found → MakesWritable (λ ds. step_from step (found ds))
 of_found {A = A} step found h ds p e = from (found ds) p (h ds) e
   where
-    from : (r : Result (A × Items) Fault) (p : Step × Items) → ((q : A × Items) → r ≡ Ok q → is_writable (step q.0) ≡ true) → made step r ≡ Ok p → is_writable p.0 ≡ true
+    from : (r : Result (A × Items) Fault) (p : Step × Items) → ((q : A × Items) → r ≡ Ok q → is_writable (step q.0) ≡ true) → step_from step r ≡ Ok p → is_writable p.0 ≡ true
     from (Ok q) p h e = subst (λ (s : Step × Items). is_writable s.0 ≡ true) (same_ok {E = Fault} (step q.0, q.1) p e) (h q refl)
     from (Err f) p h e = absurd cc
 
 -- a kind that always makes steps that can be written
-usual : {A : Type 0} (step : A → Step) (found : Items → Result (A × Items) Fault) → ((x : A) → is_writable (step x) ≡ true) → MakesWritable (λ ds. made step (found ds))
+usual : {A : Type 0} (step : A → Step) (found : Items → Result (A × Items) Fault) → ((x : A) → is_writable (step x) ≡ true) → MakesWritable (λ ds. step_from step (found ds))
 usual step found h = of_found step found (λ ds p e. h p.0)
 
 bare_made : (step : Step) → is_writable step ≡ true → MakesWritable (bare step)
@@ -158,7 +160,7 @@ step_writable version d step e =
 
 -- ---- what is made
 
-pub recording_made : (l : Limits) (steps : List Step) → are_in_range l ≡ true → length steps ≤ 1000000 → are_writable steps ≡ true → recording_of l steps ≡ Ok (record { limits = l; steps = steps })
+pub recording_made : (l : Limits) (steps : List Step) → are_in_range l ≡ true → length steps ≤ MOST_STEPS → are_writable steps ≡ true → recording_of l steps ≡ Ok (record { limits = l; steps = steps })
 recording_made l steps limits few writable =
-    let short : ltb 1000000 (length steps) ≡ false = le-ltb _ _ few in
+    let short : ltb MOST_STEPS (length steps) ≡ false = le-ltb _ _ few in
     rw (limits, short, writable) refl

@@ -19,8 +19,9 @@ use Rattle.nr_rev.specs.declared.limits.Limits.{Limits}
 use Rattle.nr_rev.specs.declared.sides.Side.TheVariants as sides
 use Rattle.nr_rev.specs.declared.sides.Mode.TheVariants as modes
 use Rattle.nr_recording.specs.Reading.{lines}
+use Rattle.nr_recording.specs.declared.reading.TheConstants.{MOST_LINE_BYTES}
 use Rattle.nr_recording.specs.Spelling.{Argument, numeral, tag, time, side, mode, bit, digits, argument_data, arguments_data, IsInType, AreInTypes, line_data}
-use Rattle.nr_recording.specs.Writing.{limits_data, line_of}
+use Rattle.nr_recording.specs.Writing.{limits_data, line_text}
 
 -- ---- bytes
 
@@ -209,7 +210,7 @@ header_shown l =
     (member_shown true (codes "netrev") 1 (from_sock l) refl
     (member_shown true (codes "sock") l.sockets no_members refl refl)))))
 
-pub header_short : (l : Limits) → length (compact_text (limits_data l)) ≤ 200000
+pub header_short : (l : Limits) → length (compact_text (limits_data l)) ≤ MOST_LINE_BYTES
 header_short l =
     let sock = member_short true (codes "sock") l.sockets no_members refl in
     let version = member_short true (codes "netrev") 1 (from_sock l) refl in
@@ -237,6 +238,6 @@ split_line (x ∷ xs) ys h =
     rw (ne_eqb x 10 (λ e. omega arith), split_line xs ys p.1) refl
 
 -- a shown line that is written is the first line of what then stands
-pub lines-line_of : (d : Data) (more : List ℕ) → are_shown (compact_text d) ≡ true → lines (line_of d ++ more) ≡ compact_text d ∷ lines more
-unfolding line_of
-lines-line_of d more h = ap lines (append_assoc (compact_text d) (10 ∷ []) more) ∙ split_line (compact_text d) more h
+pub lines-line_text : (d : Data) (more : List ℕ) → are_shown (compact_text d) ≡ true → lines (line_text d ++ more) ≡ compact_text d ∷ lines more
+unfolding line_text
+lines-line_text d more h = ap lines (append_assoc (compact_text d) (10 ∷ []) more) ∙ split_line (compact_text d) more h

@@ -7,6 +7,8 @@ use Rattle.serde_json.specs.Data.{Data}
 use Rattle.nr_recording.specs.declared.fault.Fault.{Fault}
 use Rattle.nr_recording.specs.declared.fault.Fault.TheVariants as fault
 use Rattle.nr_recording.specs.declared.fault.ReadFault.{ReadFault}
+use Rattle.nr_recording.specs.declared.reading.TheConstants.{MOST_LINE_BYTES}
+use Rattle.nr_recording.specs.declared.recording.TheConstants.{MOST_STEPS}
 use Rattle.nr_recording.specs.declared.reading.Header.{Header}
 use Rattle.nr_recording.specs.declared.version.Version.{Version}
 use Rattle.nr_rev.specs.declared.step.Step.{Step}
@@ -15,7 +17,7 @@ use Rattle.nr_recording.specs.Faults.{◌>>=◌}
 use Rattle.nr_recording.proofs.Binds.{bind_ok, guard_ok, choice, same_ok}
 use Rattle.nr_recording.specs.Header.{version_of, header_of}
 use Rattle.nr_recording.specs.Steps.{step_of}
-use Rattle.nr_recording.specs.Reading.{Seen, nothing, lines, is_blank, value_of, with_value, with_line, at_line, with_lines, finished, reading, Answers}
+use Rattle.nr_recording.specs.Reading.{Seen, nothing, lines, is_blank, value_of, with_value, with_line, at_line, with_lines, recording_at_end, reading, IsUnlessMemory}
 use Rattle.nr_recording.specs.Text.{IsSkipped, IsValueLine, AreSteps, AreLinesOf, IsTextOf}
 
 at_line_ok : {A : Type 0} (n : ℕ) (r : Result A Fault) (x : A) → at_line n r ≡ Ok x → r ≡ Ok x
@@ -29,8 +31,8 @@ Passes seen line next = (IsSkipped line × (seen ≡ next)) ⊎ ((d : Data) × I
 with_line_ok : (seen : Seen) (line : List ℕ) (next : Seen) → with_line seen line ≡ Ok next → Passes seen line next
 unfolding with_line
 with_line_ok seen line next e =
-    let g = guard_ok (ltb 200000 (length line)) fault.Limit (cond (is_blank line) (Ok seen) (value_of line >>= λ d. with_value seen seen.header d)) next e in
-    let short : length line ≤ 200000 = ltb-false _ _ g.0 in
+    let g = guard_ok (ltb MOST_LINE_BYTES (length line)) fault.Limit (cond (is_blank line) (Ok seen) (value_of line >>= λ d. with_value seen seen.header d)) next e in
+    let short : length line ≤ MOST_LINE_BYTES = ltb-false _ _ g.0 in
     elim (choice (is_blank line) (Ok seen) (value_of line >>= λ d. with_value seen seen.header d) (Ok next) g.1) [
       | inl p ↦ inl (record { short = short; blank = p.0 }, same_ok {E = Fault} seen next p.1)
       | inr p ↦ (let b = bind_ok (value_of line) (λ d. with_value seen seen.header d) next p.1 in inr (b.0, record { short = short; shown = p.0; value = b.1 }, b.2))
@@ -39,13 +41,13 @@ with_line_ok seen line next e =
 value_then : (line : List ℕ) (d : Data) (seen next : Seen) → IsValueLine line d → with_value seen seen.header d ≡ Ok next → with_line seen line ≡ Ok next
 unfolding with_line
 value_then line d seen next is e =
-    let long : ltb 200000 (length line) ≡ false = le-ltb _ _ is.short in
+    let long : ltb MOST_LINE_BYTES (length line) ≡ false = le-ltb _ _ is.short in
     rw (long, is.shown, is.value) e
 
 skipped_then : (line : List ℕ) (seen : Seen) → IsSkipped line → with_line seen line ≡ Ok seen
 unfolding with_line
 skipped_then line seen is =
-    let long : ltb 200000 (length line) ≡ false = le-ltb _ _ is.short in
+    let long : ltb MOST_LINE_BYTES (length line) ≡ false = le-ltb _ _ is.short in
     rw (long, is.blank) refl
 
 first_then : (n : ℕ) (seen next : Seen) (line : List ℕ) (rest : List (List ℕ)) → with_line seen line ≡ Ok next → with_lines n seen (line ∷ rest) ≡ with_lines (suc n) next rest
@@ -64,9 +66,9 @@ abbrev after_header : Header → List Step → Seen
 after_header header steps = record { header = Some header; steps = steps }
 
 with_step_ok : (header : Header) (steps : List Step) (d : Data) (next : Seen) → with_value (after_header header steps) (Some header) d ≡ Ok next
-    → (eqb (length steps) 1000000 ≡ false) × ((e : Step) × (step_of header.version d ≡ Ok e) × (after_header header (steps ++ e ∷ []) ≡ next))
+    → (eqb (length steps) MOST_STEPS ≡ false) × ((e : Step) × (step_of header.version d ≡ Ok e) × (after_header header (steps ++ e ∷ []) ≡ next))
 with_step_ok header steps d next h =
-    let g = guard_ok (eqb (length steps) 1000000) fault.TooManySteps (step_of header.version d >>= λ e. Ok (after_header header (steps ++ e ∷ []))) next h in
+    let g = guard_ok (eqb (length steps) MOST_STEPS) fault.TooManySteps (step_of header.version d >>= λ e. Ok (after_header header (steps ++ e ∷ []))) next h in
     let b = bind_ok (step_of header.version d) (λ e. Ok (after_header header (steps ++ e ∷ []))) next g.1 in
     (g.0, (b.0, b.1, same_ok {E = Fault} (after_header header (steps ++ b.0 ∷ [])) next b.2))
 
@@ -79,9 +81,9 @@ record Continues (header : Header) (steps : List Step) (rest : List (List ℕ)) 
   es : List Step
   are : AreSteps header.version rest es
   ends : last ≡ after_header header (steps ++ es)
-  fits : length (steps ++ es) ≤ 1000000
+  fits : length (steps ++ es) ≤ MOST_STEPS
 
-steps_found : (rest : List (List ℕ)) (n : ℕ) (header : Header) (steps : List Step) (last : Seen) → length steps ≤ 1000000 → with_lines n (after_header header steps) rest ≡ Ok last → Continues header steps rest last
+steps_found : (rest : List (List ℕ)) (n : ℕ) (header : Header) (steps : List Step) (last : Seen) → length steps ≤ MOST_STEPS → with_lines n (after_header header steps) rest ≡ Ok last → Continues header steps rest last
 unfolding with_lines
 steps_found [] n header steps last le h = record { es = []; are = tt; ends = rw (append-nil steps) (sym (same_ok {E = ReadFault} (after_header header steps) last h)); fits = rw (append-nil steps) le }
 steps_found (line ∷ rest) n header steps last le h =
@@ -93,15 +95,15 @@ steps_found (line ∷ rest) n header steps last le h =
       | inr v ↦ (
           let one = with_step_ok header steps v.0 f.0 v.2 in
           let e = one.1.0 in
-          let few : length (steps ++ e ∷ []) ≤ 1000000 = grind (arith, length-append steps (e ∷ []), one.0) in
+          let few : length (steps ++ e ∷ []) ≤ MOST_STEPS = grind (arith, length-append steps (e ∷ []), one.0) in
           let more = steps_found rest (suc n) header (steps ++ e ∷ []) last few (subst (λ (x : Seen). with_lines (suc n) x rest ≡ Ok last) (sym one.1.2) f.2) in
           record { es = e ∷ more.es; are = inr ((v.0, v.1, one.1.1), more.are); ends = rw (← append_assoc steps (e ∷ []) more.es) more.ends; fits = rw (← append_assoc steps (e ∷ []) more.es) more.fits })
     ]
 
-lines_found : (rest : List (List ℕ)) (n m : ℕ) (last : Seen) (w : Recording) → with_lines n nothing rest ≡ Ok last → finished m last ≡ Ok w → (version : Version) × AreLinesOf version rest w
+lines_found : (rest : List (List ℕ)) (n m : ℕ) (last : Seen) (w : Recording) → with_lines n nothing rest ≡ Ok last → recording_at_end m last ≡ Ok w → (version : Version) × AreLinesOf version rest w
 unfolding with_lines
 lines_found [] n m last w h done_is =
-    absurd (let e : nothing ≡ last = same_ok {E = ReadFault} nothing last h in let f : finished m nothing ≡ Ok w = subst (λ (x : Seen). finished m x ≡ Ok w) (sym e) done_is in cc)
+    absurd (let e : nothing ≡ last = same_ok {E = ReadFault} nothing last h in let f : recording_at_end m nothing ≡ Ok w = subst (λ (x : Seen). recording_at_end m x ≡ Ok w) (sym e) done_is in cc)
 lines_found (line ∷ rest) n m last w h done_is =
     let f = first_ok n nothing last line rest h in
     elim (with_line_ok nothing line f.0 f.1) [
@@ -115,19 +117,19 @@ lines_found (line ∷ rest) n m last w h done_is =
           let next = same_ok {E = Fault} (after_header header []) f.0 limits.2 in
           let more = steps_found rest (suc n) header [] last (omega arith) (subst (λ (x : Seen). with_lines (suc n) x rest ≡ Ok last) (sym next) f.2) in
           let made : Recording = record { limits = limits.0; steps = more.es } in
-          let is : made ≡ w = same_ok {E = ReadFault} made w (subst (λ (x : Seen). finished m x ≡ Ok w) more.ends done_is) in
+          let is : made ≡ w = same_ok {E = ReadFault} made w (subst (λ (x : Seen). recording_at_end m x ≡ Ok w) more.ends done_is) in
           (version.0, subst (λ (x : Recording). AreLinesOf version.0 (line ∷ rest) x) is (inr ((v.0, v.1, version.1, limits.1), more.are, more.fits))))
     ]
 
 pub reading_found : (bytes : List ℕ) (w : Recording) → reading bytes ≡ Ok w → IsTextOf bytes w
 unfolding reading
 reading_found bytes w h =
-    let b = bind_ok (with_lines 1 nothing (lines bytes)) (finished (length (lines bytes))) w h in
+    let b = bind_ok (with_lines 1 nothing (lines bytes)) (recording_at_end (length (lines bytes))) w h in
     lines_found (lines bytes) 1 (length (lines bytes)) b.0 w b.1 b.2
 
 -- ---- what is in the grammar
 
-steps_again : (rest : List (List ℕ)) (es : List Step) (n : ℕ) (header : Header) (steps : List Step) → AreSteps header.version rest es → length steps + length es ≤ 1000000
+steps_again : (rest : List (List ℕ)) (es : List Step) (n : ℕ) (header : Header) (steps : List Step) → AreSteps header.version rest es → length steps + length es ≤ MOST_STEPS
     → with_lines n (after_header header steps) rest ≡ Ok (after_header header (steps ++ es))
 unfolding with_lines
 steps_again [] [] n header steps are le = rw (append-nil steps) refl
@@ -137,9 +139,9 @@ steps_again (line ∷ rest) (e ∷ es) n header steps are le =
     elim are [
       | inl s ↦ first_then n _ _ line rest (skipped_then line (after_header header steps) s.0) ∙ steps_again rest (e ∷ es) (suc n) header steps s.1 le
       | inr v ↦ (
-          let few : eqb (length steps) 1000000 ≡ false = grind arith in
+          let few : eqb (length steps) MOST_STEPS ≡ false = grind arith in
           let one : with_value (after_header header steps) (Some header) v.0.0 ≡ Ok (after_header header (steps ++ e ∷ [])) = rw (few, v.0.2) refl in
-          let room : length (steps ++ e ∷ []) + length es ≤ 1000000 = omega (arith, length-append steps (e ∷ [])) in
+          let room : length (steps ++ e ∷ []) + length es ≤ MOST_STEPS = omega (arith, length-append steps (e ∷ [])) in
           first_then n _ _ line rest (value_then line v.0.0 (after_header header steps) _ v.0.1 one) ∙ steps_again rest es (suc n) header (steps ++ e ∷ []) v.1 room ∙ rw (append_assoc steps (e ∷ []) es) refl)
     ]
 
@@ -158,6 +160,6 @@ pub reading_again : (bytes : List ℕ) (w : Recording) → IsTextOf bytes w → 
 unfolding reading
 reading_again bytes w are = rw (lines_again are.0 (lines bytes) 1 w are.1) refl
 
-pub answer_found : (bytes : List ℕ) (r : Result Recording ReadFault) → Answers r (reading bytes) → IfOk r (λ x. IsTextOf bytes x)
+pub answer_found : (bytes : List ℕ) (r : Result Recording ReadFault) → IsUnlessMemory r (reading bytes) → IfOk r (λ x. IsTextOf bytes x)
 answer_found bytes (Ok x) h = reading_found bytes x h
 answer_found bytes (Err e) h = tt

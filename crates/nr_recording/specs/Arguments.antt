@@ -85,8 +85,8 @@ argument_takes_memory d = option_map_or digits_take_memory (as_str d) false
 -- ---- the arguments at the front of a list, each read with what is left behind it
 
 -- the arguments of a line that are still to be read
-abbrev pub left : Iter Value → Items
-left arguments = items_view (iter_rest arguments)
+abbrev pub rest_of : Iter Value → Items
+rest_of arguments = items_view (iter_rest arguments)
 
 -- the first argument; where there is none, or it is none of these, the arguments are faulty
 abbrev pub first_by : {A : Type 0} → (Data → Option A) → Items → Result (A × Items) Fault
@@ -126,9 +126,9 @@ abbrev pub ◌and◌ : {A B : Type 0} → (Items → Result (A × Items) Fault) 
   Ok ((x.0, y.0), y.1)
 
 -- what a function returned that reads arguments, and what it left
-abbrev pub leaving : {A : Type 0} → Items → Result A Fault → Result (A × Items) Fault
-leaving ds (Ok x) = Ok (x, ds)
-leaving ds (Err f) = Err f
+abbrev pub with_rest : {A : Type 0} → Items → Result A Fault → Result (A × Items) Fault
+with_rest ds (Ok x) = Ok (x, ds)
+with_rest ds (Err f) = Err f
 
 -- ---- what takes memory to read
 

@@ -78,10 +78,10 @@ Fails errors.Memory read = Unit {0}
 Fails (errors.Fault f) read = read ≡ Err f
 
 -- what a function returned, seen by view, is what reading gives, unless memory ran out
-abbrev pub GivesBy : {X Y : Type 0} → (X → Y) → Result X LineError → Result Y Fault → Type 0
-GivesBy view (Ok x) read = read ≡ Ok (view x)
-GivesBy view (Err e) read = Fails e read
+abbrev pub ReadsBy : {X Y : Type 0} → (X → Y) → Result X LineError → Result Y Fault → Type 0
+ReadsBy view (Ok x) read = read ≡ Ok (view x)
+ReadsBy view (Err e) read = Fails e read
 
 -- the same, of values that contracts see as they are
-abbrev pub Gives : {X : Type 0} → Result X LineError → Result X Fault → Type 0
-Gives result read = GivesBy (λ x. x) result read
+abbrev pub Reads : {X : Type 0} → Result X LineError → Result X Fault → Type 0
+Reads result read = ReadsBy (λ x. x) result read

@@ -12,6 +12,8 @@ use Rattle.nr_recording.specs.declared.fault.LineError.{LineError}
 use Rattle.nr_recording.specs.declared.fault.LineError.TheVariants as line
 use Rattle.nr_recording.specs.declared.fault.ReadFault.{ReadFault}
 use Rattle.nr_recording.specs.declared.fault.ReadFault.TheVariants as errors
+use Rattle.nr_recording.specs.declared.reading.TheConstants.{MOST_LINE_BYTES}
+use Rattle.nr_recording.specs.declared.recording.TheConstants.{MOST_STEPS}
 use Rattle.nr_recording.specs.declared.reading.Header.{Header}
 use Rattle.nr_recording.specs.Faults.{◌>>=◌, or_fault}
 use Rattle.nr_rev.specs.Limits.{AreInRange}
@@ -47,7 +49,7 @@ pub record Seen : Type 0 where
 -- what holds of what was seen
 pub record IsSeen (seen : Seen) : Type 0 where
   pub limits : IfSome seen.header (λ header. AreInRange header.limits)
-  pub few : length seen.steps ≤ 1000000
+  pub few : length seen.steps ≤ MOST_STEPS
   pub writable : are_writable seen.steps ≡ true
 
 -- before the first line
@@ -61,7 +63,7 @@ with_value seen None d = do
   limits ← header_of version d
   Ok (record seen { header = Some (record { version = version; limits = limits }) })
 with_value seen (Some header) d =
-    if length seen.steps == 1000000 then Err fault.TooManySteps
+    if length seen.steps == MOST_STEPS then Err fault.TooManySteps
     else do
       step ← step_of header.version d
       Ok (record seen { steps = seen.steps ++ step ∷ [] })
@@ -69,12 +71,12 @@ with_value seen (Some header) d =
 -- one more value takes memory: for the bytes of a step, or to keep a right step
 abbrev pub value_takes_memory : Seen → Option Header → Data → Bool
 value_takes_memory seen None d = false
-value_takes_memory seen (Some header) d = not (length seen.steps == 1000000) && (step_takes_memory header.version d || is_ok (step_of header.version d))
+value_takes_memory seen (Some header) d = not (length seen.steps == MOST_STEPS) && (step_takes_memory header.version d || is_ok (step_of header.version d))
 
 -- what was seen, and one more line
 unfoldable pub with_line : Seen → List ℕ → Result Seen Fault
 with_line seen line =
-    if nat_lt 200000 (length line) then Err fault.Limit
+    if nat_lt MOST_LINE_BYTES (length line) then Err fault.Limit
     else (if is_blank line then Ok seen
     else do
       d ← value_of line
@@ -82,7 +84,7 @@ with_line seen line =
 
 -- a line takes memory to read, unless it is too long or blank
 abbrev pub line_takes_memory : List ℕ → Bool
-line_takes_memory line = not (nat_lt 200000 (length line)) && not (is_blank line)
+line_takes_memory line = not (nat_lt MOST_LINE_BYTES (length line)) && not (is_blank line)
 
 -- a fault is that of line n
 abbrev pub at_line : {A : Type 0} → ℕ → Result A Fault → Result A ReadFault
@@ -90,9 +92,9 @@ at_line n (Ok x) = Ok x
 at_line n (Err f) = Err (errors.Line n f)
 
 -- the same of what a function answers: want of memory has no line
-abbrev pub placed : ℕ → LineError → ReadFault
-placed n line.Memory = errors.Memory
-placed n (line.Fault f) = errors.Line n f
+abbrev pub read_fault_at : ℕ → LineError → ReadFault
+read_fault_at n line.Memory = errors.Memory
+read_fault_at n (line.Fault f) = errors.Line n f
 
 -- the lines from number n on, behind what was seen
 unfoldable pub with_lines : ℕ → Seen → List (List ℕ) → Result Seen ReadFault
@@ -107,22 +109,22 @@ with_header n None steps = Err (errors.Line n fault.Header)
 with_header n (Some header) steps = Ok (record { limits = header.limits; steps = steps })
 
 -- what stands after the last line, whose number is n
-abbrev pub finished : ℕ → Seen → Result Recording ReadFault
-finished n seen = with_header n seen.header seen.steps
+abbrev pub recording_at_end : ℕ → Seen → Result Recording ReadFault
+recording_at_end n seen = with_header n seen.header seen.steps
 
 -- the recording, or the fault of the first faulty line
 unfoldable pub reading : List ℕ → Result Recording ReadFault
-reading bytes = with_lines 1 nothing (lines bytes) >>= finished (length (lines bytes))
+reading bytes = with_lines 1 nothing (lines bytes) >>= recording_at_end (length (lines bytes))
 
 -- what reading gives is this fault, unless memory ran out
-abbrev pub Refuses : {Y : Type 0} → ReadFault → Result Y ReadFault → Type 0
-Refuses errors.Memory read = Unit {0}
-Refuses (errors.Line n f) read = read ≡ Err (errors.Line n f)
+abbrev pub IsFaultOf : {Y : Type 0} → ReadFault → Result Y ReadFault → Type 0
+IsFaultOf errors.Memory read = Unit {0}
+IsFaultOf (errors.Line n f) read = read ≡ Err (errors.Line n f)
 
 -- what was returned is what reading gives, unless memory ran out
-abbrev pub Answers : {X : Type 0} → Result X ReadFault → Result X ReadFault → Type 0
-Answers (Ok x) read = read ≡ Ok x
-Answers (Err e) read = Refuses e read
+abbrev pub IsUnlessMemory : {X : Type 0} → Result X ReadFault → Result X ReadFault → Type 0
+IsUnlessMemory (Ok x) read = read ≡ Ok x
+IsUnlessMemory (Err e) read = IsFaultOf e read
 
 -- some line takes memory to read
 abbrev pub text_takes_memory : List ℕ → Bool

@@ -6,7 +6,7 @@ use Rattle.nr_rev.specs.Limits.{AreInRange, are_in_range}
 use Rattle.nr_rev.specs.declared.step.Step.{Step}
 use Rattle.nr_rev.specs.declared.step.Step.TheVariants.{Arrive, SysWrite, Tick}
 use Rattle.nr_rev.specs.Run.{Recording}
-use Rattle.nr_recording.specs.declared.recording.TheConstants.{MOST_BYTES}
+use Rattle.nr_recording.specs.declared.recording.TheConstants.{MOST_STEPS, MOST_BYTES}
 use Rattle.nr_recording.specs.declared.fault.MakeFault.{MakeFault}
 use Rattle.nr_recording.specs.declared.fault.MakeFault.TheVariants as fault
 
@@ -24,13 +24,13 @@ are_writable steps = list_all is_writable steps
 -- what holds of each recording
 pub record IsRecording (r : Recording) : Type 0 where
   pub limits : AreInRange r.limits
-  pub few : length r.steps ≤ 1000000
+  pub few : length r.steps ≤ MOST_STEPS
   pub writable : are_writable r.steps ≡ true
 
 -- the recording of these limits and steps, or why there is none
 abbrev pub recording_of : Limits → List Step → Result Recording MakeFault
 recording_of limits steps =
     if not (are_in_range limits) then Err fault.Limit
-    else (if nat_lt 1000000 (length steps) then Err fault.TooManySteps
+    else (if nat_lt MOST_STEPS (length steps) then Err fault.TooManySteps
     else (if not (are_writable steps) then Err fault.Step
     else Ok (record { limits = limits; steps = steps })))

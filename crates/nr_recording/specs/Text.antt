@@ -4,6 +4,8 @@ use Rattle.serde_json.specs.Data.{Data}
 use Rattle.nr_rev.specs.declared.limits.Limits.{Limits}
 use Rattle.nr_rev.specs.declared.step.Step.{Step}
 use Rattle.nr_rev.specs.Run.{Recording}
+use Rattle.nr_recording.specs.declared.reading.TheConstants.{MOST_LINE_BYTES}
+use Rattle.nr_recording.specs.declared.recording.TheConstants.{MOST_STEPS}
 use Rattle.nr_recording.specs.declared.version.Version.{Version}
 use Rattle.nr_recording.specs.Header.{version_of, header_of}
 use Rattle.nr_recording.specs.Steps.{step_of}
@@ -11,12 +13,12 @@ use Rattle.nr_recording.specs.Reading.{lines, is_blank, value_of}
 
 -- the line is skipped
 pub record IsSkipped (line : List ℕ) : Type 0 where
-  pub short : length line ≤ 200000
+  pub short : length line ≤ MOST_LINE_BYTES
   pub blank : is_blank line ≡ true
 
 -- the line is JSON, and d its value
 pub record IsValueLine (line : List ℕ) (d : Data) : Type 0 where
-  pub short : length line ≤ 200000
+  pub short : length line ≤ MOST_LINE_BYTES
   pub shown : is_blank line ≡ false
   pub value : value_of line ≡ Ok d
 
@@ -41,7 +43,7 @@ abbrev pub AreLinesOf : Version → List (List ℕ) → Recording → Type 0
 AreLinesOf version [] r = ⊥
 AreLinesOf version (line ∷ rest) r =
     (IsSkipped line × AreLinesOf version rest r)
-    ⊎ (IsHeaderLine version line r.limits × AreSteps version rest r.steps × (length r.steps ≤ 1000000))
+    ⊎ (IsHeaderLine version line r.limits × AreSteps version rest r.steps × (length r.steps ≤ MOST_STEPS))
 
 -- the bytes are a text of the recording, in some version
 abbrev pub IsTextOf : List ℕ → Recording → Type 0

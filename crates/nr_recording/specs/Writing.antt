@@ -27,12 +27,12 @@ abbrev pub limits_data : Limits → Data
 limits_data l = object (member (codes "buf") (number (unsigned l.buffer)) (member (codes "desc") (number (unsigned l.descriptors)) (member (codes "gor") (number (unsigned l.goroutines)) (member (codes "netrev") (number (unsigned (version_number One))) (member (codes "sock") (number (unsigned l.sockets)) no_members)))))
 
 -- a value in compact form, and a line feed
-unfoldable pub line_of : Data → List ℕ
-line_of d = compact_text d ++ 10 ∷ []
+unfoldable pub line_text : Data → List ℕ
+line_text d = compact_text d ++ 10 ∷ []
 
 -- the lines with their line feeds
 abbrev pub line_texts : Recording → List (List ℕ)
-line_texts r = line_of (limits_data r.limits) ∷ map (λ step. line_of (step_data step)) r.steps
+line_texts r = line_text (limits_data r.limits) ∷ map (λ step. line_text (step_data step)) r.steps
 
 -- the text that is written
 abbrev pub text : Recording → List ℕ

@@ -2,8 +2,8 @@
 
 ghost use Rattle.std.specs.Prelude.{◌≡◌, true};
 ghost use Rattle.serde_json.specs.View.{view};
-ghost use Rattle.nr_recording.specs.Arguments.{number_of, side_named, side_of, mode_named, mode_of, bit_named, bit_of, time_of, left, leaving, first_takes_memory, number as number_in, side as side_in, mode as mode_in, tag as tag_in, bit as bit_in, moment as moment_in, time as time_in, bytes as bytes_in};
-ghost use Rattle.nr_recording.specs.Faults.{GivesBy};
+ghost use Rattle.nr_recording.specs.Arguments.{number_of, side_named, side_of, mode_named, mode_of, bit_named, bit_of, time_of, rest_of, with_rest, first_takes_memory, number as number_in, side as side_in, mode as mode_in, tag as tag_in, bit as bit_in, moment as moment_in, time as time_in, bytes as bytes_in};
+ghost use Rattle.nr_recording.specs.Faults.{ReadsBy};
 
 use crate::fault::{Fault, LineError};
 use crate::recording::MOST_BYTES;
@@ -77,14 +77,14 @@ fn mode_of(value: &Value) -> Option<Mode>
 
 /// A number of 32 bits.
 pub(crate) fn number(arguments: &mut Iter<'_, Value>) -> Result<u32, Fault>
-    ensures { number_in (left arguments.old) ≡ leaving (left arguments.new) result }
+    ensures { number_in (rest_of arguments.old) ≡ with_rest (rest_of arguments.new) result }
 {
     arguments.next().and_then(number_of).ok_or(Fault::Arguments)
 }
 
 /// A number of 64 bits.
 pub(crate) fn tag(arguments: &mut Iter<'_, Value>) -> Result<u64, Fault>
-    ensures { tag_in (left arguments.old) ≡ leaving (left arguments.new) result }
+    ensures { tag_in (rest_of arguments.old) ≡ with_rest (rest_of arguments.new) result }
 {
     arguments
         .next()
@@ -94,14 +94,14 @@ pub(crate) fn tag(arguments: &mut Iter<'_, Value>) -> Result<u64, Fault>
 
 /// Whether it is 1, and not 0.
 pub(crate) fn bit(arguments: &mut Iter<'_, Value>) -> Result<bool, Fault>
-    ensures { bit_in (left arguments.old) ≡ leaving (left arguments.new) result }
+    ensures { bit_in (rest_of arguments.old) ≡ with_rest (rest_of arguments.new) result }
 {
     arguments.next().and_then(bit_of).ok_or(Fault::Arguments)
 }
 
 /// A time, in nanoseconds, that may be below 0.
 pub(crate) fn moment(arguments: &mut Iter<'_, Value>) -> Result<i64, Fault>
-    ensures { moment_in (left arguments.old) ≡ leaving (left arguments.new) result }
+    ensures { moment_in (rest_of arguments.old) ≡ with_rest (rest_of arguments.new) result }
 {
     arguments
         .next()
@@ -111,31 +111,31 @@ pub(crate) fn moment(arguments: &mut Iter<'_, Value>) -> Result<i64, Fault>
 
 /// A time, in nanoseconds, that is not below 0.
 pub(crate) fn time(arguments: &mut Iter<'_, Value>) -> Result<i64, Fault>
-    ensures { time_in (left arguments.old) ≡ leaving (left arguments.new) result }
+    ensures { time_in (rest_of arguments.old) ≡ with_rest (rest_of arguments.new) result }
 {
     arguments.next().and_then(time_of).ok_or(Fault::Arguments)
 }
 
 /// One side.
 pub(crate) fn side(arguments: &mut Iter<'_, Value>) -> Result<Side, Fault>
-    ensures { side_in (left arguments.old) ≡ leaving (left arguments.new) result }
+    ensures { side_in (rest_of arguments.old) ≡ with_rest (rest_of arguments.new) result }
 {
     arguments.next().and_then(side_of).ok_or(Fault::Arguments)
 }
 
 /// One side or both.
 pub(crate) fn mode(arguments: &mut Iter<'_, Value>) -> Result<Mode, Fault>
-    ensures { mode_in (left arguments.old) ≡ leaving (left arguments.new) result }
+    ensures { mode_in (rest_of arguments.old) ≡ with_rest (rest_of arguments.new) result }
 {
     arguments.next().and_then(mode_of).ok_or(Fault::Arguments)
 }
 
 /// Bytes, as hexadecimal digits.
 pub(crate) fn bytes(alloc: Global, arguments: &mut Iter<'_, Value>) -> Result<Bytes, LineError>
-    ensures found { GivesBy (λ bytes. (bytes, left arguments.new)) result
-        (bytes_in (left arguments.old)) }
+    ensures found { ReadsBy (λ bytes. (bytes, rest_of arguments.new)) result
+        (bytes_in (rest_of arguments.old)) }
     ensures memory { result ≡ Err LineError.Memory
-        → first_takes_memory (left arguments.old) ≡ true }
+        → first_takes_memory (rest_of arguments.old) ≡ true }
 {
     let text = arguments
         .next()

@@ -15,8 +15,8 @@ use std::fmt::{Display, Formatter, Write};
 /// What is wrong with a line.
 #[derive(Clone, Copy, Debug, PartialEq, Eq)]
 pub enum Fault {
-    /// The first line that isn't blank is not the header's object: a key is missing or too many, the
-    /// version is another, or a value is no unsigned number. Or there is no such line.
+    /// The first line that isn't blank is not the header's object: a key is missing or too many,
+    /// the version is another, or a value is no unsigned number. Or there is no such line.
     Header,
     /// The line is no JSON, or nests more than 127 deep.
     NotJson,
@@ -140,14 +140,6 @@ impl From<serde_json::Error> for LineError {
     }
 }
 
-impl From<AllocError> for LineError {
-    ghost from_gives = { λ _ e. e ≡ Memory };
-
-    fn from(_e: AllocError) -> LineError {
-        LineError::Memory
-    }
-}
-
 impl<T: Drop> From<AllocFailed<T>> for LineError {
     ghost from_gives = { λ _ e. e ≡ Memory };
 
@@ -157,11 +149,11 @@ impl<T: Drop> From<AllocFailed<T>> for LineError {
 }
 
 impl LineError {
-    ghost use Rattle.nr_recording.specs.Reading.{placed};
+    ghost use Rattle.nr_recording.specs.Reading.{read_fault_at};
 
     /// The fault of this line of a text.
     pub(crate) fn at(self, line: usize) -> ReadFault
-        ensures { result ≡ placed line self }
+        ensures { result ≡ read_fault_at line self }
     {
         match self {
             LineError::Memory => ReadFault::Memory,
@@ -196,14 +188,6 @@ impl From<AllocError> for WriteFault {
     ghost from_gives = { λ _ e. e ≡ NoMemory };
 
     fn from(_e: AllocError) -> WriteFault {
-        WriteFault::Memory
-    }
-}
-
-impl<T: Drop> From<AllocFailed<T>> for WriteFault {
-    ghost from_gives = { λ _ e. e ≡ NoMemory };
-
-    fn from(_e: AllocFailed<T>) -> WriteFault {
         WriteFault::Memory
     }
 }

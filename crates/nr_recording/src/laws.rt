@@ -7,12 +7,13 @@ ghost use Rattle.nr_recording.specs.Reading.{reading};
 ghost use Rattle.nr_recording.specs.Text.{IsTextOf};
 ghost use Rattle.nr_recording.specs.Writing.{IsTyped, text};
 
-/// What is written of a recording is a text of it, and is read as that recording. `IsTyped` says of a
-/// step just what its type says: each number is in the range of its type.
+/// What is written of a recording is a text of it, and is read as that recording. `IsTyped` says of
+/// a step just what its type says: each number is in the range of its type.
 #[tactic(auto, using(crate::proofs::Written::text_is_text, crate::proofs::Written::text_read_again))]
 pub fn what_is_written_is_read_again()
     ensures text { (r : Recording) → IsRecording r → All IsTyped r.steps → IsTextOf (text r) r }
-    ensures reading { (r : Recording) → IsRecording r → All IsTyped r.steps → reading (text r) ≡ Ok r }
+    ensures reading { (r : Recording) → IsRecording r → All IsTyped r.steps
+        → reading (text r) ≡ Ok r }
 {}
 
 /// A text is a text of at most one recording: the one that it is read as.

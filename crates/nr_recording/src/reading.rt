@@ -3,8 +3,8 @@
 ghost use Rattle.std.specs.Prelude.{◌≡◌, true, IfOk};
 ghost use Rattle.serde_json.specs.View.{view};
 ghost use Rattle.nr_rev.specs.Run.{Recording as Recorded};
-ghost use Rattle.nr_recording.specs.Faults.{GivesBy};
-ghost use Rattle.nr_recording.specs.Reading.{value_of, is_space, is_blank, nothing, with_value, value_takes_memory, with_line, line_takes_memory, finished, reading, Answers, text_takes_memory};
+ghost use Rattle.nr_recording.specs.Faults.{ReadsBy};
+ghost use Rattle.nr_recording.specs.Reading.{value_of, is_space, is_blank, nothing, with_value, value_takes_memory, with_line, line_takes_memory, recording_at_end, reading, IsUnlessMemory, text_takes_memory};
 ghost use Rattle.nr_recording.specs.Text.{IsTextOf};
 
 use crate::fault::{Fault, LineError, ReadFault};
@@ -19,7 +19,7 @@ use std::marker::Model;
 
 #[tactic(auto, using(crate::proofs::Lines::value_of_valid, crate::proofs::Lines::json_told))]
 fn value(alloc: Global, line: &[u8]) -> Result<Value, LineError>
-    ensures { GivesBy view result (value_of line.now) }
+    ensures { ReadsBy view result (value_of line.now) }
 {
     Ok(Value::from_slice(alloc, line)?)
 }
@@ -73,7 +73,7 @@ impl Reader {
     }
 
     fn value(&mut self, alloc: Global, value: &Value) -> Result<(), LineError>
-        ensures seen { GivesBy (λ _. self.new) result
+        ensures seen { ReadsBy (λ _. self.new) result
             (with_value self.old self.old.header (view value.now)) }
         ensures memory { result ≡ Err LineError.Memory
             → value_takes_memory self.old self.old.header (view value.now) ≡ true }
@@ -94,7 +94,7 @@ impl Reader {
 
     #[tactic(auto, unfolding(crate::specs::Reading::with_line))]
     fn line(&mut self, alloc: Global, line: &[u8]) -> Result<(), LineError>
-        ensures seen { GivesBy (λ _. self.new) result (with_line self.old line.now) }
+        ensures seen { ReadsBy (λ _. self.new) result (with_line self.old line.now) }
         ensures memory { result ≡ Err LineError.Memory → line_takes_memory line.now ≡ true }
     {
         if line.len() > MOST_LINE_BYTES {
@@ -108,7 +108,7 @@ impl Reader {
     }
 
     fn finish(self, last: usize) -> Result<Recording, ReadFault>
-        ensures { result ≡ finished last self }
+        ensures { result ≡ recording_at_end last self }
     {
         match self.header {
             None => Err(ReadFault::Line {
@@ -121,7 +121,7 @@ impl Reader {
 }
 
 fn read_lines(alloc: Global, bytes: &[u8]) -> Result<Recording, ReadFault>
-    ensures exact { Answers result (reading bytes.now) }
+    ensures exact { IsUnlessMemory result (reading bytes.now) }
     ensures memory { result ≡ Err ReadFault.Memory → text_takes_memory bytes.now ≡ true }
 {
     let mut reader = Reader::new(alloc);
@@ -136,17 +136,18 @@ fn read_lines(alloc: Global, bytes: &[u8]) -> Result<Recording, ReadFault>
 }
 
 /// Reads the recording that the bytes are a text of: a line of JSON for the header and one for each
-/// step, and blank lines between. Else answers the first faulty line and the first thing that is wrong
-/// with it, or that memory ran out. Of a key that stands twice in the header the last value counts.
+/// step, and blank lines between. Else answers the first faulty line and the first thing that is
+/// wrong with it, or that memory ran out. Of a key that stands twice in the header the last value
+/// counts.
 pub fn read(alloc: Global, bytes: &[u8]) -> Result<Recording, ReadFault>
     // What is read is the recording of that text.
     ensures found { IfOk result (λ r. IsTextOf bytes.now r) }
 
     // The text of a recording is read, unless memory runs out.
-    ensures only { (r : Recorded) → IsTextOf bytes.now r → Answers result (Ok r) }
+    ensures only { (r : Recorded) → IsTextOf bytes.now r → IsUnlessMemory result (Ok r) }
 
     // Which fault it is, unless memory runs out.
-    ensures exact { Answers result (reading bytes.now) }
+    ensures exact { IsUnlessMemory result (reading bytes.now) }
 
     // Memory runs out only where there is a line that isn't blank, nor too long.
     ensures memory { result ≡ Err ReadFault.Memory → text_takes_memory bytes.now ≡ true }

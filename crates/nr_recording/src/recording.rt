@@ -51,12 +51,13 @@ impl Recording {
     ghost use Rattle.std.specs.Prelude.{◌==◌, ◌≤◌, length, slice_get, true};
     ghost use Rattle.std.specs.Option.{option_copied};
     ghost use Rattle.nr_rev.specs.Limits.{AreInRange};
+    ghost use Rattle.nr_recording.specs.declared.recording.TheConstants.{MOST_STEPS};
     ghost use Rattle.nr_recording.specs.Recording.{IsRecording, recording_of};
 
-    /// The recording of these limits and steps. Fails for the first that holds: a limit is out of its
-    /// range (goroutines 1 to 4,096, sockets and descriptors 1 to 256, buffer 1 to 65,536 bytes);
-    /// there are more than 1,000,000 steps; a step carries more than 65,536 bytes or sets the clock
-    /// below 0. The steps are then gone.
+    /// The recording of these limits and steps. Fails for the first that holds: a limit is out of
+    /// its range (goroutines 1 to 4,096, sockets and descriptors 1 to 256, buffer 1 to 65,536
+    /// bytes); there are more than 1,000,000 steps; a step carries more than 65,536 bytes or sets
+    /// the clock below 0. The steps are then gone.
     pub fn new(limits: Limits, steps: Vec<Step>) -> Result<Self, MakeFault>
         ensures { result ≡ recording_of limits steps.items }
     {
@@ -91,7 +92,7 @@ impl Recording {
     /// How many steps there are.
     pub fn len(&self) -> usize
         ensures value { result ≡ length self.now.steps }
-        ensures few { result ≤ 1000000 }
+        ensures few { result ≤ MOST_STEPS }
     {
         self.steps.len()
     }
@@ -114,7 +115,7 @@ impl Recording {
     pub fn steps(&self) -> &[Step]
         ensures value { result.now ≡ self.now.steps }
         ensures writable { are_writable result.now ≡ true }
-        ensures few { length result.now ≤ 1000000 }
+        ensures few { length result.now ≤ MOST_STEPS }
     {
         self.steps.as_slice()
     }

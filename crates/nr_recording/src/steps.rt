@@ -2,8 +2,8 @@
 
 ghost use Rattle.std.specs.Prelude.{◌≡◌, true, IfOk};
 ghost use Rattle.serde_json.specs.View.{view};
-ghost use Rattle.nr_recording.specs.Arguments.{left};
-ghost use Rattle.nr_recording.specs.Faults.{Gives, GivesBy};
+ghost use Rattle.nr_recording.specs.Arguments.{rest_of};
+ghost use Rattle.nr_recording.specs.Faults.{Reads, ReadsBy};
 ghost use Rattle.nr_recording.specs.Spelling.{IsSpelling};
 ghost use Rattle.nr_recording.specs.Steps.{step_in, kind_takes_memory, spelling_of, step_of, step_takes_memory};
 
@@ -18,10 +18,10 @@ use std::slice::Iter;
 
 /// The step of this kind; what is behind its arguments is left.
 fn step_in(alloc: Global, kind: Kind, arguments: &mut Iter<'_, Value>) -> Result<Step, LineError>
-    ensures found { GivesBy (λ step. (step, left arguments.new)) result
-        (step_in kind (left arguments.old)) }
+    ensures found { ReadsBy (λ step. (step, rest_of arguments.new)) result
+        (step_in kind (rest_of arguments.old)) }
     ensures memory { result ≡ Err LineError.Memory
-        → kind_takes_memory kind (left arguments.old) ≡ true }
+        → kind_takes_memory kind (rest_of arguments.old) ≡ true }
 {
     match kind {
         Kind::Spawn => Ok(Step::Spawn),
@@ -225,7 +225,7 @@ pub(crate) fn step_value(alloc: Global, step: &Step) -> Result<Value, AllocError
 /// The step that the value of a line is.
 #[tactic(auto, unfolding(crate::specs::Steps::step_of, crate::specs::Steps::step_takes_memory))]
 pub(crate) fn step(version: Version, alloc: Global, value: &Value) -> Result<Step, LineError>
-    ensures found { Gives result (step_of version (view value.now)) }
+    ensures found { Reads result (step_of version (view value.now)) }
     ensures memory { result ≡ Err LineError.Memory
         → step_takes_memory version (view value.now) ≡ true }
 {

@@ -6,7 +6,7 @@ ghost use Rattle.serde_json.specs.View.{view};
 ghost use Rattle.serde_json.specs.Written.{has_float};
 ghost use Rattle.nr_recording.specs.Reading.{reading};
 ghost use Rattle.nr_recording.specs.Text.{IsTextOf};
-ghost use Rattle.nr_recording.specs.Writing.{limits_data, line_of, line_texts, text, AppendsPart, AppendsLines};
+ghost use Rattle.nr_recording.specs.Writing.{limits_data, line_text, line_texts, text, AppendsPart, AppendsLines};
 
 use crate::fault::WriteFault;
 use crate::recording::Recording;
@@ -53,23 +53,30 @@ fn send<W: Write>(bytes: &[u8], out: &mut W) -> Result<(), WriteFault>
     Ok(())
 }
 
-#[tactic(auto, unfolding(crate::specs::Writing::line_of))]
-fn write_line<W: Write>(alloc: Global, value: &Value, out: &mut W) -> Result<(), WriteFault>
+#[tactic(auto, unfolding(crate::specs::Writing::line_text))]
+fn line_bytes(alloc: Global, value: &Value) -> Result<Vec<u8>, AllocError>
     requires { has_float (view value.now) ≡ false }
-    ensures ok { OnOk result
-        (Appends (W.contents out.old) (W.contents out.new) (line_of (view value.now))) }
-    ensures memory { result ≡ Err WriteFault.Memory → out.new ≡ out.old }
-    ensures device { result ≡ Err WriteFault.Device
-        → AppendsPart (W.contents out.old) (W.contents out.new) (line_of (view value.now)) }
+    ensures { IfOk result (λ line. line.items ≡ line_text (view value.now)) }
 {
     let mut line = value.to_vec(alloc)?;
     line.push(b'\n')?;
-    send(&line, out)
+    Ok(line)
 }
 
-/// Writes the recording's text, in version 1: each value in compact form, keys in alphabetical order,
-/// hexadecimal in lower case, and a line feed after each line. What an error leaves written is told in
-/// `WriteFault`. A write that was interrupted is tried again.
+fn write_line<W: Write>(alloc: Global, value: &Value, out: &mut W) -> Result<(), WriteFault>
+    requires { has_float (view value.now) ≡ false }
+    ensures ok { OnOk result
+        (Appends (W.contents out.old) (W.contents out.new) (line_text (view value.now))) }
+    ensures memory { result ≡ Err WriteFault.Memory → out.new ≡ out.old }
+    ensures device { result ≡ Err WriteFault.Device
+        → AppendsPart (W.contents out.old) (W.contents out.new) (line_text (view value.now)) }
+{
+    send(&line_bytes(alloc, value)?, out)
+}
+
+/// Writes the recording's text, in version 1: each value in compact form, keys in alphabetical
+/// order, hexadecimal in lower case, and a line feed after each line. What an error leaves written
+/// is told in `WriteFault`. A write that was interrupted is tried again.
 pub fn write<W: Write>(alloc: Global, recording: &Recording, out: &mut W) -> Result<(), WriteFault>
     ensures ok { OnOk result
         (Appends (W.contents out.old) (W.contents out.new) (text recording.now)) }
