@@ -16,7 +16,7 @@ use Rattle.nr_rev.specs.declared.limits.TheConstants.{MOST_GOROUTINES, MOST_SOCK
 use Rattle.nr_recording.specs.declared.recording.TheConstants.{MOST_BYTES}
 use Rattle.nr_recording.specs.declared.version.Version.TheVariants.{One}
 use Rattle.nr_recording.specs.Recording.{is_writable}
-use Rattle.nr_recording.specs.Arguments.{most_digits, number_of, side_of, mode_of, bit_of, bytes_of, moment_of, from_zero}
+use Rattle.nr_recording.specs.Arguments.{none, most_digits, number_of, side_of, mode_of, bit_of, bytes_of, moment_of, from_zero}
 use Rattle.nr_recording.specs.Header.{version_of, limit_of, limits_of, header_of}
 use Rattle.serde_json.specs.Data.{no_items}
 use Rattle.nr_recording.specs.Steps.{step_in, arguments_of, step_of}
@@ -59,6 +59,7 @@ kind_again _ = refl
 
 -- the arguments of a step, read as those of its kind, make that step
 arguments_again : (s : Step) → IsTyped s → is_writable s ≡ true → step_in (kind_of s) (arguments_data (arguments_of s)) ≡ Ok (s, no_items)
+unfolding none
 arguments_again (Step.Tick t) h w = rw (moment_again t h.0, from_zero_again t w) refl
 arguments_again (Step.Arrive s bytes) h w = rw (number_again s h.0, bytes_again bytes h.1.0 w) refl
 arguments_again (Step.SysWrite g s bytes) h w = rw (number_again g h.0, number_again s h.1.0, bytes_again bytes h.1.1.0 w) refl

@@ -23,7 +23,7 @@ use Rattle.nr_recording.specs.declared.version.Version.{Version}
 use Rattle.nr_recording.specs.declared.version.Version.TheVariants.{One}
 use Rattle.nr_recording.specs.Version.{kind_in, may_end_with}
 use Rattle.nr_recording.specs.Arguments.{most_digits, bytes_named, bytes_of, moment_of, from_zero, time_of, first_by, number, bytes, time, ◌and◌}
-use Rattle.nr_recording.specs.Shapes.{step_from, bare}
+use Rattle.nr_recording.specs.Shapes.{step_from}
 use Rattle.nr_recording.specs.Steps.{first_of, step_in, step_of}
 use Rattle.nr_recording.specs.Header.{limit_of, limits_of, unsigned_at, member_count, header_of}
 use Rattle.nr_recording.proofs.Binds.{bind_ok, passed_ok, found_ok, map_some, then_some, kept_some, same_ok}
@@ -135,16 +135,11 @@ of_found {A = A} step found h ds p e = from (found ds) p (h ds) e
 usual : {A : Type 0} (step : A → Step) (found : Items → Result (A × Items) Fault) → ((x : A) → is_writable (step x) ≡ true) → MakesWritable (λ ds. step_from step (found ds))
 usual step found h = of_found step found (λ ds p e. h p.0)
 
-bare_made : (step : Step) → is_writable step ≡ true → MakesWritable (bare step)
-bare_made step h ds p e = subst (λ (q : Step × Items). is_writable q.0 ≡ true) (same_ok {E = Fault} (step, ds) p e) h
-
 -- only these kinds make steps that might be none that can be written
 kind_made : (kind : Kind) → MakesWritable (step_in kind)
 kind_made Kind.Arrive = of_found _ _ (second_gives AreFew number bytes few_bytes)
 kind_made Kind.SysWrite = of_found _ _ (second_gives (λ p. AreFew p.1) number (number and bytes) (second_gives AreFew number bytes few_bytes))
 kind_made Kind.Tick = of_found _ _ time_least
-kind_made Kind.Spawn = bare_made _ refl
-kind_made Kind.Pop = bare_made _ refl
 kind_made _ = usual _ _ (λ x. refl)
 
 pub step_writable : (version : Version) (d : Data) (step : Step) → step_of version d ≡ Ok step → is_writable step ≡ true

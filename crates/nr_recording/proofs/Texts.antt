@@ -42,9 +42,9 @@ part_of_text all line i a b c lt is before part =
     let short = part.1 in
     let whole = concat_at all line i lt is in
     let lens : length (concat all) ≡ length front + (length line + length rest) = ap length whole ∙ length-append front (line ++ rest) ∙ ap (λ (k : ℕ). length front + k) (length-append line rest) in
-    let taken : take (length front + n) (concat all) ≡ front ++ take n line =
+    let front_of_line : take (length front + n) (concat all) ≡ front ++ take n line =
     ap (take (length front + n)) whole ∙ take-append-add front (line ++ rest) n ∙ ap (λ (t : List ℕ). front ++ t) (take-append-le n line rest (omega (arith, short))) in
-    (length front + n, omega (arith, lens, short), subst (Appends a c) (sym taken) (Appends-trans a b c front (take n line) before part.2))
+    (length front + n, omega (arith, lens, short), subst (Appends a c) (sym front_of_line) (Appends-trans a b c front (take n line) before part.2))
 
 -- a step's line that went out in part
 pub part_of_line : (w : Recording) (e : Step) (i : ℕ) (a b c : Option (List ℕ)) → i < length w.steps → e ≡ get_or w.steps i e

@@ -1,5 +1,5 @@
 -- The arguments of a step, by their shapes.
-use Rattle.std.specs.Prelude.{ℕ, ◌^◌, ◌*◌, ◌%◌, ◌==◌, List, length, Bool, true, false, not, ◌&&◌, ℤ, pos, int_lt, Option, Some, None, option_map, option_and_then, Result, Ok, Err, nat_lt, if◌then◌else◌, codes}
+use Rattle.std.specs.Prelude.{ℕ, ◌^◌, ◌*◌, ◌%◌, ◌==◌, List, length, Bool, true, false, not, ◌&&◌, ℤ, pos, int_lt, Option, Some, None, option_map, option_and_then, Result, Ok, Err, nat_lt, if◌then◌else◌, codes, ⊤}
 use Rattle.std.specs.Option.{option_map_or}
 use Rattle.std.specs.Str.{bytes_eq}
 use Rattle.std.specs.Result.{result_ok}
@@ -92,6 +92,10 @@ rest_of arguments = items_view (iter_rest arguments)
 abbrev pub first_by : {A : Type 0} → (Data → Option A) → Items → Result (A × Items) Fault
 first_by read no_items = Err fault.Arguments
 first_by read (item d ds) = or_fault fault.Arguments (option_map (λ x. (x, ds)) (read d))
+
+-- no argument
+unfoldable pub none : Items → Result (⊤ × Items) Fault
+none ds = Ok (tt, ds)
 
 abbrev pub number : Items → Result (ℕ × Items) Fault
 number ds = first_by number_of ds

@@ -5,7 +5,7 @@ use Rattle.nr_rev.specs.declared.sides.Side.{Side}
 use Rattle.nr_rev.specs.declared.sides.Mode.{Mode}
 use Rattle.nr_rev.specs.declared.step.Step.{Step}
 use Rattle.nr_recording.specs.declared.fault.Fault.{Fault}
-use Rattle.nr_recording.specs.Arguments.{◌and◌, number, tag, bit, moment, time, side, mode, bytes}
+use Rattle.nr_recording.specs.Arguments.{◌and◌, none, number, tag, bit, moment, time, side, mode, bytes}
 
 -- the step of what was read
 abbrev pub step_from : {A : Type 0} → (A → Step) → Result (A × Items) Fault → Result (Step × Items) Fault
@@ -13,7 +13,7 @@ step_from step (Ok found) = Ok (step found.0, found.1)
 step_from step (Err f) = Err f
 
 abbrev pub bare : Step → Items → Result (Step × Items) Fault
-bare step ds = Ok (step, ds)
+bare step ds = step_from (λ p. step) (none ds)
 
 abbrev pub one : (ℕ → Step) → Items → Result (Step × Items) Fault
 one step ds = step_from (λ p. step p) (number ds)

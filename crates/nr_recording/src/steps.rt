@@ -17,6 +17,7 @@ use std::alloc::{AllocError, Global};
 use std::slice::Iter;
 
 /// The step of this kind; what is behind its arguments is left.
+#[tactic(auto, unfolding(crate::specs::Arguments::none))]
 fn step_in(alloc: Global, kind: Kind, arguments: &mut Iter<'_, Value>) -> Result<Step, LineError>
     ensures found { ReadsBy (λ step. (step, rest_of arguments.new)) result
         (step_in kind (rest_of arguments.old)) }

@@ -42,7 +42,7 @@ fn send<W: Write>(bytes: &[u8], out: &mut W) -> Result<(), WriteFault>
         }
         match out.write(&bytes[sent..]) {
             Ok(0) => return Err(WriteFault::Device),
-            Ok(taken) => sent += taken,
+            Ok(count) => sent += count,
             Err(e) if e.kind() == ErrorKind::Interrupted => {}
             Err(_) => return Err(WriteFault::Device),
         }

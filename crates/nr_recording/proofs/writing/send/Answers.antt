@@ -13,11 +13,11 @@ loop-preserved g c =
     let so_far = c.loop.invariant.so_far in
     elim c.match-write.branch [
       | in-Ok w ↦ (
-          let taken = w.in-Ok.taken in
-          let more = subst (λ rest. Appends (g.W.Write.contents c.loop.out) (g.W.Write.contents c.write.new.self) (take taken rest)) (take_rest bytes sent) w.in-Ok.ensures.bytes in
+          let count = w.in-Ok.count in
+          let more = subst (λ rest. Appends (g.W.Write.contents c.loop.out) (g.W.Write.contents c.write.new.self) (take count rest)) (take_rest bytes sent) w.in-Ok.ensures.bytes in
           record {
             within = rw w.sent-is (omega (arith, w.in-Ok.ensures.bound, length-take {A = ℕ}, length-drop {A = ℕ}));
-            so_far = rw (w.sent-is, take-add sent taken bytes) (Appends-trans _ _ _ _ _ so_far more);
+            so_far = rw (w.sent-is, take-add sent count bytes) (Appends-trans _ _ _ _ _ so_far more);
           })
       | in-Err w ↦ record {
         within = rw w.sent-is c.loop.invariant.within;
