@@ -20,7 +20,7 @@ use Rattle.nr_recording.specs.Arguments.{none, most_digits, number_of, side_of, 
 use Rattle.nr_recording.specs.Header.{version_of, limit_of, limits_of, header_of}
 use Rattle.serde_json.specs.Data.{no_items}
 use Rattle.nr_recording.specs.Steps.{step_in, arguments_of, step_of}
-use Rattle.nr_recording.specs.Spelling.{numeral, tag, time, side, mode, bit, digits, argument_data, arguments_data, IsMoment}
+use Rattle.nr_recording.specs.Spelling.{numeral, time, side, mode, bit, digits, argument_data, arguments_data, IsMoment}
 use Rattle.nr_recording.specs.Writing.{step_data, IsTyped, limits_data}
 
 number_again : (n : ℕ) → n < 2 ^ 32 → number_of (argument_data (numeral n)) ≡ Some n

@@ -1,5 +1,5 @@
 -- What was read keeps the ranges of a recording.
-use Rattle.std.proofs.Common.{◌≡◌, ◌<◌, ◌≤◌, ℕ, ℤ, pos, negsuc, true, false, ltb, leb, List, [], ◌∷◌, length, Option, Some, Result, Ok, Err, refl, ap, ◌∙◌, subst, inl, inr, arith}
+use Rattle.std.proofs.Common.{◌≡◌, ◌<◌, ◌≤◌, ℕ, ℤ, pos, negsuc, true, false, ltb, leb, List, length, Option, Some, Result, Ok, Err, refl, subst, arith}
 use Rattle.std.specs.Prelude.{option_map, option_and_then, codes, ◌==◌}
 use Rattle.std.specs.Result.{result_ok}
 use Rattle.std.proofs.lemmas.Bool.{ltb-true, ltb-false, leb-true, le-leb, le-ltb, and_parts}

@@ -117,8 +117,8 @@ lines_found (line ∷ rest) n m last w h done_is =
           let next = same_ok {E = Fault} (after_header header []) f.0 limits.2 in
           let more = steps_found rest (suc n) header [] last (omega arith) (subst (λ (x : Seen). with_lines (suc n) x rest ≡ Ok last) (sym next) f.2) in
           let made : Recording = record { limits = limits.0; steps = more.es } in
-          let is : made ≡ w = same_ok {E = ReadFault} made w (subst (λ (x : Seen). recording_at_end m x ≡ Ok w) more.ends done_is) in
-          (version.0, subst (λ (x : Recording). AreLinesOf version.0 (line ∷ rest) x) is (inr ((v.0, v.1, version.1, limits.1), more.are, more.fits))))
+          let is : made ≡ w = same_ok {E = ReadFault} made w (subst (λ (x : Seen). recording_at_end m x ≡ Ok w) {y = after_header header more.es} more.ends done_is) in
+          (version.0, subst (λ (x : Recording). AreLinesOf version.0 (line ∷ rest) x) {x = made} is (inr ((v.0, v.1, version.1, limits.1), more.are, more.fits))))
     ]
 
 pub reading_found : (bytes : List ℕ) (w : Recording) → reading bytes ≡ Ok w → IsTextOf bytes w

@@ -2,13 +2,13 @@
 use Rattle.std.proofs.Common.{◌≡◌, ℕ, suc, ◌+◌, ◌<◌, List, ◌++◌, length, get_or, take, drop, Option, refl, sym, ap, subst, ◌∙◌, add-one, append-nil, take-append-drop, drop-cons, length-append, arith}
 use Rattle.std.specs.List.{concat}
 use Rattle.std.specs.Io.KnownBytes.{Appends}
-use Rattle.std.proofs.KnownBytes.{Appends-nil, Appends-trans}
+use Rattle.std.proofs.KnownBytes.{Appends-trans}
 use Rattle.std.proofs.Math.Seq.{take-append-add}
 use Rattle.std.proofs.lemmas.List.{take_more, get_or-map, length-map, take-append-le}
 use Rattle.std.proofs.lemmas.List.Folds.{concat-append}
 use Rattle.nr_rev.specs.declared.step.Step.{Step}
 use Rattle.nr_rev.specs.Run.{Recording}
-use Rattle.nr_recording.specs.Writing.{step_data, limits_data, line_text, line_texts, text, AppendsPart}
+use Rattle.nr_recording.specs.Writing.{step_data, line_text, line_texts, text, AppendsPart}
 
 one_more_text : (all : List (List ℕ)) (line : List ℕ) (i : ℕ) (a b c : Option (List ℕ)) → i < length all → line ≡ get_or all i line → Appends a b (concat (take i all)) → Appends b c line → Appends a c (concat (take (i + 1) all))
 one_more_text all line i a b c lt is before one =
