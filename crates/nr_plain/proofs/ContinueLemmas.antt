@@ -10,7 +10,7 @@ use Rattle.nr_rev.specs.declared.timer.Timer.{Timer}
 use Rattle.nr_rev.specs.declared.timer.TimerOrder.{TimerOrder}
 use Rattle.nr_rev.specs.Descriptor.{Change}
 use Rattle.nr_rev.specs.Refusing.{◌>>=◌}
-use Rattle.nr_rev.specs.Step.{all_obeyed, all_woken, changed, obeyed}
+use Rattle.nr_rev.specs.Step.{after_orders, after_wakes, after_change, after_order}
 use Rattle.nr_rev.specs.World.{World, with_row}
 use Rattle.nr_plain.specs.declared.edit.Edit.{Edit}
 use Rattle.nr_plain.specs.declared.edit.Edit.TheVariants.{Row, Arming, Wake}
@@ -20,10 +20,10 @@ use Rattle.nr_plain.specs.Continuing.{Continues}
 use Rattle.nr_plain.specs.Plan.{CanEditAll, after_edits, all_words}
 
 -- the orders to the two sides, one after the other
-pub both_obeyed : (a b : Option TimerOrder) (before : Sides (Option Timer) × ℕ) → all_obeyed (option_to_list a ++ option_to_list b) before ≡ (all_obeyed (option_to_list a) before >>= all_obeyed (option_to_list b))
+pub both_obeyed : (a b : Option TimerOrder) (before : Sides (Option Timer) × ℕ) → after_orders (option_to_list a ++ option_to_list b) before ≡ (after_orders (option_to_list a) before >>= after_orders (option_to_list b))
 both_obeyed None b before = refl
 both_obeyed (Some order) b before =
-    elim (obeyed order before) as (λ (r : Result (Sides (Option Timer) × ℕ) Refusal). (r >>= all_obeyed (option_to_list b)) ≡ ((r >>= λ after. Ok after) >>= all_obeyed (option_to_list b))) [ Ok after ↦ refl | Err e ↦ refl ]
+    elim (after_order order before) as (λ (r : Result (Sides (Option Timer) × ℕ) Refusal). (r >>= after_orders (option_to_list b)) ≡ ((r >>= λ after. Ok after) >>= after_orders (option_to_list b))) [ Ok after ↦ refl | Err e ↦ refl ]
 
 -- changes behind others
 pub after_edits-append : (xs ys : List Edit) (w : World) → after_edits (xs ++ ys) w ≡ after_edits ys (after_edits xs w)
@@ -35,9 +35,9 @@ CanEditAll-append [] ys w first rest = rest
 CanEditAll-append (x ∷ xs) ys w first rest = (first.0, CanEditAll-append xs ys (after_edit x w) first.1 rest)
 
 -- those that a word held go on
-after_wakes : (gs : List ℕ) (w : World) → after_edits (map Wake gs) w ≡ all_woken gs w
-after_wakes [] w = refl
-after_wakes (g ∷ gs) w = after_wakes gs (after_edit (Wake g) w)
+wakes_lead : (gs : List ℕ) (w : World) → after_edits (map Wake gs) w ≡ after_wakes gs w
+wakes_lead [] w = refl
+wakes_lead (g ∷ gs) w = wakes_lead gs (after_edit (Wake g) w)
 
 woken_can : (gs : List ℕ) (w : World) → CanEditAll (map Wake gs) w
 woken_can [] w = tt
@@ -49,18 +49,18 @@ woken_words (g ∷ gs) = let one = sum_by-cons edit_words (Wake g) (map Wake gs)
 
 -- the world after some changes, with the descriptor changed so
 where_it_leads : (d : ℕ) (row : DescriptorRow) (change : Change) (w v : World) (after : Sides (Option Timer) × ℕ) → v.next_arming ≡ w.next_arming
-    → all_obeyed change.orders (row.timers, w.next_arming) ≡ Ok after
-    → changed d row change v ≡ Ok (after_edits (Row d (record { descriptor = change.descriptor; timers = after.0 }) ∷ Arming after.1 ∷ map Wake change.woken) v)
+    → after_orders change.orders (row.timers, w.next_arming) ≡ Ok after
+    → after_change d row change v ≡ Ok (after_edits (Row d (record { descriptor = change.descriptor; timers = after.0 }) ∷ Arming after.1 ∷ map Wake change.woken) v)
 where_it_leads d row change w v after same are =
-    let next : Sides (Option Timer) × ℕ → World = λ p. all_woken change.woken (record (with_row d (record { descriptor = change.descriptor; timers = p.0 }) v) { next_arming = p.1 }) in
-    ap (λ (n : ℕ). all_obeyed change.orders (row.timers, n) >>= λ p. Ok (next p)) same
+    let next : Sides (Option Timer) × ℕ → World = λ p. after_wakes change.woken (record (with_row d (record { descriptor = change.descriptor; timers = p.0 }) v) { next_arming = p.1 }) in
+    ap (λ (n : ℕ). after_orders change.orders (row.timers, n) >>= λ p. Ok (next p)) same
     ∙ ap (λ (r : Result (Sides (Option Timer) × ℕ) Refusal). r >>= λ p. Ok (next p)) are
-    ∙ ap Ok (sym (after_wakes change.woken (after_edit (Arming after.1) (after_edit (Row d (record { descriptor = change.descriptor; timers = after.0 })) v))))
+    ∙ ap Ok (sym (wakes_lead change.woken (after_edit (Arming after.1) (after_edit (Row d (record { descriptor = change.descriptor; timers = after.0 })) v))))
 
 -- the plan that has the changes behind those it had
 pub continued : (d : ℕ) (row : DescriptorRow) (change : Change) (w : World) (before plan : Plan) (after : Sides (Option Timer) × ℕ)
     → CanEditAll before.edits.items w → (after_edits before.edits.items w).next_arming ≡ w.next_arming → length change.woken ≤ 2
-    → all_obeyed change.orders (row.timers, w.next_arming) ≡ Ok after
+    → after_orders change.orders (row.timers, w.next_arming) ≡ Ok after
     → plan.answer ≡ before.answer
     → plan.edits.items ≡ before.edits.items ++ (Row d (record { descriptor = change.descriptor; timers = after.0 }) ∷ Arming after.1 ∷ map Wake change.woken)
     → Continues d row change w before plan

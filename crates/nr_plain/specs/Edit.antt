@@ -2,7 +2,7 @@
 use Rattle.std.specs.Prelude.{◌≡◌, ℕ, ◌+◌, ◌-◌, ◌*◌, ◌<◌, ◌≤◌, List, [], ◌∷◌, ◌++◌, length, take, drop, insert, remove, slice_get, slice_set, Option, Some, None, option_map, IfSome}
 use Rattle.nr_rev.specs.declared.status.Status.TheVariants as status
 use Rattle.nr_rev.specs.Socket.{new_socket}
-use Rattle.nr_rev.specs.Step.{new_row, all_woken}
+use Rattle.nr_rev.specs.Step.{new_row, after_wakes}
 use Rattle.nr_rev.specs.Weight.{entry_words, number_words, row_words, status_words, time_words, variant_words}
 use Rattle.nr_rev.specs.World.{World, with_row, with_status}
 use Rattle.nr_plain.specs.declared.edit.Edit.{Edit}
@@ -29,7 +29,7 @@ after_edit (edit.Row d row) w = with_row d row w
 after_edit edit.AddRow w = record w { descriptors = w.descriptors ++ new_row ∷ [] }
 after_edit edit.TakeFree w = record w { free = drop 1 w.free }
 after_edit (edit.GiveFree d) w = record w { free = d ∷ w.free }
-after_edit (edit.Wake g) w = all_woken (g ∷ []) w
+after_edit (edit.Wake g) w = after_wakes (g ∷ []) w
 after_edit (edit.Waiters count) w = record w { waiters = count }
 after_edit (edit.Arming number) w = record w { next_arming = number }
 after_edit (edit.Clock time) w = record w { clock = time }

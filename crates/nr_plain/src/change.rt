@@ -203,13 +203,13 @@ fn both_follow(old: Descriptor, descriptor: Descriptor) -> Result<PlainChange, R
 
 /// A deadline set (Go's `poll_runtime_pollSetDeadline`): the timers follow, reading first, and the sides
 /// whose deadline is past are unblocked.
-pub(crate) fn deadline_set(
+pub(crate) fn change_by_deadline(
     clock: i64,
     mode: Mode,
     time: i64,
     old: Descriptor,
 ) -> Result<PlainChange, Refusal>
-    ensures { Gives change_shown result (spec.deadline_set clock mode time old) }
+    ensures { Gives change_shown result (spec.change_by_deadline clock mode time old) }
 {
     if old.closing {
         return Ok(quiet(old));
@@ -239,8 +239,8 @@ fn stop_if(running: bool, side: Side) -> Option<TimerOrder>
 
 /// A descriptor evicted (Go's `poll_runtime_pollUnblock`): it is closing, its timers are stopped, and both
 /// sides are unblocked.
-pub(crate) fn evicted(descriptor: Descriptor) -> Result<PlainChange, Refusal>
-    ensures { Gives change_shown result (spec.evicted descriptor) }
+pub(crate) fn change_by_evict(descriptor: Descriptor) -> Result<PlainChange, Refusal>
+    ensures { Gives change_shown result (spec.change_by_evict descriptor) }
 {
     if descriptor.closing {
         return Err(Refusal::AlreadyClosing);
@@ -312,12 +312,12 @@ fn is_timed(function: TimerFunction, descriptor: Descriptor) -> bool
 }
 
 /// A firing run (Go's `netpollDeadline`), or `None` where its sequence is no longer the descriptor's.
-pub(crate) fn fired(
+pub(crate) fn change_by_firing(
     function: TimerFunction,
     sequence: u64,
     descriptor: Descriptor,
 ) -> Result<Option<PlainChange>, Refusal>
-    ensures { Gives (option_map change_shown) result (spec.fired function sequence descriptor) }
+    ensures { Gives (option_map change_shown) result (spec.change_by_firing function sequence descriptor) }
 {
     if sequence != descriptor.sequences.of(side_of_function(function)) {
         return Ok(None);
@@ -330,8 +330,8 @@ pub(crate) fn fired(
 
 /// An event of the poller (Go's `netpollready`): the event error is the event's, and the sides that it names
 /// are ready.
-pub(crate) fn event_seen(mode: Mode, error: bool, descriptor: Descriptor) -> PlainChange
-    ensures { change_shown result ≡ spec.event_seen mode error descriptor }
+pub(crate) fn change_by_event(mode: Mode, error: bool, descriptor: Descriptor) -> PlainChange
+    ensures { change_shown result ≡ spec.change_by_event mode error descriptor }
 {
     let mut change = quiet(Descriptor {
         event_error: error,

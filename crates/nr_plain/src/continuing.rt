@@ -30,8 +30,8 @@ impl PlainWorld {
             ≡ self.now.next_arming }
         ensures { ContinuesOr descriptor row (change_shown change) self.now plan.entry result }
     {
-        let (timers, number) = obeyed(change.orders.read, row.timers, self.next_arming)?;
-        let (timers, number) = obeyed(change.orders.write, timers, number)?;
+        let (timers, number) = after_order(change.orders.read, row.timers, self.next_arming)?;
+        let (timers, number) = after_order(change.orders.write, timers, number)?;
         let row = DescriptorRow {
             descriptor: change.descriptor,
             timers,
@@ -44,12 +44,12 @@ impl PlainWorld {
 }
 
 /// The timers after an order, if there is one, and the next arming number.
-fn obeyed(
+fn after_order(
     order: Option<TimerOrder>,
     timers: Sides<Option<Timer>>,
     number: u64,
 ) -> Result<(Sides<Option<Timer>>, u64), Refusal>
-    ensures { result ≡ step.all_obeyed (option_to_list order) (timers, number) }
+    ensures { result ≡ step.after_orders (option_to_list order) (timers, number) }
 {
     match order {
         None => Ok((timers, number)),

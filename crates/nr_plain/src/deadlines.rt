@@ -3,7 +3,7 @@
 ghost use Rattle.nr_rev.specs.declared.step.Step.TheVariants as steps;
 ghost use Rattle.nr_plain.specs.Plan.{Plans};
 
-use crate::change::deadline_set;
+use crate::change::change_by_deadline;
 use crate::plan::Plan;
 use crate::world::PlainWorld;
 use nr_rev::{Answer, Mode, Refusal};
@@ -21,7 +21,7 @@ impl PlainWorld {
     {
         self.idle(goroutine)?;
         let row = self.open_row_of(descriptor)?;
-        let change = deadline_set(self.clock, mode, time, row.descriptor)?;
+        let change = change_by_deadline(self.clock, mode, time, row.descriptor)?;
         self.then_changed(Plan::new(Answer::Done), descriptor, row, change)
     }
 }

@@ -7,7 +7,7 @@ ghost use Rattle.nr_rev.specs.Step as step;
 ghost use Rattle.nr_rev.specs.WellFormed.{WellFormed};
 ghost use Rattle.nr_plain.specs.Plan.{Plans};
 
-use crate::change::{event_seen, evicted};
+use crate::change::{change_by_event, change_by_evict};
 use crate::descriptor::{closed, never_opened, opened_for};
 use crate::edit::Edit;
 use crate::plan::Plan;
@@ -98,7 +98,7 @@ impl PlainWorld {
     {
         self.idle(goroutine)?;
         let row = self.open_row_of(descriptor)?;
-        let change = evicted(row.descriptor)?;
+        let change = change_by_evict(row.descriptor)?;
         self.then_changed(Plan::new(Answer::Done), descriptor, row, change)
     }
 
@@ -116,7 +116,7 @@ impl PlainWorld {
         if self.is_free(descriptor) || tag != row.descriptor.fdseq {
             return Ok(Plan::new(Answer::Stale));
         }
-        let change = event_seen(mode, error, row.descriptor);
+        let change = change_by_event(mode, error, row.descriptor);
         self.then_changed(Plan::new(Answer::Done), descriptor, row, change)
     }
 }

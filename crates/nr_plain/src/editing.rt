@@ -94,7 +94,7 @@ impl PlainWorld {
     {
         let waiters = self.waiters;
         let status = self.goroutines.get(goroutine as usize);
-        let status = roused(status.unwrap_or(Status::Idle));
+        let status = after_wake(status.unwrap_or(Status::Idle));
         let status = self.goroutines.replace(goroutine as usize, status);
         self.waiters = waiters.saturating_sub(1);
         Undo::Sleep {
@@ -175,8 +175,8 @@ impl PlainWorld {
 }
 
 /// What a goroutine is that a word let go: one that was parked swaps next.
-fn roused(status: Status) -> Status
-    ensures { result ≡ step.roused status }
+fn after_wake(status: Status) -> Status
+    ensures { result ≡ step.after_wake status }
 {
     match status {
         Status::Parked { descriptor, side } => Status::Swapping { descriptor, side },

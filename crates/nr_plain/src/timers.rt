@@ -7,7 +7,7 @@ ghost use Rattle.nr_rev.specs.Timer.{entry_of, is_before, least_of};
 ghost use Rattle.nr_rev.specs.World as world;
 ghost use Rattle.nr_plain.specs.Plan.{Plans};
 
-use crate::change::fired;
+use crate::change::change_by_firing;
 use crate::edit::Edit;
 use crate::plan::Plan;
 use crate::world::PlainWorld;
@@ -57,7 +57,7 @@ impl PlainWorld {
             .get(place as usize)
             .ok_or(Refusal::NoSuchFiring)?;
         let row = self.row_of(entry.descriptor)?;
-        let change = fired(entry.timer.function, entry.timer.sequence, row.descriptor)?;
+        let change = change_by_firing(entry.timer.function, entry.timer.sequence, row.descriptor)?;
         let edit = Edit::TakeFiring { place };
         match change {
             None => Ok(Plan::new(Answer::Stale).then(edit)),

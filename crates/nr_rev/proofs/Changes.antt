@@ -13,7 +13,7 @@ use Rattle.nr_rev.proofs.Lists.{slice_get-set_here}
 use Rattle.std.proofs.lemmas.List.{append-nil}
 use Rattle.nr_rev.specs.declared.timer.Timer.{Timer}
 use Rattle.nr_rev.specs.Descriptor.{Change, and_then, and_if, unblocked, unblock}
-use Rattle.nr_rev.specs.Step.{all_woken, changed, all_obeyed}
+use Rattle.nr_rev.specs.Step.{after_wakes, after_change, after_orders}
 use Rattle.nr_rev.proofs.Retimed.{Retimed}
 use Rattle.nr_rev.proofs.RowSet.{retimed_keeps}
 use Rattle.nr_rev.proofs.Unblocked.{unblocked_keeps}
@@ -26,32 +26,32 @@ set_set (x ∷ xs) zero a b = refl
 set_set (x ∷ xs) (suc i) a b = ap (λ ys. x ∷ ys) (set_set xs i a b)
 
 -- the goroutines woken don't touch the rows
-woken_row : (gs : List ℕ) (d : ℕ) (row : DescriptorRow) (w : World) → all_woken gs (with_row d row w) ≡ with_row d row (all_woken gs w)
+woken_row : (gs : List ℕ) (d : ℕ) (row : DescriptorRow) (w : World) → after_wakes gs (with_row d row w) ≡ with_row d row (after_wakes gs w)
 woken_row [] d row w = refl
-woken_row (g ∷ gs) d row w = woken_row gs d row (all_woken (g ∷ []) w)
+woken_row (g ∷ gs) d row w = woken_row gs d row (after_wakes (g ∷ []) w)
 
-woken_rows : (gs : List ℕ) (w : World) → (all_woken gs w).descriptors ≡ w.descriptors
+woken_rows : (gs : List ℕ) (w : World) → (after_wakes gs w).descriptors ≡ w.descriptors
 woken_rows [] w = refl
-woken_rows (g ∷ gs) w = woken_rows gs (all_woken (g ∷ []) w)
+woken_rows (g ∷ gs) w = woken_rows gs (after_wakes (g ∷ []) w)
 
-woken_free : (gs : List ℕ) (w : World) → (all_woken gs w).free ≡ w.free
+woken_free : (gs : List ℕ) (w : World) → (after_wakes gs w).free ≡ w.free
 woken_free [] w = refl
-woken_free (g ∷ gs) w = woken_free gs (all_woken (g ∷ []) w)
+woken_free (g ∷ gs) w = woken_free gs (after_wakes (g ∷ []) w)
 
-woken_append : (gs hs : List ℕ) (w : World) → all_woken (gs ++ hs) w ≡ all_woken hs (all_woken gs w)
+woken_append : (gs hs : List ℕ) (w : World) → after_wakes (gs ++ hs) w ≡ after_wakes hs (after_wakes gs w)
 woken_append [] hs w = refl
-woken_append (g ∷ gs) hs w = woken_append gs hs (all_woken (g ∷ []) w)
+woken_append (g ∷ gs) hs w = woken_append gs hs (after_wakes (g ∷ []) w)
 
 -- the world after a change of descriptor d, whose timers are these
-abbrev after_change : ℕ → Sides (Option Timer) → Change → World → World
-after_change d timers change w = all_woken change.woken (with_row d (record { descriptor = change.descriptor; timers = timers }) w)
+abbrev changed_world : ℕ → Sides (Option Timer) → Change → World → World
+changed_world d timers change w = after_wakes change.woken (with_row d (record { descriptor = change.descriptor; timers = timers }) w)
 
-then_unblocked : (w : World) (d : ℕ) (old : DescriptorRow) (timers : Sides (Option Timer)) (change : Change) (side : Side) (ioready : Bool) → slice_get w.descriptors d ≡ Some old → is_free_number d w.free ≡ false → WellFormed (after_change d timers change w) → WellFormed (after_change d timers (and_then change (unblocked ioready side)) w)
+then_unblocked : (w : World) (d : ℕ) (old : DescriptorRow) (timers : Sides (Option Timer)) (change : Change) (side : Side) (ioready : Bool) → slice_get w.descriptors d ≡ Some old → is_free_number d w.free ≡ false → WellFormed (changed_world d timers change w) → WellFormed (changed_world d timers (and_then change (unblocked ioready side)) w)
 then_unblocked w d old timers change side ioready at is_open h =
     subst WellFormed same (unblocked_keeps first d row side ioready h row_at first_open)
   where
     first : World
-    first = after_change d timers change w
+    first = changed_world d timers change w
 
     row : DescriptorRow
     row = record { descriptor = change.descriptor; timers = timers }
@@ -65,21 +65,21 @@ then_unblocked w d old timers change side ioready at is_open h =
     row_at : slice_get first.descriptors d ≡ Some row
     row_at =
         ap (λ (x : World). slice_get x.descriptors d) (woken_row change.woken d row w)
-        ∙ slice_get-set_here (all_woken change.woken w).descriptors d old row (ap (λ rows. slice_get rows d) (woken_rows change.woken w) ∙ at)
+        ∙ slice_get-set_here (after_wakes change.woken w).descriptors d old row (ap (λ rows. slice_get rows d) (woken_rows change.woken w) ∙ at)
 
     first_open : is_free_number d first.free ≡ false
     first_open = ap (is_free_number d) (woken_free change.woken (with_row d row w)) ∙ is_open
 
-    rows_same : with_row d row_after first ≡ all_woken change.woken (with_row d row_after w)
+    rows_same : with_row d row_after first ≡ after_wakes change.woken (with_row d row_after w)
     rows_same =
         ap (with_row d row_after) (woken_row change.woken d row w)
-        ∙ ap (λ rows. record (all_woken change.woken w) { descriptors = rows }) (set_set (all_woken change.woken w).descriptors d row row_after)
+        ∙ ap (λ rows. record (after_wakes change.woken w) { descriptors = rows }) (set_set (after_wakes change.woken w).descriptors d row row_after)
         ∙ sym (woken_row change.woken d row_after w)
 
-    same : all_woken new.1 (with_row d row_after first) ≡ all_woken (change.woken ++ new.1) (with_row d row_after w)
-    same = ap (all_woken new.1) rows_same ∙ sym (woken_append change.woken new.1 (with_row d row_after w))
+    same : after_wakes new.1 (with_row d row_after first) ≡ after_wakes (change.woken ++ new.1) (with_row d row_after w)
+    same = ap (after_wakes new.1) rows_same ∙ sym (woken_append change.woken new.1 (with_row d row_after w))
 
-then_if : (w : World) (d : ℕ) (old : DescriptorRow) (timers : Sides (Option Timer)) (change : Change) (test : Bool) (side : Side) (ioready : Bool) → slice_get w.descriptors d ≡ Some old → is_free_number d w.free ≡ false → WellFormed (after_change d timers change w) → WellFormed (after_change d timers (and_if test (unblocked ioready side) change) w)
+then_if : (w : World) (d : ℕ) (old : DescriptorRow) (timers : Sides (Option Timer)) (change : Change) (test : Bool) (side : Side) (ioready : Bool) → slice_get w.descriptors d ≡ Some old → is_free_number d w.free ≡ false → WellFormed (changed_world d timers change w) → WellFormed (changed_world d timers (and_if test (unblocked ioready side) change) w)
 then_if w d old timers change true side ioready at is_open h = then_unblocked w d old timers change side ioready at is_open h
 then_if w d old timers change false side ioready at is_open h = h
 
@@ -88,15 +88,15 @@ orders_if true ioready side change = append-nil _
 orders_if false ioready side change = refl
 
 -- timers are reset, and then sides are unblocked
-pub changed_keeps : {T : Type 0} (w : World) (d : ℕ) (row : DescriptorRow) (base : Change) (reads writes ioready : Bool) → WellFormed w → slice_get w.descriptors d ≡ Some row → is_free_number d w.free ≡ false → base.woken ≡ [] → base.descriptor.words ≡ row.descriptor.words → Ends (λ (left : Sides (Option Timer) × ℕ). T → Retimed w.firings d row (record { descriptor = base.descriptor; timers = left.0 }) w.next_arming left.1) (all_obeyed base.orders (row.timers, w.next_arming)) → Ends (λ (next : World). T → WellFormed next) (changed d row (and_if writes (unblocked ioready Write) (and_if reads (unblocked ioready Read) base)) w)
+pub changed_keeps : {T : Type 0} (w : World) (d : ℕ) (row : DescriptorRow) (base : Change) (reads writes ioready : Bool) → WellFormed w → slice_get w.descriptors d ≡ Some row → is_free_number d w.free ≡ false → base.woken ≡ [] → base.descriptor.words ≡ row.descriptor.words → Ends (λ (left : Sides (Option Timer) × ℕ). T → Retimed w.firings d row (record { descriptor = base.descriptor; timers = left.0 }) w.next_arming left.1) (after_orders base.orders (row.timers, w.next_arming)) → Ends (λ (next : World). T → WellFormed next) (after_change d row (and_if writes (unblocked ioready Write) (and_if reads (unblocked ioready Read) base)) w)
 changed_keeps {T = T} w d row base reads writes ioready h at is_open quiets words retimed =
     Ends-bind
-    (subst (λ (orders : List TimerOrder). Ends (λ (left : Sides (Option Timer) × ℕ). T → Retimed w.firings d row (record { descriptor = base.descriptor; timers = left.0 }) w.next_arming left.1) (all_obeyed orders (row.timers, w.next_arming)))
+    (subst (λ (orders : List TimerOrder). Ends (λ (left : Sides (Option Timer) × ℕ). T → Retimed w.firings d row (record { descriptor = base.descriptor; timers = left.0 }) w.next_arming left.1) (after_orders orders (row.timers, w.next_arming)))
     (sym (orders_if writes ioready Write _ ∙ orders_if reads ioready Read base)) retimed)
     λ left change.
     Ends-ok λ premise.
-    let first : WellFormed (after_change d left.0 base (record w { next_arming = left.1 })) =
-    subst (λ (gs : List ℕ). WellFormed (all_woken gs (with_row d (record { descriptor = base.descriptor; timers = left.0 }) (record w { next_arming = left.1 })))) (sym quiets)
+    let first : WellFormed (changed_world d left.0 base (record w { next_arming = left.1 })) =
+    subst (λ (gs : List ℕ). WellFormed (after_wakes gs (with_row d (record { descriptor = base.descriptor; timers = left.0 }) (record w { next_arming = left.1 })))) (sym quiets)
     (retimed_keeps w d left.1 row _ h at is_open words (change premise))
     in
     then_if (record w { next_arming = left.1 }) d row left.0 (and_if reads (unblocked ioready Read) base) writes Write ioready at is_open

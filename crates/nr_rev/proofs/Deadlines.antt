@@ -21,8 +21,8 @@ use Rattle.nr_rev.specs.Timer.{IsTime}
 use Rattle.nr_rev.specs.declared.timer.TimerOrder.{TimerOrder}
 use Rattle.nr_rev.specs.declared.timer.TimerOrder.TheVariants.{Arm}
 use Rattle.nr_rev.specs.declared.descriptor.Descriptor.{Descriptor}
-use Rattle.nr_rev.specs.Descriptor.{timer_function, quiet, is_combo, is_positive, is_expired, wants_timer, with_deadlines, deadline_from, deadline_set, and_then}
-use Rattle.nr_rev.specs.Step.{changed, obeyed, all_obeyed, setdeadline}
+use Rattle.nr_rev.specs.Descriptor.{timer_function, quiet, is_combo, is_positive, is_expired, wants_timer, with_deadlines, deadline_from, change_by_deadline, and_then}
+use Rattle.nr_rev.specs.Step.{after_change, after_order, after_orders, setdeadline}
 use Rattle.nr_rev.proofs.Retimed.{Retimed, SideStays, SideBegins, old_number, retimed_still}
 use Rattle.nr_rev.proofs.Fate.{Fate, Begun, orders_of, timer_left, function_like, entry_fits, firing_fits, none_current, combo_fits}
 use Rattle.nr_rev.proofs.Follows.{Followed, Ends-timer_follows}
@@ -63,7 +63,7 @@ pub record Obeyed (side : Side) (old new : Descriptor) (before after : Sides (Op
   pub range : n < 2 ^ 64 → m < 2 ^ 64
 
 abbrev Obeying : Side → Descriptor → Descriptor → Sides (Option Timer) → ℕ → List TimerOrder → Type 0
-Obeying side old new before n orders = Ends (λ (left : Sides (Option Timer) × ℕ). Obeyed side old new before left.0 n left.1) (all_obeyed orders (before, n))
+Obeying side old new before n orders = Ends (λ (left : Sides (Option Timer) × ℕ). Obeyed side old new before left.0 n left.1) (after_orders orders (before, n))
 
 -- the orders of a side, obeyed
 Ends-fate : (side : Side) (old new : Descriptor) (before : Sides (Option Timer)) (n : ℕ) (fate : Fate side old new) → Obeying side old new before n (orders_of side old new fate)
@@ -107,9 +107,9 @@ Ends-after (Ok a) first next = next a first
 Ends-after (Err reason) first next = Ends-refused (first.given reason refl)
 
 -- orders after others
-Ends-append : {P Q : Sides (Option Timer) × ℕ → Type 0} (xs ys : List TimerOrder) (before : Sides (Option Timer) × ℕ) → Ends P (all_obeyed xs before) → ((mid : Sides (Option Timer) × ℕ) → P mid → Ends Q (all_obeyed ys mid)) → Ends Q (all_obeyed (xs ++ ys) before)
+Ends-append : {P Q : Sides (Option Timer) × ℕ → Type 0} (xs ys : List TimerOrder) (before : Sides (Option Timer) × ℕ) → Ends P (after_orders xs before) → ((mid : Sides (Option Timer) × ℕ) → P mid → Ends Q (after_orders ys mid)) → Ends Q (after_orders (xs ++ ys) before)
 Ends-append [] ys before first next = next before (first.value before refl)
-Ends-append (x ∷ xs) ys before first next = Ends-after (obeyed x before) first λ a first. Ends-append xs ys a first next
+Ends-append (x ∷ xs) ys before first next = Ends-after (after_order x before) first λ a first. Ends-append xs ys a first next
 
 -- both sides' timers followed: the row is retimed
 module _ (w : World) (d : ℕ) (row : DescriptorRow) (new : Descriptor) (first last : Sides (Option Timer)) (k m : ℕ) (h : WellFormed w) (at : slice_get w.descriptors d ≡ Some row) (read : Obeyed Read row.descriptor new row.timers first w.next_arming k) (write : Obeyed Write row.descriptor new first last k m) where
@@ -230,7 +230,7 @@ setdeadline_sound w g d mode t h =
     Ends-bind keeps λ next fits.
     Ends-ok fits
   where
-    sets : (row : DescriptorRow) → slice_get w.descriptors d ≡ Some row → is_free_number d w.free ≡ false → Ends (λ change. Ends (λ next. IsTime t → WellFormed next) (changed d row change w)) (deadline_set w.clock mode t row.descriptor)
+    sets : (row : DescriptorRow) → slice_get w.descriptors d ≡ Some row → is_free_number d w.free ≡ false → Ends (λ change. Ends (λ next. IsTime t → WellFormed next) (after_change d row change w)) (change_by_deadline w.clock mode t row.descriptor)
     sets row at is_open =
         let fits : RowFits row = h.timers.entries_fit d row at in
         Ends-either row.descriptor.closing

@@ -14,8 +14,8 @@ use Rattle.nr_rev.specs.declared.sides.Mode.{Mode}
 use Rattle.nr_rev.specs.Sides.{names_side, of_side, twice, with_side}
 use Rattle.nr_rev.specs.declared.timer.Timer.{Timer}
 use Rattle.nr_rev.specs.Timer.{IsTime}
-use Rattle.nr_rev.specs.Descriptor.{is_combo, quiet, stop_if, evicted}
-use Rattle.nr_rev.specs.Step.{pollevent, changed, all_obeyed, evict, pollopen, pollclose}
+use Rattle.nr_rev.specs.Descriptor.{is_combo, quiet, stop_if, change_by_evict}
+use Rattle.nr_rev.specs.Step.{pollevent, after_change, after_orders, evict, pollopen, pollclose}
 use Rattle.nr_rev.proofs.Changes.{changed_keeps, none_at_rest, set_set}
 use Rattle.nr_rev.proofs.Retimed.{Retimed, TimersFit-retimed}
 use Rattle.std.proofs.lemmas.Option.{none-some, same_Some, slice_get_within}
@@ -34,7 +34,7 @@ use Rattle.nr_rev.proofs.FreeNumbers.{uncounted, free_cases}
 use Rattle.nr_rev.proofs.Taken.{Taken, Ends-taken}
 
 -- the timers that run are stopped, and the others stand nowhere
-Ends-stopped : (r c : Bool) (before : Sides (Option Timer)) (n : ℕ) → (r ≡ false → before.read ≡ None) → (c ≡ false → before.write ≡ None) → Ends (λ left. ((side : Side) → of_side side left.0 ≡ None) × (n ≡ left.1)) (all_obeyed (stop_if r Read ++ stop_if c Write) (before, n))
+Ends-stopped : (r c : Bool) (before : Sides (Option Timer)) (n : ℕ) → (r ≡ false → before.read ≡ None) → (c ≡ false → before.write ≡ None) → Ends (λ left. ((side : Side) → of_side side left.0 ≡ None) × (n ≡ left.1)) (after_orders (stop_if r Read ++ stop_if c Write) (before, n))
 Ends-stopped true true before n read write = Ends-ok (each_side _ refl refl, refl)
 Ends-stopped true false before n read write = Ends-ok (each_side _ refl (write refl), refl)
 Ends-stopped false true before n read write = Ends-ok (each_side _ (read refl) refl, refl)
@@ -224,7 +224,7 @@ evict_sound w g d h =
     Ends-bind keeps λ next fits.
     Ends-ok (fits tt)
   where
-    evicts : (row : DescriptorRow) → slice_get w.descriptors d ≡ Some row → is_free_number d w.free ≡ false → RowFits row → Ends (λ change. Ends (λ next. Unit {0} → WellFormed next) (changed d row change w)) (evicted row.descriptor)
+    evicts : (row : DescriptorRow) → slice_get w.descriptors d ≡ Some row → is_free_number d w.free ≡ false → RowFits row → Ends (λ change. Ends (λ next. Unit {0} → WellFormed next) (after_change d row change w)) (change_by_evict row.descriptor)
     evicts row at is_open before =
         Ends-then (Ends-refused_if row.descriptor.closing _ refl) λ _.
         Ends-bind (Ends-both_raised row.descriptor.sequences) λ sequences raised.

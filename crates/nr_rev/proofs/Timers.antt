@@ -23,7 +23,7 @@ use Rattle.nr_rev.proofs.RowSet.{GoroutinesFit-rows, WordsFit-rows, FreeFits-ope
 use Rattle.nr_rev.proofs.Restood.{TimersFit-popped, unarmed, TimersFit-removed, slice_get-remove, skip, skip_apart, same_firing}
 use Rattle.nr_rev.specs.declared.timer.TimerFunction.{TimerFunction}
 use Rattle.nr_rev.specs.declared.descriptor.Descriptor.{Descriptor}
-use Rattle.nr_rev.specs.Descriptor.{Change, timer_function, quiet, is_combo, is_positive, and_if, unblocked, fired, expire, is_current, is_timed}
+use Rattle.nr_rev.specs.Descriptor.{Change, timer_function, quiet, is_combo, is_positive, and_if, unblocked, change_by_firing, expire, is_current, is_timed}
 use Rattle.nr_rev.proofs.Retimed.{retimed_still}
 use Rattle.nr_rev.proofs.Fate.{function_like, combo_of_both}
 use Rattle.nr_rev.proofs.Changes.{changed_keeps}
@@ -325,7 +325,7 @@ timed row TimerFunction.Write may = ap₂ (λ x y. x && y) (may.positive Write r
 timed row TimerFunction.Both may = ap₂ (λ x y. x && y) (ap₂ (λ x y. x && y) (may.positive Read refl) may.running) (may.positive Write refl)
 
 -- a firing is stale, or its change is made
-Ends-fired : (w : World) (i : ℕ) (entry : Entry) (row : DescriptorRow) → WellFormed w → slice_get w.firings i ≡ Some entry → slice_get w.descriptors entry.descriptor ≡ Some row → Ends (λ change. Keeps (fired_with entry.descriptor row change (record w { firings = remove w.firings i }))) (fired entry.timer.function entry.timer.sequence row.descriptor)
+Ends-fired : (w : World) (i : ℕ) (entry : Entry) (row : DescriptorRow) → WellFormed w → slice_get w.firings i ≡ Some entry → slice_get w.descriptors entry.descriptor ≡ Some row → Ends (λ change. Keeps (fired_with entry.descriptor row change (record w { firings = remove w.firings i }))) (change_by_firing entry.timer.function entry.timer.sequence row.descriptor)
 Ends-fired w i entry row h at row_at =
     let rest : WellFormed (record w { firings = remove w.firings i }) = removed_keeps w i entry h at in
     Ends-either (not (is_current entry.timer.function entry.timer.sequence row.descriptor)) (λ _. Ends-ok (Ends-ok rest)) λ fresh.

@@ -12,7 +12,7 @@ use Rattle.nr_rev.specs.Lock.{bit}
 use Rattle.nr_rev.specs.Descriptor.{unblock}
 use Rattle.nr_rev.specs.declared.descriptor.DescriptorRow.{DescriptorRow}
 use Rattle.nr_rev.specs.World.{World, with_row, is_free_number}
-use Rattle.nr_rev.specs.Step.{all_woken, roused}
+use Rattle.nr_rev.specs.Step.{after_wakes, after_wake}
 use Rattle.nr_rev.specs.WellFormed.{WellFormed, WordsFit, is_held, held_count}
 use Rattle.nr_rev.proofs.StatusSet.{may_stay}
 use Rattle.nr_rev.proofs.Reworded.{reworded, with_word_at, word_at_cases, word_kept, reworded_still}
@@ -54,7 +54,7 @@ cleared_words gs rows waiters d row side old new at is none clear h =
 
 -- the world after a side of d is unblocked
 abbrev unblocked_world : World → ℕ → DescriptorRow → Side → Word × List ℕ → World
-unblocked_world w d row side new = all_woken new.1 (with_row d (reworded row (with_side side new.0 row.descriptor.words)) w)
+unblocked_world w d row side new = after_wakes new.1 (with_row d (reworded row (with_side side new.0 row.descriptor.words)) w)
 
 unblocked_quietly : (w : World) (d : ℕ) (row : DescriptorRow) (side : Side) (old new : Word) → WellFormed w → slice_get w.descriptors d ≡ Some row → is_free_number d w.free ≡ false → of_side side row.descriptor.words ≡ old → is_held old ≡ false → IsClear new → WellFormed (unblocked_world w d row side (new, []))
 unblocked_quietly w d row side old new h at is_open is none clear =
@@ -65,7 +65,7 @@ unblocked_quietly w d row side old new h at is_open is none clear =
 unblocked_waking : (w : World) (d g : ℕ) (row : DescriptorRow) (side : Side) (new : Word) → WellFormed w → slice_get w.descriptors d ≡ Some row → is_free_number d w.free ≡ false → of_side side row.descriptor.words ≡ Held g → IsClear new → WellFormed (unblocked_world w d row side (new, g ∷ []))
 unblocked_waking w d g row side new h at is_open is clear =
     subst (λ (status : Status). WellFormed (record w { goroutines = set w.goroutines g status; descriptors = with_word_at w.descriptors d row side new; waiters = w.waiters - 1 }))
-    (sym (ap roused (get_or_from_slice_get w.goroutines g _ Idle parked)))
+    (sym (ap after_wake (get_or_from_slice_get w.goroutines g _ Idle parked)))
     (let zero : bit (is_held new) ≡ 0 = ap bit clear.0 in
     told w g d (w.waiters - 1) side row (Parked d side) (Swapping d side) (Held g) new h parked at is_open is
     (record {

@@ -164,8 +164,8 @@ expired_unblocked change =
     and_if (is_expired Write change.descriptor) (unblocked false Write)
     (and_if (is_expired Read change.descriptor) (unblocked false Read) change)
 
-abbrev pub deadline_set : ℤ → Mode → ℤ → Descriptor → Result Change Refusal
-deadline_set clock mode t old =
+abbrev pub change_by_deadline : ℤ → Mode → ℤ → Descriptor → Result Change Refusal
+change_by_deadline clock mode t old =
     if old.closing then Ok (quiet old) else (do
       read ← timer_follows Read old (with_deadlines mode (deadline_from clock t) old)
       write ← timer_follows Write old read.descriptor
@@ -175,8 +175,8 @@ abbrev pub stop_if : Bool → Side → List TimerOrder
 stop_if true side = Stop side ∷ []
 stop_if false side = []
 
-abbrev pub evicted : Descriptor → Result Change Refusal
-evicted d = do
+abbrev pub change_by_evict : Descriptor → Result Change Refusal
+change_by_evict d = do
   refused_if d.closing Refusal.AlreadyClosing
   sequences ← both_raised d.sequences
   let stopped : Change = record {
@@ -200,13 +200,13 @@ is_timed TimerFunction.Write d = is_positive d.deadlines.write && d.running.writ
 is_timed TimerFunction.Both d = is_positive d.deadlines.read && d.running.read && is_positive d.deadlines.write
 
 -- a current firing, None for a stale one
-abbrev pub fired : TimerFunction → ℕ → Descriptor → Result (Option Change) Refusal
-fired function sequence d =
+abbrev pub change_by_firing : TimerFunction → ℕ → Descriptor → Result (Option Change) Refusal
+change_by_firing function sequence d =
     if not (is_current function sequence d) then Ok None else (do
       refused_unless (is_timed function d) Refusal.CorruptedDescriptor
       Ok (Some (and_if (covers_side function Write) (expire Write) (and_if (covers_side function Read) (expire Read) (quiet d)))))
 
-abbrev pub event_seen : Mode → Bool → Descriptor → Change
-event_seen mode error d =
+abbrev pub change_by_event : Mode → Bool → Descriptor → Change
+change_by_event mode error d =
     and_if (names_side mode Write) (unblocked true Write)
     (and_if (names_side mode Read) (unblocked true Read) (quiet (record d { event_error = error })))

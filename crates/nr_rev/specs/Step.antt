@@ -21,7 +21,7 @@ use Rattle.nr_rev.specs.declared.timer.Timer.{Timer}
 use Rattle.nr_rev.specs.Timer.{IsTime}
 use Rattle.nr_rev.specs.declared.timer.TimerOrder.{TimerOrder}
 use Rattle.nr_rev.specs.declared.timer.TimerOrder.TheVariants.{Arm, Stop}
-use Rattle.nr_rev.specs.Descriptor.{never_opened, check, opened_for, closed, with_word, Change, deadline_set, evicted, event_seen, fired}
+use Rattle.nr_rev.specs.Descriptor.{never_opened, check, opened_for, closed, with_word, Change, change_by_deadline, change_by_evict, change_by_event, change_by_firing}
 use Rattle.nr_rev.specs.Socket.{Socket, new_socket, room_of}
 use Rattle.nr_rev.specs.declared.descriptor.DescriptorRow.{DescriptorRow}
 use Rattle.nr_rev.specs.World.{World, is_free_number, least_entry, is_waited, with_status, with_socket, with_row, with_descriptor}
@@ -289,46 +289,46 @@ pollclose g d w = do
   Ok (Done, record (with_descriptor d row descriptor w) { free = d ∷ w.free })
 
 -- the timers after an order, and the next arming number
-abbrev pub obeyed : TimerOrder → Sides (Option Timer) × ℕ → Result (Sides (Option Timer) × ℕ) Refusal
-obeyed (Arm side due function sequence) (timers, number) = do
+abbrev pub after_order : TimerOrder → Sides (Option Timer) × ℕ → Result (Sides (Option Timer) × ℕ) Refusal
+after_order (Arm side due function sequence) (timers, number) = do
   next ← raised_sequence number
   let timer : Timer = record { due = due; number = number; function = function; sequence = sequence }
   Ok (with_side side (Some timer) timers, next)
-obeyed (Stop side) (timers, number) = Ok (with_side side None timers, number)
+after_order (Stop side) (timers, number) = Ok (with_side side None timers, number)
 
-abbrev pub all_obeyed : List TimerOrder → Sides (Option Timer) × ℕ → Result (Sides (Option Timer) × ℕ) Refusal
-all_obeyed [] before = Ok before
-all_obeyed (order ∷ orders) before = do
-  after ← obeyed order before
-  all_obeyed orders after
+abbrev pub after_orders : List TimerOrder → Sides (Option Timer) × ℕ → Result (Sides (Option Timer) × ℕ) Refusal
+after_orders [] before = Ok before
+after_orders (order ∷ orders) before = do
+  after ← after_order order before
+  after_orders orders after
 
-abbrev pub roused : Status → Status
-roused (Parked d side) = Swapping d side
-roused status = status
+abbrev pub after_wake : Status → Status
+after_wake (Parked d side) = Swapping d side
+after_wake status = status
 
 -- a goroutine that a word held goes on
-abbrev pub all_woken : List ℕ → World → World
-all_woken [] w = w
-all_woken (g ∷ gs) w =
-    all_woken gs (record w {
-      goroutines = slice_set w.goroutines g (roused (slice_index_or w.goroutines g Idle));
+abbrev pub after_wakes : List ℕ → World → World
+after_wakes [] w = w
+after_wakes (g ∷ gs) w =
+    after_wakes gs (record w {
+      goroutines = slice_set w.goroutines g (after_wake (slice_index_or w.goroutines g Idle));
       waiters = w.waiters - 1;
     })
 
 -- the world after a change of descriptor d
-abbrev pub changed : ℕ → DescriptorRow → Change → World → Result World Refusal
-changed d row change w = do
-  (timers, number) ← all_obeyed change.orders (row.timers, w.next_arming)
+abbrev pub after_change : ℕ → DescriptorRow → Change → World → Result World Refusal
+after_change d row change w = do
+  (timers, number) ← after_orders change.orders (row.timers, w.next_arming)
   let next : World = with_row d (record { descriptor = change.descriptor; timers = timers }) w
-  Ok (all_woken change.woken (record next { next_arming = number }))
+  Ok (after_wakes change.woken (record next { next_arming = number }))
 
 -- evict: runtime_pollUnblock
 abbrev pub evict : ℕ → ℕ → World → Outcome
 evict g d w = do
   idle g w
   row ← open_row_of d w
-  change ← evicted row.descriptor
-  next ← changed d row change w
+  change ← change_by_evict row.descriptor
+  next ← after_change d row change w
   Ok (Done, next)
 
 -- pollevent: netpollready
@@ -336,7 +336,7 @@ abbrev pub pollevent : ℕ → ℕ → Mode → Bool → World → Outcome
 pollevent d tag mode error w = do
   row ← row_of d w
   if is_free_number d w.free || not (tag == row.descriptor.fdseq) then Ok (Stale, w) else (do
-    next ← changed d row (event_seen mode error row.descriptor) w
+    next ← after_change d row (change_by_event mode error row.descriptor) w
     Ok (Done, next))
 
 -- ---- waits
@@ -448,8 +448,8 @@ abbrev pub setdeadline : ℕ → ℕ → Mode → ℤ → World → Outcome
 setdeadline g d mode t w = do
   idle g w
   row ← open_row_of d w
-  change ← deadline_set w.clock mode t row.descriptor
-  next ← changed d row change w
+  change ← change_by_deadline w.clock mode t row.descriptor
+  next ← after_change d row change w
   Ok (Done, next)
 
 -- ---- timers
@@ -473,7 +473,7 @@ pop w = do
 abbrev pub fired_with : ℕ → DescriptorRow → Option Change → World → Outcome
 fired_with d row None w = Ok (Stale, w)
 fired_with d row (Some change) w = do
-  next ← changed d row change w
+  next ← after_change d row change w
   Ok (Done, next)
 
 -- fire: a firing is run
@@ -481,7 +481,7 @@ abbrev pub fire : ℕ → World → Outcome
 fire i w = do
   entry ← found_or (slice_get w.firings i) NoSuchFiring
   row ← row_of entry.descriptor w
-  change ← fired entry.timer.function entry.timer.sequence row.descriptor
+  change ← change_by_firing entry.timer.function entry.timer.sequence row.descriptor
   fired_with entry.descriptor row change (record w { firings = remove w.firings i })
 
 -- ---- all kinds

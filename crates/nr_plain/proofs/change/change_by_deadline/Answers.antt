@@ -5,7 +5,7 @@ use Rattle.nr_rev.specs.declared.descriptor.Descriptor.{Descriptor}
 use Rattle.nr_rev.specs.Descriptor.{deadline_from, with_deadlines}
 use Rattle.nr_plain.specs.Change.{both_followed, change_shown}
 use Rattle.nr_plain.proofs.ChangeLemmas.{refused_by_following, set_by_following}
-use Rattle.nr_plain.proofs.change.deadline_set.Goals as goal
+use Rattle.nr_plain.proofs.change.change_by_deadline.Goals as goal
 
 pub returns-in_err-change : goal.returns-in_err-change
 returns-in_err-change c =
