@@ -4,8 +4,8 @@ use Rattle.std.proofs.lemmas.List.{length-take-le, take_at, take-append-le}
 use Rattle.std.proofs.lemmas.Bool.{lt-ltb, ltb-false, ltb-true}
 use Rattle.std.proofs.Common.{Err}
 use Rattle.netrev.specs.declared.command.LineFault.TheVariants.{TooLong}
-use Rattle.netrev.specs.CommandLine.{line_of, meaning, words, without_return}
-use Rattle.netrev.specs.Transcript.{whole_from, rest_from}
+use Rattle.netrev.specs.Command.{meaning_of, meaning_of_words, words, without_return}
+use Rattle.netrev.specs.Engine.{whole_from, rest_from}
 
 pub whole_from-append : (line xs ys : List ℕ) → whole_from line (xs ++ ys) ≡ whole_from line xs ++ whole_from (rest_from line xs) ys
 whole_from-append line [] ys = refl
@@ -38,15 +38,15 @@ whole_from-feed text b bs e =
 pub rest_from-feed : (text : List ℕ) (b : ℕ) → nat_eq b 10 ≡ true → rest_from [] (text ++ b ∷ []) ≡ []
 rest_from-feed text b e = rest_from-append [] text (b ∷ []) ∙ ap (λ t. cond t [] (rest_from [] text ++ b ∷ [])) e
 
-too_long : (line : List ℕ) → nat_lt 256 (length line) ≡ true → line_of line ≡ Err TooLong
-too_long line h = ap (λ t. cond t (Err TooLong) (meaning (words (without_return line)))) h
+too_long : (line : List ℕ) → nat_lt 256 (length line) ≡ true → meaning_of line ≡ Err TooLong
+too_long line h = ap (λ t. cond t (Err TooLong) (meaning_of_words (words (without_return line)))) h
 
 -- the first bytes of a line tell as much as the line, if they are more than a line may have
-pub line_of-take : (line : List ℕ) → line_of (take 257 line) ≡ line_of line
-line_of-take line =
-    elim (nat_lt 256 (length line)) as (λ t. nat_lt 256 (length line) ≡ t → line_of (take 257 line) ≡ line_of line) [
+pub meaning_of-take : (line : List ℕ) → meaning_of (take 257 line) ≡ meaning_of line
+meaning_of-take line =
+    elim (nat_lt 256 (length line)) as (λ t. nat_lt 256 (length line) ≡ t → meaning_of (take 257 line) ≡ meaning_of line) [
       | true ↦ λ long. let h = ltb-true _ _ long in let same : length (take 257 line) ≡ 257 = length-take-le 257 line (omega (arith, h)) in too_long (take 257 line) (lt-ltb _ _ (omega (arith, same))) ∙ sym (too_long line long)
-      | false ↦ λ short. ap line_of (take_all 257 line (let h = ltb-false _ _ short in omega (arith, h)))
+      | false ↦ λ short. ap meaning_of (take_all 257 line (let h = ltb-false _ _ short in omega (arith, h)))
     ] refl
 
 -- the bytes that are kept of a line that goes on

@@ -3,30 +3,31 @@ use Rattle.std.proofs.Common.{◌≡◌, ℕ, ◌+◌, Bool, true, false, cond, 
 use Rattle.std.specs.List.{concat}
 use Rattle.std.proofs.lemmas.List.Folds.{concat-append}
 use Rattle.std.proofs.lemmas.List.Elements.{filter-append}
-use Rattle.netrev.specs.CommandLine.{line_of}
-use Rattle.netrev.specs.Debugging.{Place}
+use Rattle.netrev.specs.Command.{meaning_of}
+use Rattle.netrev.specs.Front.{Place}
 use Rattle.nr_rev.specs.Run.{Recording}
-use Rattle.netrev.specs.ReplyText.{counted}
-use Rattle.netrev.specs.Transcript.{MayReply, Turn, Turns, is_quit, has_quit, some_count, counted_with}
+use Rattle.netrev.specs.Sender.{saturating_count}
+use Rattle.netrev.specs.Turn.{MayReply, Turn, is_quit, count_with}
+use Rattle.netrev.specs.Engine.{Turns, has_quit, some_count}
 
 abbrev some : List ℕ → Bool
 some text = nat_lt 0 (length text)
 
-counted_text : (whole n : ℕ) (text : List ℕ) → whole ≡ counted n → counted_with whole text ≡ counted (n + length (filter some (text ∷ [])))
+counted_text : (whole n : ℕ) (text : List ℕ) → whole ≡ saturating_count n → count_with whole text ≡ saturating_count (n + length (filter some (text ∷ [])))
 counted_text whole n text h =
-    elim (nat_lt 0 (length text)) as (λ t. cond t (counted (whole + 1)) whole ≡ counted (n + length (cond t (text ∷ []) [])))
+    elim (nat_lt 0 (length text)) as (λ t. cond t (saturating_count (whole + 1)) whole ≡ saturating_count (n + length (cond t (text ∷ []) [])))
     [ true ↦ omega (arith, h) | false ↦ omega (arith, h) ]
 
 -- the count of the texts that aren't empty goes on
-pub counted_more : (texts : List (List ℕ)) (text : List ℕ) (whole : ℕ) → whole ≡ counted (some_count texts) → counted_with whole text ≡ counted (some_count (texts ++ text ∷ []))
+pub counted_more : (texts : List (List ℕ)) (text : List ℕ) (whole : ℕ) → whole ≡ saturating_count (some_count texts) → count_with whole text ≡ saturating_count (some_count (texts ++ text ∷ []))
 counted_more texts text whole h =
     counted_text whole (some_count texts) text h
-    ∙ ap counted (sym (ap length (filter-append some texts (text ∷ [])) ∙ length-append (filter some texts) (filter some (text ∷ []))))
+    ∙ ap saturating_count (sym (ap length (filter-append some texts (text ∷ [])) ∙ length-append (filter some texts) (filter some (text ∷ []))))
 
 pub has_quit-append : (xs ys : List (List ℕ)) → has_quit xs ≡ false → has_quit (xs ++ ys) ≡ has_quit ys
 has_quit-append [] ys = λ h. refl
 has_quit-append (x ∷ xs) ys =
-    elim (is_quit (line_of x)) as (λ t. (t || has_quit xs) ≡ false → (t || has_quit (xs ++ ys)) ≡ has_quit ys) [ true ↦ λ h. cc | false ↦ has_quit-append xs ys ]
+    elim (is_quit (meaning_of x)) as (λ t. (t || has_quit xs) ≡ false → (t || has_quit (xs ++ ys)) ≡ has_quit ys) [ true ↦ λ h. cc | false ↦ has_quit-append xs ys ]
 
 pub concat_more : (texts : List (List ℕ)) (text : List ℕ) → concat (texts ++ text ∷ []) ≡ concat texts ++ text
 concat_more texts text = concat-append texts (text ∷ []) ∙ ap (λ t. concat texts ++ t) (append-nil text)
@@ -38,5 +39,5 @@ turns_more r p (l ∷ ls) [] mid line text p' here turn = absurd here
 turns_more r p (l ∷ ls) (t ∷ ts) mid line text p' here turn = (here.0, here.1, turns_more r here.0 ls ts mid line text p' here.2 turn)
 
 -- a line that asks for the same has the same turns
-pub turn_asks : (r : Recording) (a b text : List ℕ) (p p' : Place) → line_of a ≡ line_of b → Turn r p a text p' → Turn r p b text p'
+pub turn_asks : (r : Recording) (a b text : List ℕ) (p p' : Place) → meaning_of a ≡ meaning_of b → Turn r p a text p' → Turn r p b text p'
 turn_asks r a b text p p' e turn = (turn.0, subst (λ asked. MayReply asked r p turn.0 p') e turn.1, turn.2)

@@ -8,7 +8,7 @@ use Rattle.nr_recording.specs.Reading.{reading}
 use Rattle.nr_recording.specs.Text.{IsTextOf}
 use Rattle.nr_recording.specs.declared.fault.ReadFault.{ReadFault}
 use Rattle.nr_recording.specs.declared.fault.ReadFault.TheVariants as read
-use Rattle.netrev.specs.LoadFaults.{IsLoadFault}
+use Rattle.netrev.specs.Film.{IsLoadFault}
 use Rattle.netrev.specs.declared.film.LoadFault.{LoadFault}
 use Rattle.netrev.specs.declared.film.LoadFault.TheVariants as load
 use Rattle.netrev.specs.declared.opening.OpenFault.{OpenFault}

@@ -4,21 +4,21 @@ use Rattle.std.specs.Io.KnownBytes.{Appends}
 use Rattle.std.specs.declared.io.ErrorKind.{ErrorKind}
 use Rattle.std.specs.declared.io.ErrorKind.TheVariants as kind
 use Rattle.netrev.specs.Opening.{fault_line}
-use Rattle.netrev.specs.Running.{Checks, Prints, Runs}
+use Rattle.netrev.specs.Run.{Checks, Prints, Runs}
 use Rattle.netrev.specs.declared.opening.OpenFault.TheVariants as faults
 use Rattle.netrev.specs.declared.run.ExitStatus.{ExitStatus}
 use Rattle.netrev.specs.declared.run.ExitStatus.TheVariants as statuses
 use Rattle.netrev.specs.declared.starting.Unstarted.{Unstarted}
 use Rattle.netrev.specs.declared.starting.Unstarted.TheVariants as unstarted
-use Rattle.netrev.specs.declared.words.Program.{Program}
-use Rattle.netrev.specs.declared.words.Program.TheVariants as program
-use Rattle.netrev.specs.declared.words.WordsFault.{WordsFault}
-use Rattle.netrev.specs.declared.words.WordsFault.TheVariants as words
+use Rattle.netrev.specs.declared.arguments.Program.{Program}
+use Rattle.netrev.specs.declared.arguments.Program.TheVariants as program
+use Rattle.netrev.specs.declared.arguments.ArgumentsFault.{ArgumentsFault}
+use Rattle.netrev.specs.declared.arguments.ArgumentsFault.TheVariants as arguments
 
--- a fault of the words
-abbrev pub of_words : WordsFault → Unstarted
-of_words words.Usage = unstarted.Usage
-of_words words.Memory = unstarted.Memory
+-- a fault of the arguments
+abbrev pub of_arguments : ArgumentsFault → Unstarted
+of_arguments arguments.Usage = unstarted.Usage
+of_arguments arguments.Memory = unstarted.Memory
 
 -- memory where the error is want of it, and the other reason where it is any other
 abbrev pub unstarted_by : ErrorKind → Unstarted → Unstarted

@@ -1,7 +1,7 @@
 //! What a line asks for.
 ghost use Rattle.std.specs.Prelude.{◌≡◌, Option, None, Some, IsTrue};
 ghost use Rattle.std.specs.Str.{bytes_eq};
-ghost use Rattle.netrev.specs.CommandLine.{line_of, words, without_return, number_of, count_of, cell_of, plain_cell, numbered_cell, dump_of, buffer_or_queue, nothing_after, taken, after_spaces, first_word_len};
+ghost use Rattle.netrev.specs.Command.{meaning_of, words, without_return, number_of, count_of, cell_of, plain_cell, numbered_cell, dump_of, buffer_or_queue, nothing_after, next_words, after_spaces, first_word_len};
 
 use nr_rev::{Cell, Side};
 
@@ -54,7 +54,7 @@ impl Command {
     /// command that is the fault, else any other mistake is a bad argument. GDB's `info` is known, and
     /// there is nothing yet that it can show.
     pub(crate) fn parse(line: &[u8]) -> Result<Line, LineFault>
-        ensures { result ≡ line_of line.now }
+        ensures { result ≡ meaning_of line.now }
     {
         if line.len() > MAX_LINE {
             return Err(LineFault::TooLong);
@@ -93,7 +93,7 @@ fn trim_return(line: &[u8]) -> &[u8]
 
 /// The first word, and what follows it.
 fn next_word(line: &[u8]) -> Option<(&[u8], &[u8])>
-    ensures { words line.now ≡ taken result }
+    ensures { words line.now ≡ next_words result }
 {
     let line = skip_spaces(line);
     if line.is_empty() {

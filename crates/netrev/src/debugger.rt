@@ -1,7 +1,7 @@
 //! A debugger: where it stands in a film, and what it replies.
 
 ghost use Rattle.std.specs.Prelude.{◌≡◌, ◌≤◌, length, IfOk, OnErr};
-ghost use Rattle.netrev.specs.Debugging.{reply_to, after, shown_in, Copies};
+ghost use Rattle.netrev.specs.Debugger.{reply_to, position_after, reply_in, Copies};
 
 use crate::command::{Command, Query};
 use crate::film::Film;
@@ -28,7 +28,7 @@ impl Debugger {
     pub(crate) fn exec<W: Worlds + Drop>(&mut self, film: &Film<W>, command: Command) -> Reply
         requires { self.old.position ≤ length film.now.steps }
         ensures reply { result ≡ reply_to command film.now self.old.position }
-        ensures moved { self.new.position ≡ after command film.now self.old.position }
+        ensures moved { self.new.position ≡ position_after command film.now self.old.position }
         ensures within { self.new.position ≤ length film.now.steps }
     {
         let from = self.position;
@@ -58,7 +58,7 @@ impl Debugger {
 /// shows none isn't refused it.
 pub(crate) fn look<W: Worlds>(world: &W, query: Query) -> Result<Reply, AllocError>
     requires { W.is_well_formed world.now }
-    ensures ok { IfOk result (λ reply. reply ≡ shown_in (W.world world.now) query) }
+    ensures ok { IfOk result (λ reply. reply ≡ reply_in (W.world world.now) query) }
     ensures err { OnErr result (Copies (W.world world.now) query) }
 {
     match query {

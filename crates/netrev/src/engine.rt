@@ -1,30 +1,14 @@
 //! The line loop.
-ghost use Rattle.std.specs.Prelude.{◌≡◌, [], ◌∷◌, ◌++◌, take};
-ghost use Rattle.netrev.specs.Serving.{Serves};
 
-use crate::answering::{Front, turn};
+ghost use Rattle.std.specs.Prelude.{◌≡◌, [], ◌∷◌, ◌++◌, take};
+ghost use Rattle.netrev.specs.Engine.{Serves};
+
+use crate::ending::{End, LineEnd};
+use crate::front::Front;
+use crate::turn::turn;
 use arrayvec::ArrayVec;
 use std::io::{Read, Write};
 use std::sync::Wait;
-
-/// How serving ended.
-#[derive(Clone, Copy, Debug, PartialEq, Eq)]
-pub(crate) enum End {
-    /// The reader's bytes are all read, and no line was `quit`.
-    Closed,
-    /// A line was `quit`.
-    Quit,
-}
-
-/// Why serving stopped.
-#[derive(Clone, Copy, Debug, PartialEq, Eq)]
-pub(crate) enum LineEnd {
-    /// A read failed.
-    Read,
-    /// A write failed, or took nothing, after so many whole texts and so many bytes of the next. Each
-    /// count stays at `u64::MAX`.
-    Write { whole: u64, part: u64 },
-}
 
 /// One byte more than a line may have, so that a longer one is seen to be too long.
 const LINE_ROOM: usize = 257;

@@ -2,9 +2,8 @@
 
 ghost use Rattle.std.specs.Prelude.{◌≡◌, ◌≢◌, ◌<◌, ◌≤◌, ◌+◌, length, IfOk, IfErr, OnOk, OnErr};
 ghost use Rattle.nr_rev.specs.Run.{IsGood};
-ghost use Rattle.netrev.specs.Standing.{Stands, AppliesAt, LosesBytesAt};
+ghost use Rattle.netrev.specs.Film.{Stands, AppliesAt, LosesBytesAt, IsRefusedFor, IsStepFault, IsLoadFault};
 ghost use Rattle.nr_rev.specs.declared.refusal.Refusal.TheVariants.{Memory};
-ghost use Rattle.netrev.specs.LoadFaults.{IsRefusedFor, IsStepFault, IsLoadFault};
 ghost use Rattle.netrev.specs.declared.film.LoadFault.TheVariants as faults;
 
 use nr_recording::Recording;
@@ -38,7 +37,7 @@ pub(crate) struct Film<W: Worlds + Drop> {
 
 impl<W: Worlds + Drop> Model for Film<W> {
     ghost use Rattle.nr_rev.specs.Run.{IsGood, Recording as Recorded};
-    ghost use Rattle.netrev.specs.Standing.{Stands};
+    ghost use Rattle.netrev.specs.Film.{Stands};
 
     ghost Value = { Recorded };
 

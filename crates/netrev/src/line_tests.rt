@@ -4,10 +4,12 @@ ghost use Rattle.nr_rev.specs.declared.step.Step.TheVariants.{Tick};
 ghost use Rattle.nr_rev.specs.World.{empty_world};
 ghost use Rattle.nr_rev.specs.Cell.{cell as cell_of_world};
 
-use crate::answering::Front;
 use crate::command::{Command, Line, LineFault, Query};
-use crate::engine::{End, LineEnd, serve};
-use crate::reply::{Part, Reply};
+use crate::ending::{End, LineEnd};
+use crate::engine::serve;
+use crate::front::Front;
+use crate::reply::Reply;
+use crate::sender::Part;
 use crate::streams::{Cup, Drip, make_cup};
 use nr_rev::{Bytes, Cell, CellValue, Queue, Side, Status, Word};
 use std::alloc::AllocError;
@@ -305,7 +307,7 @@ fn replies_have_these_texts(rt: HostRuntime) -> Result<(), Fail> {
     ];
     for (reply, text) in &replies {
         let mut out = Vec::new(alloc);
-        assert_eq!(rt; reply.print(&mut out), Ok(()));
+        assert_eq!(rt; reply.print(&mut out), Ok(text.len() as u64));
         assert_eq!(rt; out.as_slice(), text.as_bytes());
         for room in 0..text.len() {
             let mut cup = make_cup(&rt, room);

@@ -4,11 +4,13 @@
 //! FILE` says whether the recording can be walked.
 #![tactic(auto)]
 
-mod answering;
+pub mod arguments;
 mod command;
 mod debugger;
+mod ending;
 mod engine;
 mod film;
+mod front;
 #[cfg(test)]
 mod line_tests;
 #[cfg(test)]
@@ -18,44 +20,46 @@ mod reply;
 pub mod run;
 #[cfg(test)]
 mod run_tests;
+mod sender;
 mod session;
 #[cfg(test)]
 mod size_tests;
 pub mod starting;
 #[cfg(test)]
 mod streams;
+mod turn;
+mod value;
 mod walker;
-pub mod words;
 
+use crate::arguments::read_arguments;
 use crate::run::ExitStatus;
 use crate::starting::{Unstarted, start};
-use crate::words::read_words;
 use nr_plain::PlainWorld as World;
 use std::process::ExitCode;
 use std::sync::Wait;
 use std::{env, fs};
 
-// The process's words. One that is no text is no word of a program.
-fn read_args(rt: &HostRuntime) -> Result<Vec<String>, Unstarted> {
+// The process's arguments. One that is no text is none of a program.
+fn collect_arguments(rt: &HostRuntime) -> Result<Vec<String>, Unstarted> {
     match env::args(rt) {
         Ok(args) => Ok(args.collect(rt.alloc())?),
         Err(error) => Err(Unstarted::of_kind(error.kind(), Unstarted::Usage)),
     }
 }
 
-// Runs the program that the words ask for, on the process's streams. `run` may wait for its input.
-fn run_words(rt: &HostRuntime, wait: &impl Wait) -> Result<ExitStatus, Unstarted> {
+// Runs the program that the arguments ask for, on the process's streams. `run` may wait for its input.
+fn run_program(rt: &HostRuntime, wait: &impl Wait) -> Result<ExitStatus, Unstarted> {
     let alloc = rt.alloc();
-    let args = read_args(rt)?;
-    let words: Vec<&str> = args.iter().map(|arg| arg.as_str()).collect(alloc)?;
-    let program = read_words(alloc, words.as_slice())?;
+    let texts = collect_arguments(rt)?;
+    let arguments: Vec<&str> = texts.iter().map(|text| text.as_str()).collect(alloc)?;
+    let program = read_arguments(alloc, arguments.as_slice())?;
     let file = fs::read(rt, program.file());
     let (mut input, mut output) = (rt.stdin(), rt.stdout());
     start::<World, _, _>(wait, alloc, program, file, &mut input, &mut output)
 }
 
 fn main(rt: HostRuntime) -> ExitCode {
-    let status = match run_words(&rt, &rt) {
+    let status = match run_program(&rt, &rt) {
         Ok(status) => status,
         Err(unstarted) => unstarted.tell(&mut rt.stdout(), &mut rt.stderr()),
     };

@@ -2,12 +2,11 @@
 
 ghost use Rattle.std.specs.Prelude.{◌≡◌, ◌++◌, IfOk, IfErr, codes, decimal};
 ghost use Rattle.netrev.specs.Opening.{IsGoodText, IsFirstFault, of_reading, of_loading, reason_number, fault_line};
-ghost use Rattle.netrev.specs.ReplyText.{Sends};
-ghost use Rattle.netrev.specs.Sending.{Goes};
+ghost use Rattle.netrev.specs.Sender.{Goes};
 ghost use Rattle.netrev.specs.declared.opening.OpenFault.TheVariants as faults;
 
 use crate::film::{Film, LoadFault, load};
-use crate::reply::{Part, Token, send, send_all};
+use crate::sender::{Part, Token, send, send_all};
 use nr_recording::{Fault, ReadFault, read};
 use nr_rev::{Refusal, Worlds};
 use std::alloc::Global;
@@ -54,20 +53,11 @@ fn reason_number(reason: Refusal) -> u64
 
 impl OpenFault {
     /// Writes the fault, which is one line, as `line 6: fault 102 not JSON`, `step 5: fault 107
-    /// reason 2` or `fault 108 memory`. It takes no memory.
+    /// reason 2` or `fault 108 memory`, and tells the line's length. It takes no memory.
     ///
     /// Where a write fails or takes nothing, `Part` says how many bytes of the line are out, and no
     /// more are written.
-    pub(crate) fn print<W: Write>(self, w: &mut W) -> Result<(), Part>
-        ensures { Sends (W.contents w.old) (W.contents w.new) (fault_line self) result }
-    {
-        match self.send(w) {
-            Ok(_) => Ok(()),
-            Err(part) => Err(part),
-        }
-    }
-
-    fn send<W: Write>(self, w: &mut W) -> Result<u64, Part>
+    pub(crate) fn print<W: Write>(self, w: &mut W) -> Result<u64, Part>
         ensures { Goes (W.contents w.old) (W.contents w.new) (fault_line self) result }
     {
         match self {

@@ -5,14 +5,14 @@ ghost use Rattle.std.specs.Process.{exit_status};
 ghost use Rattle.nr_rev.specs.Run.{Recording, IsGood};
 ghost use Rattle.nr_recording.specs.Text.{IsTextOf};
 ghost use Rattle.netrev.specs.Opening.{IsFirstFault, IsGoodText, fault_line};
-ghost use Rattle.netrev.specs.Running.{Runs, Walks, Refuses, Checks, Prints, code_of, ok_line};
+ghost use Rattle.netrev.specs.Run.{Runs, Walks, TellsFault, Checks, Prints, code_of, ok_line};
 ghost use Rattle.netrev.specs.declared.opening.OpenFault.TheVariants as faults;
 ghost use Rattle.netrev.specs.declared.run.ExitStatus.TheVariants as statuses;
 
 use crate::engine::serve;
 use crate::film::Film;
 use crate::opening::{OpenFault, open};
-use crate::reply::{Token, send_all};
+use crate::sender::{Token, send_all};
 use crate::session::Session;
 use nr_rev::Worlds;
 use std::alloc::Global;
@@ -27,7 +27,7 @@ pub enum ExitStatus {
     Done,
     /// The recording was refused, or there was no memory for it.
     Refused,
-    /// The program's words ask for nothing.
+    /// The program's arguments ask for nothing.
     Usage,
     /// A read or a write failed.
     StreamFailed,
@@ -78,7 +78,7 @@ where
     // A recording whose steps all apply is walked, unless memory runs out before the first line.
     ensures good { (r : Recording) → IsTextOf bytes.now r → IsGood r
         → Walks (I.remaining input.old) (I.remaining input.new) (O.contents output.old) (O.contents output.new) r result
-        ⊎ Refuses faults.Memory input.old input.new (O.contents output.old) (O.contents output.new) result }
+        ⊎ TellsFault faults.Memory input.old input.new (O.contents output.old) (O.contents output.new) result }
 {
     match open::<W>(alloc, bytes) {
         Ok(film) => walk(rt, alloc, &film, input, output),
@@ -97,7 +97,7 @@ fn walk<W: Worlds + Drop, I: Read, O: Write>(
 where
     W::Delta: Drop,
     ensures { Walks (I.remaining input.old) (I.remaining input.new) (O.contents output.old) (O.contents output.new) film.now result
-        ⊎ Refuses faults.Memory input.old input.new (O.contents output.old) (O.contents output.new) result }
+        ⊎ TellsFault faults.Memory input.old input.new (O.contents output.old) (O.contents output.new) result }
 {
     let Ok(mut session) = Session::new(alloc, film) else {
         return refuse(OpenFault::Memory, output);
@@ -113,7 +113,7 @@ pub(crate) fn refuse<O: Write>(fault: OpenFault, output: &mut O) -> ExitStatus
     ensures { Prints (fault_line fault) statuses.Refused (O.contents output.old) (O.contents output.new) result }
 {
     match fault.print(output) {
-        Ok(()) => ExitStatus::Refused,
+        Ok(_) => ExitStatus::Refused,
         Err(_) => ExitStatus::StreamFailed,
     }
 }

@@ -1,12 +1,12 @@
 //! A session: a debugger over a film, and the walker that is led to where it stands when somebody looks.
 
 ghost use Rattle.std.specs.Prelude.{◌≡◌, IfOk};
-ghost use Rattle.netrev.specs.Debugging.{at_start};
+ghost use Rattle.netrev.specs.Front.{at_start};
 
-use crate::answering::Front;
 use crate::command::{Command, Query};
 use crate::debugger::{Debugger, look};
 use crate::film::Film;
+use crate::front::Front;
 use crate::reply::Reply;
 use crate::walker::Walker;
 use nr_rev::Worlds;
@@ -29,7 +29,7 @@ where
 {
     ghost use Rattle.std.specs.Prelude.{◌≤◌, length};
     ghost use Rattle.nr_rev.specs.Run.{Recording as Recorded};
-    ghost use Rattle.netrev.specs.Debugging.{Place};
+    ghost use Rattle.netrev.specs.Front.{Place};
 
     ghost Value = { Recorded × Place };
 

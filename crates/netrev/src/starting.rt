@@ -1,15 +1,15 @@
-//! Starting a program: from its words and its file to the exit status.
+//! Starting a program: from its arguments and its file to the exit status.
 
 ghost use Rattle.std.specs.Prelude.{◌≡◌, IfOk, IfErr};
 ghost use Rattle.std.specs.IoError.{error_kind};
-ghost use Rattle.netrev.specs.Starting.{Plays, Tells, of_words, unstarted_by};
+ghost use Rattle.netrev.specs.Starting.{Plays, Tells, of_arguments, unstarted_by};
 ghost use Rattle.netrev.specs.declared.run.ExitStatus.{ExitStatus as Status};
 ghost use Rattle.netrev.specs.declared.starting.Unstarted.TheVariants as reasons;
 
+use crate::arguments::{ArgumentsFault, Program, USAGE};
 use crate::opening::OpenFault;
-use crate::reply::send;
 use crate::run::{ExitStatus, check_bytes, refuse, run_bytes};
-use crate::words::{Program, USAGE, WordsFault};
+use crate::sender::send;
 use nr_rev::Worlds;
 use std::alloc::{AllocError, Global};
 use std::io;
@@ -19,21 +19,21 @@ use std::sync::Wait;
 /// Why no program ran.
 #[derive(Clone, Copy, Debug, PartialEq, Eq)]
 pub enum Unstarted {
-    /// The words ask for no program.
+    /// The arguments ask for no program.
     Usage,
-    /// There was no memory for the words or the file.
+    /// There was no memory for the arguments or the file.
     Memory,
     /// The file could not be read.
     File,
 }
 
-impl From<WordsFault> for Unstarted {
-    ghost from_gives = { λ fault unstarted. unstarted ≡ of_words fault };
+impl From<ArgumentsFault> for Unstarted {
+    ghost from_gives = { λ fault unstarted. unstarted ≡ of_arguments fault };
 
-    fn from(fault: WordsFault) -> Unstarted {
+    fn from(fault: ArgumentsFault) -> Unstarted {
         match fault {
-            WordsFault::Usage => Unstarted::Usage,
-            WordsFault::Memory => Unstarted::Memory,
+            ArgumentsFault::Usage => Unstarted::Usage,
+            ArgumentsFault::Memory => Unstarted::Memory,
         }
     }
 }

@@ -1,8 +1,8 @@
 //! A walker: a world that goes to any position of a film, forwards by steps and backwards by undoing them.
 
 ghost use Rattle.std.specs.Prelude.{◌≡◌, ◌<◌, ◌≤◌, ◌+◌, ◌-◌, length, IfOk, OnOk, OnErr, IsOk};
-ghost use Rattle.netrev.specs.Standing.{Stands};
-ghost use Rattle.netrev.specs.Walk.{Walk};
+ghost use Rattle.netrev.specs.Film.{Stands};
+ghost use Rattle.netrev.specs.Walker.{Walk};
 
 use crate::film::Film;
 use nr_rev::Worlds;
@@ -25,7 +25,7 @@ where
     W::Delta: Drop,
 {
     ghost use Rattle.std.specs.Prelude.{length};
-    ghost use Rattle.netrev.specs.Walk.{Walk, IsWay};
+    ghost use Rattle.netrev.specs.Walker.{Walk, IsWay};
 
     ghost Value = { Walk };
 

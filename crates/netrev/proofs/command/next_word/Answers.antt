@@ -1,6 +1,6 @@
 use Rattle.std.proofs.Common.{◌≡◌, ◌<◌, [], rules, arith, length, sym, ap, subst, ◌∙◌}
-use Rattle.netrev.specs.CommandLine.{words, after_spaces, first_word_len}
-use Rattle.netrev.proofs.WordLemmas.{words_after_spaces, first_word, first_word_len_le, word_after_spaces, empty_list}
+use Rattle.netrev.specs.Command.{words, after_spaces, first_word_len}
+use Rattle.netrev.proofs.CommandLemmas.{words_after_spaces, first_word, first_word_len_le, word_after_spaces, empty_list}
 use Rattle.netrev.proofs.command.next_word.Goals as goal
 
 pub returns-then-is_empty : goal.returns-then-is_empty

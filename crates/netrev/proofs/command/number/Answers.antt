@@ -2,7 +2,7 @@ use Rattle.std.proofs.Common.{◌+◌, ◌-◌, ◌*◌, ◌^◌, ◌≤◌, suc
 use Rattle.std.specs.Str.Parse.{digits_value, digits_value_after}
 use Rattle.std.specs.Char.{digit_value}
 use Rattle.std.proofs.lemmas.Str.{digit_value_digit}
-use Rattle.netrev.proofs.WordLemmas.{value_grows, number_big}
+use Rattle.netrev.proofs.CommandLemmas.{value_grows, number_big}
 use Rattle.netrev.proofs.command.number.Goals as goal
 
 pub returns-in_default : goal.returns-in_default

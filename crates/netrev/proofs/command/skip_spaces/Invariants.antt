@@ -1,6 +1,6 @@
 -- only spaces so far
 use Rattle.std.proofs.Common.{◌≡◌, drop}
-use Rattle.netrev.specs.CommandLine.{after_spaces}
+use Rattle.netrev.specs.Command.{after_spaces}
 use Rattle.netrev.proofs.command.skip_spaces.Given as goal
 
 abbrev pub invariant-loop-i : goal.invariant-loop-i

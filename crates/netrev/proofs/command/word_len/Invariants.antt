@@ -1,6 +1,6 @@
 -- no space so far
 use Rattle.std.proofs.Common.{◌≡◌, ◌+◌, drop}
-use Rattle.netrev.specs.CommandLine.{first_word_len}
+use Rattle.netrev.specs.Command.{first_word_len}
 use Rattle.netrev.proofs.command.word_len.Given as goal
 
 abbrev pub invariant-loop-i : goal.invariant-loop-i

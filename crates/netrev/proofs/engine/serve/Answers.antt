@@ -2,7 +2,7 @@ use Rattle.std.proofs.Common.{refl, rules, ◌≡◌, ◌≢◌, [], take, ℕ, 
 use Rattle.std.proofs.Common.{inl, inr}
 use Rattle.std.proofs.lemmas.Bool.Decides.{eqb_tells}
 use Rattle.std.proofs.lemmas.Result.{err_from_is_err_and}
-use Rattle.netrev.proofs.ServingLemmas.{standing_at_first, came_none, relined, came_at, read_at, byte_more, line_more, closed, closed_after, last_quits, last_cut, line_quits, line_cut, some_left}
+use Rattle.netrev.proofs.EngineLemmas.{standing_at_first, came_none, relined, came_at, read_at, byte_more, line_more, closed, closed_after, last_quits, last_cut, line_quits, line_cut, some_left}
 use Rattle.netrev.proofs.engine.serve.Goals.{then-byte-ne10, else-byte-ne10+in_ok-quits+else-quits, else-not-is_empty-via-then-not-is_empty+in_ok-turn+else-branch, else-not-is_empty-via-else-not-is_empty}
 use Rattle.netrev.proofs.engine.serve.Goals as goal
 

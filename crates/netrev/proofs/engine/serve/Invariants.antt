@@ -1,6 +1,6 @@
 -- What came from the reader is answered, up to the line that is kept, over the same recording.
 use Rattle.std.proofs.Common.{◌≡◌, ℕ, List, ◌++◌, take}
-use Rattle.netrev.proofs.ServingLemmas.{Standing}
+use Rattle.netrev.proofs.EngineLemmas.{Standing}
 use Rattle.netrev.proofs.engine.serve.Given as goal
 
 abbrev pub invariant-loop-byte : goal.invariant-loop-byte

@@ -1,4 +1,5 @@
-use Rattle.netrev.specs.Standing.{Stands, IsGoodTo}
+use Rattle.netrev.specs.Film.{Stands}
+use Rattle.netrev.proofs.FilmLemmas.{IsGoodTo}
 use Rattle.netrev.proofs.film.replay.Given as goal
 
 -- the steps so far apply, and the world stands behind them

@@ -1,6 +1,6 @@
 use Rattle.std.proofs.Common.{codes, decimal, sym, subst}
-use Rattle.netrev.specs.Sending.{Goes}
-use Rattle.netrev.proofs.TextLemmas.{regrouped}
+use Rattle.netrev.specs.Sender.{Goes}
+use Rattle.netrev.proofs.ReplyLemmas.{regrouped}
 use Rattle.netrev.proofs.opening.send_step_fault.Goals as goal
 
 pub returns : goal.returns

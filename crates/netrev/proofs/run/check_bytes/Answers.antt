@@ -1,8 +1,8 @@
 use Rattle.std.proofs.Common.{◌≡◌, inl, inr, subst}
 use Rattle.netrev.specs.Opening.{fault_line}
-use Rattle.netrev.specs.Running.{Prints, ok_line}
+use Rattle.netrev.specs.Run.{Prints, ok_line}
 use Rattle.netrev.specs.declared.run.ExitStatus.TheVariants as statuses
-use Rattle.netrev.proofs.Openings.{one_recording, only_memory}
+use Rattle.netrev.proofs.OpeningLemmas.{one_recording, only_memory}
 use Rattle.netrev.proofs.run.check_bytes.Goals as goal
 
 pub returns-in-Ok-clause-good : goal.returns-in-Ok-clause-good

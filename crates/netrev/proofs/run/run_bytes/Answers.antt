@@ -1,8 +1,8 @@
 use Rattle.std.proofs.Common.{◌≡◌, inr, refl, subst}
 use Rattle.netrev.specs.Opening.{fault_line}
-use Rattle.netrev.specs.Running.{Prints}
+use Rattle.netrev.specs.Run.{Prints}
 use Rattle.netrev.specs.declared.run.ExitStatus.TheVariants as statuses
-use Rattle.netrev.proofs.Openings.{one_recording, only_memory}
+use Rattle.netrev.proofs.OpeningLemmas.{one_recording, only_memory}
 use Rattle.netrev.proofs.run.run_bytes.Goals as goal
 
 pub returns-in-Ok-clause-good : goal.returns-in-Ok-clause-good

@@ -1,4 +1,4 @@
-use Rattle.netrev.proofs.Ways.{IsWay-last, IsWay-backward}
+use Rattle.netrev.proofs.WalkerLemmas.{IsWay-last, IsWay-backward}
 use Rattle.netrev.proofs.walker.Walker.backward.Goals as goal
 
 -- the last delta leads back to the position before

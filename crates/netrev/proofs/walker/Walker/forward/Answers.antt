@@ -1,6 +1,6 @@
 use Rattle.std.proofs.Common.{◌≡◌, ◌<◌, ◌+◌, ◌∷◌, ◌++◌, [], length, sym, subst, rules}
-use Rattle.netrev.specs.Standing.{Stands}
-use Rattle.netrev.proofs.Ways.{IsWay-forward}
+use Rattle.netrev.specs.Film.{Stands}
+use Rattle.netrev.proofs.WalkerLemmas.{IsWay-forward}
 use Rattle.netrev.proofs.walker.Walker.forward.Goals as goal
 
 -- the new delta leads back to where the walker stood

@@ -1,0 +1,44 @@
+-- What the program's arguments ask for.
+use Rattle.std.proofs.Common.{◌≡◌, List, Option, Some, None, option_map, sym, ap, ◌∙◌, codes, [], ◌∷◌, refl}
+use Rattle.clap.specs.Words.{Row, Text, first_of, fault_of, subcommand_of}
+use Rattle.netrev.specs.Arguments.{program_in, Ask, IsPlain, netrev}
+use Rattle.clap.proofs.OnLiterals.{clap_on_literals}
+
+-- two views of what is there, as a pair
+pub both_views : {B X Y : Type 0} (f : B → X) (g : B → Y) (o : Option B) (x : X) (y : Y) → Some x ≡ option_map f o → Some y ≡ option_map (λ (p : X × Y). p.1) (option_map {U = X × Y} (λ b. (f b, g b)) o) → option_map {U = X × Y} (λ b. (f b, g b)) o ≡ Some (x, y)
+both_views f g None x y e h = cc
+both_views f g (Some b) x y e h = cc
+
+-- a name with its file
+pub program_in-file : (found : Option (Text × List Row)) (name : Text) (rows : List Row) (file : Text) → found ≡ Some (name, rows) → Some file ≡ first_of (codes "file") rows → program_in found ≡ Some (name, file)
+program_in-file found name rows file is read = ap program_in is ∙ ap (option_map (λ f. (name, f))) (sym read)
+
+-- a name without one
+pub program_in-none : (found : Option (Text × List Row)) (name : Text) (rows : List Row) → found ≡ Some (name, rows) → None ≡ first_of (codes "file") rows → program_in found ≡ None
+program_in-none found name rows is read = ap program_in is ∙ ap (option_map (λ f. (name, f))) (sym read)
+
+run_faultless : (program file : Text) → IsPlain file → fault_of netrev (program ∷ codes "run" ∷ file ∷ []) ≡ []
+unfolding clap_on_literals
+run_faultless program [] plain = refl
+run_faultless program (x ∷ xs) plain = simp plain
+
+run_asked : (program file : Text) → IsPlain file → program_in (subcommand_of netrev (program ∷ codes "run" ∷ file ∷ [])) ≡ Some (codes "run", file)
+unfolding clap_on_literals
+run_asked program [] plain = refl
+run_asked program (x ∷ xs) plain = simp plain
+
+check_faultless : (program file : Text) → IsPlain file → fault_of netrev (program ∷ codes "check" ∷ file ∷ []) ≡ []
+unfolding clap_on_literals
+check_faultless program [] plain = refl
+check_faultless program (x ∷ xs) plain = simp plain
+
+check_asked : (program file : Text) → IsPlain file → program_in (subcommand_of netrev (program ∷ codes "check" ∷ file ∷ [])) ≡ Some (codes "check", file)
+unfolding clap_on_literals
+check_asked program [] plain = refl
+check_asked program (x ∷ xs) plain = simp plain
+
+pub run_asks : (program file : Text) → IsPlain file → Ask (program ∷ codes "run" ∷ file ∷ []) (codes "run") file
+run_asks program file plain = record { faultless = run_faultless program file plain; is_asked = run_asked program file plain }
+
+pub check_asks : (program file : Text) → IsPlain file → Ask (program ∷ codes "check" ∷ file ∷ []) (codes "check") file
+check_asks program file plain = record { faultless = check_faultless program file plain; is_asked = check_asked program file plain }

@@ -1,0 +1,8 @@
+use Rattle.netrev.proofs.ArgumentsLemmas.{run_asks, check_asks}
+use Rattle.netrev.proofs.arguments.plain_arguments_ask.Goals as goal
+
+pub returns-clause-run : goal.returns-clause-run
+returns-clause-run c = run_asks
+
+pub returns-clause-check : goal.returns-clause-check
+returns-clause-check c = check_asks

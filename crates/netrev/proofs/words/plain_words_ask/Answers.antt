@@ -1,8 +1,0 @@
-use Rattle.netrev.proofs.PlainWords.{run_asks, check_asks}
-use Rattle.netrev.proofs.words.plain_words_ask.Goals as goal
-
-pub returns-clause-run : goal.returns-clause-run
-returns-clause-run c = run_asks
-
-pub returns-clause-check : goal.returns-clause-check
-returns-clause-check c = check_asks

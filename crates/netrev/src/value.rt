@@ -1,0 +1,125 @@
+//! Sends cells, and the values that they have.
+
+ghost use Rattle.std.specs.Prelude.{◌++◌, decimal};
+ghost use Rattle.nr_rev.specs.declared.status.Status.TheVariants.{Owing};
+ghost use Rattle.netrev.specs.Sender.{Goes};
+ghost use Rattle.netrev.specs.Value.{cell_text, side_text, status_text, value_text, word_text};
+
+use crate::sender::{Part, Sent, Token, send, send_all};
+use nr_rev::{Cell, CellValue, Side, Status, Word};
+use std::io::Write;
+
+/// Writes how the cell is spelled.
+pub(crate) fn send_cell<W: Write>(cell: Cell, w: &mut W) -> Result<u64, Part>
+    ensures { Goes (W.contents w.old) (W.contents w.new) (cell_text cell) result }
+{
+    match cell {
+        Cell::Clock => send(b"clock", w),
+        Cell::Waiters => send(b"waiters", w),
+        Cell::Timers => send(b"timers", w),
+        Cell::Firings => send(b"firings", w),
+        Cell::Least => send(b"least", w),
+        Cell::Goroutine(g) => send_named(b"gor ", g, w),
+        Cell::Lock(s) => send_named(b"lock ", s, w),
+        Cell::ReadSemaphore(s) => send_named(b"rsem ", s, w),
+        Cell::WriteSemaphore(s) => send_named(b"wsem ", s, w),
+        Cell::Input(s) => send_named(b"in ", s, w),
+        Cell::Output(s) => send_named(b"out ", s, w),
+        Cell::ReadWord(d) => send_named(b"rg ", d, w),
+        Cell::WriteWord(d) => send_named(b"wg ", d, w),
+        Cell::ReadDeadline(d) => send_named(b"rd ", d, w),
+        Cell::WriteDeadline(d) => send_named(b"wd ", d, w),
+        Cell::ReadSequence(d) => send_named(b"rseq ", d, w),
+        Cell::WriteSequence(d) => send_named(b"wseq ", d, w),
+        Cell::DescriptorSequence(d) => send_named(b"fdseq ", d, w),
+        Cell::Info(d) => send_named(b"info ", d, w),
+    }
+}
+
+/// Writes the value of a cell.
+pub(crate) fn send_value<W: Write>(value: CellValue, w: &mut W) -> Result<u64, Part>
+    ensures { Goes (W.contents w.old) (W.contents w.new) (value_text value) result }
+{
+    match value {
+        CellValue::Absent => send(b"absent", w),
+        CellValue::Number(number) => Token::Number(number).send(w),
+        CellValue::Time(time) => Token::Time(time).send(w),
+        CellValue::Word(word) => send_word(word, w),
+        CellValue::Status(status) => send_status(status, w),
+    }
+}
+
+fn send_word<W: Write>(word: Word, w: &mut W) -> Result<u64, Part>
+    ensures { Goes (W.contents w.old) (W.contents w.new) (word_text word) result }
+{
+    match word {
+        Word::Nil => send(b"nil", w),
+        Word::Ready => send(b"ready", w),
+        Word::Wait => send(b"wait", w),
+        Word::Held(goroutine) => send_named(b"g", goroutine, w),
+    }
+}
+
+fn send_status<W: Write>(status: Status, w: &mut W) -> Result<u64, Part>
+    ensures { Goes (W.contents w.old) (W.contents w.new) (status_text status) result }
+{
+    match status {
+        Status::Idle => send(b"idle", w),
+        Status::Acquiring { socket, side } => send_placed(b"acquiring ", socket, side, w),
+        Status::Queued { socket, side } => send_placed(b"queued ", socket, side, w),
+        Status::Relock { socket, side } => send_placed(b"relock ", socket, side, w),
+        Status::Owing {
+            socket,
+            reads,
+            writes,
+        } => send_owing(socket, reads, writes, w),
+        Status::Entering { descriptor, side } => send_placed(b"entering ", descriptor, side, w),
+        Status::Armed { descriptor, side } => send_placed(b"armed ", descriptor, side, w),
+        Status::Parking { descriptor, side } => send_placed(b"parking ", descriptor, side, w),
+        Status::Parked { descriptor, side } => send_placed(b"parked ", descriptor, side, w),
+        Status::Swapping { descriptor, side } => send_placed(b"swapping ", descriptor, side, w),
+        Status::Checking { descriptor, side } => send_placed(b"checking ", descriptor, side, w),
+        Status::Gone => send(b"gone", w),
+    }
+}
+
+fn send_owing<W: Write>(socket: u32, reads: u32, writes: u32, w: &mut W) -> Result<u64, Part>
+    ensures { Goes (W.contents w.old) (W.contents w.new)
+        (status_text (Owing socket reads writes)) result }
+{
+    let tokens = [
+        Token::Text(b"owing "),
+        Token::Number(u64::from(socket)),
+        Token::Text(b" "),
+        Token::Number(u64::from(reads)),
+        Token::Text(b" "),
+        Token::Number(u64::from(writes)),
+    ];
+    send_all(&tokens, w)
+}
+
+/// Writes a name, a number and a side.
+fn send_placed<W: Write>(
+    name: &'static [u8],
+    number: u32,
+    side: Side,
+    w: &mut W,
+) -> Result<u64, Part>
+    ensures { Goes (W.contents w.old) (W.contents w.new)
+        (name.now ++ decimal number ++ side_text side) result }
+{
+    let side = match side {
+        Side::Read => Token::Text(b" r"),
+        Side::Write => Token::Text(b" w"),
+    };
+    let number = Token::Number(u64::from(number));
+    send_all(&[Token::Text(name), number, side], w)
+}
+
+/// Writes a name and a number.
+fn send_named<W: Write>(name: &'static [u8], number: u32, w: &mut W) -> Result<u64, Part>
+    ensures { Goes (W.contents w.old) (W.contents w.new) (name.now ++ decimal number) result }
+{
+    let number = Token::Number(u64::from(number));
+    send_all(&[Token::Text(name), number], w)
+}
