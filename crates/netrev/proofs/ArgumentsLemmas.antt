@@ -17,28 +17,13 @@ program_in-file found name rows file is read = ap program_in is ∙ ap (option_m
 pub program_in-none : (found : Option (Text × List Row)) (name : Text) (rows : List Row) → found ≡ Some (name, rows) → None ≡ first_of (codes "file") rows → program_in found ≡ None
 program_in-none found name rows is read = ap program_in is ∙ ap (option_map (λ f. (name, f))) (sym read)
 
-run_faultless : (program file : Text) → IsPlain file → fault_of netrev (program ∷ codes "run" ∷ file ∷ []) ≡ []
-unfolding clap_on_literals
-run_faultless program [] plain = refl
-run_faultless program (x ∷ xs) plain = simp plain
-
-run_asked : (program file : Text) → IsPlain file → program_in (subcommand_of netrev (program ∷ codes "run" ∷ file ∷ [])) ≡ Some (codes "run", file)
-unfolding clap_on_literals
-run_asked program [] plain = refl
-run_asked program (x ∷ xs) plain = simp plain
-
-check_faultless : (program file : Text) → IsPlain file → fault_of netrev (program ∷ codes "check" ∷ file ∷ []) ≡ []
-unfolding clap_on_literals
-check_faultless program [] plain = refl
-check_faultless program (x ∷ xs) plain = simp plain
-
-check_asked : (program file : Text) → IsPlain file → program_in (subcommand_of netrev (program ∷ codes "check" ∷ file ∷ [])) ≡ Some (codes "check", file)
-unfolding clap_on_literals
-check_asked program [] plain = refl
-check_asked program (x ∷ xs) plain = simp plain
-
+-- a program's name and a plain file name ask for the program
 pub run_asks : (program file : Text) → IsPlain file → Ask (program ∷ codes "run" ∷ file ∷ []) (codes "run") file
-run_asks program file plain = record { faultless = run_faultless program file plain; is_asked = run_asked program file plain }
+unfolding clap_on_literals
+run_asks program [] plain = record { faultless = refl; is_asked = refl }
+run_asks program (x ∷ xs) plain = record { faultless = simp plain; is_asked = simp plain }
 
 pub check_asks : (program file : Text) → IsPlain file → Ask (program ∷ codes "check" ∷ file ∷ []) (codes "check") file
-check_asks program file plain = record { faultless = check_faultless program file plain; is_asked = check_asked program file plain }
+unfolding clap_on_literals
+check_asks program [] plain = record { faultless = refl; is_asked = refl }
+check_asks program (x ∷ xs) plain = record { faultless = simp plain; is_asked = simp plain }

@@ -12,9 +12,9 @@ use Rattle.netrev.specs.declared.ending.End.TheVariants.{Closed, Quit}
 use Rattle.netrev.specs.declared.ending.LineEnd.{LineEnd}
 use Rattle.netrev.specs.declared.ending.LineEnd.TheVariants.{Read, Write}
 use Rattle.netrev.specs.Sender.{saturating_count}
-use Rattle.netrev.specs.Engine.{whole_from, rest_from, lines_of, Turns, has_quit, some_count, Answered, Serves}
+use Rattle.netrev.specs.Engine.{lines_of, Turns, has_quit, some_count, Answered, Serves}
 use Rattle.netrev.specs.Turn.{Turn, is_quit, count_with, IsCut}
-use Rattle.netrev.proofs.LineLemmas.{whole_from-byte, rest_from-byte, whole_from-feed, rest_from-feed, meaning_of-take, kept_more}
+use Rattle.netrev.proofs.LineLemmas.{whole_lines, rest_of, whole_lines-byte, rest_of-byte, whole_lines-feed, rest_of-feed, lines_at_end, meaning_of-take, kept_more}
 use Rattle.netrev.proofs.TurnLemmas.{counted_more, has_quit-append, concat_more, turns_more, turn_asks}
 
 -- Of the bytes that came from the reader, the first `read` are done with: their lines are answered, and the line holds what follows the last of them.
@@ -22,16 +22,16 @@ pub record Standing (r r' w w' : Option (List ℕ)) (recording : Recording) (p p
   pub texts : List (List ℕ)
   pub reads : Consumes r r' came
   pub writes : Appends w w' (concat texts)
-  pub turns : Turns recording p (whole_from [] read) texts p'
-  pub no_quit : has_quit (whole_from [] read) ≡ false
-  pub kept : line ≡ take 257 (rest_from [] read)
+  pub turns : Turns recording p (whole_lines read) texts p'
+  pub no_quit : has_quit (whole_lines read) ≡ false
+  pub kept : line ≡ take 257 (rest_of read)
   pub count : whole ≡ saturating_count (some_count texts)
 
 -- what a turn gave
-abbrev pub Turned : Recording → Place → List ℕ → Place → Option (List ℕ) → Option (List ℕ) → ℕ → ℕ → Type 0
+abbrev Turned : Recording → Place → List ℕ → Place → Option (List ℕ) → Option (List ℕ) → ℕ → ℕ → Type 0
 Turned recording p line p' w w' whole whole' = (text : List ℕ) × Turn recording p line text p' × Appends w w' text × (whole' ≡ count_with whole text)
 
-abbrev pub Failed : Recording → Place → List ℕ → Place → Option (List ℕ) → Option (List ℕ) → ℕ → LineEnd → Type 0
+abbrev Failed : Recording → Place → List ℕ → Place → Option (List ℕ) → Option (List ℕ) → ℕ → LineEnd → Type 0
 Failed recording p line p' w w' whole e = (text : List ℕ) × Turn recording p line text p' × IsCut e whole text w w'
 
 -- the front walks the same recording still
@@ -42,8 +42,8 @@ failed_at : (recording now : Recording) (p : Place) (line : List ℕ) (p' : Plac
 failed_at recording now p line p' w w' whole e same failed = subst (λ x. Failed x p line p' w w' whole e) same failed
 
 -- the line that is kept asks for what the whole line does
-asks : (line read : List ℕ) → line ≡ take 257 (rest_from [] read) → meaning_of line ≡ meaning_of (rest_from [] read)
-asks line read kept = ap meaning_of kept ∙ meaning_of-take (rest_from [] read)
+asks : (line read : List ℕ) → line ≡ take 257 (rest_of read) → meaning_of line ≡ meaning_of (rest_of read)
+asks line read kept = ap meaning_of kept ∙ meaning_of-take (rest_of read)
 
 -- a byte that is no line feed
 pub byte_more : (r r' w w' : Option (List ℕ)) (recording : Recording) (p p' : Place) (came read line line' : List ℕ) (whole b : ℕ)
@@ -52,9 +52,9 @@ byte_more r r' w w' recording p p' came read line line' whole b st goes e = reco
   texts = st.texts;
   reads = st.reads;
   writes = st.writes;
-  turns = subst (λ ls. Turns recording p ls st.texts p') (sym (whole_from-byte read b goes)) st.turns;
-  no_quit = ap has_quit (whole_from-byte read b goes) ∙ st.no_quit;
-  kept = e ∙ ap (λ l. take 257 (l ++ b ∷ [])) st.kept ∙ kept_more (rest_from [] read) b ∙ ap (take 257) (sym (rest_from-byte read b goes));
+  turns = subst (λ ls. Turns recording p ls st.texts p') (sym (whole_lines-byte read b goes)) st.turns;
+  no_quit = ap has_quit (whole_lines-byte read b goes) ∙ st.no_quit;
+  kept = e ∙ ap (λ l. take 257 (l ++ b ∷ [])) st.kept ∙ kept_more (rest_of read) b ∙ ap (take 257) (sym (rest_of-byte read b goes));
   count = st.count;
 }
 
@@ -65,48 +65,56 @@ written_more w w' w'' texts text so_far more = subst (Appends w w'') (sym (conca
 abbrev has_one : Bool → Bool
 has_one t = t || false
 
+-- the line that is kept has its turn: so has the whole line, after those before it
+turns_after : (r r' w w' : Option (List ℕ)) (recording : Recording) (p p' p'' : Place) (came read line text : List ℕ) (whole : ℕ) (st : Standing r r' w w' recording p p' came read line whole) → Turn recording p' line text p''
+    → Turns recording p (whole_lines read ++ rest_of read ∷ []) (st.texts ++ text ∷ []) p''
+turns_after r r' w w' recording p p' p'' came read line text whole st turn =
+    turns_more recording p (whole_lines read) st.texts p' (rest_of read) text p'' st.turns (turn_asks recording line (rest_of read) text p' p'' (asks line read st.kept) turn)
+
+-- it isn't quit: so none of them is
+no_quit_after : (r r' w w' : Option (List ℕ)) (recording : Recording) (p p' : Place) (came read line : List ℕ) (whole : ℕ) → Standing r r' w w' recording p p' came read line whole → is_quit (meaning_of line) ≡ false
+    → has_quit (whole_lines read ++ rest_of read ∷ []) ≡ false
+no_quit_after r r' w w' recording p p' came read line whole st goes =
+    has_quit-append (whole_lines read) (rest_of read ∷ []) st.no_quit ∙ ap (λ a. has_one (is_quit a)) (sym (asks line read st.kept)) ∙ ap has_one goes
+
 -- a line feed, after a line that isn't quit
 pub line_more : (r r' w w' w'' : Option (List ℕ)) (recording now : Recording) (p p' p'' : Place) (came read line line' : List ℕ) (whole whole' b : ℕ)
     → Standing r r' w w' recording p p' came read line whole → nat_eq b 10 ≡ true → is_quit (meaning_of line) ≡ false → now ≡ recording → Turned now p' line p'' w' w'' whole whole' → line' ≡ []
     → Standing r r' w w'' recording p p'' came (read ++ b ∷ []) line' whole'
 line_more r r' w w' w'' recording now p p' p'' came read line line' whole whole' b st feed goes walks given cleared =
     let turned = turned_at recording now p' line p'' w' w'' whole whole' walks given in
-    let same = asks line read st.kept in
-    let rest = rest_from [] read in
     let text = turned.0 in
-    let lines : whole_from [] (read ++ b ∷ []) ≡ whole_from [] read ++ rest ∷ [] = whole_from-feed read b [] feed in
+    let lines : whole_lines (read ++ b ∷ []) ≡ whole_lines read ++ rest_of read ∷ [] = whole_lines-feed read b [] feed in
     record {
       texts = st.texts ++ text ∷ [];
       reads = st.reads;
       writes = written_more w w' w'' st.texts text st.writes turned.2;
-      turns = subst (λ ls. Turns recording p ls (st.texts ++ text ∷ []) p'') (sym lines) (turns_more recording p (whole_from [] read) st.texts p' rest text p'' st.turns (turn_asks recording line rest text p' p'' same turned.1));
-      no_quit = ap has_quit lines ∙ has_quit-append (whole_from [] read) (rest ∷ []) st.no_quit ∙ ap (λ a. has_one (is_quit a)) (sym same) ∙ ap has_one goes;
-      kept = cleared ∙ ap (take 257) (sym (rest_from-feed read b feed));
+      turns = subst (λ ls. Turns recording p ls (st.texts ++ text ∷ []) p'') (sym lines) (turns_after r r' w w' recording p p' p'' came read line text whole st turned.1);
+      no_quit = ap has_quit lines ∙ no_quit_after r r' w w' recording p p' came read line whole st goes;
+      kept = cleared ∙ ap (take 257) (sym (rest_of-feed read b feed));
       count = turned.3 ∙ counted_more st.texts text whole st.count;
     }
 
 -- the lines of all that came, where a line feed ends a line in the middle
-lines_there : (read came bs : List ℕ) (b : ℕ) → came ≡ read ++ b ∷ bs → nat_eq b 10 ≡ true → lines_of false came ≡ whole_from [] read ++ rest_from [] read ∷ whole_from [] bs
-lines_there read came bs b e feed = ap (whole_from []) e ∙ whole_from-feed read b bs feed
+lines_there : (read came bs : List ℕ) (b : ℕ) → came ≡ read ++ b ∷ bs → nat_eq b 10 ≡ true → lines_of false came ≡ whole_lines read ++ rest_of read ∷ whole_lines bs
+lines_there read came bs b e feed = ap whole_lines e ∙ whole_lines-feed read b bs feed
 
 -- the line that follows the last line feed, at the end
-last_line : (read line : List ℕ) → line ≡ take 257 (rest_from [] read) → 0 < length line → lines_of true read ≡ whole_from [] read ++ rest_from [] read ∷ []
+last_line : (read line : List ℕ) → line ≡ take 257 (rest_of read) → 0 < length line → lines_of true read ≡ whole_lines read ++ rest_of read ∷ []
 last_line read line kept some =
-    let len : length line ≡ min 257 (length (rest_from [] read)) = ap length kept ∙ length-take 257 (rest_from [] read) in
-    ap (λ t. whole_from [] read ++ cond t (rest_from [] read ∷ []) []) (lt-ltb 0 (length (rest_from [] read)) (omega (arith, len, some)))
+    let len : length line ≡ min 257 (length (rest_of read)) = ap length kept ∙ length-take 257 (rest_of read) in
+    lines_at_end read ∙ ap (λ t. whole_lines read ++ cond t (rest_of read ∷ []) []) (lt-ltb 0 (length (rest_of read)) (omega (arith, len, some)))
 
-no_line : (read line : List ℕ) → line ≡ take 257 (rest_from [] read) → length line ≡ 0 → lines_of true read ≡ whole_from [] read
+no_line : (read line : List ℕ) → line ≡ take 257 (rest_of read) → length line ≡ 0 → lines_of true read ≡ whole_lines read
 no_line read line kept none =
-    let len : length line ≡ min 257 (length (rest_from [] read)) = ap length kept ∙ length-take 257 (rest_from [] read) in
-    ap (λ t. whole_from [] read ++ cond t (rest_from [] read ∷ []) []) (le-ltb 0 (length (rest_from [] read)) (omega (arith, len, none))) ∙ append-nil (whole_from [] read)
+    let len : length line ≡ min 257 (length (rest_of read)) = ap length kept ∙ length-take 257 (rest_of read) in
+    lines_at_end read ∙ ap (λ t. whole_lines read ++ cond t (rest_of read ∷ []) []) (le-ltb 0 (length (rest_of read)) (omega (arith, len, none))) ∙ append-nil (whole_lines read)
 
 -- a line is quit: these lines, of which it is one
 quits : (r r' w w' w'' : Option (List ℕ)) (recording : Recording) (p p' p'' : Place) (came read line : List ℕ) (back : List (List ℕ)) (whole whole' : ℕ) (ended : Bool)
-    → Standing r r' w w' recording p p' came read line whole → lines_of ended came ≡ whole_from [] read ++ rest_from [] read ∷ back → (ended ≡ true → IsAtEnd r') → is_quit (meaning_of line) ≡ true
+    → Standing r r' w w' recording p p' came read line whole → lines_of ended came ≡ whole_lines read ++ rest_of read ∷ back → (ended ≡ true → IsAtEnd r') → is_quit (meaning_of line) ≡ true
     → Turned recording p' line p'' w' w'' whole whole' → Serves r r' w w'' recording p p'' (Ok Quit)
 quits r r' w w' w'' recording p p' p'' came read line back whole whole' ended st lines at_end stops turned =
-    let same = asks line read st.kept in
-    let rest = rest_from [] read in
     let text = turned.0 in
     record {
       read = came;
@@ -116,26 +124,26 @@ quits r r' w w' w'' recording p p' p'' came read line back whole whole' ended st
       writes = written_more w w' w'' st.texts text st.writes turned.2;
       at_end = at_end;
       ends = record {
-        front = whole_from [] read;
-        line = rest;
+        front = whole_lines read;
+        line = rest_of read;
         back = back;
         texts = st.texts ++ text ∷ [];
         split = lines;
         no_quit = st.no_quit;
-        quit = ap is_quit (sym same) ∙ stops;
-        turns = turns_more recording p (whole_from [] read) st.texts p' rest text p'' st.turns (turn_asks recording line rest text p' p'' same turned.1);
+        quit = ap is_quit (sym (asks line read st.kept)) ∙ stops;
+        turns = turns_after r r' w w' recording p p' p'' came read line text whole st turned.1;
         written = refl;
       };
     }
 
 -- a write failed
 cut : (r r' w w' w'' : Option (List ℕ)) (recording : Recording) (p p' p'' : Place) (came read line : List ℕ) (back : List (List ℕ)) (whole : ℕ) (ended : Bool) (e : LineEnd)
-    → Standing r r' w w' recording p p' came read line whole → lines_of ended came ≡ whole_from [] read ++ rest_from [] read ∷ back → (ended ≡ true → IsAtEnd r')
+    → Standing r r' w w' recording p p' came read line whole → lines_of ended came ≡ whole_lines read ++ rest_of read ∷ back → (ended ≡ true → IsAtEnd r')
     → Failed recording p' line p'' w' w'' whole e → Serves r r' w w'' recording p p'' (Err e)
 cut r r' w w' w'' recording p p' p'' came read line back whole ended Read st lines at_end failed = absurd failed.2
 cut r r' w w' w'' recording p p' p'' came read line back whole ended (Write n part) st lines at_end failed =
     let same = asks line read st.kept in
-    let rest = rest_from [] read in
+    let rest = rest_of read in
     record {
       read = came;
       out = concat st.texts ++ take failed.2.0 failed.0;
@@ -144,7 +152,7 @@ cut r r' w w' w'' recording p p' p'' came read line back whole ended (Write n pa
       writes = Appends-then w w' w'' (concat st.texts) (take failed.2.0 failed.0) st.writes failed.2.4;
       at_end = at_end;
       ends = record {
-        front = whole_from [] read;
+        front = whole_lines read;
         line = rest;
         back = back;
         texts = st.texts;
@@ -180,8 +188,6 @@ pub closed_after : (r r' w w' w'' : Option (List ℕ)) (recording now : Recordin
     → is_quit (meaning_of line) ≡ false → now ≡ recording → Turned now p' line p'' w' w'' whole whole' → Serves r r' w w'' recording p p'' (Ok Closed)
 closed_after r r' w w' w'' recording now p p' p'' read line whole whole' st at_end some goes walks given =
     let turned = turned_at recording now p' line p'' w' w'' whole whole' walks given in
-    let same = asks line read st.kept in
-    let rest = rest_from [] read in
     let text = turned.0 in
     record {
       read = read;
@@ -194,8 +200,8 @@ closed_after r r' w w' w'' recording now p p' p'' read line whole whole' st at_e
         refl,
         subst (λ ls. Answered recording p ls (concat (st.texts ++ text ∷ [])) p'') (sym (last_line read line st.kept some)) (record {
           texts = st.texts ++ text ∷ [];
-          turns = turns_more recording p (whole_from [] read) st.texts p' rest text p'' st.turns (turn_asks recording line rest text p' p'' same turned.1);
-          no_quit = has_quit-append (whole_from [] read) (rest ∷ []) st.no_quit ∙ ap (λ a. has_one (is_quit a)) (sym same) ∙ ap has_one goes;
+          turns = turns_after r r' w w' recording p p' p'' read read line text whole st turned.1;
+          no_quit = no_quit_after r r' w w' recording p p' read read line whole st goes;
           written = refl;
         }),
       );
@@ -216,12 +222,12 @@ last_cut r r' w w' w'' recording now p p' p'' read line whole e st at_end some w
 pub line_quits : (r r' w w' w'' : Option (List ℕ)) (recording now : Recording) (p p' p'' : Place) (came read line bs : List ℕ) (whole whole' b : ℕ) → Standing r r' w w' recording p p' came read line whole → came ≡ read ++ b ∷ bs → nat_eq b 10 ≡ true
     → is_quit (meaning_of line) ≡ true → now ≡ recording → Turned now p' line p'' w' w'' whole whole' → Serves r r' w w'' recording p p'' (Ok Quit)
 line_quits r r' w w' w'' recording now p p' p'' came read line bs whole whole' b st e feed stops walks turned =
-    quits r r' w w' w'' recording p p' p'' came read line (whole_from [] bs) whole whole' false st (lines_there read came bs b e feed) (λ (h : false ≡ true). cc) stops (turned_at recording now p' line p'' w' w'' whole whole' walks turned)
+    quits r r' w w' w'' recording p p' p'' came read line (whole_lines bs) whole whole' false st (lines_there read came bs b e feed) (λ (h : false ≡ true). cc) stops (turned_at recording now p' line p'' w' w'' whole whole' walks turned)
 
 pub line_cut : (r r' w w' w'' : Option (List ℕ)) (recording now : Recording) (p p' p'' : Place) (came read line bs : List ℕ) (whole b : ℕ) (err : LineEnd) → Standing r r' w w' recording p p' came read line whole → came ≡ read ++ b ∷ bs → nat_eq b 10 ≡ true
     → now ≡ recording → Failed now p' line p'' w' w'' whole err → Serves r r' w w'' recording p p'' (Err err)
 line_cut r r' w w' w'' recording now p p' p'' came read line bs whole b err st e feed walks failed =
-    cut r r' w w' w'' recording p p' p'' came read line (whole_from [] bs) whole false err st (lines_there read came bs b e feed) (λ (h : false ≡ true). cc) (failed_at recording now p' line p'' w' w'' whole err walks failed)
+    cut r r' w w' w'' recording p p' p'' came read line (whole_lines bs) whole false err st (lines_there read came bs b e feed) (λ (h : false ≡ true). cc) (failed_at recording now p' line p'' w' w'' whole err walks failed)
 
 -- nothing came yet
 pub standing_at_first : (r w : Option (List ℕ)) (recording : Recording) (p : Place) (line : List ℕ) → line ≡ [] → Standing r r w w recording p p [] [] line 0
@@ -236,7 +242,7 @@ standing_at_first r w recording p line e = record {
 }
 
 -- a read that gave some bytes
-pub came_more : (r r' r'' w w' : Option (List ℕ)) (recording : Recording) (p p' : Place) (read line bytes : List ℕ) (whole : ℕ) → Standing r r' w w' recording p p' read read line whole → Consumes r' r'' bytes → Standing r r'' w w' recording p p' (read ++ bytes) read line whole
+came_more : (r r' r'' w w' : Option (List ℕ)) (recording : Recording) (p p' : Place) (read line bytes : List ℕ) (whole : ℕ) → Standing r r' w w' recording p p' read read line whole → Consumes r' r'' bytes → Standing r r'' w w' recording p p' (read ++ bytes) read line whole
 came_more r r' r'' w w' recording p p' read line bytes whole st more = record {
   texts = st.texts;
   reads = Consumes-then r r' r'' read bytes st.reads more;

@@ -3,6 +3,7 @@ pub mod CommandLemmas
 pub mod EngineLemmas
 pub mod FilmLemmas
 pub mod IdleTicks
+pub mod LawLemmas
 pub mod LineLemmas
 pub mod OpeningLemmas
 pub mod ReplyLemmas

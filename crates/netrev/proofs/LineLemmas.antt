@@ -1,42 +1,112 @@
 -- The lines of a text that goes on.
-use Rattle.std.proofs.Common.{◌≡◌, ℕ, ◌≤◌, true, false, cond, List, [], ◌∷◌, ◌++◌, arith, length, take, refl, sym, ap, ◌∙◌, nat_eq, nat_lt, append-nil, take_all}
+use Rattle.std.proofs.Common.{◌≡◌, ℕ, suc, ◌<◌, ◌≤◌, Bool, true, false, cond, List, [], ◌∷◌, ◌++◌, arith, length, take, refl, sym, ap, ◌∙◌, nat_eq, nat_lt, append_assoc, append-nil, take_all, Err}
 use Rattle.std.proofs.lemmas.List.{length-take-le, take_at, take-append-le}
+use Rattle.std.proofs.lemmas.List.Splits.{length-slice_split}
 use Rattle.std.proofs.lemmas.Bool.{lt-ltb, ltb-false, ltb-true}
-use Rattle.std.proofs.Common.{Err}
+use Rattle.std.specs.List.{slice_split, onto_first}
 use Rattle.netrev.specs.declared.command.LineFault.TheVariants.{TooLong}
 use Rattle.netrev.specs.Command.{meaning_of, meaning_of_words, words, without_return}
-use Rattle.netrev.specs.Engine.{whole_from, rest_from}
+use Rattle.netrev.specs.Engine.{lines_in, lines_of}
 
-pub whole_from-append : (line xs ys : List ℕ) → whole_from line (xs ++ ys) ≡ whole_from line xs ++ whole_from (rest_from line xs) ys
-whole_from-append line [] ys = refl
-whole_from-append line (b ∷ bs) ys =
-    elim (nat_eq b 10) as (λ t. cond t (line ∷ whole_from [] (bs ++ ys)) (whole_from (line ++ b ∷ []) (bs ++ ys))
-    ≡ cond t (line ∷ whole_from [] bs) (whole_from (line ++ b ∷ []) bs) ++ whole_from (cond t (rest_from [] bs) (rest_from (line ++ b ∷ []) bs)) ys)
-    [ true ↦ ap (λ ls. line ∷ ls) (whole_from-append [] bs ys) | false ↦ whole_from-append (line ++ b ∷ []) bs ys ]
+-- the parts of a text between its line feeds
+abbrev parts : List ℕ → List (List ℕ)
+parts text = slice_split (λ b. nat_eq b 10) text
 
-pub rest_from-append : (line xs ys : List ℕ) → rest_from line (xs ++ ys) ≡ rest_from (rest_from line xs) ys
-rest_from-append line [] ys = refl
-rest_from-append line (b ∷ bs) ys =
-    elim (nat_eq b 10) as (λ t. cond t (rest_from [] (bs ++ ys)) (rest_from (line ++ b ∷ []) (bs ++ ys)) ≡ rest_from (cond t (rest_from [] bs) (rest_from (line ++ b ∷ []) bs)) ys)
-    [ true ↦ rest_from-append [] bs ys | false ↦ rest_from-append (line ++ b ∷ []) bs ys ]
+-- the last part
+abbrev last_of : List (List ℕ) → List ℕ
+last_of [] = []
+last_of (part ∷ []) = part
+last_of (part ∷ next ∷ more) = last_of (next ∷ more)
+
+-- the lines that end by a line feed
+abbrev pub whole_lines : List ℕ → List (List ℕ)
+whole_lines text = lines_of false text
+
+-- what follows the last line feed
+abbrev pub rest_of : List ℕ → List ℕ
+rest_of text = last_of (parts text)
+
+some_parts : (text : List ℕ) → 0 < length (parts text)
+some_parts text = omega (arith, length-slice_split (λ b. nat_eq b 10) text)
+
+-- a part is first, or comes before others
+onto_first-append : (x : ℕ) (ps qs : List (List ℕ)) → 0 < length ps → onto_first x (ps ++ qs) ≡ onto_first x ps ++ qs
+onto_first-append x [] qs h = absurd (omega arith)
+onto_first-append x (p ∷ ps) qs h = refl
+
+-- a line feed parts a text in two
+parts-feed : (text : List ℕ) (b : ℕ) (bs : List ℕ) → nat_eq b 10 ≡ true → parts (text ++ b ∷ bs) ≡ parts text ++ parts bs
+parts-feed [] b bs e = ap (λ t. cond t ([] ∷ parts bs) (onto_first b (parts bs))) e
+parts-feed (x ∷ xs) b bs e =
+    ap (λ ps. cond (nat_eq x 10) ([] ∷ ps) (onto_first x ps)) (parts-feed xs b bs e)
+    ∙ elim (nat_eq x 10) as (λ t. cond t ([] ∷ (parts xs ++ parts bs)) (onto_first x (parts xs ++ parts bs)) ≡ cond t ([] ∷ parts xs) (onto_first x (parts xs)) ++ parts bs)
+    [ true ↦ refl | false ↦ onto_first-append x (parts xs) (parts bs) (some_parts xs) ]
+
+-- the parts, with a byte more at the end of the last
+abbrev grown : List (List ℕ) → ℕ → List (List ℕ)
+grown ps b = lines_in false ps ++ (last_of ps ++ b ∷ []) ∷ []
+
+onto_first-grown : (x : ℕ) (ps : List (List ℕ)) (b : ℕ) → onto_first x (grown ps b) ≡ grown (onto_first x ps) b
+onto_first-grown x [] b = refl
+onto_first-grown x (p ∷ []) b = refl
+onto_first-grown x (p ∷ q ∷ qs) b = refl
+
+empty_first-grown : (ps : List (List ℕ)) (b : ℕ) → 0 < length ps → [] ∷ grown ps b ≡ grown ([] ∷ ps) b
+empty_first-grown [] b h = absurd (omega arith)
+empty_first-grown (p ∷ ps) b h = refl
+
+parts-byte : (text : List ℕ) (b : ℕ) → nat_eq b 10 ≡ false → parts (text ++ b ∷ []) ≡ grown (parts text) b
+parts-byte [] b e = ap (λ t. cond t ([] ∷ [] ∷ []) ((b ∷ []) ∷ [])) e
+parts-byte (x ∷ xs) b e =
+    ap (λ ps. cond (nat_eq x 10) ([] ∷ ps) (onto_first x ps)) (parts-byte xs b e)
+    ∙ elim (nat_eq x 10) as (λ t. cond t ([] ∷ grown (parts xs) b) (onto_first x (grown (parts xs) b)) ≡ grown (cond t ([] ∷ parts xs) (onto_first x (parts xs))) b)
+    [ true ↦ empty_first-grown (parts xs) b (some_parts xs) | false ↦ onto_first-grown x (parts xs) b ]
+
+-- what comes before the last part, and the last
+lines_in-append : (ended : Bool) (ps : List (List ℕ)) (q : List ℕ) (qs : List (List ℕ)) → lines_in ended (ps ++ q ∷ qs) ≡ ps ++ lines_in ended (q ∷ qs)
+lines_in-append ended [] q qs = refl
+lines_in-append ended (p ∷ []) q qs = refl
+lines_in-append ended (p ∷ next ∷ ps) q qs = ap (λ ls. p ∷ ls) (lines_in-append ended (next ∷ ps) q qs)
+
+last_of-append : (ps : List (List ℕ)) (q : List ℕ) (qs : List (List ℕ)) → last_of (ps ++ q ∷ qs) ≡ last_of (q ∷ qs)
+last_of-append [] q qs = refl
+last_of-append (p ∷ []) q qs = refl
+last_of-append (p ∷ next ∷ ps) q qs = last_of-append (next ∷ ps) q qs
+
+front_and_last : (ps : List (List ℕ)) → 0 < length ps → ps ≡ lines_in false ps ++ last_of ps ∷ []
+front_and_last [] h = absurd (omega arith)
+front_and_last (p ∷ []) h = refl
+front_and_last (p ∷ next ∷ ps) h = ap (λ qs. p ∷ qs) (front_and_last (next ∷ ps) (omega arith))
+
+-- the lines in some parts behind others
+lines_in-behind : (ended : Bool) (ps qs : List (List ℕ)) → 0 < length qs → lines_in ended (ps ++ qs) ≡ ps ++ lines_in ended qs
+lines_in-behind ended ps [] h = absurd (omega arith)
+lines_in-behind ended ps (q ∷ qs) h = lines_in-append ended ps q qs
+
+last_of-behind : (ps qs : List (List ℕ)) → 0 < length qs → last_of (ps ++ qs) ≡ last_of qs
+last_of-behind ps [] h = absurd (omega arith)
+last_of-behind ps (q ∷ qs) h = last_of-append ps q qs
 
 -- a byte that is no line feed goes onto the rest
-pub whole_from-byte : (text : List ℕ) (b : ℕ) → nat_eq b 10 ≡ false → whole_from [] (text ++ b ∷ []) ≡ whole_from [] text
-whole_from-byte text b e =
-    whole_from-append [] text (b ∷ [])
-    ∙ ap (λ t. whole_from [] text ++ cond t (rest_from [] text ∷ []) []) e ∙ append-nil _
+pub whole_lines-byte : (text : List ℕ) (b : ℕ) → nat_eq b 10 ≡ false → whole_lines (text ++ b ∷ []) ≡ whole_lines text
+whole_lines-byte text b e = ap (lines_in false) (parts-byte text b e) ∙ lines_in-append false (whole_lines text) (rest_of text ++ b ∷ []) [] ∙ append-nil (whole_lines text)
 
-pub rest_from-byte : (text : List ℕ) (b : ℕ) → nat_eq b 10 ≡ false → rest_from [] (text ++ b ∷ []) ≡ rest_from [] text ++ b ∷ []
-rest_from-byte text b e = rest_from-append [] text (b ∷ []) ∙ ap (λ t. cond t [] (rest_from [] text ++ b ∷ [])) e
+pub rest_of-byte : (text : List ℕ) (b : ℕ) → nat_eq b 10 ≡ false → rest_of (text ++ b ∷ []) ≡ rest_of text ++ b ∷ []
+rest_of-byte text b e = ap last_of (parts-byte text b e) ∙ last_of-append (whole_lines text) (rest_of text ++ b ∷ []) []
 
 -- a line feed ends the line, whatever follows
-pub whole_from-feed : (text : List ℕ) (b : ℕ) (bs : List ℕ) → nat_eq b 10 ≡ true → whole_from [] (text ++ b ∷ bs) ≡ whole_from [] text ++ rest_from [] text ∷ whole_from [] bs
-whole_from-feed text b bs e =
-    whole_from-append [] text (b ∷ bs)
-    ∙ ap (λ t. whole_from [] text ++ cond t (rest_from [] text ∷ whole_from [] bs) (whole_from (rest_from [] text ++ b ∷ []) bs)) e
+pub whole_lines-feed : (text : List ℕ) (b : ℕ) (bs : List ℕ) → nat_eq b 10 ≡ true → whole_lines (text ++ b ∷ bs) ≡ whole_lines text ++ rest_of text ∷ whole_lines bs
+whole_lines-feed text b bs e =
+    ap (lines_in false) (parts-feed text b bs e) ∙ lines_in-behind false (parts text) (parts bs) (some_parts bs)
+    ∙ ap (λ ps. ps ++ whole_lines bs) (front_and_last (parts text) (some_parts text)) ∙ append_assoc (whole_lines text) (rest_of text ∷ []) (whole_lines bs)
 
-pub rest_from-feed : (text : List ℕ) (b : ℕ) → nat_eq b 10 ≡ true → rest_from [] (text ++ b ∷ []) ≡ []
-rest_from-feed text b e = rest_from-append [] text (b ∷ []) ∙ ap (λ t. cond t [] (rest_from [] text ++ b ∷ [])) e
+pub rest_of-feed : (text : List ℕ) (b : ℕ) → nat_eq b 10 ≡ true → rest_of (text ++ b ∷ []) ≡ []
+rest_of-feed text b e = ap last_of (parts-feed text b [] e) ∙ last_of-behind (parts text) (parts []) (some_parts [])
+
+-- at the end of a text the rest is a line too, where it isn't empty
+pub lines_at_end : (text : List ℕ) → lines_of true text ≡ whole_lines text ++ cond (nat_lt 0 (length (rest_of text))) (rest_of text ∷ []) []
+lines_at_end text =
+    ap (lines_in true) (front_and_last (parts text) (some_parts text)) ∙ lines_in-append true (whole_lines text) (rest_of text) []
 
 too_long : (line : List ℕ) → nat_lt 256 (length line) ≡ true → meaning_of line ≡ Err TooLong
 too_long line h = ap (λ t. cond t (Err TooLong) (meaning_of_words (words (without_return line)))) h

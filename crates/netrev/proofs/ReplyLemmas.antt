@@ -1,5 +1,5 @@
 -- Each reply has a text.
-use Rattle.std.proofs.Common.{◌≡◌, ℕ, ◌<◌, List, ◌++◌, true, append_assoc, arith, length, nat_lt, length-append, codes}
+use Rattle.std.proofs.Common.{◌≡◌, ℕ, ◌<◌, List, ◌++◌, true, arith, length, nat_lt, length-append, codes}
 use Rattle.std.proofs.lemmas.Bool.{lt-ltb}
 use Rattle.netrev.specs.declared.command.LineFault.TheVariants.{UnknownCommand, BadArgument, TooLong}
 use Rattle.netrev.specs.declared.reply.Reply.{Reply}
@@ -24,7 +24,3 @@ some_text Memory = omega arith
 
 pub has_text : (reply : Reply) → nat_lt 0 (length (text_of reply)) ≡ true
 has_text reply = lt-ltb 0 (length (text_of reply)) (some_text reply)
-
--- five texts one after the other, however they are grouped
-pub regrouped : (a b c d e : List ℕ) → (((a ++ b) ++ c) ++ d) ++ e ≡ a ++ (b ++ (c ++ (d ++ e)))
-regrouped a b c d e = simp append_assoc

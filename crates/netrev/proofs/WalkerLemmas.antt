@@ -1,17 +1,12 @@
 -- The way back grows at its end, and is undone from there.
 use Rattle.std.proofs.Common.{◌≡◌, ℕ, ◌+◌, ◌<◌, ◌≤◌, List, [], ◌∷◌, ◌++◌, length, refl, sym, ap, ◌∙◌, subst, arith}
+use Rattle.std.proofs.lemmas.List.{length_push}
 use Rattle.nr_rev.specs.World.{World}
 use Rattle.nr_rev.specs.Run.{Recording}
 use Rattle.nr_rev.specs.Transaction.{LeadsBack}
 use Rattle.nr_rev.proofs.Chains.{LeadsBack-push, LeadsBack-last}
 use Rattle.netrev.specs.Film.{Stands}
 use Rattle.netrev.specs.Walker.{LeadsBackOne, IsWay}
-
-length-push : {X : Type 0} (xs : List X) (x : X) → length (xs ++ x ∷ []) ≡ length xs + 1
-length-push [] x = refl
-length-push (y ∷ ys) x =
-    let rest = length-push ys x in
-    omega (arith, rest)
 
 same-number : (a b : ℕ) → a + 1 ≡ b + 1 → a ≡ b
 same-number a b e = omega arith
@@ -20,7 +15,7 @@ module _ {State Delta : Type 0} (is_well_formed : State → Type 0) (world : Sta
   -- one step forward
   pub IsWay-forward : (deltas pushed : List Delta) (delta : Delta) (state next : State) → pushed ≡ deltas ++ delta ∷ [] → IsWay is_well_formed world back r state deltas → length deltas < length r.steps → Stands is_well_formed world r (length deltas + 1) next → back delta next state → IsWay is_well_formed world back r next pushed
   IsWay-forward deltas pushed delta state next is way below stands undone =
-      let longer : length pushed ≡ length deltas + 1 = ap length is ∙ length-push deltas delta in
+      let longer : length pushed ≡ length deltas + 1 = ap length is ∙ length_push deltas delta in
       let link : LeadsBackOne is_well_formed world back r delta (length pushed, next) (length deltas, state) = record { one_before = longer; undone = undone; stands = way.stands } in
       record {
         within = subst (λ n. n ≤ length r.steps) (sym longer) (omega arith);
@@ -35,7 +30,7 @@ module _ {State Delta : Type 0} (is_well_formed : State → Type 0) (world : Sta
   last-link whole rest delta state is way =
       let chain = subst (λ ds. LeadsBack (LeadsBackOne is_well_formed world back r) ds (length whole, state) (0, way.start)) is way.leads_back in
       let last = LeadsBack-last (LeadsBackOne is_well_formed world back r) rest delta (length whole, state) (0, way.start) chain in
-      let place : last.0.0 ≡ length rest = same-number last.0.0 (length rest) (sym last.1.one_before ∙ ap length is ∙ length-push rest delta) in (
+      let place : last.0.0 ≡ length rest = same-number last.0.0 (length rest) (sym last.1.one_before ∙ ap length is ∙ length_push rest delta) in (
         last.0.1,
         last.1.undone,
         subst (λ n. Stands is_well_formed world r n last.0.1) place last.1.stands,
@@ -52,7 +47,7 @@ module _ {State Delta : Type 0} (is_well_formed : State → Type 0) (world : Sta
   pub IsWay-backward : (unique : (delta : Delta) (new a b : State) → back delta new a → back delta new b → a ≡ b) (whole rest : List Delta) (delta : Delta) (state old : State) → whole ≡ rest ++ delta ∷ [] → IsWay is_well_formed world back r state whole → back delta state old → IsWay is_well_formed world back r old rest
   IsWay-backward unique whole rest delta state old is way undone =
       let last = last-link whole rest delta state is way in
-      let longer : length whole ≡ length rest + 1 = ap length is ∙ length-push rest delta in
+      let longer : length whole ≡ length rest + 1 = ap length is ∙ length_push rest delta in
       let within : length whole ≤ length r.steps = way.within in
       let same : last.0 ≡ old = unique delta state last.0 old last.1 undone in
       record {

@@ -1,14 +1,14 @@
 -- What a line asks for.
-use Rattle.std.specs.Prelude.{ℕ, suc, ◌^◌, ◌==◌, ◌||◌, ◌&&◌, nat_lt, List, [], ◌∷◌, length, filter, Option, Some, None, Result, Ok, Err, codes, if◌then◌else◌}
+use Rattle.std.specs.Prelude.{ℕ, ◌^◌, ◌==◌, ◌||◌, ◌&&◌, nat_lt, List, [], ◌∷◌, length, filter, Some, None, ok_or, Result, Ok, Err, codes, if◌then◌else◌}
 use Rattle.std.specs.List.{slice_split, list_all}
 use Rattle.std.specs.Str.{bytes_eq}
 use Rattle.std.specs.Str.Lines.{strip_carriage_return}
 use Rattle.std.specs.Char.{is_ascii_digit}
 use Rattle.std.specs.Str.Parse.{digits_value}
-use Rattle.std.specs.Borrow.{Bor}
 use Rattle.nr_rev.specs.declared.cell.Cell.{Cell}
-use Rattle.nr_rev.specs.declared.cell.Cell.TheVariants as cells
+use Rattle.nr_rev.specs.CellName.{cell_named}
 use Rattle.nr_rev.specs.declared.sides.Side.TheVariants.{Read, Write}
+use Rattle.netrev.specs.declared.command.TheConstants.{MAX_LINE}
 use Rattle.netrev.specs.declared.command.Command.TheVariants.{Step, ReverseStep}
 use Rattle.netrev.specs.declared.command.Query.{Query}
 use Rattle.netrev.specs.declared.command.Query.TheVariants.{Print, DumpBytes, DumpQueue}
@@ -42,39 +42,10 @@ count_of [] = Ok 1
 count_of (word ∷ []) = number_of word >>= λ n. if n == 0 then Err BadArgument else Ok n
 count_of (word ∷ more ∷ rest) = Err BadArgument
 
--- the cells that there is one of
-abbrev pub plain_cell : List ℕ → Result Cell LineFault
-plain_cell kind =
-    if bytes_eq kind (codes "clock") then Ok cells.Clock
-    else if bytes_eq kind (codes "waiters") then Ok cells.Waiters
-    else if bytes_eq kind (codes "timers") then Ok cells.Timers
-    else if bytes_eq kind (codes "firings") then Ok cells.Firings
-    else if bytes_eq kind (codes "least") then Ok cells.Least
-    else Err BadArgument
-
--- the cells of a goroutine, a socket or a descriptor
-abbrev pub numbered_cell : List ℕ → ℕ → Result Cell LineFault
-numbered_cell kind n =
-    if bytes_eq kind (codes "gor") then Ok (cells.Goroutine n)
-    else if bytes_eq kind (codes "lock") then Ok (cells.Lock n)
-    else if bytes_eq kind (codes "rsem") then Ok (cells.ReadSemaphore n)
-    else if bytes_eq kind (codes "wsem") then Ok (cells.WriteSemaphore n)
-    else if bytes_eq kind (codes "in") then Ok (cells.Input n)
-    else if bytes_eq kind (codes "out") then Ok (cells.Output n)
-    else if bytes_eq kind (codes "rg") then Ok (cells.ReadWord n)
-    else if bytes_eq kind (codes "wg") then Ok (cells.WriteWord n)
-    else if bytes_eq kind (codes "rd") then Ok (cells.ReadDeadline n)
-    else if bytes_eq kind (codes "wd") then Ok (cells.WriteDeadline n)
-    else if bytes_eq kind (codes "rseq") then Ok (cells.ReadSequence n)
-    else if bytes_eq kind (codes "wseq") then Ok (cells.WriteSequence n)
-    else if bytes_eq kind (codes "fdseq") then Ok (cells.DescriptorSequence n)
-    else if bytes_eq kind (codes "info") then Ok (cells.Info n)
-    else Err BadArgument
-
--- a cell: one word, or one and a number
+-- a cell: its name, and its number if it has one
 abbrev pub cell_of : List (List ℕ) → Result Cell LineFault
-cell_of (kind ∷ []) = plain_cell kind
-cell_of (kind ∷ word ∷ []) = number_of word >>= λ n. numbered_cell kind n
+cell_of (name ∷ []) = ok_or (cell_named name None) BadArgument
+cell_of (name ∷ word ∷ []) = number_of word >>= λ n. ok_or (cell_named name (Some n)) BadArgument
 cell_of _ = Err BadArgument
 
 -- what of a socket is dumped
@@ -91,9 +62,10 @@ abbrev pub dump_of : List (List ℕ) → Result Query LineFault
 dump_of (kind ∷ word ∷ []) = number_of word >>= λ s. buffer_or_queue kind s
 dump_of _ = Err BadArgument
 
-abbrev pub nothing_after : List (List ℕ) → Result (Unit {0}) LineFault
-nothing_after [] = Ok tt
-nothing_after (word ∷ rest) = Err BadArgument
+-- nothing is to follow `quit`
+abbrev pub quit_of : List (List ℕ) → Result Line LineFault
+quit_of [] = Ok Quit
+quit_of _ = Err BadArgument
 
 -- What the words of a line ask for. There is nothing yet that `info` can show.
 abbrev pub meaning_of_words : List (List ℕ) → Result Line LineFault
@@ -103,25 +75,10 @@ meaning_of_words (verb ∷ rest) =
     else if bytes_eq verb (codes "reverse-stepi") || bytes_eq verb (codes "rsi") then (count_of rest >>= λ n. Ok (Run (ReverseStep n)))
     else if bytes_eq verb (codes "print") || bytes_eq verb (codes "p") then (cell_of rest >>= λ c. Ok (Look (Print c)))
     else if bytes_eq verb (codes "dump") then (dump_of rest >>= λ q. Ok (Look q))
-    else if bytes_eq verb (codes "quit") || bytes_eq verb (codes "q") then (nothing_after rest >>= λ _. Ok Quit)
+    else if bytes_eq verb (codes "quit") || bytes_eq verb (codes "q") then quit_of rest
     else if bytes_eq verb (codes "info") then Err BadArgument
     else Err UnknownCommand
 
 -- what a line asks for, without its line feed
 abbrev pub meaning_of : List ℕ → Result Line LineFault
-meaning_of bytes = if nat_lt 256 (length bytes) then Err TooLong else meaning_of_words (words (without_return bytes))
-
--- the first word and the words of what follows it
-abbrev pub next_words : Option (Bor (List ℕ) × Bor (List ℕ)) → List (List ℕ)
-next_words None = []
-next_words (Some p) = p.0.now ∷ words p.1.now
-
--- a text from its first byte on that is no space
-abbrev pub after_spaces : List ℕ → List ℕ
-after_spaces [] = []
-after_spaces (b ∷ bs) = if b == 32 then after_spaces bs else b ∷ bs
-
--- how many bytes come before the first space
-abbrev pub first_word_len : List ℕ → ℕ
-first_word_len [] = 0
-first_word_len (b ∷ bs) = if b == 32 then 0 else suc (first_word_len bs)
+meaning_of bytes = if nat_lt MAX_LINE (length bytes) then Err TooLong else meaning_of_words (words (without_return bytes))

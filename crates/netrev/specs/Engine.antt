@@ -1,6 +1,6 @@
 -- How serving ends, and what is written then.
-use Rattle.std.specs.Prelude.{◌≡◌, ℕ, ◌<◌, ◌==◌, nat_lt, Bool, true, false, List, [], ◌∷◌, ◌++◌, length, take, filter, Option, Result, Ok, Err, if◌then◌else◌}
-use Rattle.std.specs.List.{concat, list_any}
+use Rattle.std.specs.Prelude.{◌≡◌, ℕ, ◌<◌, ◌==◌, ◌&&◌, nat_lt, Bool, true, false, List, [], ◌∷◌, ◌++◌, length, take, filter, Option, Result, Ok, Err, if◌then◌else◌}
+use Rattle.std.specs.List.{concat, list_any, slice_split}
 use Rattle.std.specs.Io.KnownBytes.{Appends, Consumes, IsAtEnd}
 use Rattle.nr_rev.specs.Run.{Recording}
 use Rattle.netrev.specs.Command.{meaning_of}
@@ -12,21 +12,17 @@ use Rattle.netrev.specs.declared.ending.End.TheVariants.{Closed, Quit}
 use Rattle.netrev.specs.declared.ending.LineEnd.{LineEnd}
 use Rattle.netrev.specs.declared.ending.LineEnd.TheVariants.{Read, Write}
 
--- The lines that end by a line feed in bytes, where `line` came before them, without their line feeds.
-abbrev pub whole_from : List ℕ → List ℕ → List (List ℕ)
-whole_from line [] = []
-whole_from line (b ∷ bs) = if b == 10 then line ∷ whole_from [] bs else whole_from (line ++ b ∷ []) bs
+-- The lines in the parts of a text between its line feeds: each part but the last, and at the text's end the last
+-- too, where it isn't empty.
+abbrev pub lines_in : Bool → List (List ℕ) → List (List ℕ)
+lines_in ended [] = []
+lines_in ended (last ∷ []) = if ended && nat_lt 0 (length last) then last ∷ [] else []
+lines_in ended (line ∷ next ∷ more) = line ∷ lines_in ended (next ∷ more)
 
--- What follows the last line feed.
-abbrev pub rest_from : List ℕ → List ℕ → List ℕ
-rest_from line [] = line
-rest_from line (b ∷ bs) = if b == 10 then rest_from [] bs else rest_from (line ++ b ∷ []) bs
-
--- The lines of a text: those that end by a line feed, and at the text's end what follows the last of
--- them, where that isn't empty.
+-- The lines of a text, without their line feeds. Where the text isn't at its end, what follows the last line feed is
+-- no line yet.
 abbrev pub lines_of : Bool → List ℕ → List (List ℕ)
-lines_of false text = whole_from [] text
-lines_of true text = whole_from [] text ++ (if nat_lt 0 (length (rest_from [] text)) then rest_from [] text ∷ [] else [])
+lines_of ended text = lines_in ended (slice_split (λ b. b == 10) text)
 
 -- Lines and their texts, one turn after the other.
 abbrev pub Turns : Recording → Place → List (List ℕ) → List (List ℕ) → Place → Type 0

@@ -1,8 +1,7 @@
 -- Why the bytes of a file are no recording that can be walked.
 use Rattle.std.specs.Prelude.{◌≡◌, ℕ, List, ◌++◌, Err, codes, decimal}
 use Rattle.nr_rev.specs.Run.{Recording, IsGood}
-use Rattle.nr_rev.specs.declared.refusal.Refusal.{Refusal}
-use Rattle.nr_rev.specs.declared.refusal.Refusal.TheVariants as refusal
+use Rattle.nr_rev.specs.Refusing.{refusal_number}
 use Rattle.nr_recording.specs.Faults.{fault_text}
 use Rattle.nr_recording.specs.Reading.{reading}
 use Rattle.nr_recording.specs.Text.{IsTextOf}
@@ -26,42 +25,17 @@ IsFirstFault bytes (Step n reason) = (r : Recording) × IsTextOf bytes r × IsLo
 IsFirstFault bytes Memory = Unit {0}
 
 -- a fault of reading
-abbrev pub of_reading : ReadFault → OpenFault
-of_reading (read.Line n fault) = Line n fault
-of_reading read.Memory = Memory
+abbrev pub fault_of_reading : ReadFault → OpenFault
+fault_of_reading (read.Line n fault) = Line n fault
+fault_of_reading read.Memory = Memory
 
 -- a fault of loading
-abbrev pub of_loading : LoadFault → OpenFault
-of_loading (load.Refused n reason) = Step n reason
-of_loading load.Memory = Memory
-
--- a reason's number
-abbrev pub reason_number : Refusal → ℕ
-reason_number refusal.Memory = 0
-reason_number refusal.NoSuchGoroutine = 1
-reason_number refusal.NotThere = 2
-reason_number refusal.TableFull = 3
-reason_number refusal.NoSuchSocket = 4
-reason_number refusal.NoSuchDescriptor = 5
-reason_number refusal.FieldOverflow = 6
-reason_number refusal.InconsistentLock = 7
-reason_number refusal.DoubleWait = 8
-reason_number refusal.CloseWithoutUnblock = 9
-reason_number refusal.AlreadyClosing = 10
-reason_number refusal.WaiterInside = 11
-reason_number refusal.ClockGoesBack = 12
-reason_number refusal.NoTimerDue = 13
-reason_number refusal.FiringsFull = 14
-reason_number refusal.NoSuchFiring = 15
-reason_number refusal.NoRoom = 16
-reason_number refusal.TooFewBytes = 17
-reason_number refusal.LastNumber = 18
-reason_number refusal.SizeOutOfRange = 19
-reason_number refusal.PeerClosed = 20
-reason_number refusal.CorruptedDescriptor = 21
+abbrev pub fault_of_loading : LoadFault → OpenFault
+fault_of_loading (load.Refused n reason) = Step n reason
+fault_of_loading load.Memory = Memory
 
 -- the line that a fault is printed as
 abbrev pub fault_line : OpenFault → List ℕ
 fault_line (Line n fault) = codes "line " ++ decimal n ++ codes ": fault " ++ fault_text fault ++ codes "\n"
-fault_line (Step n reason) = codes "step " ++ decimal n ++ codes ": fault 107 reason " ++ decimal (reason_number reason) ++ codes "\n"
+fault_line (Step n reason) = codes "step " ++ decimal n ++ codes ": fault 107 reason " ++ decimal (refusal_number reason) ++ codes "\n"
 fault_line Memory = codes "fault 108 memory\n"

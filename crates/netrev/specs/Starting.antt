@@ -16,9 +16,9 @@ use Rattle.netrev.specs.declared.arguments.ArgumentsFault.{ArgumentsFault}
 use Rattle.netrev.specs.declared.arguments.ArgumentsFault.TheVariants as arguments
 
 -- a fault of the arguments
-abbrev pub of_arguments : ArgumentsFault → Unstarted
-of_arguments arguments.Usage = unstarted.Usage
-of_arguments arguments.Memory = unstarted.Memory
+abbrev pub unstarted_of_arguments : ArgumentsFault → Unstarted
+unstarted_of_arguments arguments.Usage = unstarted.Usage
+unstarted_of_arguments arguments.Memory = unstarted.Memory
 
 -- memory where the error is want of it, and the other reason where it is any other
 abbrev pub unstarted_by : ErrorKind → Unstarted → Unstarted

@@ -1,8 +1,8 @@
 -- How cells, and the values that they have, are written.
-use Rattle.std.specs.Prelude.{ℕ, List, ◌++◌, codes, decimal}
+use Rattle.std.specs.Prelude.{ℕ, List, ◌++◌, Option, Some, None, codes, decimal}
 use Rattle.std.specs.Fmt.{signed_decimal}
 use Rattle.nr_rev.specs.declared.cell.Cell.{Cell}
-use Rattle.nr_rev.specs.declared.cell.Cell.TheVariants as cells
+use Rattle.nr_rev.specs.CellName.{cell_index, cell_name}
 use Rattle.nr_rev.specs.declared.cell_value.CellValue.{CellValue}
 use Rattle.nr_rev.specs.declared.cell_value.CellValue.TheVariants as values
 use Rattle.nr_rev.specs.declared.descriptor.Word.{Word}
@@ -12,27 +12,14 @@ use Rattle.nr_rev.specs.declared.status.Status.TheVariants.{Idle, Acquiring, Que
 use Rattle.nr_rev.specs.declared.sides.Side.{Side}
 use Rattle.nr_rev.specs.declared.sides.Side.TheVariants.{Read, Write}
 
--- how a cell is spelled
+-- a name, and a number behind it if there is one
+abbrev pub text_with : List ℕ → Option ℕ → List ℕ
+text_with name None = name
+text_with name (Some n) = name ++ codes " " ++ decimal n
+
+-- how a cell is written
 abbrev pub cell_text : Cell → List ℕ
-cell_text cells.Clock = codes "clock"
-cell_text cells.Waiters = codes "waiters"
-cell_text cells.Timers = codes "timers"
-cell_text cells.Firings = codes "firings"
-cell_text cells.Least = codes "least"
-cell_text (cells.Goroutine g) = codes "gor " ++ decimal g
-cell_text (cells.Lock s) = codes "lock " ++ decimal s
-cell_text (cells.ReadSemaphore s) = codes "rsem " ++ decimal s
-cell_text (cells.WriteSemaphore s) = codes "wsem " ++ decimal s
-cell_text (cells.Input s) = codes "in " ++ decimal s
-cell_text (cells.Output s) = codes "out " ++ decimal s
-cell_text (cells.ReadWord d) = codes "rg " ++ decimal d
-cell_text (cells.WriteWord d) = codes "wg " ++ decimal d
-cell_text (cells.ReadDeadline d) = codes "rd " ++ decimal d
-cell_text (cells.WriteDeadline d) = codes "wd " ++ decimal d
-cell_text (cells.ReadSequence d) = codes "rseq " ++ decimal d
-cell_text (cells.WriteSequence d) = codes "wseq " ++ decimal d
-cell_text (cells.DescriptorSequence d) = codes "fdseq " ++ decimal d
-cell_text (cells.Info d) = codes "info " ++ decimal d
+cell_text cell = text_with (cell_name cell) (cell_index cell)
 
 -- a word of a descriptor
 abbrev pub word_text : Word → List ℕ

@@ -86,7 +86,7 @@ fn command<'a>(alloc: Global) -> Result<Command<'a>, AllocError>
 }
 
 // The program that the matches name, with its file.
-fn named_in<'a>(matches: &ArgMatches<'a>) -> Option<Program<'a>>
+fn matched_program<'a>(matches: &ArgMatches<'a>) -> Option<Program<'a>>
     ensures { IsNamed (subcommand_rows_of matches.now) result }
 {
     let Some((name, inner)) = matches.subcommand() else {
@@ -108,20 +108,24 @@ pub fn read_arguments<'a>(
     arguments: &'a [&'a str],
 ) -> Result<Program<'a>, ArgumentsFault>
     ensures ok { IfOk result (Asks (map (λ argument. argument.now) arguments.entry.now)) }
-    ensures err { IfErr result (IsArgumentsFault (map (λ argument. argument.now) arguments.entry.now)) }
+    ensures err { IfErr result
+        (IsArgumentsFault (map (λ argument. argument.now) arguments.entry.now)) }
 {
     let command = command(alloc)?;
     let matches = command.try_get_matches_from(arguments)?;
-    match named_in(&matches) {
+    match matched_program(&matches) {
         Some(program) => Ok(program),
         None => Err(ArgumentsFault::Usage),
     }
 }
 
-/// A program's name and the name of its file, which does not begin with a hyphen, ask for that program.
+/// A program's name and the name of its file, which does not begin with a hyphen, ask for that
+/// program.
 pub fn plain_arguments_ask()
-    ensures run { (program file : List ℕ) → IsPlain file → Ask (program ∷ codes "run" ∷ file ∷ []) (codes "run") file }
-    ensures check { (program file : List ℕ) → IsPlain file → Ask (program ∷ codes "check" ∷ file ∷ []) (codes "check") file }
+    ensures run { (program file : List ℕ) → IsPlain file
+        → Ask (program ∷ codes "run" ∷ file ∷ []) (codes "run") file }
+    ensures check { (program file : List ℕ) → IsPlain file
+        → Ask (program ∷ codes "check" ∷ file ∷ []) (codes "check") file }
 {}
 
 #[cfg(test)]

@@ -9,7 +9,8 @@ use crate::reply::Reply;
 use nr_rev::Worlds;
 use std::alloc::AllocError;
 
-/// Stands at a position of a film. It has no world: a command moves the position alone and takes no memory.
+/// Stands at a position of a film. It has no world: a command moves the position alone and takes
+/// no memory.
 #[derive(Clone, Copy, Debug, PartialEq, Eq)]
 pub(crate) struct Debugger {
     /// How many steps lie behind it.
@@ -54,8 +55,8 @@ impl Debugger {
     }
 }
 
-/// What a look shows in a world. Only a dump takes memory, for the bytes or goroutines that it shows, so one that
-/// shows none isn't refused it.
+/// What a look shows in a world. Only a dump takes memory, for the bytes or goroutines that it
+/// shows, so one that shows none isn't refused it.
 pub(crate) fn look<W: Worlds>(world: &W, query: Query) -> Result<Reply, AllocError>
     requires { W.is_well_formed world.now }
     ensures ok { IfOk result (λ reply. reply ≡ reply_in (W.world world.now) query) }

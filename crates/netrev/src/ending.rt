@@ -14,7 +14,7 @@ pub(crate) enum End {
 pub(crate) enum LineEnd {
     /// A read failed.
     Read,
-    /// A write failed, or took nothing, after so many whole texts and so many bytes of the next. Each
-    /// count stays at `u64::MAX`.
+    /// A write failed, or took nothing, after so many whole texts and so many bytes of the next.
+    /// Each count stays at `u64::MAX`.
     Write { whole: u64, part: u64 },
 }

@@ -3,6 +3,7 @@
 ghost use Rattle.std.specs.Prelude.{◌≡◌, [], ◌∷◌, ◌++◌, take};
 ghost use Rattle.netrev.specs.Engine.{Serves};
 
+use crate::command::MAX_LINE;
 use crate::ending::{End, LineEnd};
 use crate::front::Front;
 use crate::turn::turn;
@@ -11,7 +12,7 @@ use std::io::{Read, Write};
 use std::sync::Wait;
 
 /// One byte more than a line may have, so that a longer one is seen to be too long.
-const LINE_ROOM: usize = 257;
+const LINE_ROOM: usize = MAX_LINE + 1;
 
 /// How many bytes are read at once.
 const CHUNK: usize = 512;
@@ -19,8 +20,8 @@ const CHUNK: usize = 512;
 /// Answers the lines of a reader, up to the first `quit`. The last line may lack its line feed.
 ///
 /// The reader may be read past `quit`, or past the line whose reply was not written. Where a read
-/// failed, the whole lines before it are answered. Whatever the end, the front can be used again, and
-/// each line up to there was run, also one whose reply was not written.
+/// failed, the whole lines before it are answered. Whatever the end, the front can be used again,
+/// and each line up to there was run, also one whose reply was not written.
 pub(crate) fn serve<R: Read, W: Write, F: Front>(
     rt: &impl Wait,
     r: &mut R,
@@ -28,7 +29,8 @@ pub(crate) fn serve<R: Read, W: Write, F: Front>(
     front: &mut F,
 ) -> Result<End, LineEnd>
     ensures recording { F.recording front.new ≡ F.recording front.old }
-    ensures serves { Serves (R.remaining r.old) (R.remaining r.new) (W.contents w.old) (W.contents w.new)
+    ensures serves { Serves (R.remaining r.old) (R.remaining r.new)
+        (W.contents w.old) (W.contents w.new)
         (F.recording front.old) (F.place front.old) (F.place front.new) result }
 {
     let mut line = ArrayVec::<u8, LINE_ROOM>::new();

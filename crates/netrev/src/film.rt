@@ -28,7 +28,8 @@ impl From<AllocError> for LoadFault {
     }
 }
 
-/// A recording whose steps all apply, with a copy of its world at position 0. It never changes again.
+/// A recording whose steps all apply, with a copy of its world at position 0. It never changes
+/// again.
 #[derive(Drop)]
 pub(crate) struct Film<W: Worlds + Drop> {
     recording: Recording,
@@ -43,7 +44,8 @@ impl<W: Worlds + Drop> Model for Film<W> {
 
     ghost view = { λ f. f.recording };
 
-    ghost invariant = { λ f. IsGood f.recording × Stands W.is_well_formed W.world f.recording 0 f.start };
+    ghost invariant = { λ f. IsGood f.recording
+        × Stands W.is_well_formed W.world f.recording 0 f.start };
 }
 
 // Applies the step after position n, and keeps no way back. It takes no memory.
@@ -81,7 +83,7 @@ fn replay<W: Worlds>(world: &mut W, recording: &Recording) -> Result<(), LoadFau
 }
 
 // The world at position 0, twice.
-fn starts<W: Worlds + Drop>(alloc: Global, recording: &Recording) -> Result<(W, W), AllocError>
+fn fresh_pair<W: Worlds + Drop>(alloc: Global, recording: &Recording) -> Result<(W, W), AllocError>
     ensures { IfOk result (λ worlds. Stands W.is_well_formed W.world recording.now 0 worlds.0
         × Stands W.is_well_formed W.world recording.now 0 worlds.1) }
 {
@@ -90,8 +92,8 @@ fn starts<W: Worlds + Drop>(alloc: Global, recording: &Recording) -> Result<(W, 
     Ok((world, copy))
 }
 
-/// Replays the recording once. A step that does not apply is refused with its number and its reason.
-/// Memory is wanted for the world at position 0 and for its copy, and for no step.
+/// Replays the recording once. A step that does not apply is refused with its number and its
+/// reason. Memory is wanted for the world at position 0 and for its copy, and for no step.
 pub(crate) fn load<W: Worlds + Drop>(
     alloc: Global,
     recording: Recording,
@@ -100,7 +102,7 @@ pub(crate) fn load<W: Worlds + Drop>(
     ensures good { OnOk result (IsGood recording) }
     ensures fault { IfErr result (IsLoadFault recording) }
 {
-    let (start, mut world) = starts::<W>(alloc, &recording)?;
+    let (start, mut world) = fresh_pair::<W>(alloc, &recording)?;
     replay(&mut world, &recording)?;
     Ok(Film { recording, start })
 }

@@ -21,14 +21,17 @@ pub(crate) trait Front {
     fn exec(&mut self, command: Command) -> Reply
         ensures recording { recording self.new ≡ recording self.old }
         ensures reply { result ≡ reply_to command (recording self.old) (place self.old).position }
-        ensures moved { place self.new ≡ place_after command (recording self.old) (place self.old) };
+        ensures moved { place self.new
+            ≡ place_after command (recording self.old) (place self.old) };
 
-    /// Looks at the world where it stands. Memory is wanted only to go further on than the last look went, and for
-    /// the bytes or goroutines that a dump shows. Refused it, the front stands at the same position, and can look
-    /// again.
+    /// Looks at the world where it stands. Memory is wanted only to go further on than the last
+    /// look went, and for the bytes or goroutines that a dump shows. Refused it, the front stands
+    /// at the same position, and can look again.
     fn look(&mut self, query: Query) -> Result<Reply, AllocError>
         ensures recording { recording self.new ≡ recording self.old }
-        ensures ok { IfOk result (λ reply. (reply ≡ reply_at query (recording self.old) (place self.old).position)
+        ensures ok { IfOk result (λ reply.
+            (reply ≡ reply_at query (recording self.old) (place self.old).position)
             × (place self.new ≡ place_after_look (place self.old))) }
-        ensures err { OnErr result (WantsMemory query (recording self.old) (place self.old) (place self.new)) };
+        ensures err { OnErr result
+            (WantsMemory query (recording self.old) (place self.old) (place self.new)) };
 }

@@ -1,7 +1,7 @@
 //! Walks a recorded schedule of goroutines, sockets and timers forwards and backwards.
 //!
-//! `netrev run FILE` reads commands from standard input and replies on standard output; `netrev check
-//! FILE` says whether the recording can be walked.
+//! `netrev run FILE` reads commands from standard input and replies on standard output;
+//! `netrev check FILE` says whether the recording can be walked.
 #![tactic(auto)]
 
 pub mod arguments;
@@ -11,6 +11,7 @@ mod ending;
 mod engine;
 mod film;
 mod front;
+pub mod laws;
 #[cfg(test)]
 mod line_tests;
 #[cfg(test)]
@@ -47,7 +48,8 @@ fn collect_arguments(rt: &HostRuntime) -> Result<Vec<String>, Unstarted> {
     }
 }
 
-// Runs the program that the arguments ask for, on the process's streams. `run` may wait for its input.
+// Runs the program that the arguments ask for, on the process's streams. `run` may wait for its
+// input.
 fn run_program(rt: &HostRuntime, wait: &impl Wait) -> Result<ExitStatus, Unstarted> {
     let alloc = rt.alloc();
     let texts = collect_arguments(rt)?;

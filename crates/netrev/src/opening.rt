@@ -1,7 +1,7 @@
 //! Opening a recording: its text is read, and its steps are replayed once.
 
-ghost use Rattle.std.specs.Prelude.{◌≡◌, ◌++◌, IfOk, IfErr, codes, decimal};
-ghost use Rattle.netrev.specs.Opening.{IsGoodText, IsFirstFault, of_reading, of_loading, reason_number, fault_line};
+ghost use Rattle.std.specs.Prelude.{◌≡◌, IfOk, IfErr};
+ghost use Rattle.netrev.specs.Opening.{IsGoodText, IsFirstFault, fault_of_reading, fault_of_loading, fault_line};
 ghost use Rattle.netrev.specs.Sender.{Goes};
 ghost use Rattle.netrev.specs.declared.opening.OpenFault.TheVariants as faults;
 
@@ -24,7 +24,7 @@ pub enum OpenFault {
 }
 
 impl From<ReadFault> for OpenFault {
-    ghost from_gives = { λ fault e. e ≡ of_reading fault };
+    ghost from_gives = { λ fault e. e ≡ fault_of_reading fault };
 
     fn from(fault: ReadFault) -> OpenFault {
         match fault {
@@ -35,7 +35,7 @@ impl From<ReadFault> for OpenFault {
 }
 
 impl From<LoadFault> for OpenFault {
-    ghost from_gives = { λ fault e. e ≡ of_loading fault };
+    ghost from_gives = { λ fault e. e ≡ fault_of_loading fault };
 
     fn from(fault: LoadFault) -> OpenFault {
         match fault {
@@ -43,12 +43,6 @@ impl From<LoadFault> for OpenFault {
             LoadFault::Memory => OpenFault::Memory,
         }
     }
-}
-
-fn reason_number(reason: Refusal) -> u64
-    ensures { result ≡ reason_number reason }
-{
-    reason as u64
 }
 
 impl OpenFault {
@@ -62,14 +56,15 @@ impl OpenFault {
     {
         match self {
             OpenFault::Line { line, fault } => send_line_fault(line, fault, w),
-            OpenFault::Step { step, reason } => send_step_fault(step, reason_number(reason), w),
+            OpenFault::Step { step, reason } => send_step_fault(step, reason, w),
             OpenFault::Memory => send(b"fault 108 memory\n", w),
         }
     }
 }
 
 fn send_line_fault<W: Write>(line: usize, fault: Fault, w: &mut W) -> Result<u64, Part>
-    ensures { Goes (W.contents w.old) (W.contents w.new) (fault_line (faults.Line line fault)) result }
+    ensures { Goes (W.contents w.old) (W.contents w.new)
+        (fault_line (faults.Line line fault)) result }
 {
     let tokens = [
         Token::Text(b"line "),
@@ -81,15 +76,15 @@ fn send_line_fault<W: Write>(line: usize, fault: Fault, w: &mut W) -> Result<u64
     send_all(&tokens, w)
 }
 
-fn send_step_fault<W: Write>(step: usize, reason: u64, w: &mut W) -> Result<u64, Part>
+fn send_step_fault<W: Write>(step: usize, reason: Refusal, w: &mut W) -> Result<u64, Part>
     ensures { Goes (W.contents w.old) (W.contents w.new)
-        (codes "step " ++ decimal step ++ codes ": fault 107 reason " ++ decimal reason ++ codes "\n") result }
+        (fault_line (faults.Step step reason)) result }
 {
     let tokens = [
         Token::Text(b"step "),
         Token::Number(step as u64),
         Token::Text(b": fault 107 reason "),
-        Token::Number(reason),
+        Token::Number(u64::from(reason.number())),
         Token::Text(b"\n"),
     ];
     send_all(&tokens, w)

@@ -55,14 +55,14 @@ impl From<ExitStatus> for ExitCode {
     }
 }
 
-/// Opens the recording, and answers the lines of the input on the output, one after the other, as a
-/// debugger does that stands at position 0 first: each reply is about the world after so many of the
-/// recording's first steps as the position says. A look that is refused memory says so, which only one
-/// that goes further on than the last, or a dump, can be.
+/// Opens the recording, and answers the lines of the input on the output, one after the other, as
+/// a debugger does that stands at position 0 first: each reply is about the world after so many of
+/// the recording's first steps as the position says. A look that is refused memory says so, which
+/// only one that goes further on than the last, or a dump, can be.
 ///
-/// `Done`: a line was `quit`, or the input's end was reached. `Refused`: the recording's first fault
-/// was printed, or `fault 108 memory`, as one line, and nothing was read. `StreamFailed`: a read or a
-/// write failed; then a first part of these texts is written, and nothing else.
+/// `Done`: a line was `quit`, or the input's end was reached. `Refused`: the recording's first
+/// fault was printed, or `fault 108 memory`, as one line, and nothing was read. `StreamFailed`: a
+/// read or a write failed; then a first part of these texts is written, and nothing else.
 pub fn run_bytes<W: Worlds + Drop, I: Read, O: Write>(
     rt: &impl Wait,
     alloc: Global,
@@ -73,12 +73,15 @@ pub fn run_bytes<W: Worlds + Drop, I: Read, O: Write>(
 where
     W::Delta: Drop,
     // What was read and written, whatever the bytes are.
-    ensures runs { Runs I.remaining bytes.now input.old input.new (O.contents output.old) (O.contents output.new) result }
+    ensures runs { Runs I.remaining bytes.now input.old input.new
+        (O.contents output.old) (O.contents output.new) result }
 
     // A recording whose steps all apply is walked, unless memory runs out before the first line.
     ensures good { (r : Recording) → IsTextOf bytes.now r → IsGood r
-        → Walks (I.remaining input.old) (I.remaining input.new) (O.contents output.old) (O.contents output.new) r result
-        ⊎ TellsFault faults.Memory input.old input.new (O.contents output.old) (O.contents output.new) result }
+        → Walks (I.remaining input.old) (I.remaining input.new)
+        (O.contents output.old) (O.contents output.new) r result
+        ⊎ TellsFault faults.Memory input.old input.new
+        (O.contents output.old) (O.contents output.new) result }
 {
     match open::<W>(alloc, bytes) {
         Ok(film) => walk(rt, alloc, &film, input, output),
@@ -96,8 +99,10 @@ fn walk<W: Worlds + Drop, I: Read, O: Write>(
 ) -> ExitStatus
 where
     W::Delta: Drop,
-    ensures { Walks (I.remaining input.old) (I.remaining input.new) (O.contents output.old) (O.contents output.new) film.now result
-        ⊎ TellsFault faults.Memory input.old input.new (O.contents output.old) (O.contents output.new) result }
+    ensures { Walks (I.remaining input.old) (I.remaining input.new)
+        (O.contents output.old) (O.contents output.new) film.now result
+        ⊎ TellsFault faults.Memory input.old input.new
+        (O.contents output.old) (O.contents output.new) result }
 {
     let Ok(mut session) = Session::new(alloc, film) else {
         return refuse(OpenFault::Memory, output);
@@ -110,7 +115,8 @@ where
 
 /// Prints the fault, as one line.
 pub(crate) fn refuse<O: Write>(fault: OpenFault, output: &mut O) -> ExitStatus
-    ensures { Prints (fault_line fault) statuses.Refused (O.contents output.old) (O.contents output.new) result }
+    ensures { Prints (fault_line fault) statuses.Refused
+        (O.contents output.old) (O.contents output.new) result }
 {
     match fault.print(output) {
         Ok(_) => ExitStatus::Refused,
@@ -132,8 +138,10 @@ pub fn check_bytes<W: Worlds + Drop, O: Write>(
 
     // A recording whose steps all apply is accepted, unless memory runs out.
     ensures good { (r : Recording) → IsTextOf bytes.now r → IsGood r
-        → Prints (ok_line r) statuses.Done (O.contents output.old) (O.contents output.new) result
-        ⊎ Prints (fault_line faults.Memory) statuses.Refused (O.contents output.old) (O.contents output.new) result }
+        → Prints (ok_line r) statuses.Done
+        (O.contents output.old) (O.contents output.new) result
+        ⊎ Prints (fault_line faults.Memory) statuses.Refused
+        (O.contents output.old) (O.contents output.new) result }
 {
     match open::<W>(alloc, bytes) {
         Ok(film) => accept(&film, output),
@@ -143,7 +151,8 @@ pub fn check_bytes<W: Worlds + Drop, O: Write>(
 
 // Prints that the film has so many steps.
 fn accept<W: Worlds + Drop, O: Write>(film: &Film<W>, output: &mut O) -> ExitStatus
-    ensures { Prints (ok_line film.now) statuses.Done (O.contents output.old) (O.contents output.new) result }
+    ensures { Prints (ok_line film.now) statuses.Done
+        (O.contents output.old) (O.contents output.new) result }
 {
     let steps = Token::Number(film.len() as u64);
     match send_all(

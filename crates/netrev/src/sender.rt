@@ -6,7 +6,8 @@ ghost use Rattle.netrev.specs.Sender.{Goes, hex_pair, next_number, text_of_parts
 use itoa::Buffer;
 use std::io::Write;
 
-/// A write failed, or took nothing, when exactly so many bytes were out. The count stays at `u64::MAX`.
+/// A write failed, or took nothing, when exactly so many bytes were out. The count stays at
+/// `u64::MAX`.
 #[derive(Clone, Copy, Debug, PartialEq, Eq)]
 pub(crate) struct Part(pub(crate) u64);
 
@@ -100,7 +101,7 @@ pub(crate) fn send<W: Write>(bytes: &[u8], w: &mut W) -> Result<u64, Part>
     let mut sent = 0;
     while sent < bytes.len() {
         match w.write(&bytes[sent..]) {
-            Ok(taken) if taken > 0 => sent += taken,
+            Ok(count) if count > 0 => sent += count,
             _ => return Err(Part(sent as u64)),
         }
     }

@@ -1,4 +1,5 @@
-//! A session: a debugger over a film, and the walker that is led to where it stands when somebody looks.
+//! A session: a debugger over a film, and the walker that is led to where it stands when somebody
+//! looks.
 
 ghost use Rattle.std.specs.Prelude.{◌≡◌, IfOk};
 ghost use Rattle.netrev.specs.Front.{at_start};
@@ -33,7 +34,10 @@ where
 
     ghost Value = { Recorded × Place };
 
-    ghost view = { λ s. (s.walker.recording, record { position = s.debugger.position; reached = s.walker.position }) };
+    ghost view = { λ s. (
+      s.walker.recording,
+      record { position = s.debugger.position; reached = s.walker.position },
+    ) };
 
     ghost invariant = { λ s. s.debugger.position ≤ length s.walker.recording.steps };
 }

@@ -2,7 +2,7 @@
 
 ghost use Rattle.std.specs.Prelude.{◌≡◌, IfOk, IfErr};
 ghost use Rattle.std.specs.IoError.{error_kind};
-ghost use Rattle.netrev.specs.Starting.{Plays, Tells, of_arguments, unstarted_by};
+ghost use Rattle.netrev.specs.Starting.{Plays, Tells, unstarted_of_arguments, unstarted_by};
 ghost use Rattle.netrev.specs.declared.run.ExitStatus.{ExitStatus as Status};
 ghost use Rattle.netrev.specs.declared.starting.Unstarted.TheVariants as reasons;
 
@@ -28,7 +28,7 @@ pub enum Unstarted {
 }
 
 impl From<ArgumentsFault> for Unstarted {
-    ghost from_gives = { λ fault unstarted. unstarted ≡ of_arguments fault };
+    ghost from_gives = { λ fault unstarted. unstarted ≡ unstarted_of_arguments fault };
 
     fn from(fault: ArgumentsFault) -> Unstarted {
         match fault {
@@ -47,7 +47,8 @@ impl From<AllocError> for Unstarted {
 }
 
 impl Unstarted {
-    /// What an error of this kind is told as: as want of memory where it is that, and else as `other`.
+    /// What an error of this kind is told as: as want of memory where it is that, and else as
+    /// `other`.
     pub fn of_kind(kind: ErrorKind, other: Unstarted) -> Unstarted
         ensures { result ≡ unstarted_by kind other }
     {
@@ -57,8 +58,8 @@ impl Unstarted {
         }
     }
 
-    /// Says why no program ran: how netrev is called goes to `errors`, want of memory to the output as
-    /// `fault 108 memory`, and of a file nothing is said.
+    /// Says why no program ran: how netrev is called goes to `errors`, want of memory to the
+    /// output as `fault 108 memory`, and of a file nothing is said.
     ///
     /// `Usage`, also where not all of that text could be written; `Refused` for want of memory;
     /// `StreamFailed` for a file, or where the write to the output failed.
@@ -77,7 +78,8 @@ impl Unstarted {
     }
 }
 
-/// Runs the program over what reading its file gave. Where that is an error nothing is read or written.
+/// Runs the program over what reading its file gave. Where that is an error nothing is read or
+/// written.
 pub fn start<W: Worlds + Drop, I: Read, O: Write>(
     rt: &impl Wait,
     alloc: Global,

@@ -23,7 +23,8 @@ pub(crate) fn turn<W: Write, F: Front>(
     ensures quits { IfOk result (λ quits. quits ≡ is_quit (meaning_of line.now)) }
     ensures ok { IfOk result (λ _. (text : List ℕ)
         × Turn (F.recording front.old) (F.place front.old) line.now text (F.place front.new)
-        × Appends (W.contents w.old) (W.contents w.new) text × (whole.new ≡ count_with whole.old text)) }
+        × Appends (W.contents w.old) (W.contents w.new) text
+        × (whole.new ≡ count_with whole.old text)) }
     ensures err { IfErr result (λ e. (text : List ℕ)
         × Turn (F.recording front.old) (F.place front.old) line.now text (F.place front.new)
         × IsCut e whole.old text (W.contents w.old) (W.contents w.new)) }
@@ -48,7 +49,8 @@ pub(crate) fn turn<W: Write, F: Front>(
 /// The reply, unless the line is empty.
 fn reply_to_line<F: Front>(front: &mut F, asked: Result<Line, LineFault>) -> Option<Reply>
     ensures recording { F.recording front.new ≡ F.recording front.old }
-    ensures reply { MayReply asked (F.recording front.old) (F.place front.old) result (F.place front.new) }
+    ensures reply { MayReply asked (F.recording front.old)
+        (F.place front.old) result (F.place front.new) }
 {
     match asked {
         Ok(Line::Run(command)) => Some(front.exec(command)),

@@ -9,31 +9,16 @@ use crate::sender::{Part, Sent, Token, send, send_all};
 use nr_rev::{Cell, CellValue, Side, Status, Word};
 use std::io::Write;
 
-/// Writes how the cell is spelled.
+/// Writes how the cell is spelled: its name, and its number behind a space if it has one.
 pub(crate) fn send_cell<W: Write>(cell: Cell, w: &mut W) -> Result<u64, Part>
     ensures { Goes (W.contents w.old) (W.contents w.new) (cell_text cell) result }
 {
-    match cell {
-        Cell::Clock => send(b"clock", w),
-        Cell::Waiters => send(b"waiters", w),
-        Cell::Timers => send(b"timers", w),
-        Cell::Firings => send(b"firings", w),
-        Cell::Least => send(b"least", w),
-        Cell::Goroutine(g) => send_named(b"gor ", g, w),
-        Cell::Lock(s) => send_named(b"lock ", s, w),
-        Cell::ReadSemaphore(s) => send_named(b"rsem ", s, w),
-        Cell::WriteSemaphore(s) => send_named(b"wsem ", s, w),
-        Cell::Input(s) => send_named(b"in ", s, w),
-        Cell::Output(s) => send_named(b"out ", s, w),
-        Cell::ReadWord(d) => send_named(b"rg ", d, w),
-        Cell::WriteWord(d) => send_named(b"wg ", d, w),
-        Cell::ReadDeadline(d) => send_named(b"rd ", d, w),
-        Cell::WriteDeadline(d) => send_named(b"wd ", d, w),
-        Cell::ReadSequence(d) => send_named(b"rseq ", d, w),
-        Cell::WriteSequence(d) => send_named(b"wseq ", d, w),
-        Cell::DescriptorSequence(d) => send_named(b"fdseq ", d, w),
-        Cell::Info(d) => send_named(b"info ", d, w),
-    }
+    let name = cell.name().as_bytes();
+    let Some(index) = cell.index() else {
+        return send(name, w);
+    };
+    let number = Token::Number(u64::from(index));
+    send_all(&[Token::Text(name), Token::Text(b" "), number], w)
 }
 
 /// Writes the value of a cell.

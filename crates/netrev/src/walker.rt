@@ -1,4 +1,5 @@
-//! A walker: a world that goes to any position of a film, forwards by steps and backwards by undoing them.
+//! A walker: a world that goes to any position of a film, forwards by steps and backwards by
+//! undoing them.
 
 ghost use Rattle.std.specs.Prelude.{◌≡◌, ◌<◌, ◌≤◌, ◌+◌, ◌-◌, length, IfOk, OnOk, OnErr, IsOk};
 ghost use Rattle.netrev.specs.Film.{Stands};
@@ -31,7 +32,8 @@ where
 
     ghost view = { λ w. record { recording = w.film.now; position = length w.deltas.items } };
 
-    ghost invariant = { λ w. IsWay W.is_well_formed W.world W.back w.film.now w.world w.deltas.items };
+    ghost invariant = { λ w.
+        IsWay W.is_well_formed W.world W.back w.film.now w.world w.deltas.items };
 }
 
 impl<'f, W: Worlds + Drop> Walker<'f, W>
@@ -121,7 +123,8 @@ where
         Ok(())
     }
 
-    /// Goes to position n. Refused memory on the way forward, it stays where it stood; going back takes none.
+    /// Goes to position n. Refused memory on the way forward, it stays where it stood; going back
+    /// takes none.
     pub(crate) fn goto(&mut self, n: usize) -> Result<(), AllocError>
         requires { n ≤ length self.old.recording.steps }
         ensures ok { OnOk result (self.new ≡ record self.old { position = n }) }

@@ -8,7 +8,7 @@ use Rattle.netrev.proofs.sender.send.Goals as goal
 pub loop-sent-preserved : goal.loop-sent-preserved
 loop-sent-preserved g c =
     let sent = c.loop-sent.sent in
-    let taken = c.in-Ok.taken in
+    let count = c.in-Ok.count in
     let bytes = c.args.bytes.now in
-    let more = subst (λ rest. Appends (g.W.Write.contents c.loop-sent.w) (g.W.Write.contents c.write.new.self) (take taken rest)) (take_rest bytes sent) c.in-Ok.ensures.bytes in
-    (search rules, subst (Appends _ _) (sym (take-add sent taken bytes)) (Appends-then _ _ _ _ _ c.loop-sent.invariant.1 more))
+    let more = subst (λ rest. Appends (g.W.Write.contents c.loop-sent.w) (g.W.Write.contents c.write.new.self) (take count rest)) (take_rest bytes sent) c.in-Ok.ensures.bytes in
+    (search rules, subst (Appends _ _) (sym (take-add sent count bytes)) (Appends-then _ _ _ _ _ c.loop-sent.invariant.1 more))

@@ -2,7 +2,7 @@ use Rattle.std.proofs.Common.{◌≡◌, Some, None, codes, rules, sym, ap, ◌�
 use Rattle.clap.specs.Words.{Text, subcommand_rows_of, rows_of, found_of, first_of}
 use Rattle.clap.proofs.WalkLemmas.{first_value-rows}
 use Rattle.netrev.proofs.ArgumentsLemmas.{both_views, program_in-file, program_in-none}
-use Rattle.netrev.proofs.arguments.named_in.Goals as goal
+use Rattle.netrev.proofs.arguments.matched_program.Goals as goal
 
 pub returns-in_default-get_str : goal.returns-in_default-get_str
 returns-in_default-get_str c =
