@@ -146,10 +146,10 @@ cut r r' w w' w'' recording p p' p'' came read line back whole ended (Write n pa
     let rest = rest_of read in
     record {
       read = came;
-      out = concat st.texts ++ take failed.2.0 failed.0;
+      out = concat st.texts ++ take failed.2.1.0 failed.0;
       ended = ended;
       reads = st.reads;
-      writes = Appends-then w w' w'' (concat st.texts) (take failed.2.0 failed.0) st.writes failed.2.4;
+      writes = Appends-then w w' w'' (concat st.texts) (take failed.2.1.0 failed.0) st.writes failed.2.1.3;
       at_end = at_end;
       ends = record {
         front = whole_lines read;
@@ -158,14 +158,14 @@ cut r r' w w' w'' recording p p' p'' came read line back whole ended (Write n pa
         texts = st.texts;
         text = failed.0;
         mid = p';
-        n = failed.2.0;
+        n = failed.2.1.0;
         split = lines;
         no_quit = st.no_quit;
         turns = st.turns;
         turn = turn_asks recording line rest failed.0 p' p'' same failed.1;
-        count = failed.2.1 ∙ st.count;
-        part_told = failed.2.3;
-        within = failed.2.2;
+        count = failed.2.0 ∙ st.count;
+        part_told = failed.2.1.2;
+        within = failed.2.1.1;
         written = refl;
       };
     }

@@ -32,7 +32,11 @@ text_of_parts f (x ∷ y ∷ xs) = f x ++ text_of_parts f (y ∷ xs)
 abbrev pub saturating_count : ℕ → ℕ
 saturating_count n = min n (2 ^ 64 - 1)
 
--- The whole text went out, and its length is told; or exactly its first n bytes, and not the next, and n is told.
+-- Exactly the first n bytes of the text went out, and not the next, and n is told as this count.
+abbrev pub GoesInPart : Option (List ℕ) → Option (List ℕ) → List ℕ → ℕ → Type 0
+GoesInPart old new text count = (n : ℕ) × (n < length text) × (count ≡ saturating_count n) × Appends old new (take n text)
+
+-- The whole text went out, and its length is told; or a first part of it, and how much that is.
 abbrev pub Goes : Option (List ℕ) → Option (List ℕ) → List ℕ → Result ℕ Part → Type 0
 Goes old new text (Ok len) = (len ≡ saturating_count (length text)) × Appends old new text
-Goes old new text (Err part) = (n : ℕ) × (n < length text) × (part.0 ≡ saturating_count n) × Appends old new (take n text)
+Goes old new text (Err part) = GoesInPart old new text part.0

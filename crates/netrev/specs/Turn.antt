@@ -1,12 +1,11 @@
 -- What one line is answered.
-use Rattle.std.specs.Prelude.{◌≡◌, ℕ, ◌+◌, ◌<◌, ◌⊎◌, nat_lt, Bool, true, false, List, [], length, take, Option, Some, None, Result, Ok, Err, if◌then◌else◌}
-use Rattle.std.specs.Io.KnownBytes.{Appends}
+use Rattle.std.specs.Prelude.{◌≡◌, ℕ, ◌+◌, ◌⊎◌, nat_lt, Bool, true, false, List, [], length, Option, Some, None, Result, Ok, Err, if◌then◌else◌}
 use Rattle.nr_rev.specs.Run.{Recording}
 use Rattle.netrev.specs.Command.{meaning_of}
 use Rattle.netrev.specs.Debugger.{reply_to}
 use Rattle.netrev.specs.Front.{Place, place_after, place_after_look, reply_at, WantsMemory}
 use Rattle.netrev.specs.Reply.{text_of}
-use Rattle.netrev.specs.Sender.{saturating_count}
+use Rattle.netrev.specs.Sender.{GoesInPart, saturating_count}
 use Rattle.netrev.specs.declared.command.Line.{Line}
 use Rattle.netrev.specs.declared.command.Line.TheVariants.{Run, Look, Quit, Empty}
 use Rattle.netrev.specs.declared.command.LineFault.{LineFault}
@@ -46,8 +45,7 @@ is_quit (Err fault) = false
 abbrev pub count_with : ℕ → List ℕ → ℕ
 count_with n text = if nat_lt 0 (length text) then saturating_count (n + 1) else n
 
--- The write of this text failed after exactly its first n bytes, and that was told.
+-- The write of this text failed after a first part of it, and that was told, with the count of the whole texts before.
 abbrev pub IsCut : LineEnd → ℕ → List ℕ → Option (List ℕ) → Option (List ℕ) → Type 0
 IsCut ends.Read count text old new = ⊥
-IsCut (ends.Write whole part) count text old new =
-    (n : ℕ) × (whole ≡ count) × (n < length text) × (part ≡ saturating_count n) × Appends old new (take n text)
+IsCut (ends.Write whole part) count text old new = (whole ≡ count) × GoesInPart old new text part
