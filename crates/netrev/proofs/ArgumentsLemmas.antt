@@ -1,7 +1,7 @@
 -- What the program's arguments ask for.
 use Rattle.std.proofs.Common.{◌≡◌, List, Option, Some, None, option_map, sym, ap, ◌∙◌, codes, [], ◌∷◌, refl}
-use Rattle.clap.specs.Words.{Row, Text, first_of, fault_of, subcommand_of}
-use Rattle.netrev.specs.Arguments.{program_in, Ask, IsPlain, netrev}
+use Rattle.clap.specs.Words.{Row, Text, first_of}
+use Rattle.netrev.specs.Arguments.{program_in, Ask, IsPlain}
 use Rattle.clap.proofs.OnLiterals.{clap_on_literals}
 
 -- two views of what is there, as a pair

@@ -1,5 +1,5 @@
 -- What the first words of a line tell, and numbers by their digits.
-use Rattle.std.proofs.Common.{◌≡◌, ℕ, ◌+◌, ◌*◌, ◌^◌, ◌≤◌, Bool, true, false, cond, List, [], ◌∷◌, arith, length, take, refl, sym, ap, ◌∙◌, nat_lt, ◌&&◌, Ok, Err}
+use Rattle.std.proofs.Common.{◌≡◌, ℕ, ◌+◌, ◌*◌, ◌^◌, ◌≤◌, Bool, false, cond, List, [], ◌∷◌, arith, length, take, refl, sym, ap, ◌∙◌, nat_lt, ◌&&◌, Ok, Err}
 use Rattle.std.proofs.Math.Bool.{and-false}
 use Rattle.std.proofs.lemmas.Bool.{le-ltb}
 use Rattle.std.specs.List.{list_all}

@@ -1,5 +1,5 @@
 -- The text of a cell is read as that cell.
-use Rattle.std.proofs.Common.{◌≡◌, ℕ, ◌^◌, ◌<◌, Bool, true, false, cond, List, [], ◌∷◌, arith, length, filter, Option, Some, None, refl, ap, ap₂, ◌∙◌, nat_eq, nat_lt, ◌&&◌, Ok, Err, codes, decimal}
+use Rattle.std.proofs.Common.{◌≡◌, ℕ, ◌^◌, ◌<◌, Bool, true, cond, List, [], ◌∷◌, arith, length, filter, Some, refl, ap, ap₂, ◌∙◌, nat_eq, nat_lt, ◌&&◌, Ok, Err, codes, decimal}
 use Rattle.std.specs.Prelude.{IfSome}
 use Rattle.std.specs.List.{slice_split, onto_first, list_all}
 use Rattle.std.specs.Option.{ok_or}

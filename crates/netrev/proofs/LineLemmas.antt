@@ -1,5 +1,5 @@
 -- The lines of a text that goes on.
-use Rattle.std.proofs.Common.{◌≡◌, ℕ, suc, ◌<◌, ◌≤◌, Bool, true, false, cond, List, [], ◌∷◌, ◌++◌, arith, length, take, refl, sym, ap, ◌∙◌, nat_eq, nat_lt, append_assoc, append-nil, take_all, Err}
+use Rattle.std.proofs.Common.{◌≡◌, ℕ, ◌<◌, ◌≤◌, Bool, true, false, cond, List, [], ◌∷◌, ◌++◌, arith, length, take, refl, sym, ap, ◌∙◌, nat_eq, nat_lt, append_assoc, append-nil, take_all, Err}
 use Rattle.std.proofs.lemmas.List.{length-take-le, take_at, take-append-le}
 use Rattle.std.proofs.lemmas.List.Splits.{length-slice_split}
 use Rattle.std.proofs.lemmas.Bool.{lt-ltb, ltb-false, ltb-true}

@@ -1,6 +1,6 @@
 //! What holds of the definitions.
 
-ghost use Rattle.std.specs.Prelude.{◌≡◌, ◌<◌, ◌^◌, ℕ, Ok, IfSome};
+ghost use Rattle.std.specs.Prelude.{◌≡◌, ◌<◌, ◌^◌, Ok, IfSome};
 ghost use Rattle.nr_rev.specs.CellName.{cell_index};
 ghost use Rattle.nr_rev.specs.declared.cell.Cell.{Cell};
 ghost use Rattle.netrev.specs.Command.{cell_of, words};

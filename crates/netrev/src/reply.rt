@@ -1,6 +1,6 @@
 //! What a line is answered, and how it is written.
 
-ghost use Rattle.std.specs.Prelude.{◌≡◌, ◌++◌, codes, decimal};
+ghost use Rattle.std.specs.Prelude.{◌++◌, codes, decimal};
 ghost use Rattle.netrev.specs.declared.reply.Reply.TheVariants as replies;
 ghost use Rattle.netrev.specs.Reply.{text_of, fault_text, piece_text};
 ghost use Rattle.netrev.specs.Sender.{Goes, token_text};

@@ -4,7 +4,7 @@ ghost use Rattle.std.specs.Prelude.{◌≡◌, ◌⊎◌};
 ghost use Rattle.std.specs.Process.{exit_status};
 ghost use Rattle.nr_rev.specs.Run.{Recording, IsGood};
 ghost use Rattle.nr_recording.specs.Text.{IsTextOf};
-ghost use Rattle.netrev.specs.Opening.{IsFirstFault, IsGoodText, fault_line};
+ghost use Rattle.netrev.specs.Opening.{fault_line};
 ghost use Rattle.netrev.specs.Run.{Runs, Walks, TellsFault, Checks, Prints, code_of, ok_line};
 ghost use Rattle.netrev.specs.declared.opening.OpenFault.TheVariants as faults;
 ghost use Rattle.netrev.specs.declared.run.ExitStatus.TheVariants as statuses;

@@ -1,6 +1,6 @@
 //! Sends texts, whole or in parts, and tells how much of them is out.
 
-ghost use Rattle.std.specs.Prelude.{◌≡◌, ℕ, List};
+ghost use Rattle.std.specs.Prelude.{ℕ, List};
 ghost use Rattle.netrev.specs.Sender.{Goes, hex_pair, next_number, text_of_parts, token_text};
 
 use itoa::Buffer;

@@ -1,7 +1,7 @@
 //! A walker: a world that goes to any position of a film, forwards by steps and backwards by
 //! undoing them.
 
-ghost use Rattle.std.specs.Prelude.{◌≡◌, ◌<◌, ◌≤◌, ◌+◌, ◌-◌, length, IfOk, OnOk, OnErr, IsOk};
+ghost use Rattle.std.specs.Prelude.{◌≡◌, ◌<◌, ◌≤◌, ◌+◌, ◌-◌, length, IfOk, OnOk, OnErr};
 ghost use Rattle.netrev.specs.Film.{Stands};
 ghost use Rattle.netrev.specs.Walker.{Walk};
 

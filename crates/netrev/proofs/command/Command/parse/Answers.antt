@@ -1,4 +1,4 @@
-use Rattle.std.proofs.Common.{◌≡◌, ◌∷◌, length, map, take, nat_lt, rules, false, ap, ◌∙◌}
+use Rattle.std.proofs.Common.{◌≡◌, ◌∷◌, length, map, take, nat_lt, rules, false, ◌∙◌}
 use Rattle.std.proofs.lemmas.Bool.{le-ltb}
 use Rattle.netrev.specs.Command.{without_return, words}
 use Rattle.netrev.proofs.CommandLemmas.{meaning_of-first}
