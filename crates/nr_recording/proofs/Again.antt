@@ -3,6 +3,7 @@ use Rattle.std.proofs.Common.{◌≡◌, ◌≤◌, ◌<◌, ◌^◌, ℕ, ℤ, 
 use Rattle.std.proofs.lemmas.Bool.{lt-ltb, le-ltb, le-leb, leb-true}
 use Rattle.hex.specs.Hex.{encode_lower, lower_digits}
 use Rattle.hex.proofs.HexLemmas.{length-encode_with, decode_of-encode_lower}
+use Rattle.serde_json.specs.Data.{no_items}
 use Rattle.nr_rev.specs.declared.limits.Limits.{Limits}
 use Rattle.nr_rev.specs.declared.sides.Side.{Side}
 use Rattle.nr_rev.specs.declared.sides.Side.TheVariants as sides
@@ -18,7 +19,6 @@ use Rattle.nr_recording.specs.declared.version.Version.TheVariants.{One}
 use Rattle.nr_recording.specs.Recording.{is_writable}
 use Rattle.nr_recording.specs.Arguments.{none, most_digits, number_of, side_of, mode_of, bit_of, bytes_of, moment_of, from_zero}
 use Rattle.nr_recording.specs.Header.{version_of, limit_of, limits_of, header_of}
-use Rattle.serde_json.specs.Data.{no_items}
 use Rattle.nr_recording.specs.Steps.{step_in, arguments_of, step_of}
 use Rattle.nr_recording.specs.Spelling.{numeral, time, side, mode, bit, digits, argument_data, arguments_data, IsMoment}
 use Rattle.nr_recording.specs.Writing.{step_data, IsTyped, limits_data}

@@ -92,14 +92,14 @@ bytes_few d bytes e =
 abbrev OnlyReads : {A : Type 0} → (A → Type 0) → (Items → Result (A × Items) Fault) → Type 0
 OnlyReads {A = A} P read = (ds : Items) (p : A × Items) → read ds ≡ Ok p → P p.0
 
-first_gives : {A : Type 0} (P : A → Type 0) (read : Data → Option A) → ((d : Data) (x : A) → read d ≡ Some x → P x) → OnlyReads P (first_by read)
-first_gives P read h no_items p e = absurd cc
-first_gives P read h (item d ds) p e =
+first_only : {A : Type 0} (P : A → Type 0) (read : Data → Option A) → ((d : Data) (x : A) → read d ≡ Some x → P x) → OnlyReads P (first_by read)
+first_only P read h no_items p e = absurd cc
+first_only P read h (item d ds) p e =
     let m = map_some (λ x. (x, ds)) (read d) p (found_ok fault.Arguments (option_map (λ x. (x, ds)) (read d)) p e) in
     subst (λ q. P q.0) m.2 (h d m.0 m.1)
 
-second_gives : {A B : Type 0} (P : B → Type 0) (first : Items → Result (A × Items) Fault) (second : Items → Result (B × Items) Fault) → OnlyReads P second → OnlyReads (λ p. P p.1) (first and second)
-second_gives P first second h ds p e =
+second_only : {A B : Type 0} (P : B → Type 0) (first : Items → Result (A × Items) Fault) (second : Items → Result (B × Items) Fault) → OnlyReads P second → OnlyReads (λ p. P p.1) (first and second)
+second_only P first second h ds p e =
     let x = bind_ok (first ds) _ p e in
     let y = bind_ok (second x.0.1) _ p x.2 in
     subst (λ q. P q.0.1) (same_ok {E = Fault} ((x.0.0, y.0.0), y.0.1) p y.2) (h x.0.1 y.0 y.1)
@@ -108,10 +108,10 @@ abbrev AreFew : List ℕ → Type 0
 AreFew bytes = leb (length bytes) MOST_BYTES ≡ true
 
 few_bytes : OnlyReads AreFew bytes
-few_bytes = first_gives AreFew bytes_of bytes_few
+few_bytes = first_only AreFew bytes_of bytes_few
 
 time_least : OnlyReads (λ t. is_writable (Tick t) ≡ true) time
-time_least = first_gives (λ t. is_writable (Tick t) ≡ true) time_of (λ d t e. let m = then_some from_zero (moment_of d) t e in from m.0 t m.2)
+time_least = first_only (λ t. is_writable (Tick t) ≡ true) time_of (λ d t e. let m = then_some from_zero (moment_of d) t e in from m.0 t m.2)
   where
     from : (z t : ℤ) → from_zero z ≡ Some t → is_writable (Tick t) ≡ true
     from (pos n) t h =
@@ -137,8 +137,8 @@ usual step found h = of_found step found (λ ds p e. h p.0)
 
 -- only these kinds make steps that might be none that can be written
 kind_made : (kind : Kind) → MakesWritable (step_in kind)
-kind_made Kind.Arrive = of_found _ _ (second_gives AreFew number bytes few_bytes)
-kind_made Kind.SysWrite = of_found _ _ (second_gives (λ p. AreFew p.1) number (number and bytes) (second_gives AreFew number bytes few_bytes))
+kind_made Kind.Arrive = of_found _ _ (second_only AreFew number bytes few_bytes)
+kind_made Kind.SysWrite = of_found _ _ (second_only (λ p. AreFew p.1) number (number and bytes) (second_only AreFew number bytes few_bytes))
 kind_made Kind.Tick = of_found _ _ time_least
 kind_made _ = usual _ _ (λ x. refl)
 

@@ -49,17 +49,19 @@ from_zero z = if int_lt z (pos 0) then None else Some z
 abbrev pub time_of : Data → Option ℤ
 time_of d = option_and_then from_zero (moment_of d)
 
--- one side
+-- the word for one side
 abbrev pub side_named : List ℕ → Option Side
 side_named text = if bytes_eq text (codes "r") then Some sides.Read else (if bytes_eq text (codes "w") then Some sides.Write else None)
 
+-- one side
 abbrev pub side_of : Data → Option Side
 side_of d = option_and_then side_named (as_str d)
 
--- one side or both
+-- the word for one side or both
 abbrev pub mode_named : List ℕ → Option Mode
 mode_named text = if bytes_eq text (codes "r") then Some modes.Read else (if bytes_eq text (codes "w") then Some modes.Write else (if bytes_eq text (codes "rw") then Some modes.Both else None))
 
+-- one side or both
 abbrev pub mode_of : Data → Option Mode
 mode_of d = option_and_then mode_named (as_str d)
 
@@ -71,6 +73,7 @@ most_digits = 2 * MOST_BYTES
 abbrev pub bytes_named : List ℕ → Option (List ℕ)
 bytes_named text = if nat_lt most_digits (length text) then None else result_ok (decode_of text)
 
+-- bytes
 abbrev pub bytes_of : Data → Option (List ℕ)
 bytes_of d = option_and_then bytes_named (as_str d)
 
@@ -97,27 +100,35 @@ first_by read (item d ds) = or_fault fault.Arguments (option_map (λ x. (x, ds))
 unfoldable pub none : Items → Result (⊤ × Items) Fault
 none ds = Ok (tt, ds)
 
+-- a number of 32 bits
 abbrev pub number : Items → Result (ℕ × Items) Fault
 number ds = first_by number_of ds
 
+-- a number of 64 bits
 abbrev pub tag : Items → Result (ℕ × Items) Fault
 tag ds = first_by tag_of ds
 
+-- 0 or 1
 abbrev pub bit : Items → Result (Bool × Items) Fault
 bit ds = first_by bit_of ds
 
+-- a time with a sign
 abbrev pub moment : Items → Result (ℤ × Items) Fault
 moment ds = first_by moment_of ds
 
+-- a time that is not below 0
 abbrev pub time : Items → Result (ℤ × Items) Fault
 time ds = first_by time_of ds
 
+-- one side
 abbrev pub side : Items → Result (Side × Items) Fault
 side ds = first_by side_of ds
 
+-- one side or both
 abbrev pub mode : Items → Result (Mode × Items) Fault
 mode ds = first_by mode_of ds
 
+-- bytes, as hexadecimal digits
 abbrev pub bytes : Items → Result (List ℕ × Items) Fault
 bytes ds = first_by bytes_of ds
 

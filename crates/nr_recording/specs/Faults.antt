@@ -51,6 +51,7 @@ abbrev pub of_hex : FromHexError → LineError
 of_hex OutOfMemory = errors.Memory
 of_hex _ = errors.Fault fault.Arguments
 
+-- an error of this category, from the reader of JSON
 abbrev pub of_category : Category → LineError
 of_category categories.Memory = errors.Memory
 of_category _ = errors.Fault fault.NotJson

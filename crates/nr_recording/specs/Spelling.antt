@@ -18,16 +18,18 @@ pub data Argument : Type 0 where
   bit : Bool → Argument
   digits : List ℕ → Argument
 
--- the words for sides, modes and bits
+-- the word for a side
 abbrev pub side_name : Side → List ℕ
 side_name sides.Read = codes "r"
 side_name sides.Write = codes "w"
 
+-- the word for a mode
 abbrev pub mode_name : Mode → List ℕ
 mode_name modes.Read = codes "r"
 mode_name modes.Write = codes "w"
 mode_name modes.Both = codes "rw"
 
+-- the number for a bit
 abbrev pub bit_number : Bool → ℕ
 bit_number false = 0
 bit_number true = 1
