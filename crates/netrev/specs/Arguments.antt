@@ -34,10 +34,12 @@ pub record Ask (arguments : List Text) (program file : Text) : Type 0 where
   pub faultless : fault_of netrev arguments ≡ []
   pub is_asked : program_in (subcommand_of netrev arguments) ≡ Some (program, file)
 
+-- the arguments ask for this program
 abbrev pub Asks : List Text → Program → Type 0
 Asks arguments (program.Run file) = Ask arguments (codes "run") file.now
 Asks arguments (program.Check file) = Ask arguments (codes "check") file.now
 
+-- the file that a program is asked for on
 abbrev pub file_of : Program → Text
 file_of (program.Run file) = file.now
 file_of (program.Check file) = file.now

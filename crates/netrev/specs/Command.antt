@@ -18,6 +18,7 @@ use Rattle.netrev.specs.declared.command.LineFault.{LineFault}
 use Rattle.netrev.specs.declared.command.LineFault.TheVariants.{UnknownCommand, BadArgument, TooLong}
 
 infixl 10 ◌>>=◌
+-- what follows from a value, or the fault where there is none
 abbrev pub ◌>>=◌ : {A B : Type 0} → Result A LineFault → (A → Result B LineFault) → Result B LineFault
 (Ok x) >>= f = f x
 (Err e) >>= f = Err e
