@@ -1,6 +1,7 @@
 //! A film: a recording whose steps all apply, and the world that it begins with.
 
 ghost use Rattle.std.specs.Prelude.{◌≡◌, ◌≢◌, ◌<◌, ◌≤◌, ◌+◌, length, IfOk, IfErr, OnOk, OnErr};
+ghost use Rattle.nr_recording.specs.declared.recording.TheConstants.{MOST_STEPS};
 ghost use Rattle.nr_rev.specs.Run.{IsGood};
 ghost use Rattle.netrev.specs.Film.{Stands, AppliesAt, LosesBytesAt, IsRefusedFor, IsStepFault, IsLoadFault};
 ghost use Rattle.nr_rev.specs.declared.refusal.Refusal.TheVariants.{Memory};
@@ -111,7 +112,7 @@ impl<W: Worlds + Drop> Film<W> {
     /// How many steps there are.
     pub(crate) fn len(&self) -> usize
         ensures is { result ≡ length self.now.steps }
-        ensures within { result ≤ 1000000 }
+        ensures within { result ≤ MOST_STEPS }
         ensures good { IsGood self.now }
     {
         self.recording.len()

@@ -14,7 +14,7 @@ mod writing;
 
 pub use fault::{Fault, MakeFault, ReadFault, WriteFault};
 pub use reading::read;
-pub use recording::Recording;
+pub use recording::{MOST_STEPS, Recording};
 pub use writing::write;
 
 #[cfg(test)]

@@ -26,7 +26,7 @@ impl Model for Recording {
 }
 
 /// The most steps that a recording may have.
-pub(crate) const MOST_STEPS: usize = 1_000_000;
+pub const MOST_STEPS: usize = 1_000_000;
 
 /// The most bytes that a step may carry.
 pub(crate) const MOST_BYTES: usize = 65_536;
