@@ -1,7 +1,6 @@
 pub mod ArgumentsLemmas
 pub mod CommandLemmas
 pub mod EngineLemmas
-pub mod FilmLemmas
 pub mod IdleTicks
 pub mod LawLemmas
 pub mod LineLemmas

@@ -2,10 +2,9 @@
 use Rattle.std.proofs.Common.{◌≡◌, ℕ, ◌+◌, ◌<◌, ◌≤◌, List, [], ◌∷◌, ◌++◌, length, sym, ap, ◌∙◌, subst, arith}
 use Rattle.std.proofs.lemmas.List.{length_push}
 use Rattle.nr_rev.specs.World.{World}
-use Rattle.nr_rev.specs.Run.{Recording}
+use Rattle.nr_rev.specs.Run.{Recording, Stands}
 use Rattle.nr_rev.specs.Transaction.{LeadsBack}
 use Rattle.nr_rev.proofs.Chains.{LeadsBack-push, LeadsBack-last}
-use Rattle.netrev.specs.Film.{Stands}
 use Rattle.netrev.specs.Walker.{LeadsBackOne, IsWay}
 
 same-number : (a b : ℕ) → a + 1 ≡ b + 1 → a ≡ b

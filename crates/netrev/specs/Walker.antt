@@ -1,9 +1,8 @@
 -- A walk over the positions of a recording.
 use Rattle.std.specs.Prelude.{◌≡◌, ℕ, ◌+◌, ◌≤◌, List, length}
 use Rattle.nr_rev.specs.World.{World}
-use Rattle.nr_rev.specs.Run.{Recording}
+use Rattle.nr_rev.specs.Run.{Recording, Stands}
 use Rattle.nr_rev.specs.Transaction.{LeadsBack}
-use Rattle.netrev.specs.Film.{Stands}
 
 -- a recording, and the position that is reached
 pub record Walk : Type 0 where

@@ -2,8 +2,8 @@
 
 ghost use Rattle.std.specs.Prelude.{◌≡◌, ◌≢◌, ◌<◌, ◌≤◌, ◌+◌, length, IfOk, IfErr, OnOk, OnErr};
 ghost use Rattle.nr_recording.specs.declared.recording.TheConstants.{MOST_STEPS};
-ghost use Rattle.nr_rev.specs.Run.{IsGood};
-ghost use Rattle.netrev.specs.Film.{Stands, AppliesAt, LosesBytesAt, IsRefusedFor, IsStepFault, IsLoadFault};
+ghost use Rattle.nr_rev.specs.Run.{AppliesAt, IsGood, IsRefusedFor, LosesBytesAt, Stands};
+ghost use Rattle.netrev.specs.Film.{IsStepFault, IsLoadFault};
 ghost use Rattle.nr_rev.specs.declared.refusal.Refusal.TheVariants.{Memory};
 ghost use Rattle.netrev.specs.declared.film.LoadFault.TheVariants as faults;
 
@@ -38,8 +38,7 @@ pub(crate) struct Film<W: Worlds + Drop> {
 }
 
 impl<W: Worlds + Drop> Model for Film<W> {
-    ghost use Rattle.nr_rev.specs.Run.{IsGood, Recording as Recorded};
-    ghost use Rattle.netrev.specs.Film.{Stands};
+    ghost use Rattle.nr_rev.specs.Run.{IsGood, Recording as Recorded, Stands};
 
     ghost Value = { Recorded };
 

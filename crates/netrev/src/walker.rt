@@ -2,7 +2,7 @@
 //! undoing them.
 
 ghost use Rattle.std.specs.Prelude.{◌≡◌, ◌<◌, ◌≤◌, ◌+◌, ◌-◌, length, IfOk, OnOk, OnErr};
-ghost use Rattle.netrev.specs.Film.{Stands};
+ghost use Rattle.nr_rev.specs.Run.{Stands};
 ghost use Rattle.netrev.specs.Walker.{Walk};
 
 use crate::film::Film;

@@ -32,3 +32,4 @@ pub mod Transfers
 pub mod Unblocked
 pub mod Waits
 pub mod WordSet
+pub mod Runs

@@ -1,6 +1,6 @@
 use Rattle.std.proofs.Common.{◌≡◌, ◌+◌, ◌-◌, ◌≤◌, length, subst, arith}
 use Rattle.nr_rev.specs.Run.{IsRefusedAt}
-use Rattle.netrev.proofs.FilmLemmas.{IsGoodTo-next, IsGoodTo-prefix, IsGoodTo-whole}
+use Rattle.nr_rev.proofs.Runs.{IsGoodTo-next, IsGoodTo-prefix, IsGoodTo-whole}
 use Rattle.netrev.proofs.film.replay.Goals as goal
 
 -- the steps before it apply, and it doesn't

@@ -1,5 +1,5 @@
-use Rattle.netrev.specs.Film.{Stands}
-use Rattle.netrev.proofs.FilmLemmas.{IsGoodTo}
+use Rattle.nr_rev.specs.Run.{Stands}
+use Rattle.nr_rev.proofs.Runs.{IsGoodTo}
 use Rattle.netrev.proofs.film.replay.Given as goal
 
 -- the steps so far apply, and the world stands behind them

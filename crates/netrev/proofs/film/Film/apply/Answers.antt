@@ -1,5 +1,5 @@
 use Rattle.std.proofs.Common.{rules}
-use Rattle.netrev.proofs.FilmLemmas.{Stands-next}
+use Rattle.nr_rev.proofs.Runs.{Stands-next}
 use Rattle.netrev.proofs.film.Film.apply.Goals as goal
 
 -- the step applies to the position's world

@@ -1,5 +1,5 @@
 use Rattle.std.proofs.Common.{◌≡◌, ◌<◌, ◌+◌, ◌∷◌, ◌++◌, [], length, sym, subst, rules}
-use Rattle.netrev.specs.Film.{Stands}
+use Rattle.nr_rev.specs.Run.{Stands}
 use Rattle.netrev.proofs.WalkerLemmas.{IsWay-forward}
 use Rattle.netrev.proofs.walker.Walker.forward.Goals as goal
 
