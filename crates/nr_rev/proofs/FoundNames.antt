@@ -1,9 +1,12 @@
--- What is found by its name has that name.
-use Rattle.std.proofs.Common.{◌≡◌, ℕ, Bool, true, false, cond, List, [], ◌∷◌, Option, Some, None, find, bytes_eq, sym, subst, refl}
+-- What is found by its name or its number has it.
+use Rattle.std.proofs.Common.{◌≡◌, ℕ, Bool, true, false, cond, List, [], ◌∷◌, Option, Some, None, find, bytes_eq, nat_eq, sym, subst, refl}
+use Rattle.std.proofs.lemmas.Bool.{eqb-true}
 use Rattle.std.proofs.lemmas.Slice.Eq.{bytes_eq-Decides}
 use Rattle.std.specs.List.{AllByRecursion}
 use Rattle.nr_rev.specs.declared.cell.Cell.{Cell}
-use Rattle.nr_rev.specs.CellName.{cell_name, cell_index, cells_at, cell_named}
+use Rattle.nr_rev.specs.CellName.{cell_index, cells_at}
+use Rattle.nr_rev.specs.declared.kind.Kind.{Kind}
+use Rattle.nr_rev.specs.Kind.{kind_name, kind_named}
 
 found_passes : {X : Type 0} (test : X → Bool) (xs : List X) (x : X) → find test xs ≡ Some x → test x ≡ true
 found_passes test [] x e = cc
@@ -21,10 +24,18 @@ found_such {X} P test (y ∷ ys) x all e =
     elim (test y) as (λ b. ◌≡◌ {A = Option X} (cond b (Some y) (find test ys)) (Some x) → P x)
     [ true ↦ λ found. (let same : y ≡ x = cc in subst P same all.0) | false ↦ λ found. found_such P test ys x all.1 found ] e
 
-pub cell_spelled : (name : List ℕ) (index : Option ℕ) (cell : Cell) → cell_named name index ≡ Some cell → (name ≡ cell_name cell) × (index ≡ cell_index cell)
-cell_spelled name index cell e =
-    (found_named cell_name (cells_at index) name cell e, found_such (λ c. index ≡ cell_index c) _ (cells_at index) cell (indexed index) e)
+pub found_numbered : {X : Type 0} (number : X → ℕ) (xs : List X) (n : ℕ) (x : X) → find (λ y. nat_eq (number y) n) xs ≡ Some x → n ≡ number x
+found_numbered number xs n x e = sym (eqb-true (number x) n (found_passes _ xs x e))
+
+-- a cell that is found among those of an index has that index
+pub found_at : (test : Cell → Bool) (index : Option ℕ) (cell : Cell) → find test (cells_at index) ≡ Some cell → index ≡ cell_index cell
+found_at test index cell e = found_such (λ c. index ≡ cell_index c) test (cells_at index) cell (indexed index) e
   where
     indexed : (i : Option ℕ) → AllByRecursion (λ c. i ≡ cell_index c) (cells_at i)
     indexed None = (refl, (refl, (refl, (refl, (refl, tt)))))
     indexed (Some i) = (refl, (refl, (refl, (refl, (refl, (refl, (refl, (refl, (refl, (refl, (refl, (refl, (refl, (refl, tt))))))))))))))
+
+-- a kind's name is read as that kind
+pub kind_again : (kind : Kind) → kind_named (kind_name kind) ≡ Some kind
+kind_again Kind.Spawn = refl
+kind_again _ = refl

@@ -1,5 +1,5 @@
 -- How cells are spelled, and read.
-use Rattle.std.specs.Prelude.{ℕ, List, [], ◌∷◌, Option, Some, None, find, codes}
+use Rattle.std.specs.Prelude.{ℕ, ◌==◌, List, [], ◌∷◌, Option, Some, None, find, codes}
 use Rattle.std.specs.Str.{bytes_eq}
 use Rattle.nr_rev.specs.declared.cell.Cell.{Cell}
 
@@ -92,3 +92,7 @@ cell_number (Cell.ReadSequence i) = 16
 cell_number (Cell.WriteSequence i) = 17
 cell_number (Cell.DescriptorSequence i) = 18
 cell_number (Cell.Info i) = 19
+
+-- the cell that shows what has this number, of what the index tells if there is one
+abbrev pub cell_numbered : ℕ → Option ℕ → Option Cell
+cell_numbered number index = find (λ cell. cell_number cell == number) (cells_at index)

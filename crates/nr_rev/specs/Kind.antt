@@ -1,5 +1,5 @@
 -- The kinds of steps: their names, their numbers, and which kind a step is of.
-use Rattle.std.specs.Prelude.{ℕ, List, [], ◌∷◌, Option, find, codes}
+use Rattle.std.specs.Prelude.{ℕ, ◌==◌, List, [], ◌∷◌, Option, find, codes}
 use Rattle.std.specs.Str.{bytes_eq}
 use Rattle.nr_rev.specs.declared.kind.Kind.{Kind}
 use Rattle.nr_rev.specs.declared.step.Step.{Step}
@@ -108,6 +108,10 @@ kind_number Kind.PollEvent = 27
 kind_number Kind.Tick = 28
 kind_number Kind.Pop = 29
 kind_number Kind.Fire = 30
+
+-- the kind of this number
+abbrev pub kind_numbered : ℕ → Option Kind
+kind_numbered number = find (λ kind. kind_number kind == number) kinds
 
 -- the kind that a step is of
 abbrev pub kind_of : Step → Kind

@@ -1,8 +1,8 @@
 //! What can be read of a world.
 
-ghost use Rattle.std.specs.Prelude.{◌≡◌, ◌≢◌, MatchBool, Some, find};
+ghost use Rattle.std.specs.Prelude.{◌≡◌, ◌≢◌, ◌==◌, MatchBool, Some, find};
 ghost use Rattle.std.specs.Str.{bytes_eq};
-ghost use Rattle.nr_rev.specs.CellName.{cell_index, cell_name, cell_named, cell_number, cells_at};
+ghost use Rattle.nr_rev.specs.CellName.{cell_index, cell_name, cell_named, cell_number, cell_numbered, cells_at};
 
 /// Something of a world that has a value, or none. The number is that of a goroutine, a socket or a descriptor; where
 /// nothing made so far has it, the value is absent. A descriptor that was closed keeps its values.
@@ -87,6 +87,12 @@ fn first_named(cells: &[Cell], name: &[u8]) -> Option<Cell>
         .iter()
         .copied()
         .find(|cell| cell.name().as_bytes() == name)
+}
+
+fn first_numbered(cells: &[Cell], number: u8) -> Option<Cell>
+    ensures { result ≡ find (λ cell. cell_number cell == number) cells.now }
+{
+    cells.iter().copied().find(|cell| cell.number() == number)
 }
 
 impl Cell {
@@ -181,6 +187,17 @@ impl Cell {
         match index {
             None => first_named(&CELLS, name),
             Some(index) => first_named(&cells_of(index), name),
+        }
+    }
+
+    /// The cell that shows what has this number, from 1 on: with an index, one of a goroutine, a socket or a descriptor;
+    /// without, one that there is one of.
+    pub fn numbered(number: u8, index: Option<u32>) -> Option<Cell>
+        ensures { result ≡ cell_numbered number index }
+    {
+        match index {
+            None => first_numbered(&CELLS, number),
+            Some(index) => first_numbered(&cells_of(index), number),
         }
     }
 }

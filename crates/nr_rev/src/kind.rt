@@ -1,7 +1,7 @@
 //! The kinds of recorded steps: their names and numbers.
 
 ghost use Rattle.std.specs.Prelude.{◌≡◌};
-ghost use Rattle.nr_rev.specs.Kind.{kind_name, kind_named, kind_number, kind_of};
+ghost use Rattle.nr_rev.specs.Kind.{kind_name, kind_named, kind_number, kind_numbered, kind_of};
 
 use crate::step::Step;
 
@@ -128,6 +128,13 @@ impl Kind {
             .iter()
             .copied()
             .find(|kind| kind.name().as_bytes() == name)
+    }
+
+    /// The kind of this number, if there is one.
+    pub fn numbered(number: u8) -> Option<Kind>
+        ensures { result ≡ kind_numbered number }
+    {
+        KINDS.iter().copied().find(|kind| kind.number() == number)
     }
 }
 

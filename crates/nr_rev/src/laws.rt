@@ -21,9 +21,9 @@ ghost use Rattle.nr_rev.specs.declared.status.Status.TheVariants.{Entering, Swap
 ghost use Rattle.nr_rev.specs.Run.{Recording, world_at};
 ghost use Rattle.nr_rev.specs.Step.{IsTimely, outcome};
 ghost use Rattle.nr_rev.specs.declared.cell.Cell.{Cell};
-ghost use Rattle.nr_rev.specs.CellName.{cell_index, cell_name, cell_named};
+ghost use Rattle.nr_rev.specs.CellName.{cell_index, cell_name, cell_named, cell_number, cell_numbered};
 ghost use Rattle.nr_rev.specs.declared.kind.Kind.{Kind};
-ghost use Rattle.nr_rev.specs.Kind.{kind_name, kind_named, kind_number, kinds};
+ghost use Rattle.nr_rev.specs.Kind.{kind_name, kind_named, kind_number, kind_numbered, kinds};
 ghost use Rattle.nr_rev.specs.WellFormed.{WellFormed, HasWord, IsInside, Shows, socket_named, Stand, standing};
 
 /// The world that a recording begins with.
@@ -70,19 +70,25 @@ pub fn what_is_named_is_there()
         → (row : DescriptorRow) × (slice_get w.descriptors e.descriptor ≡ Some row) }
 {}
 
-/// A kind's name is read as that kind, and nothing else is; and its number is its place in the list of all kinds.
+/// A kind's name is read as that kind, and nothing else is. So is its number, which is its place in the list of all
+/// kinds.
 pub fn kinds_are_read_as_spelled()
     ensures read { (kind : Kind) → kind_named (kind_name kind) ≡ Some kind }
     ensures spelled { (name : List ℕ) (kind : Kind) → kind_named name ≡ Some kind
         → name ≡ kind_name kind }
+    ensures counted { (kind : Kind) → kind_numbered (kind_number kind) ≡ Some kind }
+    ensures number { (n : ℕ) (kind : Kind) → kind_numbered n ≡ Some kind → n ≡ kind_number kind }
     ensures numbered { (kind : Kind) → slice_get kinds (kind_number kind - 1) ≡ Some kind }
 {}
 
-/// A cell's name and number are read as that cell, and nothing else is.
+/// A cell's name and index are read as that cell, and nothing else is; so are its number and index.
 pub fn cells_are_read_as_spelled()
     ensures read { (cell : Cell) → cell_named (cell_name cell) (cell_index cell) ≡ Some cell }
     ensures spelled { (name : List ℕ) (index : Option ℕ) (cell : Cell)
         → cell_named name index ≡ Some cell → (name ≡ cell_name cell) × (index ≡ cell_index cell) }
+    ensures counted { (cell : Cell) → cell_numbered (cell_number cell) (cell_index cell) ≡ Some cell }
+    ensures number { (n : ℕ) (index : Option ℕ) (cell : Cell) → cell_numbered n index ≡ Some cell
+        → (n ≡ cell_number cell) × (index ≡ cell_index cell) }
 {}
 
 /// What the weights of a way back count is all that there is: each type that they look into has just the
