@@ -10,10 +10,10 @@ use Rattle.nr_rev.specs.declared.sides.Side.TheVariants as sides
 use Rattle.nr_rev.specs.declared.sides.Mode.{Mode}
 use Rattle.nr_rev.specs.declared.sides.Mode.TheVariants as modes
 use Rattle.nr_rev.specs.declared.step.Step.{Step}
-use Rattle.nr_rev.specs.declared.kind.Kind.{Kind}
-use Rattle.nr_rev.specs.Kind.{kind_name, kind_named, kind_of}
+use Rattle.nr_rev.specs.Kind.{kind_of}
 use Rattle.nr_rev.specs.Limits.{AreInRange}
 use Rattle.nr_rev.specs.declared.limits.TheConstants.{MOST_GOROUTINES, MOST_SOCKETS, MOST_DESCRIPTORS, MOST_BUFFER}
+use Rattle.nr_rev.proofs.FoundNames.{kind_again}
 use Rattle.nr_recording.specs.declared.recording.TheConstants.{MOST_BYTES}
 use Rattle.nr_recording.specs.declared.version.Version.TheVariants.{One}
 use Rattle.nr_recording.specs.Recording.{is_writable}
@@ -52,10 +52,6 @@ bytes_again bytes below few =
     let most = leb-true (length bytes) MOST_BYTES few in
     let short : ltb most_digits (length (encode_lower bytes)) ≡ false = le-ltb _ _ (omega (arith, length-encode_with lower_digits bytes)) in
     rw (short, decode_of-encode_lower bytes below) refl
-
-kind_again : (k : Kind) → kind_named (kind_name k) ≡ Some k
-kind_again Kind.Spawn = refl
-kind_again _ = refl
 
 -- the arguments of a step, read as those of its kind, make that step
 arguments_again : (s : Step) → IsTyped s → is_writable s ≡ true → step_in (kind_of s) (arguments_data (arguments_of s)) ≡ Ok (s, no_items)
