@@ -1,0 +1,12 @@
+use Rattle.std.proofs.Common.{rules}
+use Rattle.nr_snaps.specs.Replay.{LeadsOn}
+use Rattle.nr_snaps.proofs.Frames.{IsFrame-next}
+use Rattle.nr_snaps.proofs.film.Film.advance.Goals as goal
+
+-- the step leads on from the frame
+pub returns : goal.returns
+returns g c =
+    let leads : LeadsOn g.W.Reversible.steps c.args.self.now.recording c.args.n c.args.world.now c.advance.new.self =
+    record { step = c.in-Some.step.now; next = search rules; answer = c.in-Ok.field-0; leads = c.in-Ok.ensures.step } in
+    IsFrame-next g.W.Reversible.is_well_formed g.W.Worlds.world g.W.Reversible.steps g.met.W.Worlds.steps_are c.args.self.now c.args.n c.args.world.now c.advance.new.self
+    c.requires.frame leads c.advance.ensures.well_formed

@@ -1,0 +1,5 @@
+use Rattle.nr_snaps.proofs.loading.Snaps.load.Given as goal
+
+-- the film that is made
+abbrev pub ghost-replay : goal.ghost-replay
+ghost-replay g a = record { recording = a.recording.now; every = a.every; origin = a.start.now }

@@ -1,0 +1,36 @@
+use Rattle.std.proofs.Common.{◌≡◌, ℕ, ◌+◌, ◌-◌, sym, subst, arith}
+use Rattle.nr_rev.specs.Run.{IsRefusedAt, Stands}
+use Rattle.nr_rev.proofs.Runs.{IsGoodTo-prefix}
+use Rattle.nr_snaps.specs.Replay.{LeadsOn, Replays}
+use Rattle.nr_snaps.proofs.Frames.{IsFrame-next, Replays-good}
+use Rattle.nr_snaps.proofs.loading.play.Goals as goal
+
+-- the steps before it were replayed, so they apply, and it doesn't
+pub returns-in-Err-clause-fault : goal.returns-in-Err-clause-fault
+returns-in-Err-clause-fault g c =
+    let r = c.args.recording.now in
+    let n = c.loop-n.n in
+    let place : n ≡ n + 1 - 1 = omega arith in
+    let is : g.film.recording ≡ r = assumption in
+    let origin : Stands g.W.Reversible.is_well_formed g.W.Worlds.world r 0 g.film.origin = assumption in
+    let replays = subst (λ r. Replays g.W.Reversible.steps r g.film.origin n c.loop-n.world) is c.loop-n.invariant.frame.replays in
+    let good = Replays-good g.W.Reversible.is_well_formed g.W.Worlds.world g.W.Reversible.steps g.met.W.Worlds.steps_are r g.film.origin n c.loop-n.world origin.there replays in
+    let refused = c.in-Err.ensures.refused in (
+      omega arith,
+      c.in-Err.ensures.no_memory,
+      subst (λ k. IsRefusedAt r k c.in-Err.reason) place (record {
+        before = IsGoodTo-prefix r n good.0;
+        step = refused.0;
+        next = refused.1;
+        refused = refused.2;
+      }),
+    )
+
+pub loop-n-preserved : goal.loop-n-preserved
+loop-n-preserved g c =
+    let is : g.film.recording ≡ c.args.recording.now = assumption in
+    let leads = subst (λ r. LeadsOn g.W.Reversible.steps r c.loop-n.n c.loop-n.world c.advance.new.world) (sym is) c.in_default.ensures.leads in
+    record {
+      frame = IsFrame-next g.W.Reversible.is_well_formed g.W.Worlds.world g.W.Reversible.steps g.met.W.Worlds.steps_are g.film c.loop-n.n c.loop-n.world c.advance.new.world
+          c.loop-n.invariant.frame leads c.advance.ensures.well_formed;
+    }

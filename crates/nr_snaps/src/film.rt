@@ -1,0 +1,118 @@
+//! A film: a recording whose steps all apply, with copies of its world.
+
+ghost use Rattle.std.specs.Prelude.{◌≡◌, ◌<◌, ◌≤◌, ◌+◌, ◌*◌, ◌/◌, length, slice_get, IfOk, OnOk, OnErr};
+ghost use Rattle.std.specs.Option.{option_copied};
+ghost use Rattle.nr_recording.specs.declared.recording.TheConstants.{MOST_STEPS};
+ghost use Rattle.nr_rev.specs.Run.{IsGood, LosesBytesAt};
+ghost use Rattle.nr_snaps.specs.Film.{IsFrame};
+ghost use Rattle.nr_snaps.specs.declared.film.TheConstants.{LEAST_EVERY, MOST_EVERY};
+
+use nr_recording::Recording;
+use nr_rev::{Refusal, Step, Worlds};
+use std::alloc::AllocError;
+use std::marker::Model;
+
+/// The fewest steps that may lie between two copies.
+pub const LEAST_EVERY: usize = 64;
+
+/// The most steps that may lie between two copies.
+pub const MOST_EVERY: usize = 65_536;
+
+/// A recording whose steps all apply, with a copy of its world at position 0 and at each `every`
+/// steps after it, up to the end. No call changes it.
+#[derive(Drop)]
+pub struct Film<W: Worlds + Drop> {
+    pub(crate) recording: Recording,
+    pub(crate) every: usize,
+    // the world at position 0
+    pub(crate) start: W,
+    // those at `every`, twice `every` and so on
+    pub(crate) later: Vec<W>,
+}
+
+impl<W: Worlds + Drop> Model for Film<W> {
+    ghost use Rattle.nr_snaps.specs.Film.{Reel, IsFilm};
+
+    ghost Value = { Reel W };
+
+    ghost view = { λ f. record { recording = f.recording; every = f.every; origin = f.start } };
+
+    ghost invariant = { λ f. IsFilm W.is_well_formed W.world W.steps
+        (record { recording = f.recording; every = f.every; origin = f.start }) f.later.items };
+}
+
+impl<W: Worlds + Drop> Film<W> {
+    /// How many steps there are.
+    pub fn len(&self) -> usize
+        ensures is { result ≡ length self.now.recording.steps }
+        ensures within { result ≤ MOST_STEPS }
+        ensures good { IsGood self.now.recording }
+    {
+        self.recording.len()
+    }
+
+    /// How many steps lie between two copies.
+    pub fn every(&self) -> usize
+        ensures is { result ≡ self.now.every }
+        ensures least { LEAST_EVERY ≤ result }
+        ensures most { result ≤ MOST_EVERY }
+    {
+        self.every
+    }
+
+    /// The step after position n: `step(0)` is the first one. `None` from the end on.
+    pub fn step(&self, n: usize) -> Option<&Step>
+        ensures { option_copied result ≡ slice_get self.now.recording.steps n }
+    {
+        self.recording.step(n)
+    }
+
+    /// The copy at position n, or the nearest one below it.
+    pub fn snap_below(&self, n: usize) -> &W
+        requires { n ≤ length self.now.recording.steps }
+        ensures { IsFrame W.is_well_formed W.world W.steps self.now
+            (n / self.now.every * self.now.every) result.now }
+    {
+        let copy = n / self.every;
+        if copy == 0 {
+            return &self.start;
+        }
+        &self.later[copy - 1]
+    }
+
+    /// Leads a world from position n to the next one, and gives the way back. Refused memory, which
+    /// only a step is that takes bytes out of a buffer, it stays.
+    #[inline(always)]
+    pub fn apply(&self, world: &mut W, n: usize) -> Result<W::Delta, AllocError>
+        requires frame { IsFrame W.is_well_formed W.world W.steps self.now n world.old }
+        requires below { n < length self.now.recording.steps }
+        ensures frame { OnOk result (IsFrame W.is_well_formed W.world W.steps self.now (n + 1) world.new) }
+        ensures back { IfOk result (λ delta. W.back delta world.new world.old) }
+        ensures refused { OnErr result (LosesBytesAt self.now.recording n) }
+        ensures unchanged { OnErr result (world.new ≡ world.old) }
+    {
+        let Some(step) = self.recording.step(n) else {
+            unreachable!()
+        };
+        match world.apply(step) {
+            Ok((_, delta)) => Ok(delta),
+            Err(Refusal::Memory) => Err(AllocError),
+            Err(_) => unreachable!(),
+        }
+    }
+
+    /// Leads a world from position n to the next one, and keeps no way back. It takes no memory.
+    #[inline(always)]
+    pub fn advance(&self, world: &mut W, n: usize)
+        requires frame { IsFrame W.is_well_formed W.world W.steps self.now n world.old }
+        requires below { n < length self.now.recording.steps }
+        ensures { IsFrame W.is_well_formed W.world W.steps self.now (n + 1) world.new }
+    {
+        let Some(step) = self.recording.step(n) else {
+            unreachable!()
+        };
+        let Ok(_) = world.advance(step) else {
+            unreachable!()
+        };
+    }
+}
