@@ -1,0 +1,54 @@
+-- Where marks hit.
+use Rattle.std.specs.Prelude.{ℕ, ◌+◌, ◌-◌, ◌==◌, nat_lt, length, Bool, false, not, List, slice_get, map, filter, Option, Some, None, option_map}
+use Rattle.std.specs.Int.NonZero.{non_zero_u32_get}
+use Rattle.nr_rev.specs.Cell.{cell}
+use Rattle.nr_rev.specs.Kind.{kind_of}
+use Rattle.nr_rev.specs.Run.{Recording, world_at}
+use Rattle.nr_rev.specs.World.{World}
+use Rattle.nr_rev.specs.declared.cell_value.CellValue.{CellValue}
+use Rattle.nr_rev.specs.declared.kind.Kind.{Kind}
+use Rattle.nr_rev.specs.declared.step.Step.{Step}
+use Rattle.nr_rev.specs.contracts.cell_value.CellValuePartialEq.TheImpl as value_eq
+use Rattle.nr_rev.specs.contracts.kind.KindPartialEq.TheImpl as kind_eq
+use Rattle.nr_marks.specs.declared.mark.Break.{Break}
+use Rattle.nr_marks.specs.declared.mark.Break.TheVariants as break
+use Rattle.nr_marks.specs.declared.mark.Mark.{Mark}
+use Rattle.nr_marks.specs.declared.mark.Mark.TheVariants as mark
+use Rattle.nr_marks.specs.declared.mark.NextStep.{NextStep}
+use Rattle.nr_marks.specs.declared.marks.NumberedMark.{NumberedMark}
+
+-- what `==` says of two values of cells
+abbrev pub same_value : CellValue → CellValue → Bool
+same_value = (value_eq.ghosts).eq
+
+-- what `==` says of two kinds
+abbrev pub same_kind : Kind → Kind → Bool
+same_kind = (kind_eq.ghosts).eq
+
+-- A break names a step by its kind, or by its number.
+abbrev pub names : Break → NextStep → Bool
+names (break.Kind kind) step = same_kind kind step.kind
+names (break.Step number) step = non_zero_u32_get number == step.number
+
+-- A break hits where it names the step that comes next, and a watch where its cell has another value than in the
+-- world before. A cell that isn't there has a value of its own.
+abbrev pub mark_hits : World → World → Option NextStep → Mark → Bool
+mark_hits before after None (mark.Break wanted) = false
+mark_hits before after (Some step) (mark.Break wanted) = names wanted step
+mark_hits before after next (mark.Watch c) = not (same_value (cell before c) (cell after c))
+
+-- The numbers of the marks that hit, in the order of the marks.
+abbrev pub hits_between : World → World → Option NextStep → List NumberedMark → List ℕ
+hits_between before after next marks = map (λ m. m.number) (filter (λ m. mark_hits before after next m.mark) marks)
+
+-- a step as the one that comes next at a position
+abbrev pub numbered : ℕ → Option Step → Option NextStep
+numbered p step = option_map (λ (s : Step). record { number = p + 1; kind = kind_of s }) step
+
+-- Which marks hit at position p of a recording. Before position 0 nothing has changed, so no watch hits there.
+abbrev pub hits_at : Recording → List NumberedMark → ℕ → List ℕ
+hits_at r marks p = hits_between (world_at r (p - 1)) (world_at r p) (numbered p (slice_get r.steps p)) marks
+
+-- whether some mark hits at position p
+abbrev pub is_hit_at : Recording → List NumberedMark → ℕ → Bool
+is_hit_at r marks p = nat_lt 0 (length (hits_at r marks p))

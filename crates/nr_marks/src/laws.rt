@@ -1,0 +1,21 @@
+//! Laws of hits: public functions with an empty body, whose contract is the law.
+
+ghost use Rattle.std.specs.Prelude.{◌≡◌, ◌↔◌, ◌∷◌, [], ℕ, true};
+ghost use Rattle.nr_rev.specs.Run.{Recording};
+ghost use Rattle.nr_rev.specs.declared.cell.Cell.{Cell};
+ghost use Rattle.nr_rev.specs.declared.cell_value.CellValue.{CellValue};
+ghost use Rattle.nr_rev.specs.declared.kind.Kind.{Kind};
+ghost use Rattle.nr_marks.specs.Hit.{hits_at, same_kind, same_value};
+ghost use Rattle.nr_marks.specs.declared.mark.Mark.TheVariants.{Watch};
+
+/// By `==`, by which watches and breaks hit, just equal values and kinds are the same.
+pub fn just_equals_are_the_same()
+    ensures values { (a b : CellValue) → (same_value a b ≡ true) ↔ (a ≡ b) }
+    ensures kinds { (a b : Kind) → (same_kind a b ≡ true) ↔ (a ≡ b) }
+{}
+
+/// No watch hits at position 0, before which nothing has changed.
+pub fn no_watch_hits_at_the_start()
+    ensures { (r : Recording) (number : ℕ) (c : Cell)
+        → hits_at r (record { number = number; mark = Watch c } ∷ []) 0 ≡ [] }
+{}

@@ -1,0 +1,172 @@
+//! The marks that stand, by number.
+
+use crate::mark::{Break, Mark, NextStep};
+use arrayvec::ArrayVec;
+use nr_rev::{Cell, Worlds};
+use std::marker::Model;
+
+/// The most marks that stand at once.
+pub const MOST_MARKS: usize = 64;
+
+/// A mark that stands, with its number.
+#[derive(Clone, Copy, Debug, PartialEq, Eq)]
+pub struct NumberedMark {
+    /// From 1, as GDB counts breakpoints.
+    pub number: u32,
+    /// Where it hits.
+    pub mark: Mark,
+}
+
+// What an unused place of the table holds.
+impl Default for NumberedMark {
+    fn default() -> NumberedMark {
+        NumberedMark {
+            number: 0,
+            mark: Mark::Watch(Cell::Clock),
+        }
+    }
+}
+
+/// Why the marks stay as they are.
+#[derive(Clone, Copy, Debug, PartialEq, Eq)]
+pub enum MarkFault {
+    /// No mark of this number stands.
+    NoSuchMark,
+    /// No mark can be made: 64 stand, or the numbers up to 4,294,967,295 are used up.
+    MarksFull,
+}
+
+/// The marks of a debugger. They are numbered from 1 in the order in which they are made, and a number is never used
+/// twice. No call takes memory.
+#[derive(Debug, Drop)]
+pub struct Marks {
+    standing: ArrayVec<NumberedMark, MOST_MARKS>,
+    made: u32,
+}
+
+impl Model for Marks {
+    ghost use Rattle.nr_marks.specs.Marks.{MarkTable, RisesWithin, numbers_of};
+
+    ghost Value = { MarkTable };
+
+    ghost view = { λ m. record { standing = m.standing.items; made = m.made } };
+
+    ghost invariant = { λ m. RisesWithin 0 (numbers_of m.standing.items) m.made };
+}
+
+impl Marks {
+    ghost use Rattle.std.specs.Prelude.{◌≡◌, ◌≤◌, length, OnErr};
+    ghost use Rattle.nr_marks.specs.Hit.{hits_between};
+    ghost use Rattle.nr_marks.specs.Marks.{RisesWithin, deletion, no_marks, next_number, numbers_of, stands, with_mark, without_mark};
+    ghost use Rattle.nr_marks.specs.declared.marks.TheConstants.{MOST_MARKS};
+    ghost use Rattle.nr_marks.specs.declared.mark.Mark.TheVariants as mark;
+
+    /// No marks.
+    pub fn new() -> Marks
+        ensures { result ≡ no_marks }
+    {
+        Marks {
+            standing: ArrayVec::new(),
+            made: 0,
+        }
+    }
+
+    /// Makes a breakpoint and gives its number, the next one. Where 64 marks stand or the numbers are used up, it is
+    /// refused and nothing changes.
+    pub fn add_break(&mut self, wanted: Break) -> Result<u32, MarkFault>
+        ensures number { result ≡ next_number self.old }
+        ensures marks { self.new ≡ with_mark (mark.Break wanted) self.old }
+        ensures unchanged { OnErr result (self.new ≡ self.old) }
+    {
+        self.add(Mark::Break(wanted))
+    }
+
+    /// Makes a watchpoint and gives its number, the next one. Where 64 marks stand or the numbers are used up, it is
+    /// refused and nothing changes.
+    pub fn add_watch(&mut self, cell: Cell) -> Result<u32, MarkFault>
+        ensures number { result ≡ next_number self.old }
+        ensures marks { self.new ≡ with_mark (mark.Watch cell) self.old }
+        ensures unchanged { OnErr result (self.new ≡ self.old) }
+    {
+        self.add(Mark::Watch(cell))
+    }
+
+    // Makes a mark, if one can be made.
+    fn add(&mut self, mark: Mark) -> Result<u32, MarkFault>
+        ensures number { result ≡ next_number self.old }
+        ensures marks { self.new ≡ with_mark mark self.old }
+        ensures unchanged { OnErr result (self.new ≡ self.old) }
+    {
+        if self.standing.is_full() || self.made == u32::MAX {
+            return Err(MarkFault::MarksFull);
+        }
+        let number = self.made + 1;
+        self.standing.push(NumberedMark { number, mark });
+        self.made = number;
+        Ok(number)
+    }
+
+    /// Deletes the mark of this number. The others keep theirs. Where none of this number stands, it is refused and
+    /// nothing changes.
+    pub fn delete(&mut self, number: u32) -> Result<(), MarkFault>
+        ensures answer { result ≡ deletion number self.old }
+        ensures marks { self.new ≡ without_mark number self.old }
+        ensures unchanged { OnErr result (self.new ≡ self.old) }
+    {
+        if !self.stands(number) {
+            return Err(MarkFault::NoSuchMark);
+        }
+        self.standing.retain(|mark| mark.number != number);
+        Ok(())
+    }
+
+    /// Whether a mark of this number stands.
+    pub fn stands(&self, number: u32) -> bool
+        ensures { result ≡ stands number self.now }
+    {
+        self.standing
+            .as_slice()
+            .iter()
+            .any(|mark| mark.number == number)
+    }
+
+    /// The marks that stand, rising by number.
+    pub fn as_slice(&self) -> &[NumberedMark]
+        ensures marks { result.now ≡ self.now.standing }
+        ensures few { length result.now ≤ MOST_MARKS }
+        ensures rising { RisesWithin 0 (numbers_of result.now) self.now.made }
+    {
+        self.standing.as_slice()
+    }
+
+    /// How many marks stand.
+    pub fn len(&self) -> usize
+        ensures count { result ≡ length self.now.standing }
+        ensures few { result ≤ MOST_MARKS }
+    {
+        self.standing.len()
+    }
+
+    /// The numbers of the marks that hit at a position, rising: those between a world and the one after it, where
+    /// this step comes next. At position 0 the two worlds are the same one, and at the end nothing comes next.
+    pub fn hits<W: Worlds>(
+        &self,
+        before: &W,
+        after: &W,
+        next: Option<NextStep>,
+    ) -> ArrayVec<u32, MOST_MARKS>
+        requires before { W.is_well_formed before.now }
+        requires after { W.is_well_formed after.now }
+        ensures hits { result.items
+            ≡ hits_between (W.world before.now) (W.world after.now) next self.now.standing }
+        ensures rising { RisesWithin 0 result.items self.now.made }
+    {
+        let mut hits = ArrayVec::new();
+        for numbered in self.as_slice() {
+            if numbered.mark.hits(before, after, next) {
+                hits.push(numbered.number);
+            }
+        }
+        hits
+    }
+}
