@@ -1,0 +1,5 @@
+pub mod CommandLemmas
+pub mod CountLemmas
+pub mod SenderLemmas
+pub mod StreamLemmas
+pub mod WordLemmas

@@ -1,0 +1,39 @@
+-- The lines of the lists of marks and checkpoints.
+use Rattle.std.specs.Prelude.{ℕ, List, ◌++◌, length, flat_map, codes, decimal}
+use Rattle.nr_rev.specs.Kind.{kind_name}
+use Rattle.nr_command.specs.Value.{cell_text}
+use Rattle.nr_command.specs.declared.checkpoint.Checkpoint.{Checkpoint}
+use Rattle.nr_marks.specs.declared.mark.Break.TheVariants as breaks
+use Rattle.nr_marks.specs.declared.mark.Mark.{Mark}
+use Rattle.nr_marks.specs.declared.mark.Mark.TheVariants.{Break, Watch}
+use Rattle.nr_marks.specs.declared.marks.NumberedMark.{NumberedMark}
+use Rattle.nr_command.specs.declared.listing.Listing.{Listing}
+use Rattle.nr_command.specs.declared.listing.Listing.TheVariants.{Heading, Marks, Checkpoints}
+
+-- a mark, as the command that makes it
+abbrev pub mark_text : Mark → List ℕ
+mark_text (Break (breaks.Kind kind)) = codes "break " ++ kind_name kind
+mark_text (Break (breaks.Step step)) = codes "break @" ++ decimal step.value
+mark_text (Watch cell) = codes "watch " ++ cell_text cell
+
+-- a line of the list of marks
+abbrev pub mark_line : NumberedMark → List ℕ
+mark_line m = decimal m.number ++ codes " " ++ mark_text m.mark ++ codes "\n"
+
+-- a line of the list of checkpoints
+abbrev pub checkpoint_line : Checkpoint → List ℕ
+checkpoint_line c = decimal c.number ++ codes " at " ++ decimal c.position ++ codes "\n"
+
+-- the list of marks: how many, and a line for each
+abbrev pub marks_text : List NumberedMark → List ℕ
+marks_text marks = codes "marks " ++ decimal (length marks) ++ codes "\n" ++ flat_map mark_line marks
+
+-- the list of checkpoints
+abbrev pub checkpoints_text : List Checkpoint → List ℕ
+checkpoints_text checkpoints = codes "checkpoints " ++ decimal (length checkpoints) ++ codes "\n" ++ flat_map checkpoint_line checkpoints
+
+-- a part of a list
+abbrev pub listing_text : Listing → List ℕ
+listing_text (Heading name count) = name.now ++ decimal count ++ codes "\n"
+listing_text (Marks marks) = flat_map mark_line marks.now
+listing_text (Checkpoints checkpoints) = flat_map checkpoint_line checkpoints.now

@@ -1,0 +1,66 @@
+-- How cells, and the values that they have, are written.
+use Rattle.std.specs.Prelude.{ℕ, List, ◌++◌, Option, Some, None, codes, decimal}
+use Rattle.std.specs.Fmt.{signed_decimal}
+use Rattle.nr_rev.specs.declared.cell.Cell.{Cell}
+use Rattle.nr_rev.specs.CellName.{cell_index, cell_name}
+use Rattle.nr_rev.specs.declared.cell_value.CellValue.{CellValue}
+use Rattle.nr_rev.specs.declared.cell_value.CellValue.TheVariants as values
+use Rattle.nr_rev.specs.declared.descriptor.Word.{Word}
+use Rattle.nr_rev.specs.declared.descriptor.Word.TheVariants.{Nil, Ready, Wait, Held}
+use Rattle.nr_rev.specs.declared.status.Status.{Status}
+use Rattle.nr_rev.specs.declared.status.Status.TheVariants.{Idle, Acquiring, Queued, Relock, Owing, Entering, Armed, Parking, Parked, Swapping, Checking, Gone}
+use Rattle.nr_command.specs.declared.value.Piece.{Piece}
+use Rattle.nr_command.specs.declared.value.Piece.TheVariants as pieces
+use Rattle.nr_rev.specs.declared.sides.Side.{Side}
+use Rattle.nr_rev.specs.declared.sides.Side.TheVariants.{Read, Write}
+
+-- a name, and a number behind it if there is one
+abbrev pub text_with : List ℕ → Option ℕ → List ℕ
+text_with name None = name
+text_with name (Some n) = name ++ codes " " ++ decimal n
+
+-- how a cell is written
+abbrev pub cell_text : Cell → List ℕ
+cell_text cell = text_with (cell_name cell) (cell_index cell)
+
+-- a word of a descriptor
+abbrev pub word_text : Word → List ℕ
+word_text Nil = codes "nil"
+word_text Ready = codes "ready"
+word_text Wait = codes "wait"
+word_text (Held g) = codes "g" ++ decimal g
+
+-- which side, behind what is on it
+abbrev pub side_text : Side → List ℕ
+side_text Read = codes " r"
+side_text Write = codes " w"
+
+-- a status, with the socket or descriptor that it is about
+abbrev pub status_text : Status → List ℕ
+status_text Idle = codes "idle"
+status_text (Acquiring s side) = codes "acquiring " ++ decimal s ++ side_text side
+status_text (Queued s side) = codes "queued " ++ decimal s ++ side_text side
+status_text (Relock s side) = codes "relock " ++ decimal s ++ side_text side
+status_text (Owing s reads writes) = codes "owing " ++ decimal s ++ codes " " ++ decimal reads ++ codes " " ++ decimal writes
+status_text (Entering d side) = codes "entering " ++ decimal d ++ side_text side
+status_text (Armed d side) = codes "armed " ++ decimal d ++ side_text side
+status_text (Parking d side) = codes "parking " ++ decimal d ++ side_text side
+status_text (Parked d side) = codes "parked " ++ decimal d ++ side_text side
+status_text (Swapping d side) = codes "swapping " ++ decimal d ++ side_text side
+status_text (Checking d side) = codes "checking " ++ decimal d ++ side_text side
+status_text Gone = codes "gone"
+
+-- the value of a cell
+abbrev pub value_text : CellValue → List ℕ
+value_text values.Absent = codes "absent"
+value_text (values.Number n) = decimal n
+value_text (values.Time t) = signed_decimal t
+value_text (values.Word word) = word_text word
+value_text (values.Status status) = status_text status
+
+-- a part of a text that shows a cell
+abbrev pub piece_text : Piece → List ℕ
+piece_text (pieces.Text text) = text.now
+piece_text (pieces.Number number) = decimal number
+piece_text (pieces.Cell cell) = cell_text cell
+piece_text (pieces.Value value) = value_text value

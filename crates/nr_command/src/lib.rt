@@ -1,0 +1,21 @@
+//! The debugger's front: what a line asks for, commands as words of a journal, replies and their texts.
+#![tactic(auto)]
+
+mod checkpoint;
+mod command;
+mod count;
+mod direction;
+pub mod laws;
+mod listing;
+mod parsing;
+mod reply;
+mod sender;
+mod value;
+mod word;
+
+pub use checkpoint::{Checkpoint, CheckpointFault, MOST_CHECKPOINTS};
+pub use command::{Command, Line, LineFault, Query};
+pub use direction::Direction;
+pub use parsing::MAX_LINE;
+pub use reply::{Fault, Reply};
+pub use sender::{Part, Sent, Token, send, send_all};

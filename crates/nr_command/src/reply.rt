@@ -1,0 +1,312 @@
+//! What a line is answered, and how it is written.
+
+ghost use Rattle.std.specs.Prelude.{◌≡◌, ◌++◌, codes, decimal};
+ghost use Rattle.nr_command.specs.declared.reply.Reply.TheVariants as replies;
+ghost use Rattle.nr_command.specs.Reply.{direction_text, fault_text, text_of};
+ghost use Rattle.nr_command.specs.Sender.{Goes, Prints, token_text};
+
+use crate::checkpoint::{Checkpoint, CheckpointFault, MOST_CHECKPOINTS};
+use crate::command::LineFault;
+use crate::direction::Direction;
+use crate::listing::{send_checkpoints, send_marks};
+use crate::sender::{Part, Sent, Token, send, send_all};
+use crate::value::Piece;
+use arrayvec::ArrayVec;
+use nr_marks::{MOST_MARKS, MarkFault, NumberedMark};
+use nr_rev::{Bytes, Cell, CellValue, Queue, Side};
+use std::io::Write;
+
+/// What a line is answered.
+#[derive(Drop)]
+pub enum Reply {
+    /// It stands at a position.
+    At(usize),
+    /// It stands at the last position, and was to go further.
+    AtEnd(usize),
+    /// It stands at position 0, and was to go further back.
+    AtStart,
+    /// It stands at a position where marks hit: their numbers, rising.
+    AtHit {
+        position: usize,
+        marks: ArrayVec<u32, MOST_MARKS>,
+    },
+    /// Commands go this way from now on.
+    Direction(Direction),
+    /// A mark was made, and has this number.
+    MarkMade(u32),
+    /// The mark of this number was deleted.
+    MarkDeleted(u32),
+    /// A checkpoint was made.
+    CheckpointMade(Checkpoint),
+    /// The checkpoint of this number was deleted.
+    CheckpointDeleted(u32),
+    /// A cell and its value.
+    Printed {
+        cell: Cell,
+        value: CellValue,
+    },
+    /// The bytes in a socket's buffer; `None` where there is no such socket.
+    Bytes {
+        side: Side,
+        socket: u32,
+        bytes: Option<Bytes>,
+    },
+    /// The goroutines at a socket's semaphore, front first; `None` where there is no such socket.
+    Queue {
+        side: Side,
+        socket: u32,
+        queue: Option<Queue>,
+    },
+    /// Where it stands, of how many positions, and which way commands go.
+    Position {
+        position: usize,
+        last: usize,
+        direction: Direction,
+    },
+    /// The marks that stand, rising by number.
+    Marks(ArrayVec<NumberedMark, MOST_MARKS>),
+    /// The checkpoints that stand, rising by number.
+    Checkpoints(ArrayVec<Checkpoint, MOST_CHECKPOINTS>),
+    /// No reply is owed.
+    NothingOwed,
+    /// The line was `quit`.
+    Bye,
+    /// Nothing was done.
+    Fault(Fault),
+}
+
+/// Why a line did nothing.
+#[derive(Clone, Copy, Debug, PartialEq, Eq)]
+pub enum Fault {
+    /// It asks for nothing.
+    Line(LineFault),
+    /// There was no memory for it.
+    Memory,
+    Mark(MarkFault),
+    Checkpoint(CheckpointFault),
+}
+
+impl Reply {
+    /// Writes the reply's text: one line, or in a list one for each item behind the first. It takes no memory.
+    ///
+    /// Where a write fails or takes nothing, `Part` says how many bytes of the text are out, and no more are written.
+    pub fn print<W: Write>(&self, w: &mut W) -> Result<(), Part>
+        ensures { Prints (W.contents w.old) (W.contents w.new) (text_of self.now) result }
+    {
+        self.send(w)?;
+        Ok(())
+    }
+}
+
+impl Sent for Reply {
+    ghost text = { text_of };
+
+    fn send<W: Write>(&self, w: &mut W) -> Result<u64, Part> {
+        match self {
+            Reply::At(position) => send_position(*position, b"\n", w),
+            Reply::AtEnd(position) => send_position(*position, b" end\n", w),
+            Reply::AtStart => send(b"at 0 start\n", w),
+            Reply::AtHit { position, marks } => send_hit(*position, marks.as_slice(), w),
+            Reply::Direction(direction) => send_direction(*direction, w),
+            Reply::MarkMade(number) => send_numbered(b"mark ", *number, w),
+            Reply::MarkDeleted(number) => send_numbered(b"deleted mark ", *number, w),
+            Reply::CheckpointMade(checkpoint) => send_checkpoint(*checkpoint, w),
+            Reply::CheckpointDeleted(number) => send_numbered(b"deleted checkpoint ", *number, w),
+            Reply::Printed { cell, value } => send_printed(*cell, *value, w),
+            Reply::Bytes {
+                side,
+                socket,
+                bytes,
+            } => send_bytes(*side, *socket, bytes, w),
+            Reply::Queue {
+                side,
+                socket,
+                queue,
+            } => send_queue(*side, *socket, queue, w),
+            Reply::Position {
+                position,
+                last,
+                direction,
+            } => send_place(*position, *last, *direction, w),
+            Reply::Marks(marks) => send_marks(marks.as_slice(), w),
+            Reply::Checkpoints(checkpoints) => send_checkpoints(checkpoints.as_slice(), w),
+            Reply::NothingOwed => send(b"nothing owed\n", w),
+            Reply::Bye => send(b"bye\n", w),
+            Reply::Fault(fault) => send(fault_line(*fault), w),
+        }
+    }
+}
+
+fn send_position<W: Write>(position: usize, end: &'static [u8], w: &mut W) -> Result<u64, Part>
+    ensures { Goes (W.contents w.old) (W.contents w.new)
+        (codes "at " ++ decimal position ++ end.now) result }
+{
+    let number = Token::Number(position as u64);
+    send_all(&[Token::Text(b"at "), number, Token::Text(end)], w)
+}
+
+fn send_hit<W: Write>(position: usize, marks: &[u32], w: &mut W) -> Result<u64, Part>
+    ensures { Goes (W.contents w.old) (W.contents w.new)
+        (text_of (replies.AtHit position (record { items = marks.now }))) result }
+{
+    let tokens = [
+        Token::Text(b"at "),
+        Token::Number(position as u64),
+        Token::Text(b" by"),
+        Token::Numbers(marks),
+        Token::Text(b"\n"),
+    ];
+    send_all(&tokens, w)
+}
+
+fn send_direction<W: Write>(direction: Direction, w: &mut W) -> Result<u64, Part>
+    ensures { Goes (W.contents w.old) (W.contents w.new)
+        (text_of (replies.Direction direction)) result }
+{
+    let way = direction_token(direction);
+    send_all(&[Token::Text(b"direction "), way, Token::Text(b"\n")], w)
+}
+
+fn direction_token(direction: Direction) -> Token<'static>
+    ensures { token_text result ≡ direction_text direction }
+{
+    match direction {
+        Direction::Forward => Token::Text(b"forward"),
+        Direction::Reverse => Token::Text(b"reverse"),
+    }
+}
+
+/// Writes what a number is of, and the number.
+fn send_numbered<W: Write>(name: &'static [u8], number: u32, w: &mut W) -> Result<u64, Part>
+    ensures { Goes (W.contents w.old) (W.contents w.new)
+        (name.now ++ decimal number ++ codes "\n") result }
+{
+    let number = Token::Number(u64::from(number));
+    send_all(&[Token::Text(name), number, Token::Text(b"\n")], w)
+}
+
+fn send_checkpoint<W: Write>(checkpoint: Checkpoint, w: &mut W) -> Result<u64, Part>
+    ensures { Goes (W.contents w.old) (W.contents w.new)
+        (text_of (replies.CheckpointMade checkpoint)) result }
+{
+    let tokens = [
+        Token::Text(b"checkpoint "),
+        Token::Number(u64::from(checkpoint.number)),
+        Token::Text(b" at "),
+        Token::Number(checkpoint.position as u64),
+        Token::Text(b"\n"),
+    ];
+    send_all(&tokens, w)
+}
+
+fn send_printed<W: Write>(cell: Cell, value: CellValue, w: &mut W) -> Result<u64, Part>
+    ensures { Goes (W.contents w.old) (W.contents w.new)
+        (text_of (replies.Printed cell value)) result }
+{
+    let pieces = [
+        Piece::Cell(cell),
+        Piece::Text(b" = "),
+        Piece::Value(value),
+        Piece::Text(b"\n"),
+    ];
+    send_all(&pieces, w)
+}
+
+fn send_bytes<W: Write>(
+    side: Side,
+    socket: u32,
+    bytes: &Option<Bytes>,
+    w: &mut W,
+) -> Result<u64, Part>
+    ensures { Goes (W.contents w.old) (W.contents w.new)
+        (text_of (replies.Bytes side socket bytes.now)) result }
+{
+    let name = match side {
+        Side::Read => b"in ".as_slice(),
+        Side::Write => b"out ".as_slice(),
+    };
+    let shown = match bytes {
+        None => Token::Text(b"absent"),
+        Some(bytes) if bytes.is_empty() => Token::Text(b"-"),
+        Some(bytes) => Token::Hex(bytes.as_slice()),
+    };
+    send_dump(name, socket, b" = ", shown, w)
+}
+
+fn send_queue<W: Write>(
+    side: Side,
+    socket: u32,
+    queue: &Option<Queue>,
+    w: &mut W,
+) -> Result<u64, Part>
+    ensures { Goes (W.contents w.old) (W.contents w.new)
+        (text_of (replies.Queue side socket queue.now)) result }
+{
+    let name = match side {
+        Side::Read => b"rq ".as_slice(),
+        Side::Write => b"wq ".as_slice(),
+    };
+    let shown = match queue {
+        None => Token::Text(b" absent"),
+        Some(queue) if queue.as_slice().is_empty() => Token::Text(b" -"),
+        Some(queue) => Token::Numbers(queue.as_slice()),
+    };
+    send_dump(name, socket, b" =", shown, w)
+}
+
+fn send_dump<W: Write>(
+    name: &'static [u8],
+    socket: u32,
+    equals: &'static [u8],
+    shown: Token<'_>,
+    w: &mut W,
+) -> Result<u64, Part>
+    ensures { Goes (W.contents w.old) (W.contents w.new)
+        (name.now ++ decimal socket ++ equals.now ++ token_text shown.entry ++ codes "\n") result }
+{
+    let tokens = [
+        Token::Text(name),
+        Token::Number(u64::from(socket)),
+        Token::Text(equals),
+        shown,
+        Token::Text(b"\n"),
+    ];
+    send_all(&tokens, w)
+}
+
+fn send_place<W: Write>(
+    position: usize,
+    last: usize,
+    direction: Direction,
+    w: &mut W,
+) -> Result<u64, Part>
+    ensures { Goes (W.contents w.old) (W.contents w.new)
+        (text_of (replies.Position position last direction)) result }
+{
+    let tokens = [
+        Token::Text(b"at "),
+        Token::Number(position as u64),
+        Token::Text(b" of "),
+        Token::Number(last as u64),
+        Token::Text(b" "),
+        direction_token(direction),
+        Token::Text(b"\n"),
+    ];
+    send_all(&tokens, w)
+}
+
+/// How a fault is told.
+fn fault_line(fault: Fault) -> &'static [u8]
+    ensures { result.now ≡ fault_text fault }
+{
+    match fault {
+        Fault::Line(LineFault::UnknownCommand) => b"fault 201 unknown command\n",
+        Fault::Line(LineFault::BadArgument) => b"fault 202 bad argument\n",
+        Fault::Line(LineFault::TooLong) => b"fault 203 line too long\n",
+        Fault::Memory => b"fault 301 memory\n",
+        Fault::Mark(MarkFault::NoSuchMark) => b"fault 401 no such mark\n",
+        Fault::Mark(MarkFault::MarksFull) => b"fault 402 marks full\n",
+        Fault::Checkpoint(CheckpointFault::NoSuchCheckpoint) => b"fault 403 no such checkpoint\n",
+        Fault::Checkpoint(CheckpointFault::CheckpointsFull) => b"fault 404 checkpoints full\n",
+    }
+}
