@@ -1,0 +1,65 @@
+-- How a walker goes from position to position, and what that takes.
+use Rattle.std.specs.Prelude.{◌≡◌, ◌⊎◌, ℕ, ◌+◌, ◌-◌, ◌*◌, ◌/◌, ◌<◌, ◌≤◌, ◌&&◌, nat_lt, nat_le, min, if◌then◌else◌}
+use Rattle.nr_rev.specs.Run.{LosesBytesAt}
+use Rattle.nr_snaps.specs.Film.{Reel}
+use Rattle.nr_walker.specs.declared.moved.Moved.{Moved}
+use Rattle.nr_walker.specs.declared.route.Route.{Route}
+use Rattle.nr_walker.specs.declared.route.Route.TheVariants.{Back, Forward, FromCopy}
+
+-- what is seen of a walker: its film and its position, how many deltas it keeps, and how many it keeps at most
+pub record Walk (State : Type 0) : Type 0 where
+  pub film : Reel State
+  pub position : ℕ
+  pub kept : ℕ
+  pub depth : ℕ
+
+module _ {State : Type 0} where
+  -- the position of the copy at or below n
+  abbrev pub copy_below : Walk State → ℕ → ℕ
+  copy_below w n = n / w.film.every * w.film.every
+
+  -- The way to position n: back where all deltas on the way are kept; forward where it is fewer steps than lie
+  -- between two copies; else from the copy at or below n.
+  abbrev pub route : Walk State → ℕ → Route
+  route w n =
+      if nat_le n w.position && nat_le (w.position - n) w.kept then Back
+      else (if nat_le w.position n && nat_lt (n - w.position) w.film.every then Forward
+      else FromCopy)
+
+  -- back at position n, with fewer deltas
+  abbrev pub backwards : Walk State → ℕ → Walk State
+  backwards w n = record w { position = n; kept = w.kept - (w.position - n) }
+
+  -- forward at position n, with a delta more for each step, up to the depth
+  abbrev pub forwards : Walk State → ℕ → Walk State
+  forwards w n = record w { position = n; kept = min (w.kept + (n - w.position)) w.depth }
+
+  -- at the copy at or below n, with no delta
+  abbrev pub at_copy : Walk State → ℕ → Walk State
+  at_copy w n = record w { position = copy_below w n; kept = 0 }
+
+  -- where the walk arrives
+  abbrev pub walk_by : Route → Walk State → ℕ → Walk State
+  walk_by Back w n = backwards w n
+  walk_by Forward w n = forwards w n
+  walk_by FromCopy w n = forwards (at_copy w n) n
+
+  -- what it takes
+  abbrev pub moved_by : Route → Walk State → ℕ → Moved
+  moved_by Back w n = record { applies = 0; undos = w.position - n; copies = 0 }
+  moved_by Forward w n = record { applies = n - w.position; undos = 0; copies = 0 }
+  moved_by FromCopy w n = record { applies = n - copy_below w n; undos = 0; copies = 1 }
+
+  -- forward on the way to n, but not there: before a step that bytes leave a buffer at
+  pub record StopsShort (from : Walk State) (n : ℕ) (stopped : Walk State) : Type 0 where
+    pub on : from.position ≤ stopped.position
+    pub short : stopped.position < n
+    pub loses : LosesBytesAt from.film.recording stopped.position
+    pub there : stopped ≡ forwards from stopped.position
+
+  -- Where a walk to n stands that was refused memory: none is wanted for going back; forward it stops short of n; from a
+  -- copy it stops so too, or stands where it stood.
+  abbrev pub IsRefusedBy : Route → Walk State → ℕ → Walk State → Type 0
+  IsRefusedBy Back old n new = ⊥
+  IsRefusedBy Forward old n new = StopsShort old n new
+  IsRefusedBy FromCopy old n new = (new ≡ old) ⊎ StopsShort (at_copy old n) n new

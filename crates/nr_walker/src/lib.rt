@@ -1,0 +1,17 @@
+//! A walker: a world that goes to any position of a film, forwards and backwards.
+//!
+//! It keeps the way back over its last steps in a ring of deltas, as many as it was made for, and goes by the shorter of
+//! three ways: back over deltas that it keeps, forward by steps, or from the film's copy at or below the position.
+#![tactic(auto)]
+
+mod moved;
+mod route;
+mod walker;
+
+pub use moved::Moved;
+pub use walker::{LEAST_DEPTH, MOST_DEPTH, Walker};
+
+#[cfg(test)]
+mod counting;
+#[cfg(test)]
+mod tests;

@@ -1,0 +1,105 @@
+//! What a walk takes, by what is told and by what a world counts.
+
+use crate::counting::Counting;
+use crate::{Moved, Walker};
+use nr_recording::Recording;
+use nr_rev::{Cell, CellValue, Limits, Step, Worlds};
+use nr_snaps::{Film, Snaps};
+use std::alloc::Global;
+use std::test::Fail;
+
+const LIMITS: Limits = Limits {
+    goroutines: 1,
+    sockets: 1,
+    descriptors: 1,
+    buffer: 1,
+};
+
+const OPEN: Step = Step::SockOpen {
+    read_capacity: 1,
+    write_capacity: 1,
+};
+
+const POLL: Step = Step::PollOpen {
+    goroutine: 0,
+    socket: 0,
+};
+
+/// Two steps, and 190 that set the clock to 1, 2 and so on: three times 64 steps.
+fn film(alloc: Global) -> Result<Film<Counting>, &'static str> {
+    let mut steps = Vec::with_capacity(alloc, 192).map_err(|_| "no memory for the steps")?;
+    steps.push(OPEN).map_err(|_| "no memory for a step")?;
+    steps.push(POLL).map_err(|_| "no memory for a step")?;
+    for time in 1..191 {
+        steps
+            .push(Step::Tick { time })
+            .map_err(|_| "no memory for a step")?;
+    }
+    let recording = Recording::new(LIMITS, steps).map_err(|_| "no recording")?;
+    Snaps::load(alloc, recording, 64).map_err(|_| "no film")
+}
+
+/// How many copies were made of the film's worlds.
+fn copies(film: &Film<Counting>) -> u32 {
+    let mut copies: u32 = 0;
+    for position in [0, 64, 128, 192] {
+        if position <= film.len() {
+            copies = copies.wrapping_add(film.snap_below(position).copies());
+        }
+    }
+    copies
+}
+
+/// Goes to a position that the film has.
+fn go(walker: &mut Walker<Counting>, n: usize) -> Result<Moved, &'static str> {
+    if n > walker.film().len() {
+        return Err("no such position");
+    }
+    walker.goto(n).map_err(|_| "no memory to go")
+}
+
+#[test]
+fn a_walk_takes_what_it_tells(rt: HostRuntime) -> Result<(), Fail> {
+    let film = film(rt.alloc())?;
+    let mut walker = Walker::new(rt.alloc(), &film, 32).map_err(|_| "no memory")?;
+    for (n, applies, undos, made, kept) in [
+        (40, 40, 0, 0, 32),
+        (20, 0, 20, 0, 12),
+        (5, 5, 0, 1, 5),
+        (5, 0, 0, 0, 5),
+        (130, 2, 0, 1, 2),
+        (128, 0, 2, 0, 0),
+        (127, 63, 0, 1, 32),
+        (191, 63, 0, 1, 32),
+    ] {
+        let (before, copied) = (walker.world().moves(), copies(&film));
+        let moved = go(&mut walker, n)?;
+        assert_eq!(rt;
+            moved,
+            Moved {
+                applies,
+                undos,
+                copies: made
+            },
+            "told at {n}"
+        );
+        assert_eq!(rt;
+            (walker.position(), walker.kept()),
+            (n, kept),
+            "kept at {n}"
+        );
+        assert_eq!(rt;
+            walker.world().cell(Cell::Clock),
+            CellValue::Time(n as i64 - 2),
+            "at {n}"
+        );
+        let (start, made) = if made == 0 { (before, 0) } else { ((0, 0), 1) };
+        let counted = (
+            start.0.wrapping_add(applies as u32),
+            start.1.wrapping_add(undos as u32),
+        );
+        assert_eq!(rt; walker.world().moves(), counted, "counted at {n}");
+        assert_eq!(rt; copies(&film), copied.wrapping_add(made), "copied at {n}");
+    }
+    Ok(())
+}
