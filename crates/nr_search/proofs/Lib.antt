@@ -1,0 +1,3 @@
+mod FinderLemmas
+mod NearestLemmas
+mod WatchedLemmas

@@ -1,0 +1,13 @@
+//! Searching a film for the nearest position where a mark hits, forwards and backwards.
+#![tactic(auto)]
+
+mod direction;
+mod finder;
+mod found;
+pub mod laws;
+mod stretch;
+mod watched;
+
+pub use direction::Direction;
+pub use finder::{Finder, OneWorker, nearest_hit};
+pub use found::Found;
