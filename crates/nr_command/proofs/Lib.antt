@@ -1,5 +1,6 @@
 pub mod CommandLemmas
 pub mod CountLemmas
+pub mod LawLemmas
 pub mod SenderLemmas
 pub mod StreamLemmas
 pub mod WordLemmas

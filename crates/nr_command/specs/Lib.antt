@@ -1,3 +1,5 @@
+pub mod CheckpointTable
+pub mod Checkpoints
 pub mod Command
 pub mod Count
 pub mod Listing

@@ -1,6 +1,10 @@
 //! What holds of the definitions.
 
-ghost use Rattle.std.specs.Prelude.{◌≡◌, ◌<◌, ◌^◌, ℕ, Some};
+ghost use Rattle.std.specs.Prelude.{◌≡◌, ◌<◌, ◌^◌, ℕ, Ok, Some, IfSome};
+ghost use Rattle.nr_rev.specs.CellName.{cell_index};
+ghost use Rattle.nr_rev.specs.declared.cell.Cell.{Cell};
+ghost use Rattle.nr_command.specs.Command.{cell_of, words};
+ghost use Rattle.nr_command.specs.Value.{cell_text};
 ghost use Rattle.nr_command.specs.Word.{IsTyped, command_of, word_of};
 ghost use Rattle.nr_command.specs.declared.command.Command.{Command};
 
@@ -10,4 +14,10 @@ pub fn commands_are_read_from_their_words()
         → command_of (word_of tag command) ≡ Some (tag, command) }
     ensures word { (n tag : ℕ) (command : Command) → command_of n ≡ Some (tag, command)
         → (n ≡ word_of tag command) × (tag < 256) × IsTyped command }
+{}
+
+/// What a cell is printed as is read as that cell.
+pub fn printed_cells_are_read()
+    ensures { (cell : Cell) → IfSome (cell_index cell) (λ n. n < 2 ^ 32)
+        → cell_of (words (cell_text cell)) ≡ Ok cell }
 {}

@@ -13,7 +13,7 @@ mod sender;
 mod value;
 mod word;
 
-pub use checkpoint::{Checkpoint, CheckpointFault, MOST_CHECKPOINTS};
+pub use checkpoint::{Checkpoint, CheckpointFault, Checkpoints, MOST_CHECKPOINTS};
 pub use command::{Command, Line, LineFault, Query};
 pub use direction::Direction;
 pub use parsing::MAX_LINE;
