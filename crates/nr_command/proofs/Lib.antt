@@ -4,3 +4,5 @@ pub mod LawLemmas
 pub mod SenderLemmas
 pub mod StreamLemmas
 pub mod WordLemmas
+pub mod SessionLemmas
+pub mod WithinLemmas

@@ -12,8 +12,8 @@ use Rattle.nr_rev.proofs.FoundNames.{found_numbered, found_at}
 use Rattle.nr_command.specs.Count.{from_one}
 use Rattle.nr_marks.specs.declared.mark.Break.{Break}
 use Rattle.nr_marks.specs.declared.mark.Break.TheVariants as breaks
-use Rattle.nr_command.specs.declared.direction.Direction.{Direction}
-use Rattle.nr_command.specs.declared.direction.Direction.TheVariants.{Forward, Reverse}
+use Rattle.nr_search.specs.declared.direction.Direction.{Direction}
+use Rattle.nr_search.specs.declared.direction.Direction.TheVariants.{Forward, Backward}
 use Rattle.nr_command.specs.declared.command.Command.{Command}
 use Rattle.nr_command.specs.declared.command.Command.TheVariants.{Step, ReverseStep, Continue, ReverseContinue, SetDirection, Watch, Delete, Checkpoint, Restart, DeleteCheckpoint}
 use Rattle.nr_command.specs.declared.command.Command.TheVariants as commands
@@ -114,7 +114,7 @@ made_again (ReverseStep count) h = ap (option_map ReverseStep) (count_again coun
 made_again Continue h = refl
 made_again ReverseContinue h = refl
 made_again (SetDirection Forward) h = refl
-made_again (SetDirection Reverse) h = refl
+made_again (SetDirection Backward) h = refl
 made_again (commands.Break at) h = ap (option_map commands.Break) (break_again at h)
 made_again (Watch cell) h = ap (option_map Watch) (watch_again cell h)
 made_again (Delete n) h = ap (option_map Delete) (small_again n h)
@@ -195,8 +195,8 @@ direction_read a direction =
     forward : ◌≡◌ {A = Option Direction} (Some Forward) (Some direction) → 0 ≡ argument_of (SetDirection direction)
     forward e = let is : Forward ≡ direction = cc in subst (λ d. 0 ≡ argument_of (SetDirection d)) is refl
 
-    reverse : ◌≡◌ {A = Option Direction} (Some Reverse) (Some direction) → 1 ≡ argument_of (SetDirection direction)
-    reverse e = let is : Reverse ≡ direction = cc in subst (λ d. 1 ≡ argument_of (SetDirection d)) is refl
+    reverse : ◌≡◌ {A = Option Direction} (Some Backward) (Some direction) → 1 ≡ argument_of (SetDirection direction)
+    reverse e = let is : Backward ≡ direction = cc in subst (λ d. 1 ≡ argument_of (SetDirection d)) is refl
 
 either_read : {A : Type 0} (x y : Option A) (c : A) (P : Type 0) → (x ≡ Some c → P) → (y ≡ Some c → P) → option_or x y ≡ Some c → P
 either_read None y c P first second e = second e

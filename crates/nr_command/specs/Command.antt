@@ -14,8 +14,8 @@ use Rattle.nr_command.specs.Count.{from_one}
 use Rattle.nr_command.specs.declared.parsing.TheConstants.{MAX_LINE}
 use Rattle.nr_marks.specs.declared.mark.Break.{Break}
 use Rattle.nr_marks.specs.declared.mark.Break.TheVariants as breaks
-use Rattle.nr_command.specs.declared.direction.Direction.{Direction}
-use Rattle.nr_command.specs.declared.direction.Direction.TheVariants.{Forward, Reverse}
+use Rattle.nr_search.specs.declared.direction.Direction.{Direction}
+use Rattle.nr_search.specs.declared.direction.Direction.TheVariants.{Forward, Backward}
 use Rattle.nr_command.specs.declared.command.Command.{Command}
 use Rattle.nr_command.specs.declared.command.Command.TheVariants as commands
 use Rattle.nr_command.specs.declared.command.Query.{Query}
@@ -64,7 +64,7 @@ only_number _ = Err BadArgument
 abbrev pub direction_of : List ℕ → Result Direction LineFault
 direction_of way =
     if bytes_eq way (codes "forward") then Ok Forward
-    else if bytes_eq way (codes "reverse") then Ok Reverse
+    else if bytes_eq way (codes "reverse") then Ok Backward
     else Err BadArgument
 
 -- the way is all that can be set

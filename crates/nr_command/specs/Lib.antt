@@ -7,3 +7,4 @@ pub mod Reply
 pub mod Sender
 pub mod Value
 pub mod Word
+pub mod Session

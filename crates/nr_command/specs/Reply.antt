@@ -7,8 +7,8 @@ use Rattle.nr_command.specs.Value.{cell_text, value_text}
 use Rattle.nr_command.specs.Listing.{checkpoints_text, marks_text}
 use Rattle.nr_command.specs.declared.checkpoint.CheckpointFault.TheVariants.{NoSuchCheckpoint, CheckpointsFull}
 use Rattle.nr_command.specs.declared.command.LineFault.TheVariants.{UnknownCommand, BadArgument, TooLong}
-use Rattle.nr_command.specs.declared.direction.Direction.{Direction}
-use Rattle.nr_command.specs.declared.direction.Direction.TheVariants.{Forward, Reverse}
+use Rattle.nr_search.specs.declared.direction.Direction.{Direction}
+use Rattle.nr_search.specs.declared.direction.Direction.TheVariants.{Forward, Backward}
 use Rattle.nr_marks.specs.declared.marks.MarkFault.TheVariants.{NoSuchMark, MarksFull}
 use Rattle.nr_command.specs.declared.reply.Fault.{Fault}
 use Rattle.nr_command.specs.declared.reply.Fault.TheVariants as faults
@@ -29,7 +29,7 @@ fault_text (faults.Checkpoint CheckpointsFull) = codes "fault 404 checkpoints fu
 -- which way
 abbrev pub direction_text : Direction → List ℕ
 direction_text Forward = codes "forward"
-direction_text Reverse = codes "reverse"
+direction_text Backward = codes "reverse"
 
 -- the bytes of a buffer, if there is one
 abbrev pub bytes_text : Option (List ℕ) → List ℕ

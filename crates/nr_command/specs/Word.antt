@@ -8,8 +8,8 @@ use Rattle.nr_rev.specs.Kind.{kind_number, kind_numbered}
 use Rattle.nr_command.specs.Count.{from_one}
 use Rattle.nr_marks.specs.declared.mark.Break.{Break}
 use Rattle.nr_marks.specs.declared.mark.Break.TheVariants as breaks
-use Rattle.nr_command.specs.declared.direction.Direction.{Direction}
-use Rattle.nr_command.specs.declared.direction.Direction.TheVariants.{Forward, Reverse}
+use Rattle.nr_search.specs.declared.direction.Direction.{Direction}
+use Rattle.nr_search.specs.declared.direction.Direction.TheVariants.{Forward, Backward}
 use Rattle.nr_command.specs.declared.command.Command.{Command}
 use Rattle.nr_command.specs.declared.command.Command.TheVariants.{Step, ReverseStep, Continue, ReverseContinue, SetDirection, Watch, Delete, Checkpoint, Restart, DeleteCheckpoint}
 use Rattle.nr_command.specs.declared.command.Command.TheVariants as commands
@@ -38,7 +38,7 @@ abbrev pub argument_of : Command → ℕ
 argument_of (Step count) = count.value
 argument_of (ReverseStep count) = count.value
 argument_of (SetDirection Forward) = 0
-argument_of (SetDirection Reverse) = 1
+argument_of (SetDirection Backward) = 1
 argument_of (commands.Break (breaks.Kind kind)) = 256 * kind_number kind
 argument_of (commands.Break (breaks.Step step)) = 1 + 256 * step.value
 argument_of (Watch cell) = cell_number cell + 256 * index_or_0 (cell_index cell)
@@ -81,7 +81,7 @@ abbrev pub only_without : ℕ → Command → Option Command
 only_without argument command = if argument == 0 then Some command else None
 
 abbrev pub direction_numbered : ℕ → Option Direction
-direction_numbered argument = if argument == 0 then Some Forward else if argument == 1 then Some Reverse else None
+direction_numbered argument = if argument == 0 then Some Forward else if argument == 1 then Some Backward else None
 
 abbrev pub break_numbered : ℕ → Option Break
 break_numbered argument =

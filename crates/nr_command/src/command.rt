@@ -1,8 +1,8 @@
 //! What a line can ask for.
 
-use crate::direction::Direction;
 use nr_marks::Break;
 use nr_rev::{Cell, Side};
+use nr_search::Direction;
 use std::num::NonZeroU32;
 
 /// What moves the debugger or changes what it keeps. Each is named after GDB's command of that name; an instruction

@@ -1,9 +1,11 @@
 //! What holds of the definitions.
 
-ghost use Rattle.std.specs.Prelude.{◌≡◌, ◌<◌, ◌^◌, ℕ, Ok, Some, IfSome};
+ghost use Rattle.std.specs.Prelude.{◌≡◌, ◌<◌, ◌^◌, ℕ, List, length, Ok, Some, IfSome};
 ghost use Rattle.nr_rev.specs.CellName.{cell_index};
+ghost use Rattle.nr_rev.specs.Run.{Recording};
 ghost use Rattle.nr_rev.specs.declared.cell.Cell.{Cell};
 ghost use Rattle.nr_command.specs.Command.{cell_of, words};
+ghost use Rattle.nr_command.specs.Session.{IsWithin, after_words, opening};
 ghost use Rattle.nr_command.specs.Value.{cell_text};
 ghost use Rattle.nr_command.specs.Word.{IsTyped, command_of, word_of};
 ghost use Rattle.nr_command.specs.declared.command.Command.{Command};
@@ -20,4 +22,11 @@ pub fn commands_are_read_from_their_words()
 pub fn printed_cells_are_read()
     ensures { (cell : Cell) → IfSome (cell_index cell) (λ n. n < 2 ^ 32)
         → cell_of (words (cell_text cell)) ≡ Ok cell }
+{}
+
+/// After any history, whose words need not be commands', the debugger stands in the recording, and so do its
+/// checkpoints.
+pub fn histories_stay_in_the_recording()
+    ensures { (r : Recording) (words : List ℕ)
+        → IsWithin (length r.steps) (after_words r opening words) }
 {}

@@ -4,9 +4,11 @@
 mod checkpoint;
 mod command;
 mod count;
-mod direction;
+mod debugger;
+mod hits;
 pub mod laws;
 mod listing;
+mod looking;
 mod parsing;
 mod reply;
 mod sender;
@@ -15,7 +17,7 @@ mod word;
 
 pub use checkpoint::{Checkpoint, CheckpointFault, Checkpoints, MOST_CHECKPOINTS};
 pub use command::{Command, Line, LineFault, Query};
-pub use direction::Direction;
+pub use debugger::Debugger;
 pub use parsing::MAX_LINE;
 pub use reply::{Fault, Reply};
 pub use sender::{Part, Sent, Token, send, send_all};

@@ -6,10 +6,10 @@ ghost use Rattle.nr_command.specs.Command.{alone, at_least_one, break_at, break_
 
 use crate::command::{Command, Line, LineFault, Query};
 use crate::count::from_one;
-use crate::direction::Direction;
 use arrayvec::ArrayVec;
 use nr_marks::Break;
 use nr_rev::{Cell, Kind, Side};
+use nr_search::Direction;
 use std::num::NonZeroU32;
 
 /// The longest line that is read, in bytes.
@@ -161,7 +161,7 @@ fn direction(way: &[u8]) -> Result<Direction, LineFault>
 {
     match way {
         _ if is(way, b"forward") => Ok(Direction::Forward),
-        _ if is(way, b"reverse") => Ok(Direction::Reverse),
+        _ if is(way, b"reverse") => Ok(Direction::Backward),
         _ => Err(LineFault::BadArgument),
     }
 }

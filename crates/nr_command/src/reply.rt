@@ -7,13 +7,13 @@ ghost use Rattle.nr_command.specs.Sender.{Goes, Prints, token_text};
 
 use crate::checkpoint::{Checkpoint, CheckpointFault, MOST_CHECKPOINTS};
 use crate::command::LineFault;
-use crate::direction::Direction;
 use crate::listing::{send_checkpoints, send_marks};
 use crate::sender::{Part, Sent, Token, send, send_all};
 use crate::value::Piece;
 use arrayvec::ArrayVec;
 use nr_marks::{MOST_MARKS, MarkFault, NumberedMark};
 use nr_rev::{Bytes, Cell, CellValue, Queue, Side};
+use nr_search::Direction;
 use std::io::Write;
 
 /// What a line is answered.
@@ -172,7 +172,7 @@ fn direction_token(direction: Direction) -> Token<'static>
 {
     match direction {
         Direction::Forward => Token::Text(b"forward"),
-        Direction::Reverse => Token::Text(b"reverse"),
+        Direction::Backward => Token::Text(b"reverse"),
     }
 }
 

@@ -6,9 +6,9 @@ ghost use Rattle.nr_command.specs.Word.{IsTyped, argument_of, break_numbered, ce
 
 use crate::command::Command;
 use crate::count::from_one;
-use crate::direction::Direction;
 use nr_marks::Break;
 use nr_rev::{Cell, Kind};
+use nr_search::Direction;
 use std::num::NonZeroU32;
 
 impl Command {
@@ -60,7 +60,7 @@ impl Command {
             Command::Step(count) | Command::ReverseStep(count) => u64::from(count.get()),
             Command::Continue | Command::ReverseContinue | Command::Checkpoint => 0,
             Command::SetDirection(Direction::Forward) => 0,
-            Command::SetDirection(Direction::Reverse) => 1,
+            Command::SetDirection(Direction::Backward) => 1,
             Command::Break(Break::Kind(kind)) => 256 * u64::from(kind.number()),
             Command::Break(Break::Step(step)) => 1 + 256 * u64::from(step.get()),
             Command::Watch(cell) => {
@@ -119,7 +119,7 @@ fn direction_numbered(argument: u64) -> Option<Direction>
 {
     match argument {
         0 => Some(Direction::Forward),
-        1 => Some(Direction::Reverse),
+        1 => Some(Direction::Backward),
         _ => None,
     }
 }

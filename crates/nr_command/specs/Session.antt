@@ -1,0 +1,159 @@
+-- The debugger as a machine: what each command is answered, and what it leaves.
+use Rattle.std.specs.Prelude.{ℕ, ◌+◌, ◌-◌, ◌<◌, ◌≤◌, ◌==◌, nat_lt, All, List, [], ◌∷◌, length, Option, Some, None, Result, Ok, Err, if◌then◌else◌}
+use Rattle.nr_rev.specs.Cell.{cell, bytes_of, queue_of}
+use Rattle.nr_rev.specs.Run.{Recording, world_at}
+use Rattle.nr_rev.specs.Worlds.{HasItems}
+use Rattle.nr_marks.specs.Hit.{hits_at}
+use Rattle.nr_marks.specs.Marks.{deletion, next_number, no_marks, with_mark, without_mark}
+use Rattle.nr_marks.specs.declared.mark.Mark.{Mark}
+use Rattle.nr_marks.specs.declared.mark.Mark.TheVariants as marks
+use Rattle.nr_marks.specs.declared.marks.MarkFault.{MarkFault}
+use Rattle.nr_search.specs.Nearest.{NeedsCopy, nearest_hit}
+use Rattle.nr_search.specs.declared.direction.Direction.{Direction}
+use Rattle.nr_search.specs.declared.direction.Direction.TheVariants.{Forward, Backward}
+use Rattle.nr_search.specs.declared.found.Found.{Found}
+use Rattle.nr_search.specs.declared.found.Found.TheVariants.{Hit, Nothing}
+use Rattle.nr_command.specs.Checkpoints.{next_checkpoint, no_checkpoints, position_of, with_checkpoint, without_checkpoint}
+use Rattle.nr_command.specs.Checkpoints as checkpoints
+use Rattle.nr_command.specs.Word.{command_of}
+use Rattle.nr_command.specs.declared.checkpoint.Checkpoint.{Checkpoint}
+use Rattle.nr_command.specs.declared.checkpoint.CheckpointFault.{CheckpointFault}
+use Rattle.nr_command.specs.declared.checkpoint.CheckpointFault.TheVariants.{NoSuchCheckpoint}
+use Rattle.nr_command.specs.declared.command.Command.{Command}
+use Rattle.nr_command.specs.declared.command.Command.TheVariants as commands
+use Rattle.nr_command.specs.declared.command.Query.{Query}
+use Rattle.nr_command.specs.declared.command.Query.TheVariants as queries
+use Rattle.nr_command.specs.declared.debugger.Debugger.{Debugger}
+use Rattle.nr_command.specs.declared.reply.Fault.TheVariants as faults
+use Rattle.nr_command.specs.declared.reply.Reply.{Reply}
+use Rattle.nr_command.specs.declared.reply.Reply.TheVariants as replies
+
+-- before the first command
+abbrev pub opening : Debugger
+opening = record { position = 0; direction = Forward; marks = no_marks; checkpoints = no_checkpoints }
+
+-- what a command is answered, and the debugger after it
+abbrev pub Ran : Type 0
+Ran = Reply × Debugger
+
+-- the debugger at another position
+abbrev pub at : ℕ → Debugger → Debugger
+at p d = record d { position = p }
+
+-- it goes to where the recording ends that way, and says so
+abbrev pub to_end : Direction → ℕ → Debugger → Ran
+to_end Forward last d = (replies.AtEnd last, at last d)
+to_end Backward last d = (replies.AtStart, at 0 d)
+
+-- it goes so many steps that way, or to the end there
+abbrev pub step : Direction → ℕ → ℕ → Debugger → Ran
+step Forward n last d = if nat_lt last (d.position + n) then to_end Forward last d else (replies.At (d.position + n), at (d.position + n) d)
+step Backward n last d = if nat_lt d.position n then to_end Backward last d else (replies.At (d.position - n), at (d.position - n) d)
+
+-- it goes to what was found, and tells which marks hit there; where nothing was, to the end that way
+abbrev pub arrive : Direction → Recording → Debugger → Found → Ran
+arrive way r d (Hit p) = (replies.AtHit p (record { items = hits_at r d.marks.standing p }), at p d)
+arrive way r d Nothing = to_end way (length r.steps) d
+
+-- it goes to the nearest hit that way
+abbrev pub continue : Direction → Recording → Debugger → Ran
+continue way r d = arrive way r d (nearest_hit way r d.marks.standing d.position)
+
+-- it makes a mark
+abbrev pub mark_made : Mark → Debugger → Result ℕ MarkFault → Ran
+mark_made mark d (Ok number) = (replies.MarkMade number, record d { marks = with_mark mark d.marks })
+mark_made mark d (Err fault) = (replies.Fault (faults.Mark fault), d)
+
+abbrev pub make_mark : Mark → Debugger → Ran
+make_mark mark d = mark_made mark d (next_number d.marks)
+
+-- it deletes a mark
+abbrev pub mark_deleted : ℕ → Debugger → Result (Unit {0}) MarkFault → Ran
+mark_deleted number d (Ok _) = (replies.MarkDeleted number, record d { marks = without_mark number d.marks })
+mark_deleted number d (Err fault) = (replies.Fault (faults.Mark fault), d)
+
+abbrev pub delete_mark : ℕ → Debugger → Ran
+delete_mark number d = mark_deleted number d (deletion number d.marks)
+
+-- it keeps its position
+abbrev pub position_kept : Debugger → Result Checkpoint CheckpointFault → Ran
+position_kept d (Ok made) = (replies.CheckpointMade made, record d { checkpoints = with_checkpoint made d.checkpoints })
+position_kept d (Err fault) = (replies.Fault (faults.Checkpoint fault), d)
+
+abbrev pub keep_position : Debugger → Ran
+keep_position d = position_kept d (next_checkpoint d.position d.checkpoints)
+
+-- it goes to a position that was kept
+abbrev pub restarted : Debugger → Option ℕ → Ran
+restarted d (Some p) = (replies.At p, at p d)
+restarted d None = (replies.Fault (faults.Checkpoint NoSuchCheckpoint), d)
+
+-- checkpoint 0 stands for the start
+abbrev pub restart : ℕ → Debugger → Ran
+restart number d = if number == 0 then (replies.At 0, at 0 d) else restarted d (position_of number d.checkpoints)
+
+-- it deletes a checkpoint
+abbrev pub checkpoint_deleted : ℕ → Debugger → Result (Unit {0}) CheckpointFault → Ran
+checkpoint_deleted number d (Ok _) = (replies.CheckpointDeleted number, record d { checkpoints = without_checkpoint number d.checkpoints })
+checkpoint_deleted number d (Err fault) = (replies.Fault (faults.Checkpoint fault), d)
+
+abbrev pub delete_checkpoint : ℕ → Debugger → Ran
+delete_checkpoint number d = checkpoint_deleted number d (checkpoints.deletion number d.checkpoints)
+
+-- What a command does. `stepi` and `continue` go the way that is set, those whose names begin with `reverse` backwards.
+abbrev pub run : Recording → Command → Debugger → Ran
+run r (commands.Step count) d = step d.direction count.value (length r.steps) d
+run r (commands.ReverseStep count) d = step Backward count.value (length r.steps) d
+run r commands.Continue d = continue d.direction r d
+run r commands.ReverseContinue d = continue Backward r d
+run r (commands.SetDirection way) d = (replies.Direction way, record d { direction = way })
+run r (commands.Break wanted) d = make_mark (marks.Break wanted) d
+run r (commands.Watch c) d = make_mark (marks.Watch c) d
+run r (commands.Delete number) d = delete_mark number d
+run r commands.Checkpoint d = keep_position d
+run r (commands.Restart number) d = restart number d
+run r (commands.DeleteCheckpoint number) d = delete_checkpoint number d
+
+-- it stands in the recording, and so do the positions that it keeps
+pub record IsWithin (last : ℕ) (d : Debugger) : Type 0 where
+  pub position : d.position ≤ last
+  pub kept : All (λ c. c.position ≤ last) d.checkpoints.standing
+
+abbrev pub NeedsWorlds : Direction → Recording → Debugger → Type 0
+NeedsWorlds way r d = (0 < length d.marks.standing) × NeedsCopy way r d.position
+
+-- The command searches the recording, by copies of its worlds: it continues, marks stand, and a position other than the
+-- start lies that way.
+abbrev pub Searches : Recording → Command → Debugger → Type 0
+Searches r commands.Continue d = NeedsWorlds d.direction r d
+Searches r commands.ReverseContinue d = NeedsWorlds Backward r d
+Searches r _ d = ⊥
+
+-- the debugger after a word: one that is no command's changes nothing
+abbrev pub after_tagged : Recording → Debugger → Option (ℕ × Command) → Debugger
+after_tagged r d None = d
+after_tagged r d (Some tagged) = (run r tagged.1 d).1
+
+-- the debugger after a history, which is a list of words
+abbrev pub after_words : Recording → Debugger → List ℕ → Debugger
+after_words r d [] = d
+after_words r d (word ∷ words) = after_words r (after_tagged r d (command_of word)) words
+
+-- what a command is answered behind a history
+abbrev pub reply_behind : Recording → List ℕ → Command → Reply
+reply_behind r words command = (run r command (after_words r opening words)).0
+
+-- what a look shows: the world of the position, or what the debugger keeps
+abbrev pub shown : Recording → Debugger → Query → Reply
+shown r d (queries.Print c) = replies.Printed c (cell (world_at r d.position) c)
+shown r d (queries.DumpBytes side s) = replies.Bytes side s (bytes_of (world_at r d.position) s side)
+shown r d (queries.DumpQueue side s) = replies.Queue side s (queue_of (world_at r d.position) s side)
+shown r d queries.Position = replies.Position d.position (length r.steps) d.direction
+shown r d queries.Breakpoints = replies.Marks (record { items = d.marks.standing })
+shown r d queries.Checkpoints = replies.Checkpoints (record { items = d.checkpoints.standing })
+
+-- a look copies what it shows of the world: a dump does, where there are bytes or goroutines to show
+abbrev pub Copies : Recording → Debugger → Query → Type 0
+Copies r d (queries.DumpBytes side s) = HasItems (bytes_of (world_at r d.position) s side)
+Copies r d (queries.DumpQueue side s) = HasItems (queue_of (world_at r d.position) s side)
+Copies r d _ = ⊥

@@ -1,0 +1,214 @@
+//! A debugger: where it stands in a film, what it keeps, and what it answers.
+
+ghost use Rattle.std.specs.Prelude.{◌≡◌, ◌<◌, ◌≤◌, ◌^◌, length, IfOk, OnErr};
+ghost use Rattle.nr_command.specs.Session.{IsWithin, NeedsWorlds, Searches, arrive, continue, delete_checkpoint, delete_mark, keep_position, make_mark, opening, restart, run, step, to_end};
+
+use crate::checkpoint::{CheckpointFault, Checkpoints};
+use crate::command::Command;
+use crate::hits::hits_at;
+use crate::reply::{Fault, Reply};
+use nr_marks::{Mark, Marks};
+use nr_rev::Worlds;
+use nr_search::{Direction, Finder, Found, nearest_hit};
+use nr_snaps::Film;
+use std::alloc::AllocError;
+
+/// Stands at a position of a film, and keeps marks and checkpoints. It has no world: commands move the position alone.
+#[derive(Debug, Drop)]
+pub struct Debugger {
+    /// How many steps lie behind it.
+    pub(crate) position: usize,
+    /// Which way `stepi` and `continue` go.
+    pub(crate) direction: Direction,
+    pub(crate) marks: Marks,
+    pub(crate) checkpoints: Checkpoints,
+}
+
+impl Debugger {
+    /// Stands at position 0 and goes forwards; there are no marks and no checkpoints.
+    pub fn new() -> Debugger
+        ensures { result ≡ opening }
+    {
+        Debugger {
+            position: 0,
+            direction: Direction::Forward,
+            marks: Marks::new(),
+            checkpoints: Checkpoints::new(),
+        }
+    }
+
+    /// How many steps lie behind it.
+    pub fn position(&self) -> usize
+        ensures { result ≡ self.now.position }
+    {
+        self.position
+    }
+
+    /// Runs a command: what it answers and leaves is what `run` of the definitions is.
+    ///
+    /// Memory is wanted by `continue` and `reverse-continue` alone, for copies of the film's worlds, and only where marks
+    /// stand and a position other than the start lies that way. Refused it, nothing has changed.
+    pub fn exec<W: Worlds + Drop, F: Finder>(
+        &mut self,
+        film: &Film<W>,
+        finder: &F,
+        command: Command,
+    ) -> Result<Reply, AllocError>
+        requires { IsWithin (length film.now.recording.steps) self.old }
+        ensures ok { IfOk result (λ reply. (reply, self.new) ≡ run film.now.recording command self.old) }
+        ensures within { IsWithin (length film.now.recording.steps) self.new }
+        ensures unchanged { OnErr result (self.new ≡ self.old) }
+        ensures memory { OnErr result (Searches film.now.recording command self.old) }
+    {
+        self.run(film, finder, command)
+    }
+
+    fn run<W: Worlds + Drop, F: Finder>(
+        &mut self,
+        film: &Film<W>,
+        finder: &F,
+        command: Command,
+    ) -> Result<Reply, AllocError>
+        requires { self.old.position ≤ length film.now.recording.steps }
+        ensures ok { IfOk result (λ reply. (reply, self.new) ≡ run film.now.recording command self.old) }
+        ensures unchanged { OnErr result (self.new ≡ self.old) }
+        ensures memory { OnErr result (Searches film.now.recording command self.old) }
+    {
+        let last = film.len();
+        let reply = match command {
+            Command::Step(count) => self.step(self.direction, count.get(), last),
+            Command::ReverseStep(count) => self.step(Direction::Backward, count.get(), last),
+            Command::Continue => return self.go_on(film, finder, self.direction),
+            Command::ReverseContinue => return self.go_on(film, finder, Direction::Backward),
+            Command::SetDirection(direction) => {
+                self.direction = direction;
+                Reply::Direction(direction)
+            }
+            Command::Break(wanted) => self.make_mark(Mark::Break(wanted)),
+            Command::Watch(cell) => self.make_mark(Mark::Watch(cell)),
+            Command::Delete(number) => self.delete_mark(number),
+            Command::Checkpoint => self.keep_position(),
+            Command::Restart(number) => self.restart(number),
+            Command::DeleteCheckpoint(number) => self.delete_checkpoint(number),
+        };
+        Ok(reply)
+    }
+
+    /// Goes to where the film ends that way.
+    fn to_end(&mut self, direction: Direction, last: usize) -> Reply
+        ensures { (result, self.new) ≡ to_end direction last self.old }
+    {
+        match direction {
+            Direction::Forward => {
+                self.position = last;
+                Reply::AtEnd(last)
+            }
+            Direction::Backward => {
+                self.position = 0;
+                Reply::AtStart
+            }
+        }
+    }
+
+    /// Goes so many steps that way, and no further than the end there.
+    fn step(&mut self, direction: Direction, count: u32, last: usize) -> Reply
+        requires within { self.old.position ≤ last }
+        requires last { last < 2 ^ 63 }
+        ensures { (result, self.new) ≡ step direction count last self.old }
+    {
+        let count = count as usize;
+        match direction {
+            Direction::Forward if count > last - self.position => self.to_end(direction, last),
+            Direction::Backward if count > self.position => self.to_end(direction, last),
+            Direction::Forward => {
+                self.position += count;
+                Reply::At(self.position)
+            }
+            Direction::Backward => {
+                self.position -= count;
+                Reply::At(self.position)
+            }
+        }
+    }
+
+    /// Goes to the nearest hit that way, or to the end there.
+    fn go_on<W: Worlds + Drop, F: Finder>(
+        &mut self,
+        film: &Film<W>,
+        finder: &F,
+        direction: Direction,
+    ) -> Result<Reply, AllocError>
+        requires { self.old.position ≤ length film.now.recording.steps }
+        ensures ok { IfOk result (λ reply. (reply, self.new)
+            ≡ continue direction film.now.recording self.old) }
+        ensures unchanged { OnErr result (self.new ≡ self.old) }
+        ensures memory { OnErr result (NeedsWorlds direction film.now.recording self.old) }
+    {
+        let found = nearest_hit(finder, film, &self.marks, direction, self.position)?;
+        match found {
+            Found::Hit(position) => {
+                let marks = hits_at(film, &self.marks, position)?;
+                self.position = position;
+                Ok(Reply::AtHit { position, marks })
+            }
+            Found::Nothing => Ok(self.to_end(direction, film.len())),
+        }
+    }
+
+    fn make_mark(&mut self, mark: Mark) -> Reply
+        ensures { (result, self.new) ≡ make_mark mark self.old }
+    {
+        let made = match mark {
+            Mark::Break(wanted) => self.marks.add_break(wanted),
+            Mark::Watch(cell) => self.marks.add_watch(cell),
+        };
+        match made {
+            Ok(number) => Reply::MarkMade(number),
+            Err(fault) => Reply::Fault(Fault::Mark(fault)),
+        }
+    }
+
+    fn delete_mark(&mut self, number: u32) -> Reply
+        ensures { (result, self.new) ≡ delete_mark number self.old }
+    {
+        match self.marks.delete(number) {
+            Ok(()) => Reply::MarkDeleted(number),
+            Err(fault) => Reply::Fault(Fault::Mark(fault)),
+        }
+    }
+
+    fn keep_position(&mut self) -> Reply
+        ensures { (result, self.new) ≡ keep_position self.old }
+    {
+        match self.checkpoints.make(self.position) {
+            Ok(made) => Reply::CheckpointMade(made),
+            Err(fault) => Reply::Fault(Fault::Checkpoint(fault)),
+        }
+    }
+
+    /// Goes to a position that was kept, or for 0 to the start.
+    fn restart(&mut self, number: u32) -> Reply
+        ensures { (result, self.new) ≡ restart number self.old }
+    {
+        if number == 0 {
+            self.position = 0;
+            return Reply::At(0);
+        }
+        match self.checkpoints.position_of(number) {
+            Some(position) => {
+                self.position = position;
+                Reply::At(position)
+            }
+            None => Reply::Fault(Fault::Checkpoint(CheckpointFault::NoSuchCheckpoint)),
+        }
+    }
+
+    fn delete_checkpoint(&mut self, number: u32) -> Reply
+        ensures { (result, self.new) ≡ delete_checkpoint number self.old }
+    {
+        match self.checkpoints.delete(number) {
+            Ok(()) => Reply::CheckpointDeleted(number),
+            Err(fault) => Reply::Fault(Fault::Checkpoint(fault)),
+        }
+    }
+}
