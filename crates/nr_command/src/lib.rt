@@ -21,3 +21,6 @@ pub use debugger::Debugger;
 pub use parsing::MAX_LINE;
 pub use reply::{Fault, Reply};
 pub use sender::{Part, Sent, Token, send, send_all};
+
+#[cfg(test)]
+mod tests;

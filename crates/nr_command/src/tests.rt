@@ -1,0 +1,178 @@
+//! Lines, words and texts by worked examples.
+
+use crate::{Checkpoint, CheckpointFault, Checkpoints, Command, Line, LineFault, Query, Reply};
+use arrayvec::ArrayVec;
+use nr_marks::{Break, Mark, NumberedMark};
+use nr_rev::{Cell, Kind};
+use nr_search::Direction;
+use std::num::NonZeroU32;
+use std::test::Fail;
+
+fn times(count: u32) -> NonZeroU32 {
+    NonZeroU32::MIN.saturating_add(count.saturating_sub(1))
+}
+
+#[test]
+fn words_hold_opcode_tag_and_argument(rt: HostRuntime) -> Result<(), Fail> {
+    let most = times(u32::MAX);
+    let words = [
+        (Command::Step(times(3)), 0, 196_609),
+        (Command::ReverseStep(times(1)), 1, 65_794),
+        (Command::Watch(Cell::ReadWord(0)), 5, 787_719),
+        (Command::Step(most), 0, 281_474_976_645_121),
+        (Command::ReverseStep(most), 255, 281_474_976_710_402),
+        (Command::Continue, 255, 65_283),
+        (Command::ReverseContinue, 0, 4),
+        (Command::SetDirection(Direction::Backward), 0, 65_541),
+        (Command::Break(Break::Kind(Kind::Fire)), 0, 503_316_486),
+        (Command::Break(Break::Step(most)), 0, 72_057_594_021_216_262),
+        (
+            Command::Watch(Cell::Info(u32::MAX)),
+            0,
+            72_057_594_022_395_911,
+        ),
+        (Command::Delete(u32::MAX), 0, 281_474_976_645_128),
+        (Command::Checkpoint, 0, 9),
+        (Command::Restart(u32::MAX), 0, 281_474_976_645_130),
+        (Command::DeleteCheckpoint(u32::MAX), 0, 281_474_976_645_131),
+    ];
+    for (command, tag, word) in words {
+        assert_eq!(rt; command.to_word(tag), word);
+        assert_eq!(rt; Command::of_word(word), Some((tag, command)));
+    }
+    Ok(())
+}
+
+#[test]
+fn other_numbers_are_no_words(rt: HostRuntime) -> Result<(), Fail> {
+    // a continue with an argument, opcodes 0 and 12, no steps, 2^32 steps, a break before step 0, a kind 31, and the
+    // clock of something
+    let others = [
+        327_683,
+        0,
+        12,
+        1,
+        281_474_976_710_657,
+        65_542,
+        520_093_702,
+        16_842_759,
+        u64::MAX,
+    ];
+    for word in others {
+        assert_eq!(rt; Command::of_word(word), None);
+    }
+    Ok(())
+}
+
+#[test]
+fn lines_ask_for_commands(rt: HostRuntime) -> Result<(), Fail> {
+    let asked = [
+        (b"stepi 3".as_slice(), Line::Run(Command::Step(times(3)))),
+        (b" si \r", Line::Run(Command::Step(times(1)))),
+        (b"rc", Line::Run(Command::ReverseContinue)),
+        (
+            b"set exec-direction reverse",
+            Line::Run(Command::SetDirection(Direction::Backward)),
+        ),
+        (b"b @7", Line::Run(Command::Break(Break::Step(times(7))))),
+        (
+            b"break rwlock",
+            Line::Run(Command::Break(Break::Kind(Kind::RwLock))),
+        ),
+        (b"watch rg 00", Line::Run(Command::Watch(Cell::ReadWord(0)))),
+        (b"delete  2", Line::Run(Command::Delete(2))),
+        (
+            b"delete checkpoint 0",
+            Line::Run(Command::DeleteCheckpoint(0)),
+        ),
+        (b"restart 1", Line::Run(Command::Restart(1))),
+        (b"info breakpoints", Line::Look(Query::Breakpoints)),
+        (b"resume", Line::Resume),
+        (b"   ", Line::Empty),
+    ];
+    for (line, meaning) in asked {
+        assert_eq!(rt; Command::parse(line), Ok(meaning));
+    }
+    Ok(())
+}
+
+#[test]
+fn other_lines_ask_for_nothing(rt: HostRuntime) -> Result<(), Fail> {
+    let refused = [
+        (b"frob".as_slice(), LineFault::UnknownCommand),
+        (b"stepi 0", LineFault::BadArgument),
+        (b"break @0", LineFault::BadArgument),
+        (b"info", LineFault::BadArgument),
+        (b"watch clock 0", LineFault::BadArgument),
+        (b"delete checkpoint", LineFault::BadArgument),
+        (b"stepi 4294967296", LineFault::BadArgument),
+        ([b' '; 257].as_slice(), LineFault::TooLong),
+    ];
+    for (line, fault) in refused {
+        assert_eq!(rt; Command::parse(line), Err(fault));
+    }
+    Ok(())
+}
+
+#[test]
+fn lists_are_printed_line_by_line(rt: HostRuntime) -> Result<(), Fail> {
+    let mut marks = ArrayVec::new();
+    for (number, mark) in [
+        (1, Mark::Break(Break::Kind(Kind::RwLock))),
+        (2, Mark::Break(Break::Step(times(7)))),
+        (3, Mark::Watch(Cell::ReadWord(0))),
+    ] {
+        marks.push(NumberedMark { number, mark });
+    }
+    let mut hits = ArrayVec::new();
+    hits.push(1);
+    hits.push(3);
+    let mut out = Vec::new(rt.alloc());
+    let printed = [
+        Reply::Marks(marks).print(&mut out),
+        Reply::AtHit {
+            position: 5,
+            marks: hits,
+        }
+        .print(&mut out),
+        Reply::Position {
+            position: 5,
+            last: 12,
+            direction: Direction::Backward,
+        }
+        .print(&mut out),
+    ];
+    for told in printed {
+        assert_eq!(rt; told, Ok(()));
+    }
+    let text =
+        b"marks 3\n1 break rwlock\n2 break @7\n3 watch rg 0\nat 5 by 1 3\nat 5 of 12 reverse\n";
+    assert_eq!(rt; out.as_slice(), text.as_slice());
+    Ok(())
+}
+
+#[test]
+fn a_checkpoint_number_is_not_given_again(rt: HostRuntime) -> Result<(), Fail> {
+    let mut checkpoints = Checkpoints::new();
+    let first = Checkpoint {
+        number: 1,
+        position: 5,
+    };
+    assert_eq!(rt; checkpoints.make(5), Ok(first));
+    assert_eq!(rt; checkpoints.delete(1), Ok(()));
+    assert_eq!(rt;
+        checkpoints.delete(1),
+        Err(CheckpointFault::NoSuchCheckpoint)
+    );
+    assert_eq!(rt; checkpoints.position_of(1), None);
+    for number in 2..=65 {
+        let position = 7;
+        assert_eq!(rt;
+            checkpoints.make(position),
+            Ok(Checkpoint { number, position })
+        );
+    }
+    assert_eq!(rt; checkpoints.make(7), Err(CheckpointFault::CheckpointsFull));
+    assert_eq!(rt; checkpoints.as_slice().len(), 64);
+    Ok(())
+}
