@@ -11,6 +11,7 @@ use Rattle.nr_rev.specs.declared.step.Step.{Step}
 use Rattle.nr_rev.proofs.Chains.{LeadsBack-push, LeadsBack-last}
 use Rattle.nr_snaps.specs.Film.{IsFrame, Reel}
 use Rattle.nr_walker.specs.Way.{LeadsBackOne, IsWay}
+use Rattle.nr_walker.specs.declared.walker.TheConstants.{LEAST_DEPTH, MOST_DEPTH}
 
 -- a chain without its first links leads back less far
 LeadsBack-drop : {State Delta : Type 0} (back : Delta → State → State → Type 0) (k : ℕ) (deltas : List Delta) (new old : State) → LeadsBack back deltas new old → (older : State) × LeadsBack back (drop k deltas) new older
@@ -26,6 +27,27 @@ last-whole xs x e =
     sym (take_all (length xs - 1 + 1) xs whole) ∙ take_more xs (length xs - 1) x within ∙ ap (λ y. take (length xs - 1) xs ++ y ∷ []) (get_or_from_slice_get xs (length xs - 1) x x e)
 
 module _ {State Delta : Type 0} (is_well_formed : State → Type 0) (world : State → World) (steps : State → Step → Answer → State → Type 0) (back : Delta → State → State → Type 0) (film : Reel State) where
+  -- each delta leads back over one step
+  length-way : (deltas : List Delta) (new old : ℕ × State) → LeadsBack (LeadsBackOne is_well_formed world steps back film) deltas new old → length deltas + old.0 ≡ new.0
+  length-way [] new old same =
+      let place : old.0 ≡ new.0 = ap (λ (at : ℕ × State). at.0) (sym same) in
+      omega (arith, place)
+  length-way (delta ∷ deltas) new old h =
+      let rest = length-way deltas new h.0 h.1 in
+      let one : h.0.0 ≡ old.0 + 1 = h.2.one_before in
+      omega (arith, rest, one)
+
+  -- so there are no more deltas than steps behind
+  pub IsWay-kept : (deltas : Buffer Delta) (position : ℕ) (state : State) → IsWay is_well_formed world steps back film position state deltas → length deltas.items ≤ position
+  IsWay-kept deltas position state way =
+      let whole = length-way deltas.items (position, state) way.start way.leads_back in
+      omega (arith, whole)
+
+  -- with no deltas the way back is where it stands
+  pub IsWay-none : (position depth : ℕ) (state : State) → position ≤ length film.recording.steps → IsFrame is_well_formed world steps film position state → LEAST_DEPTH ≤ depth → depth ≤ MOST_DEPTH → IsWay is_well_formed world steps back film position state (buffer [] depth)
+  IsWay-none position depth state within frame least most =
+      record { within = within; frame = frame; least = least; most = most; start = (position, state); leads_back = refl }
+
   -- one step forward
   pub IsWay-forward : (deltas : Buffer Delta) (delta : Delta) (position : ℕ) (state next : State) → IsWay is_well_formed world steps back film position state deltas → position < length film.recording.steps → IsFrame is_well_formed world steps film (position + 1) next → back delta next state → IsWay is_well_formed world steps back film (position + 1) next (buffer (keep_last deltas.capacity (deltas.items ++ delta ∷ [])) deltas.capacity)
   IsWay-forward deltas delta position state next way below frame undone =

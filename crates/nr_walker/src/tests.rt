@@ -50,19 +50,31 @@ fn copies(film: &Film<Counting>) -> u32 {
     copies
 }
 
-/// Goes to a position that the film has.
-fn go(walker: &mut Walker<Counting>, n: usize) -> Result<Moved, &'static str> {
+/// Goes to a position that the film has: what it took, as it is told and as the worlds counted it, and how many deltas
+/// are kept.
+fn go(walker: &mut Walker<Counting>, n: usize) -> Result<(Moved, Moved, usize), &'static str> {
     if n > walker.film().len() {
         return Err("no such position");
     }
-    walker.goto(n).map_err(|_| "no memory to go")
+    let (before, copied) = (walker.world().moves(), copies(walker.film()));
+    let told = walker.goto(n).map_err(|_| "no memory to go")?;
+    let made = copies(walker.film()).wrapping_sub(copied);
+    let (applies, undos) = walker.world().moves();
+    // a copy begins to count anew
+    let since = if made == 0 { before } else { (0, 0) };
+    let counted = Moved {
+        applies: applies.wrapping_sub(since.0) as usize,
+        undos: undos.wrapping_sub(since.1) as usize,
+        copies: made as usize,
+    };
+    Ok((told, counted, walker.kept()))
 }
 
 #[test]
 fn a_walk_takes_what_it_tells(rt: HostRuntime) -> Result<(), Fail> {
     let film = film(rt.alloc())?;
     let mut walker = Walker::new(rt.alloc(), &film, 32).map_err(|_| "no memory")?;
-    for (n, applies, undos, made, kept) in [
+    for (n, applies, undos, copies, kept) in [
         (40, 40, 0, 0, 32),
         (20, 0, 20, 0, 12),
         (5, 5, 0, 1, 5),
@@ -72,34 +84,14 @@ fn a_walk_takes_what_it_tells(rt: HostRuntime) -> Result<(), Fail> {
         (127, 63, 0, 1, 32),
         (191, 63, 0, 1, 32),
     ] {
-        let (before, copied) = (walker.world().moves(), copies(&film));
-        let moved = go(&mut walker, n)?;
-        assert_eq!(rt;
-            moved,
-            Moved {
-                applies,
-                undos,
-                copies: made
-            },
-            "told at {n}"
-        );
-        assert_eq!(rt;
-            (walker.position(), walker.kept()),
-            (n, kept),
-            "kept at {n}"
-        );
-        assert_eq!(rt;
-            walker.world().cell(Cell::Clock),
-            CellValue::Time(n as i64 - 2),
-            "at {n}"
-        );
-        let (start, made) = if made == 0 { (before, 0) } else { ((0, 0), 1) };
-        let counted = (
-            start.0.wrapping_add(applies as u32),
-            start.1.wrapping_add(undos as u32),
-        );
-        assert_eq!(rt; walker.world().moves(), counted, "counted at {n}");
-        assert_eq!(rt; copies(&film), copied.wrapping_add(made), "copied at {n}");
+        let moved = Moved {
+            applies,
+            undos,
+            copies,
+        };
+        let (told, counted, left) = go(&mut walker, n)?;
+        assert!(rt; told == moved && counted == moved && left == kept);
     }
+    assert_eq!(rt; walker.world().cell(Cell::Clock), CellValue::Time(189));
     Ok(())
 }

@@ -1,11 +1,9 @@
-//! A walker over a film, with a ring of deltas.
+//! A walker: a world that goes to any position of a film, with a ring of deltas.
 
-ghost use Rattle.std.specs.Prelude.{◌≡◌, ◌<◌, ◌≤◌, ◌+◌, ◌-◌, ◌*◌, ◌/◌, length, min, IfOk, OnOk, OnErr};
-ghost use Rattle.nr_recording.specs.declared.recording.TheConstants.{MOST_STEPS};
+ghost use Rattle.std.specs.Prelude.{◌≡◌, ◌<◌, ◌≤◌, ◌+◌, ◌-◌, length, IfOk, OnOk, OnErr};
 ghost use Rattle.nr_rev.specs.Run.{LosesBytesAt};
 ghost use Rattle.nr_snaps.specs.Film.{IsFrame};
-ghost use Rattle.nr_walker.specs.Walk.{Walk, StopsShort, at_copy, backwards, forwards, moved_by, route, walk_by, IsRefusedBy};
-ghost use Rattle.nr_walker.specs.declared.route.Route.TheVariants as routes;
+ghost use Rattle.nr_walker.specs.Walk.{IsRefusedBy, StopsShort, at_copy, backwards, forwards, moved_by, route, walk_by};
 ghost use Rattle.nr_walker.specs.declared.walker.TheConstants.{LEAST_DEPTH, MOST_DEPTH};
 
 use crate::moved::Moved;
@@ -97,6 +95,7 @@ where
     pub fn kept(&self) -> usize
         ensures is { result ≡ self.now.kept }
         ensures within { result ≤ self.now.depth }
+        ensures behind { result ≤ self.now.position }
     {
         self.deltas.len()
     }
@@ -246,7 +245,10 @@ where
     #[inline(always)]
     fn backward(&mut self)
         requires { 0 < self.old.kept }
-        ensures { self.new ≡ record self.old { position = self.old.position - 1; kept = self.old.kept - 1 } }
+        ensures { self.new ≡ record self.old {
+          position = self.old.position - 1;
+          kept = self.old.kept - 1;
+        } }
     {
         let Some(delta) = self.deltas.pop_back() else {
             unreachable!()
