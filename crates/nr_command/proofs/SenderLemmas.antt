@@ -1,5 +1,5 @@
 -- What is out of a text that goes out in parts.
-use Rattle.std.proofs.Common.{◌≡◌, ℕ, suc, ◌+◌, ◌<◌, ◌≤◌, List, [], ◌∷◌, ◌++◌, arith, length, get_or, take, drop, flat_map, refl, sym, ap, subst, ◌∙◌, append-nil, take-append-drop, drop-cons, length-append, Option, Result, Ok, Err}
+use Rattle.std.proofs.Common.{◌≡◌, ℕ, suc, ◌+◌, ◌<◌, ◌≤◌, List, [], ◌∷◌, ◌++◌, arith, length, get_or, take, drop, flat_map, refl, sym, ap, subst, ◌∙◌, append-nil, take-append-drop, drop-cons, length-append, Option, Err}
 use Rattle.std.proofs.lemmas.List.{take-append-le}
 use Rattle.std.proofs.lemmas.Grind.{flat_map-append}
 use Rattle.std.proofs.Math.Seq.{take-append-add}

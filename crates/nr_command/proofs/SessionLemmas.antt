@@ -8,7 +8,7 @@ use Rattle.nr_search.specs.Nearest.{NeedsCopy, first_of, last_below, nearest_hit
 use Rattle.nr_search.specs.declared.direction.Direction.{Direction}
 use Rattle.nr_search.specs.declared.direction.Direction.TheVariants.{Forward, Backward}
 use Rattle.nr_search.specs.declared.found.Found.{Found}
-use Rattle.nr_search.specs.declared.found.Found.TheVariants.{Hit, Nothing}
+use Rattle.nr_search.specs.declared.found.Found.TheVariants.{Hit}
 
 -- p hits, and lies from low to below high
 record HitsIn (hit : ℕ → Bool) (low high p : ℕ) : Type 0 where

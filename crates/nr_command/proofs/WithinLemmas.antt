@@ -1,5 +1,5 @@
 -- Each command leaves the debugger in its recording.
-use Rattle.std.proofs.Common.{◌≡◌, ℕ, ◌+◌, ◌-◌, ◌<◌, ◌≤◌, ◌==◌, Bool, true, false, cond, not, List, [], ◌∷◌, length, find, Option, Some, None, Result, Ok, Err, nat_lt, refl, sym, ap, subst, arith}
+use Rattle.std.proofs.Common.{◌≡◌, ℕ, ◌+◌, ◌-◌, ◌≤◌, ◌==◌, Bool, true, false, cond, not, List, [], ◌∷◌, length, find, Option, Some, None, Result, Ok, Err, nat_lt, refl, sym, ap, subst, arith}
 use Rattle.std.specs.Prelude.{All, IfOk, OnErr, option_map}
 use Rattle.std.proofs.lemmas.Bool.{ltb-false}
 use Rattle.std.proofs.lemmas.List.Elements.{All-head, All-tail, All-push, All-filter}
@@ -13,9 +13,8 @@ use Rattle.nr_search.specs.declared.direction.Direction.{Direction}
 use Rattle.nr_search.specs.declared.direction.Direction.TheVariants.{Forward, Backward}
 use Rattle.nr_search.specs.declared.found.Found.{Found}
 use Rattle.nr_search.specs.declared.found.Found.TheVariants.{Hit, Nothing}
-use Rattle.nr_command.specs.CheckpointTable.{CheckpointTable}
 use Rattle.nr_command.specs.Checkpoints as checkpoints
-use Rattle.nr_command.specs.Session.{IsWithin, Ran, after_tagged, after_words, arrive, at, checkpoint_deleted, continue, mark_deleted, mark_made, opening, position_kept, restart, restarted, run, step, to_end}
+use Rattle.nr_command.specs.Session.{IsWithin, Ran, after_tagged, after_words, arrive, at, checkpoint_deleted, continue, mark_deleted, mark_made, opening, position_kept, restarted, run, step, to_end}
 use Rattle.nr_command.specs.Word.{command_of}
 use Rattle.nr_command.specs.declared.checkpoint.Checkpoint.{Checkpoint}
 use Rattle.nr_command.specs.declared.checkpoint.CheckpointFault.{CheckpointFault}

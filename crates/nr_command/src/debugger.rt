@@ -46,8 +46,8 @@ impl Debugger {
 
     /// Runs a command: what it answers and leaves is what `run` of the definitions is.
     ///
-    /// Memory is wanted by `continue` and `reverse-continue` alone, for copies of the film's worlds, and only where marks
-    /// stand and a position other than the start lies that way. Refused it, nothing has changed.
+    /// Memory is wanted by `continue` and `reverse-continue` alone, for copies of the film's worlds, and only where
+    /// marks stand and a position other than the start lies that way. Refused it, nothing has changed.
     pub fn exec<W: Worlds + Drop, F: Finder>(
         &mut self,
         film: &Film<W>,
@@ -55,7 +55,8 @@ impl Debugger {
         command: Command,
     ) -> Result<Reply, AllocError>
         requires { IsWithin (length film.now.recording.steps) self.old }
-        ensures ok { IfOk result (λ reply. (reply, self.new) ≡ run film.now.recording command self.old) }
+        ensures ok { IfOk result (λ reply. (reply, self.new)
+            ≡ run film.now.recording command self.old) }
         ensures within { IsWithin (length film.now.recording.steps) self.new }
         ensures unchanged { OnErr result (self.new ≡ self.old) }
         ensures memory { OnErr result (Searches film.now.recording command self.old) }
@@ -70,7 +71,8 @@ impl Debugger {
         command: Command,
     ) -> Result<Reply, AllocError>
         requires { self.old.position ≤ length film.now.recording.steps }
-        ensures ok { IfOk result (λ reply. (reply, self.new) ≡ run film.now.recording command self.old) }
+        ensures ok { IfOk result (λ reply. (reply, self.new)
+            ≡ run film.now.recording command self.old) }
         ensures unchanged { OnErr result (self.new ≡ self.old) }
         ensures memory { OnErr result (Searches film.now.recording command self.old) }
     {

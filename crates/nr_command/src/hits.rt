@@ -10,7 +10,8 @@ use nr_rev::Worlds;
 use nr_snaps::Film;
 use std::alloc::AllocError;
 
-/// The numbers of the marks that hit at a position, rising. Memory is wanted for copies of the film's worlds, and at the start for none.
+/// The numbers of the marks that hit at a position, rising. Memory is wanted for copies of the film's worlds, and at
+/// the start for none.
 pub(crate) fn hits_at<W: Worlds + Drop>(
     film: &Film<W>,
     marks: &Marks,

@@ -122,7 +122,8 @@ fn lists_are_printed_line_by_line(rt: HostRuntime) -> Result<(), Fail> {
         (2, Mark::Break(Break::Step(times(7)))),
         (3, Mark::Watch(Cell::ReadWord(0))),
     ] {
-        marks.push(NumberedMark { number, mark });
+        let mark = NumberedMark { number, mark };
+        assert!(rt; marks.try_push(mark).is_ok());
     }
     let mut hits = ArrayVec::new();
     hits.push(1);

@@ -1,4 +1,4 @@
-use Rattle.std.proofs.Common.{map, length, arith, sym}
+use Rattle.std.proofs.Common.{map, arith, sym}
 use Rattle.std.proofs.lemmas.List.{length-map}
 use Rattle.nr_command.proofs.CommandLemmas.{break_of-more}
 use Rattle.nr_command.proofs.parsing.break_of.Goals as goal
