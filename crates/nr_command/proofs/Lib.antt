@@ -1,6 +1,7 @@
 pub mod CommandLemmas
 pub mod CountLemmas
 pub mod LawLemmas
+pub mod ReplyLemmas
 pub mod SenderLemmas
 pub mod StreamLemmas
 pub mod WordLemmas
