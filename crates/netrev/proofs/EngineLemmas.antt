@@ -4,21 +4,21 @@ use Rattle.std.proofs.lemmas.List.{length-take, take_more}
 use Rattle.std.proofs.lemmas.Bool.{lt-ltb, le-ltb, eqb-false}
 use Rattle.std.specs.List.{concat}
 use Rattle.std.specs.Io.KnownBytes.{Appends, Consumes, IsAtEnd}
-use Rattle.netrev.specs.Command.{meaning_of}
-use Rattle.netrev.specs.Front.{Place}
+use Rattle.nr_command.specs.Command.{meaning_of}
+use Rattle.nr_command.specs.declared.debugger.Debugger.{Debugger}
 use Rattle.nr_rev.specs.Run.{Recording}
 use Rattle.netrev.proofs.StreamLemmas.{Appends-then, Appends-nil, Consumes-nil, Consumes-then}
 use Rattle.netrev.specs.declared.ending.End.TheVariants.{Closed, Quit}
 use Rattle.netrev.specs.declared.ending.LineEnd.{LineEnd}
 use Rattle.netrev.specs.declared.ending.LineEnd.TheVariants.{Read, Write}
-use Rattle.netrev.specs.Sender.{saturating_count}
+use Rattle.nr_command.specs.Sender.{saturating_count}
 use Rattle.netrev.specs.Engine.{lines_of, Turns, has_quit, some_count, Answered, Serves}
 use Rattle.netrev.specs.Turn.{Turn, is_quit, count_with, IsCut}
 use Rattle.netrev.proofs.LineLemmas.{whole_lines, rest_of, whole_lines-byte, rest_of-byte, whole_lines-feed, rest_of-feed, lines_at_end, meaning_of-take, kept_more}
 use Rattle.netrev.proofs.TurnLemmas.{counted_more, has_quit-append, concat_more, turns_more, turn_asks}
 
 -- Of the bytes that came from the reader, the first `read` are done with: their lines are answered, and the line holds what follows the last of them.
-pub record Standing (r r' w w' : Option (List ℕ)) (recording : Recording) (p p' : Place) (came read line : List ℕ) (whole : ℕ) : Type 0 where
+pub record Standing (r r' w w' : Option (List ℕ)) (recording : Recording) (p p' : Debugger) (came read line : List ℕ) (whole : ℕ) : Type 0 where
   pub texts : List (List ℕ)
   pub reads : Consumes r r' came
   pub writes : Appends w w' (concat texts)
@@ -28,17 +28,17 @@ pub record Standing (r r' w w' : Option (List ℕ)) (recording : Recording) (p p
   pub count : whole ≡ saturating_count (some_count texts)
 
 -- what a turn gave
-abbrev Turned : Recording → Place → List ℕ → Place → Option (List ℕ) → Option (List ℕ) → ℕ → ℕ → Type 0
+abbrev Turned : Recording → Debugger → List ℕ → Debugger → Option (List ℕ) → Option (List ℕ) → ℕ → ℕ → Type 0
 Turned recording p line p' w w' whole whole' = (text : List ℕ) × Turn recording p line text p' × Appends w w' text × (whole' ≡ count_with whole text)
 
-abbrev Failed : Recording → Place → List ℕ → Place → Option (List ℕ) → Option (List ℕ) → ℕ → LineEnd → Type 0
+abbrev Failed : Recording → Debugger → List ℕ → Debugger → Option (List ℕ) → Option (List ℕ) → ℕ → LineEnd → Type 0
 Failed recording p line p' w w' whole e = (text : List ℕ) × Turn recording p line text p' × IsCut e whole text w w'
 
 -- the front walks the same recording still
-turned_at : (recording now : Recording) (p : Place) (line : List ℕ) (p' : Place) (w w' : Option (List ℕ)) (whole whole' : ℕ) → now ≡ recording → Turned now p line p' w w' whole whole' → Turned recording p line p' w w' whole whole'
+turned_at : (recording now : Recording) (p : Debugger) (line : List ℕ) (p' : Debugger) (w w' : Option (List ℕ)) (whole whole' : ℕ) → now ≡ recording → Turned now p line p' w w' whole whole' → Turned recording p line p' w w' whole whole'
 turned_at recording now p line p' w w' whole whole' same turned = subst (λ x. Turned x p line p' w w' whole whole') same turned
 
-failed_at : (recording now : Recording) (p : Place) (line : List ℕ) (p' : Place) (w w' : Option (List ℕ)) (whole : ℕ) (e : LineEnd) → now ≡ recording → Failed now p line p' w w' whole e → Failed recording p line p' w w' whole e
+failed_at : (recording now : Recording) (p : Debugger) (line : List ℕ) (p' : Debugger) (w w' : Option (List ℕ)) (whole : ℕ) (e : LineEnd) → now ≡ recording → Failed now p line p' w w' whole e → Failed recording p line p' w w' whole e
 failed_at recording now p line p' w w' whole e same failed = subst (λ x. Failed x p line p' w w' whole e) same failed
 
 -- the line that is kept asks for what the whole line does
@@ -46,7 +46,7 @@ asks : (line read : List ℕ) → line ≡ take 257 (rest_of read) → meaning_o
 asks line read kept = ap meaning_of kept ∙ meaning_of-take (rest_of read)
 
 -- a byte that is no line feed
-pub byte_more : (r r' w w' : Option (List ℕ)) (recording : Recording) (p p' : Place) (came read line line' : List ℕ) (whole b : ℕ)
+pub byte_more : (r r' w w' : Option (List ℕ)) (recording : Recording) (p p' : Debugger) (came read line line' : List ℕ) (whole b : ℕ)
     → Standing r r' w w' recording p p' came read line whole → nat_eq b 10 ≡ false → line' ≡ take 257 (line ++ b ∷ []) → Standing r r' w w' recording p p' came (read ++ b ∷ []) line' whole
 byte_more r r' w w' recording p p' came read line line' whole b st goes e = record {
   texts = st.texts;
@@ -66,19 +66,19 @@ abbrev has_one : Bool → Bool
 has_one t = t || false
 
 -- the line that is kept has its turn: so has the whole line, after those before it
-turns_after : (r r' w w' : Option (List ℕ)) (recording : Recording) (p p' p'' : Place) (came read line text : List ℕ) (whole : ℕ) (st : Standing r r' w w' recording p p' came read line whole) → Turn recording p' line text p''
+turns_after : (r r' w w' : Option (List ℕ)) (recording : Recording) (p p' p'' : Debugger) (came read line text : List ℕ) (whole : ℕ) (st : Standing r r' w w' recording p p' came read line whole) → Turn recording p' line text p''
     → Turns recording p (whole_lines read ++ rest_of read ∷ []) (st.texts ++ text ∷ []) p''
 turns_after r r' w w' recording p p' p'' came read line text whole st turn =
     turns_more recording p (whole_lines read) st.texts p' (rest_of read) text p'' st.turns (turn_asks recording line (rest_of read) text p' p'' (asks line read st.kept) turn)
 
 -- it isn't quit: so none of them is
-no_quit_after : (r r' w w' : Option (List ℕ)) (recording : Recording) (p p' : Place) (came read line : List ℕ) (whole : ℕ) → Standing r r' w w' recording p p' came read line whole → is_quit (meaning_of line) ≡ false
+no_quit_after : (r r' w w' : Option (List ℕ)) (recording : Recording) (p p' : Debugger) (came read line : List ℕ) (whole : ℕ) → Standing r r' w w' recording p p' came read line whole → is_quit (meaning_of line) ≡ false
     → has_quit (whole_lines read ++ rest_of read ∷ []) ≡ false
 no_quit_after r r' w w' recording p p' came read line whole st goes =
     has_quit-append (whole_lines read) (rest_of read ∷ []) st.no_quit ∙ ap (λ a. has_one (is_quit a)) (sym (asks line read st.kept)) ∙ ap has_one goes
 
 -- a line feed, after a line that isn't quit
-pub line_more : (r r' w w' w'' : Option (List ℕ)) (recording now : Recording) (p p' p'' : Place) (came read line line' : List ℕ) (whole whole' b : ℕ)
+pub line_more : (r r' w w' w'' : Option (List ℕ)) (recording now : Recording) (p p' p'' : Debugger) (came read line line' : List ℕ) (whole whole' b : ℕ)
     → Standing r r' w w' recording p p' came read line whole → nat_eq b 10 ≡ true → is_quit (meaning_of line) ≡ false → now ≡ recording → Turned now p' line p'' w' w'' whole whole' → line' ≡ []
     → Standing r r' w w'' recording p p'' came (read ++ b ∷ []) line' whole'
 line_more r r' w w' w'' recording now p p' p'' came read line line' whole whole' b st feed goes walks given cleared =
@@ -111,7 +111,7 @@ no_line read line kept none =
     lines_at_end read ∙ ap (λ t. whole_lines read ++ cond t (rest_of read ∷ []) []) (le-ltb 0 (length (rest_of read)) (omega (arith, len, none))) ∙ append-nil (whole_lines read)
 
 -- a line is quit: these lines, of which it is one
-quits : (r r' w w' w'' : Option (List ℕ)) (recording : Recording) (p p' p'' : Place) (came read line : List ℕ) (back : List (List ℕ)) (whole whole' : ℕ) (ended : Bool)
+quits : (r r' w w' w'' : Option (List ℕ)) (recording : Recording) (p p' p'' : Debugger) (came read line : List ℕ) (back : List (List ℕ)) (whole whole' : ℕ) (ended : Bool)
     → Standing r r' w w' recording p p' came read line whole → lines_of ended came ≡ whole_lines read ++ rest_of read ∷ back → (ended ≡ true → IsAtEnd r') → is_quit (meaning_of line) ≡ true
     → Turned recording p' line p'' w' w'' whole whole' → Serves r r' w w'' recording p p'' (Ok Quit)
 quits r r' w w' w'' recording p p' p'' came read line back whole whole' ended st lines at_end stops turned =
@@ -137,7 +137,7 @@ quits r r' w w' w'' recording p p' p'' came read line back whole whole' ended st
     }
 
 -- a write failed
-cut : (r r' w w' w'' : Option (List ℕ)) (recording : Recording) (p p' p'' : Place) (came read line : List ℕ) (back : List (List ℕ)) (whole : ℕ) (ended : Bool) (e : LineEnd)
+cut : (r r' w w' w'' : Option (List ℕ)) (recording : Recording) (p p' p'' : Debugger) (came read line : List ℕ) (back : List (List ℕ)) (whole : ℕ) (ended : Bool) (e : LineEnd)
     → Standing r r' w w' recording p p' came read line whole → lines_of ended came ≡ whole_lines read ++ rest_of read ∷ back → (ended ≡ true → IsAtEnd r')
     → Failed recording p' line p'' w' w'' whole e → Serves r r' w w'' recording p p'' (Err e)
 cut r r' w w' w'' recording p p' p'' came read line back whole ended Read st lines at_end failed = absurd failed.2
@@ -171,7 +171,7 @@ cut r r' w w' w'' recording p p' p'' came read line back whole ended (Write n pa
     }
 
 -- the reader is at its end, and no line is left
-pub closed : (r r' w w' : Option (List ℕ)) (recording : Recording) (p p' : Place) (read line : List ℕ) (whole : ℕ) → Standing r r' w w' recording p p' read read line whole → IsAtEnd r' → length line ≡ 0
+pub closed : (r r' w w' : Option (List ℕ)) (recording : Recording) (p p' : Debugger) (read line : List ℕ) (whole : ℕ) → Standing r r' w w' recording p p' read read line whole → IsAtEnd r' → length line ≡ 0
     → Serves r r' w w' recording p p' (Ok Closed)
 closed r r' w w' recording p p' read line whole st at_end none = record {
   read = read;
@@ -184,7 +184,7 @@ closed r r' w w' recording p p' read line whole st at_end none = record {
 }
 
 -- the reader is at its end, and the last line isn't quit
-pub closed_after : (r r' w w' w'' : Option (List ℕ)) (recording now : Recording) (p p' p'' : Place) (read line : List ℕ) (whole whole' : ℕ) → Standing r r' w w' recording p p' read read line whole → IsAtEnd r' → 0 < length line
+pub closed_after : (r r' w w' w'' : Option (List ℕ)) (recording now : Recording) (p p' p'' : Debugger) (read line : List ℕ) (whole whole' : ℕ) → Standing r r' w w' recording p p' read read line whole → IsAtEnd r' → 0 < length line
     → is_quit (meaning_of line) ≡ false → now ≡ recording → Turned now p' line p'' w' w'' whole whole' → Serves r r' w w'' recording p p'' (Ok Closed)
 closed_after r r' w w' w'' recording now p p' p'' read line whole whole' st at_end some goes walks given =
     let turned = turned_at recording now p' line p'' w' w'' whole whole' walks given in
@@ -208,29 +208,29 @@ closed_after r r' w w' w'' recording now p p' p'' read line whole whole' st at_e
     }
 
 -- the last line, at the reader's end
-pub last_quits : (r r' w w' w'' : Option (List ℕ)) (recording now : Recording) (p p' p'' : Place) (read line : List ℕ) (whole whole' : ℕ) → Standing r r' w w' recording p p' read read line whole → IsAtEnd r' → 0 < length line
+pub last_quits : (r r' w w' w'' : Option (List ℕ)) (recording now : Recording) (p p' p'' : Debugger) (read line : List ℕ) (whole whole' : ℕ) → Standing r r' w w' recording p p' read read line whole → IsAtEnd r' → 0 < length line
     → is_quit (meaning_of line) ≡ true → now ≡ recording → Turned now p' line p'' w' w'' whole whole' → Serves r r' w w'' recording p p'' (Ok Quit)
 last_quits r r' w w' w'' recording now p p' p'' read line whole whole' st at_end some stops walks turned =
     quits r r' w w' w'' recording p p' p'' read read line [] whole whole' true st (last_line read line st.kept some) (λ _. at_end) stops (turned_at recording now p' line p'' w' w'' whole whole' walks turned)
 
-pub last_cut : (r r' w w' w'' : Option (List ℕ)) (recording now : Recording) (p p' p'' : Place) (read line : List ℕ) (whole : ℕ) (e : LineEnd) → Standing r r' w w' recording p p' read read line whole → IsAtEnd r' → 0 < length line
+pub last_cut : (r r' w w' w'' : Option (List ℕ)) (recording now : Recording) (p p' p'' : Debugger) (read line : List ℕ) (whole : ℕ) (e : LineEnd) → Standing r r' w w' recording p p' read read line whole → IsAtEnd r' → 0 < length line
     → now ≡ recording → Failed now p' line p'' w' w'' whole e → Serves r r' w w'' recording p p'' (Err e)
 last_cut r r' w w' w'' recording now p p' p'' read line whole e st at_end some walks failed =
     cut r r' w w' w'' recording p p' p'' read read line [] whole true e st (last_line read line st.kept some) (λ _. at_end) (failed_at recording now p' line p'' w' w'' whole e walks failed)
 
 -- a line that ends by a line feed
-pub line_quits : (r r' w w' w'' : Option (List ℕ)) (recording now : Recording) (p p' p'' : Place) (came read line bs : List ℕ) (whole whole' b : ℕ) → Standing r r' w w' recording p p' came read line whole → came ≡ read ++ b ∷ bs → nat_eq b 10 ≡ true
+pub line_quits : (r r' w w' w'' : Option (List ℕ)) (recording now : Recording) (p p' p'' : Debugger) (came read line bs : List ℕ) (whole whole' b : ℕ) → Standing r r' w w' recording p p' came read line whole → came ≡ read ++ b ∷ bs → nat_eq b 10 ≡ true
     → is_quit (meaning_of line) ≡ true → now ≡ recording → Turned now p' line p'' w' w'' whole whole' → Serves r r' w w'' recording p p'' (Ok Quit)
 line_quits r r' w w' w'' recording now p p' p'' came read line bs whole whole' b st e feed stops walks turned =
     quits r r' w w' w'' recording p p' p'' came read line (whole_lines bs) whole whole' false st (lines_there read came bs b e feed) (λ (h : false ≡ true). cc) stops (turned_at recording now p' line p'' w' w'' whole whole' walks turned)
 
-pub line_cut : (r r' w w' w'' : Option (List ℕ)) (recording now : Recording) (p p' p'' : Place) (came read line bs : List ℕ) (whole b : ℕ) (err : LineEnd) → Standing r r' w w' recording p p' came read line whole → came ≡ read ++ b ∷ bs → nat_eq b 10 ≡ true
+pub line_cut : (r r' w w' w'' : Option (List ℕ)) (recording now : Recording) (p p' p'' : Debugger) (came read line bs : List ℕ) (whole b : ℕ) (err : LineEnd) → Standing r r' w w' recording p p' came read line whole → came ≡ read ++ b ∷ bs → nat_eq b 10 ≡ true
     → now ≡ recording → Failed now p' line p'' w' w'' whole err → Serves r r' w w'' recording p p'' (Err err)
 line_cut r r' w w' w'' recording now p p' p'' came read line bs whole b err st e feed walks failed =
     cut r r' w w' w'' recording p p' p'' came read line (whole_lines bs) whole false err st (lines_there read came bs b e feed) (λ (h : false ≡ true). cc) (failed_at recording now p' line p'' w' w'' whole err walks failed)
 
 -- nothing came yet
-pub standing_at_first : (r w : Option (List ℕ)) (recording : Recording) (p : Place) (line : List ℕ) → line ≡ [] → Standing r r w w recording p p [] [] line 0
+pub standing_at_first : (r w : Option (List ℕ)) (recording : Recording) (p : Debugger) (line : List ℕ) → line ≡ [] → Standing r r w w recording p p [] [] line 0
 standing_at_first r w recording p line e = record {
   texts = [];
   reads = Consumes-nil r;
@@ -242,7 +242,7 @@ standing_at_first r w recording p line e = record {
 }
 
 -- a read that gave some bytes
-came_more : (r r' r'' w w' : Option (List ℕ)) (recording : Recording) (p p' : Place) (read line bytes : List ℕ) (whole : ℕ) → Standing r r' w w' recording p p' read read line whole → Consumes r' r'' bytes → Standing r r'' w w' recording p p' (read ++ bytes) read line whole
+came_more : (r r' r'' w w' : Option (List ℕ)) (recording : Recording) (p p' : Debugger) (read line bytes : List ℕ) (whole : ℕ) → Standing r r' w w' recording p p' read read line whole → Consumes r' r'' bytes → Standing r r'' w w' recording p p' (read ++ bytes) read line whole
 came_more r r' r'' w w' recording p p' read line bytes whole st more = record {
   texts = st.texts;
   reads = Consumes-then r r' r'' read bytes st.reads more;
@@ -254,13 +254,13 @@ came_more r r' r'' w w' recording p p' read line bytes whole st more = record {
 }
 
 -- a read that gave none
-pub came_none : (r r' r'' w w' : Option (List ℕ)) (recording : Recording) (p p' : Place) (read line buf : List ℕ) (whole n : ℕ) → Standing r r' w w' recording p p' read read line whole → Consumes r' r'' (take n buf) → n ≡ 0 → Standing r r'' w w' recording p p' read read line whole
+pub came_none : (r r' r'' w w' : Option (List ℕ)) (recording : Recording) (p p' : Debugger) (read line buf : List ℕ) (whole n : ℕ) → Standing r r' w w' recording p p' read read line whole → Consumes r' r'' (take n buf) → n ≡ 0 → Standing r r'' w w' recording p p' read read line whole
 came_none r r' r'' w w' recording p p' read line buf whole n st more none =
     subst (λ came. Standing r r'' w w' recording p p' came read line whole) (append-nil read)
     (came_more r r' r'' w w' recording p p' read line [] whole st (subst (λ m. Consumes r' r'' (take m buf)) none more))
 
 -- the line by another name
-pub relined : (r r' w w' : Option (List ℕ)) (recording : Recording) (p p' : Place) (came read line slice : List ℕ) (whole : ℕ) → Standing r r' w w' recording p p' came read line whole → slice ≡ line → Standing r r' w w' recording p p' came read slice whole
+pub relined : (r r' w w' : Option (List ℕ)) (recording : Recording) (p p' : Debugger) (came read line slice : List ℕ) (whole : ℕ) → Standing r r' w w' recording p p' came read line whole → slice ≡ line → Standing r r' w w' recording p p' came read slice whole
 relined r r' w w' recording p p' came read line slice whole st e = subst (λ l. Standing r r' w w' recording p p' came read l whole) (sym e) st
 
 -- what came, at the byte at i

@@ -1,12 +1,7 @@
 pub mod ArgumentsLemmas
-pub mod CommandLemmas
 pub mod EngineLemmas
-pub mod IdleTicks
-pub mod LawLemmas
 pub mod LineLemmas
 pub mod OpeningLemmas
-pub mod ReplyLemmas
-pub mod SenderLemmas
+pub mod StartingLemmas
 pub mod StreamLemmas
 pub mod TurnLemmas
-pub mod WalkerLemmas

@@ -4,8 +4,8 @@ use Rattle.std.proofs.lemmas.List.{length-take-le, take_at, take-append-le}
 use Rattle.std.proofs.lemmas.List.Splits.{length-slice_split}
 use Rattle.std.proofs.lemmas.Bool.{lt-ltb, ltb-false, ltb-true}
 use Rattle.std.specs.List.{slice_split, onto_first}
-use Rattle.netrev.specs.declared.command.LineFault.TheVariants.{TooLong}
-use Rattle.netrev.specs.Command.{meaning_of, meaning_of_words, words, without_return}
+use Rattle.nr_command.specs.declared.command.LineFault.TheVariants.{TooLong}
+use Rattle.nr_command.specs.Command.{meaning_of, meaning_of_words, words, without_return}
 use Rattle.netrev.specs.Engine.{lines_in, lines_of}
 
 -- the parts of a text between its line feeds

@@ -3,10 +3,10 @@ use Rattle.std.proofs.Common.{◌≡◌, ℕ, ◌+◌, Bool, true, false, cond, 
 use Rattle.std.specs.List.{concat}
 use Rattle.std.proofs.lemmas.List.Folds.{concat-append}
 use Rattle.std.proofs.lemmas.List.Elements.{filter-append}
-use Rattle.netrev.specs.Command.{meaning_of}
-use Rattle.netrev.specs.Front.{Place}
+use Rattle.nr_command.specs.Command.{meaning_of}
+use Rattle.nr_command.specs.declared.debugger.Debugger.{Debugger}
 use Rattle.nr_rev.specs.Run.{Recording}
-use Rattle.netrev.specs.Sender.{saturating_count}
+use Rattle.nr_command.specs.Sender.{saturating_count}
 use Rattle.netrev.specs.Turn.{MayReply, Turn, is_quit, count_with}
 use Rattle.netrev.specs.Engine.{Turns, has_quit, some_count}
 
@@ -32,12 +32,12 @@ has_quit-append (x ∷ xs) ys =
 pub concat_more : (texts : List (List ℕ)) (text : List ℕ) → concat (texts ++ text ∷ []) ≡ concat texts ++ text
 concat_more texts text = concat-append texts (text ∷ []) ∙ ap (λ t. concat texts ++ t) (append-nil text)
 
-pub turns_more : (r : Recording) (p : Place) (lines texts : List (List ℕ)) (mid : Place) (line text : List ℕ) (p' : Place) → Turns r p lines texts mid → Turn r mid line text p' → Turns r p (lines ++ line ∷ []) (texts ++ text ∷ []) p'
+pub turns_more : (r : Recording) (p : Debugger) (lines texts : List (List ℕ)) (mid : Debugger) (line text : List ℕ) (p' : Debugger) → Turns r p lines texts mid → Turn r mid line text p' → Turns r p (lines ++ line ∷ []) (texts ++ text ∷ []) p'
 turns_more r p [] [] mid line text p' here turn = (p', subst (λ m. Turn r m line text p') here turn, refl)
 turns_more r p [] (t ∷ ts) mid line text p' here turn = absurd here
 turns_more r p (l ∷ ls) [] mid line text p' here turn = absurd here
 turns_more r p (l ∷ ls) (t ∷ ts) mid line text p' here turn = (here.0, here.1, turns_more r here.0 ls ts mid line text p' here.2 turn)
 
 -- a line that asks for the same has the same turns
-pub turn_asks : (r : Recording) (a b text : List ℕ) (p p' : Place) → meaning_of a ≡ meaning_of b → Turn r p a text p' → Turn r p b text p'
+pub turn_asks : (r : Recording) (a b text : List ℕ) (p p' : Debugger) → meaning_of a ≡ meaning_of b → Turn r p a text p' → Turn r p b text p'
 turn_asks r a b text p p' e turn = (turn.0, subst (λ asked. MayReply asked r p turn.0 p') e turn.1, turn.2)

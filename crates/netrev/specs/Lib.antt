@@ -1,14 +1,6 @@
 pub mod Arguments
-pub mod Command
-pub mod Debugger
 pub mod Engine
-pub mod Film
-pub mod Front
 pub mod Opening
-pub mod Reply
 pub mod Run
-pub mod Sender
 pub mod Starting
 pub mod Turn
-pub mod Value
-pub mod Walker

@@ -7,9 +7,9 @@ use Rattle.nr_recording.specs.Reading.{reading}
 use Rattle.nr_recording.specs.Text.{IsTextOf}
 use Rattle.nr_recording.specs.declared.fault.ReadFault.{ReadFault}
 use Rattle.nr_recording.specs.declared.fault.ReadFault.TheVariants as read
-use Rattle.netrev.specs.Film.{IsLoadFault}
-use Rattle.netrev.specs.declared.film.LoadFault.{LoadFault}
-use Rattle.netrev.specs.declared.film.LoadFault.TheVariants as load
+use Rattle.nr_snaps.specs.Fault.{IsLoadFault}
+use Rattle.nr_snaps.specs.declared.fault.LoadFault.{LoadFault}
+use Rattle.nr_snaps.specs.declared.fault.LoadFault.TheVariants as load
 use Rattle.netrev.specs.declared.opening.OpenFault.{OpenFault}
 use Rattle.netrev.specs.declared.opening.OpenFault.TheVariants.{Line, Step, Memory}
 

@@ -3,7 +3,8 @@ use Rattle.std.specs.Prelude.{◌≡◌, ◌⊎◌, ℕ, ◌<◌, List, ◌++◌
 use Rattle.std.specs.Io.KnownBytes.{Appends}
 use Rattle.nr_rev.specs.Run.{Recording}
 use Rattle.netrev.specs.Opening.{IsFirstFault, IsGoodText, fault_line}
-use Rattle.netrev.specs.Front.{Place, at_start}
+use Rattle.nr_command.specs.Session.{opening}
+use Rattle.nr_command.specs.declared.debugger.Debugger.{Debugger}
 use Rattle.netrev.specs.Engine.{Serves}
 use Rattle.netrev.specs.declared.ending.End.{End}
 use Rattle.netrev.specs.declared.ending.LineEnd.{LineEnd}
@@ -31,8 +32,8 @@ Prints text wanted old new status =
 -- The lines that were read are answered from position 0 of the recording.
 pub record Walks (from left old new : Option (List ℕ)) (r : Recording) (status : ExitStatus) : Type 0 where
   pub ending : Result End LineEnd
-  pub place : Place
-  pub serves : Serves from left old new r at_start place ending
+  pub debugger : Debugger
+  pub serves : Serves from left old new r opening debugger ending
   pub ends : status ≡ status_after ending
 
 -- Nothing was read, and the fault's line is all that was written.

@@ -3,11 +3,11 @@
 ghost use Rattle.std.specs.Prelude.{◌≡◌, [], ◌∷◌, ◌++◌, take};
 ghost use Rattle.netrev.specs.Engine.{Serves};
 
-use crate::command::MAX_LINE;
 use crate::ending::{End, LineEnd};
 use crate::front::Front;
 use crate::turn::turn;
 use arrayvec::ArrayVec;
+use nr_command::MAX_LINE;
 use std::io::{Read, Write};
 use std::sync::Wait;
 
@@ -31,7 +31,7 @@ pub(crate) fn serve<R: Read, W: Write, F: Front>(
     ensures recording { F.recording front.new ≡ F.recording front.old }
     ensures serves { Serves (R.remaining r.old) (R.remaining r.new)
         (W.contents w.old) (W.contents w.new)
-        (F.recording front.old) (F.place front.old) (F.place front.new) result }
+        (F.recording front.old) (F.debugger front.old) (F.debugger front.new) result }
 {
     let mut line = ArrayVec::<u8, LINE_ROOM>::new();
     let mut whole = 0u64;

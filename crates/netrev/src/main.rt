@@ -5,23 +5,21 @@
 #![tactic(auto)]
 
 pub mod arguments;
-mod command;
-mod debugger;
 mod ending;
 mod engine;
-mod film;
+#[cfg(test)]
+mod film_tests;
 mod front;
-pub mod laws;
 #[cfg(test)]
 mod line_tests;
 #[cfg(test)]
 mod machine_tests;
+#[cfg(test)]
+mod mark_tests;
 pub mod opening;
-mod reply;
 pub mod run;
 #[cfg(test)]
 mod run_tests;
-mod sender;
 mod session;
 #[cfg(test)]
 mod size_tests;
@@ -29,8 +27,6 @@ pub mod starting;
 #[cfg(test)]
 mod streams;
 mod turn;
-mod value;
-mod walker;
 
 use crate::arguments::read_arguments;
 use crate::run::ExitStatus;

@@ -2,13 +2,13 @@
 
 ghost use Rattle.std.specs.Prelude.{◌≡◌, IfOk, IfErr};
 ghost use Rattle.netrev.specs.Opening.{IsGoodText, IsFirstFault, fault_of_reading, fault_of_loading, fault_line};
-ghost use Rattle.netrev.specs.Sender.{Goes};
+ghost use Rattle.nr_command.specs.Sender.{Goes, Prints};
 ghost use Rattle.netrev.specs.declared.opening.OpenFault.TheVariants as faults;
 
-use crate::film::{Film, LoadFault, load};
-use crate::sender::{Part, Token, send, send_all};
+use nr_command::{Part, Token, send, send_all};
 use nr_recording::{Fault, ReadFault, read};
 use nr_rev::{Refusal, Worlds};
+use nr_snaps::{Film, LoadFault, Snaps};
 use std::alloc::Global;
 use std::io::Write;
 
@@ -47,11 +47,18 @@ impl From<LoadFault> for OpenFault {
 
 impl OpenFault {
     /// Writes the fault, which is one line, as `line 6: fault 102 not JSON`, `step 5: fault 107
-    /// reason 2` or `fault 108 memory`, and tells the line's length. It takes no memory.
+    /// reason 2` or `fault 108 memory`. It takes no memory.
     ///
     /// Where a write fails or takes nothing, `Part` says how many bytes of the line are out, and no
     /// more are written.
-    pub(crate) fn print<W: Write>(self, w: &mut W) -> Result<u64, Part>
+    pub(crate) fn print<W: Write>(self, w: &mut W) -> Result<(), Part>
+        ensures { Prints (W.contents w.old) (W.contents w.new) (fault_line self) result }
+    {
+        self.send(w)?;
+        Ok(())
+    }
+
+    fn send<W: Write>(self, w: &mut W) -> Result<u64, Part>
         ensures { Goes (W.contents w.old) (W.contents w.new) (fault_line self) result }
     {
         match self {
@@ -90,13 +97,16 @@ fn send_step_fault<W: Write>(step: usize, reason: Refusal, w: &mut W) -> Result<
     send_all(&tokens, w)
 }
 
+/// How many steps lie between two copies of the world.
+const COPY_EVERY: usize = 1_024;
+
 /// Reads the recording that the bytes are a text of, and replays it once. Else answers the first
 /// fault: of the lines, or, where they are all right, of the steps; or that there was no memory.
 pub(crate) fn open<W: Worlds + Drop>(alloc: Global, bytes: &[u8]) -> Result<Film<W>, OpenFault>
-    ensures film { IfOk result (λ film. IsGoodText bytes.now film) }
+    ensures film { IfOk result (λ film. IsGoodText bytes.now film.recording) }
     ensures fault { IfErr result (IsFirstFault bytes.now) }
 {
     let recording = read(alloc, bytes)?;
-    let film = load(alloc, recording)?;
+    let film = Snaps::load(alloc, recording, COPY_EVERY)?;
     Ok(film)
 }

@@ -10,11 +10,11 @@ ghost use Rattle.netrev.specs.declared.opening.OpenFault.TheVariants as faults;
 ghost use Rattle.netrev.specs.declared.run.ExitStatus.TheVariants as statuses;
 
 use crate::engine::serve;
-use crate::film::Film;
 use crate::opening::{OpenFault, open};
-use crate::sender::{Token, send_all};
 use crate::session::Session;
+use nr_command::{Token, send_all};
 use nr_rev::Worlds;
+use nr_snaps::Film;
 use std::alloc::Global;
 use std::io::{Read, Write};
 use std::process::ExitCode;
@@ -57,8 +57,8 @@ impl From<ExitStatus> for ExitCode {
 
 /// Opens the recording, and answers the lines of the input on the output, one after the other, as
 /// a debugger does that stands at position 0 first: each reply is about the world after so many of
-/// the recording's first steps as the position says. A look that is refused memory says so, which
-/// only one that goes further on than the last, or a dump, can be.
+/// the recording's first steps as the position says. A look, and a command that searches for a hit,
+/// may be refused memory, which is said and changes nothing.
 ///
 /// `Done`: a line was `quit`, or the input's end was reached. `Refused`: the recording's first
 /// fault was printed, or `fault 108 memory`, as one line, and nothing was read. `StreamFailed`: a
@@ -100,7 +100,7 @@ fn walk<W: Worlds + Drop, I: Read, O: Write>(
 where
     W::Delta: Drop,
     ensures { Walks (I.remaining input.old) (I.remaining input.new)
-        (O.contents output.old) (O.contents output.new) film.now result
+        (O.contents output.old) (O.contents output.new) film.now.recording result
         ⊎ TellsFault faults.Memory input.old input.new
         (O.contents output.old) (O.contents output.new) result }
 {
@@ -119,7 +119,7 @@ pub(crate) fn refuse<O: Write>(fault: OpenFault, output: &mut O) -> ExitStatus
         (O.contents output.old) (O.contents output.new) result }
 {
     match fault.print(output) {
-        Ok(_) => ExitStatus::Refused,
+        Ok(()) => ExitStatus::Refused,
         Err(_) => ExitStatus::StreamFailed,
     }
 }
@@ -151,7 +151,7 @@ pub fn check_bytes<W: Worlds + Drop, O: Write>(
 
 // Prints that the film has so many steps.
 fn accept<W: Worlds + Drop, O: Write>(film: &Film<W>, output: &mut O) -> ExitStatus
-    ensures { Prints (ok_line film.now) statuses.Done
+    ensures { Prints (ok_line film.now.recording) statuses.Done
         (O.contents output.old) (O.contents output.new) result }
 {
     let steps = Token::Number(film.len() as u64);

@@ -52,7 +52,7 @@ lock 0 = absent
 pub(crate) const HEADER: &str = "{\"netrev\":1,\"gor\":4,\"sock\":2,\"desc\":2,\"buf\":16}\n";
 
 /// A reader waits for bytes that arrive while it is parked.
-const READ: &str = r#"["sockopen",16,16]
+pub(crate) const READ: &str = r#"["sockopen",16,16]
 ["pollopen",0,0]
 ["rwlock",0,0,"r"]
 ["waitbegin",0,0,"r"]
@@ -67,7 +67,7 @@ const READ: &str = r#"["sockopen",16,16]
 "#;
 
 /// An event comes between a reader's check and its parking.
-const EARLY: &str = r#"["sockopen",16,16]
+pub(crate) const EARLY: &str = r#"["sockopen",16,16]
 ["pollopen",0,0]
 ["rwlock",0,0,"r"]
 ["waitbegin",0,0,"r"]

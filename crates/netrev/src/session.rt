@@ -2,17 +2,19 @@
 //! looks.
 
 ghost use Rattle.std.specs.Prelude.{◌≡◌, IfOk};
-ghost use Rattle.netrev.specs.Front.{at_start};
+ghost use Rattle.nr_command.specs.Session.{opening};
 
-use crate::command::{Command, Query};
-use crate::debugger::{Debugger, look};
-use crate::film::Film;
 use crate::front::Front;
-use crate::reply::Reply;
-use crate::walker::Walker;
+use nr_command::{Command, Debugger, Query, Reply};
 use nr_rev::Worlds;
+use nr_search::OneWorker;
+use nr_snaps::Film;
+use nr_walker::Walker;
 use std::alloc::{AllocError, Global};
 use std::marker::Model;
+
+/// How many steps the walker can undo at most before it goes from a copy.
+const DELTAS_KEPT: usize = 4_096;
 
 /// Walks a film by commands, and looks at its worlds.
 #[derive(Drop)]
@@ -28,18 +30,16 @@ impl<'f, W: Worlds + Drop> Model for Session<'f, W>
 where
     W::Delta: Drop,
 {
-    ghost use Rattle.std.specs.Prelude.{◌≤◌, length};
+    ghost use Rattle.std.specs.Prelude.{length};
     ghost use Rattle.nr_rev.specs.Run.{Recording as Recorded};
-    ghost use Rattle.netrev.specs.Front.{Place};
+    ghost use Rattle.nr_command.specs.Session.{IsWithin};
+    ghost use Rattle.nr_command.specs.declared.debugger.Debugger.{Debugger as Machine};
 
-    ghost Value = { Recorded × Place };
+    ghost Value = { Recorded × Machine };
 
-    ghost view = { λ s. (
-      s.walker.recording,
-      record { position = s.debugger.position; reached = s.walker.position },
-    ) };
+    ghost view = { λ s. (s.walker.film.recording, s.debugger) };
 
-    ghost invariant = { λ s. s.debugger.position ≤ length s.walker.recording.steps };
+    ghost invariant = { λ s. IsWithin (length s.walker.film.recording.steps) s.debugger };
 }
 
 impl<'f, W: Worlds + Drop> Session<'f, W>
@@ -48,9 +48,9 @@ where
 {
     /// Stands at position 0.
     pub(crate) fn new(alloc: Global, film: &'f Film<W>) -> Result<Session<'f, W>, AllocError>
-        ensures { IfOk result (λ session. session ≡ (film.now, at_start)) }
+        ensures { IfOk result (λ session. session ≡ (film.now.recording, opening)) }
     {
-        let walker = Walker::new(alloc, film)?;
+        let walker = Walker::new(alloc, film, DELTAS_KEPT)?;
         Ok(Session {
             debugger: Debugger::new(),
             walker,
@@ -64,14 +64,15 @@ where
 {
     ghost recording = { λ s. s.0 };
 
-    ghost place = { λ s. s.1 };
+    ghost debugger = { λ s. s.1 };
 
-    fn exec(&mut self, command: Command) -> Reply {
-        self.debugger.exec(self.walker.film(), command)
+    fn exec(&mut self, command: Command) -> Result<Reply, AllocError> {
+        self.debugger.exec(self.walker.film(), &OneWorker, command)
     }
 
     fn look(&mut self, query: Query) -> Result<Reply, AllocError> {
-        self.walker.goto(self.debugger.position)?;
-        look(self.walker.world(), query)
+        self.walker.goto(self.debugger.position())?;
+        self.debugger
+            .look(self.walker.film(), self.walker.world(), query)
     }
 }

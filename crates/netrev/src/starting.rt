@@ -9,7 +9,7 @@ ghost use Rattle.netrev.specs.declared.starting.Unstarted.TheVariants as reasons
 use crate::arguments::{ArgumentsFault, Program, USAGE};
 use crate::opening::OpenFault;
 use crate::run::{ExitStatus, check_bytes, refuse, run_bytes};
-use crate::sender::send;
+use nr_command::send;
 use nr_rev::Worlds;
 use std::alloc::{AllocError, Global};
 use std::io;

@@ -12,6 +12,3 @@ mod loading;
 pub use fault::LoadFault;
 pub use film::{Film, LEAST_EVERY, MOST_EVERY};
 pub use loading::Snaps;
-
-#[cfg(test)]
-mod tests;

@@ -1,6 +1,6 @@
 use Rattle.std.proofs.Common.{◌≡◌, ℕ, List, ◌++◌, append_assoc, codes, decimal, rules, sym, ap, subst, ◌∙◌}
 use Rattle.nr_rev.specs.Refusing.{refusal_number}
-use Rattle.netrev.specs.Sender.{Goes}
+use Rattle.nr_command.specs.Sender.{Goes}
 use Rattle.netrev.proofs.opening.send_step_fault.Goals as goal
 
 -- five texts one after the other, however they are grouped

@@ -7,7 +7,7 @@ use Rattle.netrev.proofs.run.check_bytes.Goals as goal
 
 pub returns-in-Ok-clause-good : goal.returns-in-Ok-clause-good
 returns-in-Ok-clause-good g c = λ r text good.
-    let same : c.in-Ok.film ≡ r = one_recording c.args.bytes.now c.in-Ok.film r c.in-Ok.ensures.film.text text in
+    let same : c.in-Ok.film.recording ≡ r = one_recording c.args.bytes.now c.in-Ok.film.recording r c.in-Ok.ensures.film.text text in
     inl (subst (λ x. Prints (ok_line x) statuses.Done (g.O.Write.contents c.args.output.now) (g.O.Write.contents c.accept.new.output) c.accept.result) same c.accept.ensures)
 
 pub returns-in-Err-clause-good : goal.returns-in-Err-clause-good

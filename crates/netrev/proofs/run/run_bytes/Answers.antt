@@ -7,7 +7,7 @@ use Rattle.netrev.proofs.run.run_bytes.Goals as goal
 
 pub returns-in-Ok-clause-good : goal.returns-in-Ok-clause-good
 returns-in-Ok-clause-good g c = λ r text good.
-    let same : c.in-Ok.film ≡ r = one_recording c.args.bytes.now c.in-Ok.film r c.in-Ok.ensures.film.text text in
+    let same : c.in-Ok.film.recording ≡ r = one_recording c.args.bytes.now c.in-Ok.film.recording r c.in-Ok.ensures.film.text text in
     rw (← same) c.walk.ensures
 
 pub returns-in-Err-clause-good : goal.returns-in-Err-clause-good

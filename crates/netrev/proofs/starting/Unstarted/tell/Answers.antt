@@ -1,6 +1,6 @@
 use Rattle.std.proofs.Common.{refl, subst}
-use Rattle.netrev.specs.Sender.{Goes}
-use Rattle.netrev.proofs.SenderLemmas.{goes_part}
+use Rattle.nr_command.specs.Sender.{Goes}
+use Rattle.netrev.proofs.StartingLemmas.{goes_part}
 use Rattle.netrev.proofs.starting.Unstarted.tell.Goals as goal
 
 -- the text that is sent is that of the usage

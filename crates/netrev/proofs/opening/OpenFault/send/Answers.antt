@@ -1,4 +1,4 @@
-use Rattle.netrev.proofs.opening.OpenFault.print.Goals as goal
+use Rattle.netrev.proofs.opening.OpenFault.send.Goals as goal
 
 pub returns-in-Memory : goal.returns-in-Memory
 returns-in-Memory g c = rw c.in-Memory.is c.send.ensures

@@ -1,9 +1,9 @@
 //! Films over `PlainWorld`.
 
-use crate::{Film, LoadFault, Snaps};
 use nr_plain::PlainWorld;
 use nr_recording::Recording;
 use nr_rev::{Cell, CellValue, Limits, Refusal, Step, Worlds};
+use nr_snaps::{Film, LoadFault, Snaps};
 use std::alloc::Global;
 use std::test::Fail;
 

@@ -1,6 +1,0 @@
--- the words so far are those that were yielded
-use Rattle.std.proofs.Common.{◌≡◌}
-use Rattle.netrev.proofs.command.first_words.Given as goal
-
-abbrev pub invariant-loop-word : goal.invariant-loop-word
-invariant-loop-word l = l.first.items ≡ l.yielded

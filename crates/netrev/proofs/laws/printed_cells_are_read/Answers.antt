@@ -1,5 +1,0 @@
-use Rattle.netrev.proofs.LawLemmas.{cell_again}
-use Rattle.netrev.proofs.laws.printed_cells_are_read.Goals as goal
-
-pub returns : goal.returns
-returns c = cell_again
