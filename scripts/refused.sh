@@ -3,9 +3,9 @@
 #
 # Over each example `run` and `check`, and besides a recording that is refused, a file that is missing and words that
 # ask for nothing. A refused allocation is told once, and of nothing else: while netrev loads as `fault 108 memory`
-# with status 1, and after that as `fault 301 memory` in place of the reply to one look. Each look is sent three times,
-# so that the same line is sent again. Where nothing is refused, or netrev could do without, status, replies and
-# standard error are the right ones. The first difference ends it.
+# with status 1, and after that as `fault 301 memory` in place of one reply. The line that is answered so is sent again,
+# and then that reply and all others are the right ones. Where nothing is refused, or netrev could do without, status,
+# replies and standard error are the right ones. The first difference ends it.
 set -eu
 here=$(cd "$(dirname "$0")" && pwd)
 examples=$here/../examples
@@ -14,15 +14,55 @@ work=$(mktemp -d)
 trap 'rm -rf "$work"' EXIT
 all=0 told=0
 
+mkfifo "$work/commands" "$work/replies"
 cc -O2 -fPIC -shared -o "$work/refused.so" "$here/refused.c" -ldl
 echo "fault 108 memory" > "$work/no-memory"
 : > "$work/nothing"
 
+# Sends a line to the netrev that runs, and reads the first line of its reply.
+ask() {
+	echo "$1" >&5
+	read -r reply <&6
+}
+
+# Sends the script line by line, each once the one before is answered, and writes the replies. A line that is answered
+# that memory was refused is sent again, once, and leaves a line in $work/asked.
+answer() {
+	while read -r line; do
+		ask "$line" || return 0
+		if [ "$reply" = "fault 301 memory" ]; then
+			echo "$line" >> "$work/asked"
+			ask "$line" || return 0
+		fi
+		echo "$reply"
+		case $reply in
+		marks\ * | checkpoints\ *)
+			left=${reply#* }
+			while [ "$left" -gt 0 ] && read -r reply <&6; do
+				echo "$reply"
+				left=$((left - 1))
+			done
+			;;
+		esac
+	done < "$input" > "$work/output"
+}
+
 # Plays netrev with these words, its allocation $number refused, or none where that is 0.
 play() {
 	status=0
-	REFUSED=$number LD_PRELOAD=$work/refused.so "$netrev" "$@" \
-		< "$input" > "$work/output" 2> "$work/errors" 9> "$work/told" || status=$?
+	: > "$work/asked"
+	if [ "${1-}" = run ] && [ $# = 2 ]; then
+		exec 5<> "$work/commands"
+		REFUSED=$number LD_PRELOAD=$work/refused.so "$netrev" "$@" \
+			< "$work/commands" > "$work/replies" 2> "$work/errors" 9> "$work/told" 5>&- &
+		exec 6< "$work/replies"
+		answer
+		wait $! || status=$?
+		exec 5>&- 6<&-
+	else
+		REFUSED=$number LD_PRELOAD=$work/refused.so "$netrev" "$@" \
+			< /dev/null > "$work/output" 2> "$work/errors" 9> "$work/told" || status=$?
+	fi
 }
 
 differs() {
@@ -31,62 +71,49 @@ differs() {
 	exit 1
 }
 
-# In place of just one reply, to a look, stands that it was refused memory.
-one_look_was_refused() {
-	awk 'NR == FNR { right[FNR] = $0; lines = FNR; next }
-		$0 != right[FNR] { refused++; if ($0 != "fault 301 memory" || right[FNR] !~ / = /) other++ }
-		END { exit other || refused != 1 || FNR != lines }' "$work/right" "$work/output"
-}
-
 # Whether it ended with status $1, with $2 on standard error and what is in $work/right on its output.
 is_right() {
 	[ "$status" = "$1" ] && cmp -s "$work/output" "$work/right" && cmp -s "$work/errors" "$2"
 }
 
 # Refuses each allocation of netrev with the words from $3 on, until none is left to refuse. It is right to end with
-# status $1 and $2 on standard error, as it has to in the end. It is that too where it could do without the allocation.
+# status $1 and $2 on standard error, as it has to in the end. It is that too where it could do without the allocation,
+# and where one line had to be sent again.
 refuse_each() {
 	ends=$1 says=$2
 	shift 2
-	number=0 loading=0 looks=0
+	number=0 loading=0 lines=0
 	while number=$((number + 1)); play "$@"; [ -s "$work/told" ]; do
 		all=$((all + 1))
 		if is_right "$ends" "$says"; then
+			[ ! -s "$work/asked" ] || lines=$((lines + 1))
 			continue
 		fi
 		[ ! -s "$work/errors" ] || differs "$@"
-		if [ "$looks" = 0 ] && [ "$status" = 1 ] && cmp -s "$work/output" "$work/no-memory"; then
+		if [ "$lines" = 0 ] && [ "$status" = 1 ] && cmp -s "$work/output" "$work/no-memory"; then
 			loading=$((loading + 1))
-		elif [ "$status" = 0 ] && one_look_was_refused; then
-			looks=$((looks + 1))
 		else
 			differs "$@"
 		fi
 	done
-	is_right "$ends" "$says" || differs "$@"
+	is_right "$ends" "$says" && [ ! -s "$work/asked" ] || differs "$@"
 	[ "$loading" != 0 ] || differs "$@"
-	told=$((told + loading + looks))
+	told=$((told + loading + lines))
 }
 
-# An example as it stands, and with each look three times.
+# An example with all its memory, and then with each allocation refused.
 play_example() {
 	name=$1
 	recording=$examples/$name.jsonl
-	input=$examples/$name.script number=0
-	play run "$recording"
-	[ "$status" = 0 ] && cmp -s "$work/output" "$examples/$name.replies" || differs run "$recording"
-
-	awk '{ for (times = /^(print|dump)/ ? 3 : 1; times > 0; times--) print }' "$input" > "$work/thrice"
-	awk 'NR == FNR { reply[FNR] = $0; next }
-		{ for (times = /^(print|dump)/ ? 3 : 1; times > 0; times--) print reply[FNR] }' \
-		"$examples/$name.replies" "$input" > "$work/right"
-	input=$work/thrice
+	input=$work/script number=0
+	{ cat "$examples/$name.script"; echo quit; } > "$input"
+	{ cat "$examples/$name.replies"; echo bye; } > "$work/right"
 	refuse_each 0 "$work/nothing" run "$recording"
-	[ "$looks" != 0 ] || differs run "$recording"
+	[ "$lines" != 0 ] || differs run "$recording"
 
 	echo "ok $(($(wc -l < "$recording") - 1)) steps" > "$work/right"
 	refuse_each 0 "$work/nothing" check "$recording"
-	[ "$looks" = 0 ] || differs check "$recording"
+	[ "$lines" = 0 ] || differs check "$recording"
 }
 
 for recording in "$examples"/*.jsonl; do
