@@ -28,7 +28,7 @@ netrev:
 
 # All examples, compared with their replies.
 examples: netrev
-	@for name in first lost-wakeup stale-deadline leaked-reference; do \
+	@for name in first lost-wakeup stale-deadline past-deadline reused-descriptor leaked-reference; do \
 		echo; echo "== $$name"; sh examples/play.sh $$name || exit 1; \
 	done
 

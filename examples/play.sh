@@ -8,8 +8,13 @@ name=$1
 replies=$(mktemp)
 trap 'rm -f "$replies"' EXIT
 "$netrev" run "$here/$name.jsonl" < "$here/$name.script" > "$replies"
-awk 'NR == FNR { reply[NR] = $0; next } { printf "%-20s %s\n", "> " $0, reply[FNR] }' \
-	"$replies" "$here/$name.script"
+awk 'NR == FNR { reply[NR] = $0; next }
+	{
+		printf "%-20s %s\n", "> " $0, reply[++read]
+		split(reply[read], word, " ")
+		if (word[1] == "marks" || word[1] == "checkpoints")
+			for (left = word[2]; left > 0; left--) printf "%-20s %s\n", "", reply[++read]
+	}' "$replies" "$here/$name.script"
 if cmp -s "$replies" "$here/$name.replies"; then
 	echo "The replies are those of examples/$name.replies."
 else
