@@ -3,7 +3,7 @@ use Rattle.std.specs.Prelude.{◌≡◌, ◌⊎◌, ℕ, ◌<◌, List, ◌++◌
 use Rattle.std.specs.Io.KnownBytes.{Appends}
 use Rattle.nr_rev.specs.Run.{Recording}
 use Rattle.netrev.specs.Opening.{IsFirstFault, IsGoodText, fault_line}
-use Rattle.nr_command.specs.Session.{opening}
+use Rattle.nr_command.specs.Debugger.{opening}
 use Rattle.nr_command.specs.declared.debugger.Debugger.{Debugger}
 use Rattle.netrev.specs.Engine.{Serves}
 use Rattle.netrev.specs.declared.ending.End.{End}

@@ -4,7 +4,7 @@ use Rattle.nr_rev.specs.Run.{Recording}
 use Rattle.nr_command.specs.Command.{meaning_of}
 use Rattle.nr_command.specs.Reply.{text_of}
 use Rattle.nr_command.specs.Sender.{GoesInPart, saturating_count}
-use Rattle.nr_command.specs.Session.{Searches, run, shown}
+use Rattle.nr_command.specs.Debugger.{Searches, run, shown}
 use Rattle.nr_command.specs.declared.command.Line.{Line}
 use Rattle.nr_command.specs.declared.command.Line.TheVariants.{Run, Look, Resume, Quit, Empty}
 use Rattle.nr_command.specs.declared.command.LineFault.{LineFault}

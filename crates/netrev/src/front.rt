@@ -2,7 +2,7 @@
 
 ghost use Rattle.std.specs.Prelude.{◌≡◌, IfOk, OnErr};
 ghost use Rattle.nr_rev.specs.Run.{Recording};
-ghost use Rattle.nr_command.specs.Session.{Searches, run, shown};
+ghost use Rattle.nr_command.specs.Debugger.{Searches, run, shown};
 ghost use Rattle.nr_command.specs.declared.debugger.Debugger.{Debugger};
 
 use nr_command::{Command, Query, Reply};

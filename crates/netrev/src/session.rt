@@ -2,7 +2,7 @@
 //! looks.
 
 ghost use Rattle.std.specs.Prelude.{◌≡◌, IfOk};
-ghost use Rattle.nr_command.specs.Session.{opening};
+ghost use Rattle.nr_command.specs.Debugger.{opening};
 
 use crate::front::Front;
 use nr_command::{Command, Debugger, Query, Reply};
@@ -32,7 +32,7 @@ where
 {
     ghost use Rattle.std.specs.Prelude.{length};
     ghost use Rattle.nr_rev.specs.Run.{Recording as Recorded};
-    ghost use Rattle.nr_command.specs.Session.{IsWithin};
+    ghost use Rattle.nr_command.specs.Debugger.{IsWithin};
     ghost use Rattle.nr_command.specs.declared.debugger.Debugger.{Debugger as Machine};
 
     ghost Value = { Recorded × Machine };

@@ -5,5 +5,5 @@ pub mod ReplyLemmas
 pub mod SenderLemmas
 pub mod StreamLemmas
 pub mod WordLemmas
-pub mod SessionLemmas
+pub mod DebuggerLemmas
 pub mod WithinLemmas

@@ -14,7 +14,7 @@ use Rattle.nr_search.specs.declared.direction.Direction.TheVariants.{Forward, Ba
 use Rattle.nr_search.specs.declared.found.Found.{Found}
 use Rattle.nr_search.specs.declared.found.Found.TheVariants.{Hit, Nothing}
 use Rattle.nr_command.specs.Checkpoints as checkpoints
-use Rattle.nr_command.specs.Session.{IsWithin, Ran, after_tagged, after_words, arrive, at, checkpoint_deleted, continue, mark_deleted, mark_made, opening, position_kept, restarted, run, step, to_end}
+use Rattle.nr_command.specs.Debugger.{IsWithin, Ran, after_tagged, after_words, arrive, at, checkpoint_deleted, continue, mark_deleted, mark_made, opening, position_kept, restarted, run, step, to_end}
 use Rattle.nr_command.specs.Word.{command_of}
 use Rattle.nr_command.specs.declared.checkpoint.Checkpoint.{Checkpoint}
 use Rattle.nr_command.specs.declared.checkpoint.CheckpointFault.{CheckpointFault}
@@ -24,7 +24,7 @@ use Rattle.nr_command.specs.declared.command.Command.TheVariants as commands
 use Rattle.nr_command.specs.declared.debugger.Debugger.{Debugger}
 use Rattle.nr_command.specs.declared.reply.Reply.{Reply}
 use Rattle.nr_command.specs.declared.reply.Reply.TheVariants as replies
-use Rattle.nr_command.proofs.SessionLemmas.{found_that_way}
+use Rattle.nr_command.proofs.DebuggerLemmas.{found_that_way}
 
 -- a checkpoint that is found is such as they all are
 found_kept : (P : Checkpoint → Type 0) (test : Checkpoint → Bool) (xs : List Checkpoint) (c : Checkpoint) → All P xs → find test xs ≡ Some c → P c

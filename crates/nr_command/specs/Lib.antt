@@ -7,4 +7,4 @@ pub mod Reply
 pub mod Sender
 pub mod Value
 pub mod Word
-pub mod Session
+pub mod Debugger

@@ -1,15 +1,14 @@
 //! A debugger: where it stands in a film, what it keeps, and what it answers.
 
 ghost use Rattle.std.specs.Prelude.{◌≡◌, ◌<◌, ◌≤◌, ◌^◌, length, IfOk, OnErr};
-ghost use Rattle.nr_command.specs.Session.{IsWithin, NeedsWorlds, Searches, arrive, continue, delete_checkpoint, delete_mark, keep_position, make_mark, opening, restart, run, step, to_end};
+ghost use Rattle.nr_command.specs.Debugger.{IsWithin, NeedsWorlds, Searches, arrive, continue, delete_checkpoint, delete_mark, keep_position, make_mark, opening, restart, run, step, to_end};
 
 use crate::checkpoint::{CheckpointFault, Checkpoints};
 use crate::command::Command;
-use crate::hits::hits_at;
 use crate::reply::{Fault, Reply};
 use nr_marks::{Mark, Marks};
 use nr_rev::Worlds;
-use nr_search::{Direction, Finder, Found, nearest_hit};
+use nr_search::{Direction, Finder, Found, hits_at, nearest_hit};
 use nr_snaps::Film;
 use std::alloc::AllocError;
 

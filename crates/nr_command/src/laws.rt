@@ -5,7 +5,7 @@ ghost use Rattle.nr_rev.specs.CellName.{cell_index};
 ghost use Rattle.nr_rev.specs.Run.{Recording};
 ghost use Rattle.nr_rev.specs.declared.cell.Cell.{Cell};
 ghost use Rattle.nr_command.specs.Command.{cell_of, words};
-ghost use Rattle.nr_command.specs.Session.{IsWithin, after_words, opening};
+ghost use Rattle.nr_command.specs.Debugger.{IsWithin, after_words, opening};
 ghost use Rattle.nr_command.specs.Value.{cell_text};
 ghost use Rattle.nr_command.specs.Word.{IsTyped, command_of, word_of};
 ghost use Rattle.nr_command.specs.declared.command.Command.{Command};

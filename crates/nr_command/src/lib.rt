@@ -5,7 +5,6 @@ mod checkpoint;
 mod command;
 mod count;
 mod debugger;
-mod hits;
 pub mod laws;
 mod listing;
 mod looking;

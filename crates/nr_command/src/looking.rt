@@ -2,14 +2,12 @@
 
 ghost use Rattle.std.specs.Prelude.{◌≡◌, ◌≤◌, length, IfOk, OnErr};
 ghost use Rattle.nr_rev.specs.Run.{Stands};
-ghost use Rattle.nr_command.specs.Session.{Copies, shown};
+ghost use Rattle.nr_command.specs.Debugger.{Copies, shown};
 
-use crate::checkpoint::{Checkpoint, MOST_CHECKPOINTS};
 use crate::command::Query;
 use crate::debugger::Debugger;
 use crate::reply::Reply;
 use arrayvec::ArrayVec;
-use nr_marks::{MOST_MARKS, NumberedMark};
 use nr_rev::Worlds;
 use nr_snaps::Film;
 use std::alloc::AllocError;
@@ -55,32 +53,19 @@ impl Debugger {
                 last: film.len(),
                 direction: self.direction,
             }),
-            Query::Breakpoints => Ok(Reply::Marks(listed_marks(self.marks.as_slice()))),
-            Query::Checkpoints => {
-                let checkpoints = self.checkpoints.as_slice();
-                Ok(Reply::Checkpoints(listed_checkpoints(checkpoints)))
-            }
+            Query::Breakpoints => Ok(Reply::Marks(listed(self.marks.as_slice()))),
+            Query::Checkpoints => Ok(Reply::Checkpoints(listed(self.checkpoints.as_slice()))),
         }
     }
 }
 
-fn listed_marks(marks: &[NumberedMark]) -> ArrayVec<NumberedMark, MOST_MARKS>
-    requires { length marks.now ≤ MOST_MARKS }
-    ensures { result.items ≡ marks.now }
+/// The items, in room of their own.
+fn listed<T: Copy + Default, const N: usize>(items: &[T]) -> ArrayVec<T, N>
+    requires { length items.now ≤ N }
+    ensures { result.items ≡ items.now }
 {
     let mut listed = ArrayVec::new();
-    let Ok(()) = listed.try_extend_from_slice(marks) else {
-        unreachable!()
-    };
-    listed
-}
-
-fn listed_checkpoints(checkpoints: &[Checkpoint]) -> ArrayVec<Checkpoint, MOST_CHECKPOINTS>
-    requires { length checkpoints.now ≤ MOST_CHECKPOINTS }
-    ensures { result.items ≡ checkpoints.now }
-{
-    let mut listed = ArrayVec::new();
-    let Ok(()) = listed.try_extend_from_slice(checkpoints) else {
+    let Ok(()) = listed.try_extend_from_slice(items) else {
         unreachable!()
     };
     listed

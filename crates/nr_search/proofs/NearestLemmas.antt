@@ -61,9 +61,14 @@ module _ (hit : ℕ → Bool) where
       }
 
   -- one position more
-  pub found-next : (direction : Direction) (low b : ℕ) (found : Found) (hits : Bool) → is_settled direction found ≡ false → low ≤ b → hits ≡ hit b → IsFound direction hit low b found → IsFound direction hit low (b + 1) (found_after found b hits)
+  found-next : (direction : Direction) (low b : ℕ) (found : Found) (hits : Bool) → is_settled direction found ≡ false → low ≤ b → hits ≡ hit b → IsFound direction hit low b found → IsFound direction hit low (b + 1) (found_after found b hits)
   found-next direction low b found true unsettled a is rest = found-hit direction low b found unsettled a (sym is) rest
   found-next direction low b found false unsettled a is rest = found-miss direction low b found (sym is) rest
+
+  -- what is found then
+  pub found-then : (direction : Direction) (low b : ℕ) (found found' : Found) (hits : Bool) → is_settled direction found ≡ false → low ≤ b → hits ≡ hit b → IsFound direction hit low b found → found' ≡ found_after found b hits → IsFound direction hit low (b + 1) found'
+  found-then direction low b found found' hits unsettled a is rest then' =
+      subst (IsFound direction hit low (b + 1)) (sym then') (found-next direction low b found hits unsettled a is rest)
 
   -- what is settled stays so
   pub found-settled : (direction : Direction) (low b high : ℕ) (found : Found) → is_settled direction found ≡ true → b ≤ high → IsFound direction hit low b found → IsFound direction hit low high found

@@ -1,38 +1,34 @@
 use Rattle.std.proofs.Common.{◌+◌, sym, ◌∙◌, subst, arith}
 use Rattle.nr_marks.specs.Hit.{is_hit_at}
 use Rattle.nr_search.specs.Nearest.{IsFound}
-use Rattle.nr_search.proofs.NearestLemmas.{found-next, found-settled, found-whole}
+use Rattle.nr_search.proofs.NearestLemmas.{found-settled, found-then, found-whole}
 use Rattle.nr_search.proofs.stretch.search_stretch.Goals as goal
 
 -- what is found after one position more is what is found of the stretch
 pub returns-then-is_settled : goal.returns-then-is_settled
 returns-then-is_settled g c =
     let r = c.args.film.now.recording in
-    let marks = c.as_slice-marks.result.now in
+    let hit = is_hit_at r c.as_slice-marks.result.now in
     let low = c.args.at + 1 in
     let here = c.loop-n.n + 1 in
-    let next = found-next (is_hit_at r marks) c.args.direction low here c.loop-n.found c.go_on-hits.result c.loop-n.invariant.unsettled (omega arith) c.go_on-hits.ensures.hits c.loop-n.invariant.found in
-    let found = subst (IsFound c.args.direction (is_hit_at r marks) low (here + 1)) (sym c.after-found.ensures) next in
+    let i = c.loop-n.invariant in
+    let found = found-then hit c.args.direction low here c.loop-n.found c.after-found.result c.go_on-hits.result i.unsettled (omega arith) c.go_on-hits.ensures.hits i.found c.after-found.ensures in
     subst (λ ms. IsFound c.args.direction (is_hit_at r ms) low (c.args.to + 1) c.after-found.result) c.as_slice-marks.ensures.marks
-    (found-settled (is_hit_at r marks) c.args.direction low (here + 1) (c.args.to + 1) c.after-found.result (sym c.is_settled.ensures ∙ c.if-is_settled.true) (omega arith) found)
+    (found-settled hit c.args.direction low (here + 1) (c.args.to + 1) c.after-found.result (sym c.is_settled.ensures ∙ c.if-is_settled.true) (omega arith) found)
 
 pub loop-n-preserved : goal.loop-n-preserved
 loop-n-preserved g c =
-    let r = c.args.film.now.recording in
-    let marks = c.as_slice-marks.result.now in
-    let low = c.args.at + 1 in
-    let here = c.loop-n.n + 1 in
-    let next = found-next (is_hit_at r marks) c.args.direction low here c.loop-n.found c.go_on-hits.result c.loop-n.invariant.unsettled (omega arith) c.go_on-hits.ensures.hits c.loop-n.invariant.found in
+    let hit = is_hit_at c.args.film.now.recording c.as_slice-marks.result.now in
+    let i = c.loop-n.invariant in
     record {
       frame = c.go_on-hits.ensures.frame;
       remembers = c.go_on-hits.ensures.values;
-      found = subst (IsFound c.args.direction (is_hit_at r marks) low (here + 1)) (sym c.after-found.ensures) next;
+      found = found-then hit c.args.direction (c.args.at + 1) (c.loop-n.n + 1) c.loop-n.found c.after-found.result c.go_on-hits.result i.unsettled (omega arith) c.go_on-hits.ensures.hits i.found c.after-found.ensures;
       unsettled = sym c.is_settled.ensures ∙ c.if-is_settled.false;
     }
 
 pub returns : goal.returns
 returns g c =
     let r = c.args.film.now.recording in
-    let order = c.requires.order in
     subst (λ ms. IsFound c.args.direction (is_hit_at r ms) (c.args.at + 1) (c.args.to + 1) c.loop-n.found) c.as_slice-marks.ensures.marks
     (found-whole (is_hit_at r c.as_slice-marks.result.now) c.args.direction (c.args.at + 1) (c.loop-n.n + 1) (c.args.to + 1) c.loop-n.found (omega arith) c.loop-n.invariant.found)

@@ -1,8 +1,8 @@
 use Rattle.std.proofs.Common.{◌≡◌, rules}
 use Rattle.nr_search.specs.Nearest.{nearest_hit}
 use Rattle.nr_search.specs.declared.found.Found.TheVariants.{Hit}
-use Rattle.nr_command.specs.Session.{NeedsWorlds}
-use Rattle.nr_command.proofs.SessionLemmas.{found_that_way, on_err}
+use Rattle.nr_command.specs.Debugger.{NeedsWorlds}
+use Rattle.nr_command.proofs.DebuggerLemmas.{found_that_way, on_err}
 use Rattle.nr_command.proofs.debugger.Debugger.go_on.Goals as goal
 
 pub hits_at-requires : goal.hits_at-requires
