@@ -1,4 +1,7 @@
 pub mod ListLemmas
+pub mod RowsLemmas
+pub mod SocketsLemmas
+pub mod SocketEditLemmas
 pub mod ItemLemmas
 pub mod RoomLemmas
 pub mod BufferLemmas
@@ -9,4 +12,3 @@ pub mod OpenLemmas
 pub mod PlanLemmas
 pub mod FreshLemmas
 pub mod LockLemmas
-pub mod SocketRoomLemmas

@@ -1,4 +1,6 @@
 pub mod Table
+pub mod Rows
+pub mod RowEdit
 pub mod Semaphore
 pub mod Buffer
 pub mod SocketEdit

@@ -1,56 +1,47 @@
--- A socket over lists, as it is seen, and the room that it has.
-use Rattle.std.specs.Prelude.{◌≡◌, ◌≤◌, ℕ}
+-- A socket over lists, as it is seen: data of one size, and rows of queued goroutines and of bytes.
+use Rattle.std.specs.Prelude.{◌≡◌, ℕ, ◌+◌, ◌*◌, List}
+use Rattle.nr_rev.specs.declared.sides.Side.{Side}
+use Rattle.nr_rev.specs.declared.sides.Side.TheVariants.{Read, Write}
+use Rattle.nr_rev.specs.declared.sides.Sides.{Sides}
 use Rattle.nr_rev.specs.Socket.{Socket}
 use Rattle.nr_plain.specs.declared.socket.PlainSocket.{PlainSocket}
-use Rattle.nr_plain.specs.Semaphore.{semaphore_shown}
-use Rattle.nr_plain.specs.Buffer.{buffer_shown}
-use Rattle.nr_plain.specs.SocketEdit.{CanEditSocket, CanUndoSocket, UndoesSocket, socket_edit_words, after_socket_edit, socket_undo_words}
-use Rattle.nr_plain.specs.declared.socket_edit.SocketEdit.{SocketEdit}
-use Rattle.nr_plain.specs.declared.socket_edit.SocketUndo.{SocketUndo}
+use Rattle.nr_plain.specs.declared.socket.SocketState.{SocketState}
+use Rattle.nr_plain.specs.Rows.{row_of}
 
-abbrev pub socket_shown : PlainSocket → Socket
-socket_shown p =
+-- each socket has two rows, that of the reading side before that of the writing side
+abbrev pub place_of : ℕ → Side → ℕ
+place_of socket Read = 2 * socket
+place_of socket Write = 2 * socket + 1
+
+abbrev pub sides_of : {A : Type 0} → List (List A) → ℕ → Sides (List A)
+sides_of rows socket = record { read = row_of rows (place_of socket Read); write = row_of rows (place_of socket Write) }
+
+-- the socket of this state, with these queues and these bytes
+abbrev pub socket_with : SocketState → Sides (List ℕ) → Sides (List ℕ) → Socket
+socket_with state queues bytes =
     record {
-      lock = p.lock;
-      semaphores = record { read = semaphore_shown p.read_semaphore; write = semaphore_shown p.write_semaphore };
-      buffers = record { read = buffer_shown p.input; write = buffer_shown p.output };
-      peer_closed = p.peer_closed;
+      lock = state.lock;
+      semaphores = record {
+        read = record { count = state.counts.read; queue = queues.read };
+        write = record { count = state.counts.write; queue = queues.write };
+      };
+      buffers = record {
+        read = record { bytes = bytes.read; capacity = state.capacities.read };
+        write = record { bytes = bytes.write; capacity = state.capacities.write };
+      };
+      peer_closed = state.peer_closed;
     }
 
--- the room of its queues
-abbrev pub queue_room : PlainSocket → ℕ
-queue_room p = p.read_semaphore.queue.room
+-- a socket of the same queues and bytes, with this state
+abbrev pub with_state : SocketState → Socket → Socket
+with_state state socket =
+    socket_with state (record { read = socket.semaphores.read.queue; write = socket.semaphores.write.queue })
+    (record { read = socket.buffers.read.bytes; write = socket.buffers.write.bytes })
 
--- and of its buffers
-abbrev pub byte_room : PlainSocket → ℕ
-byte_room p = p.input.bytes.room
+abbrev pub socket_shown : PlainSocket → Socket
+socket_shown p = socket_with p.state (sides_of p.queues.now.rows p.number) (sides_of p.buffers.now.rows p.number)
 
--- its queues have this room, and so have its buffers
+-- it stands among queues and buffers of this room
 pub record HasRoom (queue_room byte_room : ℕ) (p : PlainSocket) : Type 0 where
-  pub read_queue : p.read_semaphore.queue.room ≡ queue_room
-  pub write_queue : p.write_semaphore.queue.room ≡ queue_room
-  pub input : p.input.bytes.room ≡ byte_room
-  pub output : p.output.bytes.room ≡ byte_room
-
--- it has the same room on both sides
-abbrev pub IsEven : PlainSocket → Type 0
-IsEven p = HasRoom (queue_room p) (byte_room p) p
-
--- it has the room that another has
-abbrev pub HasRoomOf : PlainSocket → PlainSocket → Type 0
-HasRoomOf q p = HasRoom (queue_room q) (byte_room q) p
-
--- there is room for the change of it
-abbrev pub CanEditPlain : SocketEdit → PlainSocket → Type 0
-CanEditPlain edit p = CanEditSocket (queue_room p) (byte_room p) edit (socket_shown p)
-
--- there is room to undo the change of it
-abbrev pub CanUndoPlain : SocketUndo → PlainSocket → Type 0
-CanUndoPlain undo p = CanUndoSocket (queue_room p) (byte_room p) undo (socket_shown p)
-
--- the change was made, in the same room, and this undoes it
-pub record Edits (edit : SocketEdit) (undo : SocketUndo) (old new : PlainSocket) : Type 0 where
-  pub after : socket_shown new ≡ after_socket_edit edit (socket_shown old)
-  pub room : HasRoomOf old new
-  pub back : UndoesSocket (queue_room old) (byte_room old) undo (socket_shown new) (socket_shown old)
-  pub light : socket_undo_words undo ≤ socket_edit_words edit
+  pub queues : p.queues.now.room ≡ queue_room
+  pub buffers : p.buffers.now.room ≡ byte_room

@@ -15,6 +15,10 @@ abbrev pub on_semaphore : Side → (Semaphore → Semaphore) → Socket → Sock
 on_semaphore side change socket =
     record socket { semaphores = with_side side (change (of_side side socket.semaphores)) socket.semaphores }
 
+-- a socket with another queue at a side
+abbrev pub on_queue : Side → (List ℕ → List ℕ) → Socket → Socket
+on_queue side change socket = on_semaphore side (λ semaphore. record semaphore { queue = change semaphore.queue }) socket
+
 -- a socket with other bytes at a side
 abbrev pub on_bytes : Side → (List ℕ → List ℕ) → Socket → Socket
 on_bytes side change socket =

@@ -1,17 +1,40 @@
--- The sockets of a world over lists: those opened, and rows made ready for more.
-use Rattle.std.specs.Prelude.{◌≡◌, ◌≤◌, ◌+◌, All, map, vec_len, vec_capacity}
+-- The sockets of a world over lists.
+use Rattle.std.specs.Prelude.{◌≡◌, ℕ, ◌+◌, ◌*◌, ◌≤◌, List, [], ◌∷◌, length, slice_get, IfSome}
+use Rattle.nr_rev.specs.Socket.{Socket}
+use Rattle.nr_plain.specs.declared.socket.SocketState.{SocketState}
+use Rattle.nr_plain.specs.declared.socket_edit.SocketEdit.{SocketEdit}
+use Rattle.nr_plain.specs.declared.socket_edit.SocketUndo.{SocketUndo}
 use Rattle.nr_plain.specs.declared.sockets.Sockets.TheInside.{Inside}
-use Rattle.nr_plain.specs.Socket.{HasRoom, socket_shown}
+use Rattle.nr_plain.specs.Edit.{with_changed}
+use Rattle.nr_plain.specs.Socket.{sides_of, socket_with}
+use Rattle.nr_plain.specs.SocketEdit.{CanUndoSocket, after_socket_edit, after_socket_undo, socket_edit_words, socket_undo_words}
 use Rattle.nr_plain.specs.Table.{SocketTable}
 
-abbrev pub table_shown : Inside → SocketTable
-table_shown s =
-    record { sockets = map socket_shown s.opened.items; room = s.room; queue_room = s.queue_room; byte_room = s.byte_room }
+-- the sockets from number s on
+abbrev pub sockets_from : ℕ → List SocketState → List (List ℕ) → List (List ℕ) → List Socket
+sockets_from s [] queues buffers = []
+sockets_from s (state ∷ states) queues buffers =
+    socket_with state (sides_of queues s) (sides_of buffers s) ∷ sockets_from (s + 1) states queues buffers
 
--- there are as many rows as there is room for, each with its own room
-pub record AreReady (s : Inside) : Type 0 where
-  pub counted : vec_len s.opened + vec_len s.spare ≡ s.room
-  pub opened_room : s.room ≤ vec_capacity s.opened
-  pub spare_room : s.room ≤ vec_capacity s.spare
-  pub opened : All (HasRoom s.queue_room s.byte_room) s.opened.items
-  pub spare : All (HasRoom s.queue_room s.byte_room) s.spare.items
+abbrev pub table_shown : Inside → SocketTable
+table_shown t =
+    record {
+      sockets = sockets_from 0 t.states.items t.queues.rows t.buffers.rows;
+      room = t.states.room;
+      queue_room = t.queues.room;
+      byte_room = t.buffers.room;
+    }
+
+-- each socket has its two queues and its two rows of bytes, and there is room for those of all
+pub record HasTheirRows (t : Inside) : Type 0 where
+  pub queues : length t.queues.rows ≡ 2 * length t.states.items
+  pub buffers : length t.buffers.rows ≡ 2 * length t.states.items
+  pub queue_room : t.queues.most ≡ 2 * t.states.room
+  pub buffer_room : t.buffers.most ≡ 2 * t.states.room
+
+-- the change of socket s was made, and this undoes it and is no heavier than the change allows
+pub record EditsSocket (s : ℕ) (edit : SocketEdit) (undo : SocketUndo) (old new : SocketTable) : Type 0 where
+  pub after : new ≡ record old { sockets = with_changed s (after_socket_edit edit) old.sockets }
+  pub can : IfSome (slice_get new.sockets s) (CanUndoSocket old.queue_room old.byte_room undo)
+  pub back : with_changed s (after_socket_undo undo) new.sockets ≡ old.sockets
+  pub light : socket_undo_words undo ≤ socket_edit_words edit

@@ -57,9 +57,9 @@ impl PlainWorld {
         ensures { result
             ≡ socket_value socket self.now (λ row. value.Number (lock_number row.lock)) }
     {
-        match self.sockets.get(socket as usize) {
+        match self.sockets.get(socket) {
             None => CellValue::Absent,
-            Some(row) => CellValue::Number(number(row.lock)),
+            Some(row) => CellValue::Number(number(row.state.lock)),
         }
     }
 
@@ -68,7 +68,7 @@ impl PlainWorld {
             ≡ socket_value socket self.now
             (λ row. value.Number (of_side side row.semaphores).count) }
     {
-        match self.sockets.get(socket as usize) {
+        match self.sockets.get(socket) {
             None => CellValue::Absent,
             Some(row) => CellValue::Number(u64::from(row.semaphore(side).count)),
         }
@@ -79,7 +79,7 @@ impl PlainWorld {
             ≡ socket_value socket self.now
             (λ row. value.Number (length (of_side side row.buffers).bytes)) }
     {
-        match self.sockets.get(socket as usize) {
+        match self.sockets.get(socket) {
             None => CellValue::Absent,
             Some(row) => CellValue::Number(row.buffer(side).bytes.len() as u64),
         }

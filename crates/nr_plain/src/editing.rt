@@ -31,7 +31,7 @@ impl PlainWorld {
                 Undo::RemoveSocket
             }
             Edit::Socket { socket, edit } => {
-                let undo = self.sockets.edit(socket as usize, edit);
+                let undo = self.sockets.edit(socket, edit);
                 Undo::Socket { socket, undo }
             }
             Edit::Row { descriptor, row } => self.set_row(descriptor, row),
@@ -148,7 +148,7 @@ impl PlainWorld {
             }
             Undo::RemoveGoroutine => self.goroutines.drop_last(),
             Undo::RemoveSocket => self.sockets.close_last(),
-            Undo::Socket { socket, undo } => self.sockets.undo(socket as usize, undo),
+            Undo::Socket { socket, undo } => self.sockets.undo(socket, undo),
             Undo::Row { descriptor, row } => {
                 let _ = self.descriptors.replace(descriptor as usize, row);
             }

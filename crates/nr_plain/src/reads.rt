@@ -32,14 +32,12 @@ impl PlainWorld {
     }
 
     /// A socket that is opened.
-    pub(crate) fn socket_of(&self, socket: u32) -> Result<&PlainSocket, Refusal>
+    pub(crate) fn socket_of(&self, socket: u32) -> Result<PlainSocket<'_>, Refusal>
         ensures { MatchResult result
-            (λ p. slice_get self.now.sockets socket ≡ Some (socket_shown p.now))
+            (λ p. slice_get self.now.sockets socket ≡ Some (socket_shown p))
             (λ e. (slice_get self.now.sockets socket ≡ None) × (e ≡ NoSuchSocket)) }
     {
-        self.sockets
-            .get(socket as usize)
-            .ok_or(Refusal::NoSuchSocket)
+        self.sockets.get(socket).ok_or(Refusal::NoSuchSocket)
     }
 
     /// Whether a size is from 1 to the limit of buffers.

@@ -72,7 +72,7 @@ impl PlainWorld {
         }
         let edit = SocketEdit::Release { side };
         let plan = Plan::new(Answer::Done).then(Edit::Socket { socket, edit });
-        let plan = match semaphore.queue.get(0) {
+        let plan = match semaphore.queue.first().copied() {
             None => plan,
             Some(front) => plan.then(Edit::Status {
                 goroutine: front,

@@ -1,25 +1,28 @@
-//! The sockets of a world, all rows of which are made at once.
+//! The sockets of a world, in room that was made at once.
 
-ghost use Rattle.std.specs.Prelude.{◌≡◌, ◌+◌, ◌-◌, ◌<◌, ◌≤◌, ◌∷◌, ◌++◌, [], length, drop, take, slice_get, option_map, IfSome, IfOk};
+ghost use Rattle.std.specs.Prelude.{◌≡◌, ◌+◌, ◌-◌, ◌<◌, ◌≤◌, ◌∷◌, ◌++◌, [], length, take, slice_get, option_map, IfSome, IfOk};
+ghost use Rattle.nr_rev.specs.Sides.{of_side};
 ghost use Rattle.nr_rev.specs.Socket.{new_socket};
 ghost use Rattle.nr_plain.specs.Edit.{with_changed};
-ghost use Rattle.nr_plain.specs.SocketEdit.{CanEditSocket, CanUndoSocket, on_bytes, socket_edit_words, after_socket_edit, after_socket_undo, socket_undo_words};
-ghost use Rattle.nr_plain.specs.Socket.{HasRoom, socket_shown};
+ghost use Rattle.nr_plain.specs.RowEdit.{CanEditRow, after_row_edit};
+ghost use Rattle.nr_plain.specs.Socket.{HasRoom, socket_shown, with_state};
+ghost use Rattle.nr_plain.specs.SocketEdit.{on_bytes, on_queue};
 
-use crate::socket::PlainSocket;
-use crate::socket_edit::{SocketEdit, SocketUndo};
+use crate::row_edit::RowEdit;
+use crate::rows::Rows;
+use crate::socket::{PlainSocket, SocketState, place};
+use crate::table::Table;
 use nr_rev::Side;
 use std::alloc::{AllocError, Global};
 use std::marker::Model;
 
-/// The sockets opened so far, and rows made ready for those to come.
+/// The sockets opened so far: what each has of one size, and the queues and the bytes of them all in two blocks, where
+/// what stands behind a queue or a buffer moves when it grows or shrinks.
 #[derive(Drop)]
 pub(crate) struct Sockets {
-    opened: Vec<PlainSocket>,
-    spare: Vec<PlainSocket>,
-    room: usize,
-    queue_room: usize,
-    byte_room: usize,
+    states: Table<SocketState>,
+    queues: Rows<u32>,
+    buffers: Rows<u8>,
 }
 
 impl Model for Sockets {
@@ -27,18 +30,18 @@ impl Model for Sockets {
 
     ghost Value = { SocketTable };
 
-    ghost use Rattle.nr_plain.specs.Sockets.{table_shown, AreReady};
+    ghost use Rattle.nr_plain.specs.Sockets.{table_shown, HasTheirRows};
 
     ghost view = { table_shown };
 
-    ghost invariant = { AreReady };
+    ghost invariant = { HasTheirRows };
 }
 
 impl Sockets {
     /// None opened, with room for this many, and in each for this many goroutines and bytes.
     pub(crate) fn with_room(
         alloc: Global,
-        room: usize,
+        room: u32,
         queue_room: usize,
         byte_room: usize,
     ) -> Result<Sockets, AllocError>
@@ -49,17 +52,11 @@ impl Sockets {
           byte_room = byte_room;
         }) }
     {
-        let opened = Vec::with_capacity(alloc, room)?;
-        let mut spare = Vec::with_capacity(alloc, room)?;
-        for _ in 0..room {
-            spare.push_reserved(PlainSocket::with_room(alloc, queue_room, byte_room)?);
-        }
+        let room = room as usize;
         Ok(Sockets {
-            opened,
-            spare,
-            room,
-            queue_room,
-            byte_room,
+            states: Table::with_room(alloc, room)?,
+            queues: Rows::with_room(alloc, 2 * room, queue_room)?,
+            buffers: Rows::with_room(alloc, 2 * room, byte_room)?,
         })
     }
 
@@ -67,54 +64,50 @@ impl Sockets {
     pub(crate) fn try_copy(&self, alloc: Global) -> Result<Sockets, AllocError>
         ensures { IfOk result (λ s. s ≡ self.now) }
     {
-        let mut copy = Sockets::with_room(alloc, self.room, self.queue_room, self.byte_room)?;
-        for s in 0..self.opened.len() {
-            copy.open_copy(&self.opened[s]);
-        }
-        Ok(copy)
-    }
-
-    /// Opens the next socket, equal to one that has the same room.
-    fn open_copy(&mut self, socket: &PlainSocket)
-        requires room { length self.old.sockets < self.old.room }
-        requires same { HasRoom self.old.queue_room self.old.byte_room socket.now }
-        ensures { self.new ≡ record self.old {
-          sockets = self.old.sockets ++ socket_shown socket.now ∷ [];
-        } }
-    {
-        let Some(mut row) = self.spare.pop() else {
-            unreachable!()
-        };
-        row.assign(socket);
-        self.opened.push_reserved(row);
+        Ok(Sockets {
+            states: self.states.try_copy(alloc)?,
+            queues: self.queues.try_copy(alloc)?,
+            buffers: self.buffers.try_copy(alloc)?,
+        })
     }
 
     /// How many are opened.
+    #[tactic(auto, using(crate::proofs::SocketsLemmas::socket_laws))]
     pub(crate) fn len(&self) -> usize
         ensures { result ≡ length self.now.sockets }
     {
-        self.opened.len()
+        self.states.len()
     }
 
     /// A socket, if it is opened.
-    pub(crate) fn get(&self, socket: usize) -> Option<&PlainSocket>
-        ensures { option_map (λ p. socket_shown p.now) result ≡ slice_get self.now.sockets socket }
+    #[tactic(auto, using(crate::proofs::SocketsLemmas::socket_laws))]
+    pub(crate) fn get(&self, socket: u32) -> Option<PlainSocket<'_>>
+        ensures shown { option_map socket_shown result ≡ slice_get self.now.sockets socket }
+        ensures room { IfSome result (HasRoom self.now.queue_room self.now.byte_room) }
     {
-        self.opened.get(socket)
+        let state = self.states.get(socket as usize)?;
+        Some(PlainSocket {
+            state,
+            number: socket,
+            queues: &self.queues,
+            buffers: &self.buffers,
+        })
     }
 
     /// Opens the next socket, with buffers of these capacities.
+    #[tactic(auto, using(crate::proofs::SocketsLemmas::len_laws))]
     pub(crate) fn open(&mut self, read_capacity: u32, write_capacity: u32)
         requires { length self.old.sockets < self.old.room }
         ensures { self.new ≡ record self.old {
           sockets = self.old.sockets ++ new_socket read_capacity write_capacity ∷ [];
         } }
     {
-        let Some(mut row) = self.spare.pop() else {
-            unreachable!()
-        };
-        row.reset(read_capacity, write_capacity);
-        self.opened.push_reserved(row);
+        self.states
+            .push(SocketState::new(read_capacity, write_capacity));
+        self.queues.push();
+        self.queues.push();
+        self.buffers.push();
+        self.buffers.push();
     }
 
     /// Takes the opening of the last one back.
@@ -123,57 +116,55 @@ impl Sockets {
           sockets = take (length self.old.sockets - 1) self.old.sockets;
         } }
     {
-        if let Some(row) = self.opened.pop() {
-            self.spare.push_reserved(row);
-        }
+        self.states.drop_last();
+        self.queues.pop();
+        self.queues.pop();
+        self.buffers.pop();
+        self.buffers.pop();
     }
 
-    /// Changes a socket, if it is opened, and tells what undoes the change.
-    pub(crate) fn edit(&mut self, socket: usize, edit: SocketEdit) -> SocketUndo
+    /// Sets what a socket has beside its queues and its bytes, if it is opened.
+    pub(crate) fn set_state(&mut self, socket: u32, state: SocketState)
+        ensures { self.new ≡ record self.old {
+          sockets = with_changed socket (with_state state) self.old.sockets;
+        } }
+    {
+        let _ = self.states.replace(socket as usize, state);
+    }
+
+    /// Changes the queue of a socket's side, if it is opened.
+    #[tactic(auto, using(crate::proofs::SocketsLemmas::past_laws))]
+    pub(crate) fn edit_queue(&mut self, socket: u32, side: Side, edit: RowEdit<u32>)
         requires { IfSome (slice_get self.old.sockets socket)
-            (CanEditSocket self.old.queue_room self.old.byte_room edit) }
+            (λ x. CanEditRow self.old.queue_room edit (of_side side x.semaphores).queue) }
         ensures after { self.new ≡ record self.old {
-          sockets = with_changed socket (after_socket_edit edit.entry) self.old.sockets;
-        } }
-        ensures can { IfSome (slice_get self.new.sockets socket)
-            (CanUndoSocket self.old.queue_room self.old.byte_room result) }
-        ensures back { with_changed socket (after_socket_undo result) self.new.sockets
-            ≡ self.old.sockets }
-        ensures light { socket_undo_words result ≤ socket_edit_words edit.entry }
-    {
-        if socket >= self.opened.len() {
-            return SocketUndo::OpenPeer;
-        }
-        let row = &mut self.opened[socket];
-        row.edit(edit)
-    }
-
-    /// So many bytes leave the front of a socket's buffer, and nothing keeps them.
-    pub(crate) fn lose(&mut self, socket: usize, side: Side, count: usize)
-        ensures { self.new ≡ record self.old {
           sockets = with_changed socket
-              (on_bytes side (λ held. drop count held)) self.old.sockets;
+              (on_queue side (after_row_edit edit.entry)) self.old.sockets;
         } }
+        ensures short { IfSome (slice_get self.old.sockets socket)
+            (λ x. length (of_side side x.semaphores).queue ≤ self.old.queue_room) }
     {
-        if socket >= self.opened.len() {
+        if socket as usize >= self.states.len() {
             return;
         }
-        let row = &mut self.opened[socket];
-        row.lose(side, count);
+        self.queues.edit(place(socket, side), edit);
     }
 
-    /// Undoes a change of a socket.
-    pub(crate) fn undo(&mut self, socket: usize, undo: SocketUndo)
+    /// Changes the bytes of a socket's buffer, if it is opened.
+    #[tactic(auto, using(crate::proofs::SocketsLemmas::past_laws))]
+    pub(crate) fn edit_bytes(&mut self, socket: u32, side: Side, edit: RowEdit<u8>)
         requires { IfSome (slice_get self.old.sockets socket)
-            (CanUndoSocket self.old.queue_room self.old.byte_room undo) }
-        ensures { self.new ≡ record self.old {
-          sockets = with_changed socket (after_socket_undo undo) self.old.sockets;
+            (λ x. CanEditRow self.old.byte_room edit (of_side side x.buffers).bytes) }
+        ensures after { self.new ≡ record self.old {
+          sockets = with_changed socket
+              (on_bytes side (after_row_edit edit.entry)) self.old.sockets;
         } }
+        ensures short { IfSome (slice_get self.old.sockets socket)
+            (λ x. length (of_side side x.buffers).bytes ≤ self.old.byte_room) }
     {
-        if socket >= self.opened.len() {
+        if socket as usize >= self.states.len() {
             return;
         }
-        let row = &mut self.opened[socket];
-        row.undo(undo);
+        self.buffers.edit(place(socket, side), edit);
     }
 }

@@ -97,13 +97,6 @@ impl<T: Drop> Table<T> {
     {
         let _ = self.items.pop();
     }
-
-    /// Keeps so many items at the front, or all where there are fewer.
-    pub(crate) fn truncate(&mut self, count: usize)
-        ensures { self.new ≡ record self.old { items = take count self.old.items } }
-    {
-        self.items.truncate(count);
-    }
 }
 
 impl<T: Copy + Drop> Table<T> {
@@ -118,15 +111,6 @@ impl<T: Copy + Drop> Table<T> {
 }
 
 impl<T: Copy> Table<T> {
-    /// Makes it equal to another, for which it has room.
-    pub(crate) fn assign(&mut self, other: &Table<T>)
-        requires { other.now.room ≤ self.old.room }
-        ensures { self.new ≡ record self.old { items = other.now.items } }
-    {
-        self.items.truncate(0);
-        self.extend(other.items.as_slice());
-    }
-
     /// The item at a place.
     pub(crate) fn get(&self, place: usize) -> Option<T>
         ensures { result ≡ slice_get self.now.items place }
@@ -158,29 +142,5 @@ impl<T: Copy> Table<T> {
         let Ok(()) = self.items.extend_from_slice(items) else {
             unreachable!()
         };
-    }
-
-    /// Takes so many items, or all where there are fewer, away from the front.
-    #[tactic(auto, using(crate::proofs::ListLemmas::rotated_front))]
-    pub(crate) fn drop_front(&mut self, count: usize)
-        ensures rest { self.new ≡ record self.old { items = drop count self.old.items } }
-        ensures within { length self.old.items ≤ self.old.room }
-    {
-        let count = count.min(self.items.len());
-        let left = self.items.len() - count;
-        self.items.rotate_left(count);
-        self.items.truncate(left);
-    }
-
-    /// Puts items at the front.
-    #[tactic(auto, using(crate::proofs::ListLemmas::rotated_back))]
-    pub(crate) fn extend_front(&mut self, items: &[T])
-        requires { length items.now + length self.old.items ≤ self.old.room }
-        ensures { self.new ≡ record self.old { items = items.now ++ self.old.items } }
-    {
-        let Ok(()) = self.items.extend_from_slice(items) else {
-            unreachable!()
-        };
-        self.items.rotate_right(items.len());
     }
 }

@@ -64,7 +64,7 @@ fn applies_all_or_none(rt: HostRuntime) -> Result<(), Fail> {
 
 /// The references of socket 0, if it is opened.
 fn references(world: &PlainWorld) -> Option<u32> {
-    world.sockets.get(0).map(|row| row.lock.references)
+    world.sockets.get(0).map(|row| row.state.lock.references)
 }
 
 /// Undoes the last of the deltas that lead back from the world.

@@ -48,10 +48,10 @@ impl PlainWorld {
         if bytes.is_empty() {
             return Err(Refusal::SizeOutOfRange);
         }
-        if row.peer_closed {
+        if row.state.peer_closed {
             return Err(Refusal::PeerClosed);
         }
-        if bytes.len() > row.input.room() {
+        if bytes.len() > row.buffer(Side::Read).room() {
             return Err(Refusal::NoRoom);
         }
         let edit = SocketEdit::Append {
@@ -66,7 +66,7 @@ impl PlainWorld {
         ensures { Plans (steps.PeerClose socket) self.now result }
     {
         let row = self.socket_of(socket)?;
-        if row.peer_closed {
+        if row.state.peer_closed {
             return Err(Refusal::PeerClosed);
         }
         let edit = SocketEdit::ClosePeer;
@@ -85,10 +85,10 @@ impl PlainWorld {
         self.idle(goroutine)?;
         let row = self.socket_of(socket)?;
         self.sized(count)?;
-        let Ok(bytes) = front(self.alloc, &row.input, count) else {
+        let Ok(bytes) = front(self.alloc, row.buffer(Side::Read), count) else {
             return Err(Refusal::Memory);
         };
-        let answer = read_answer(bytes.len() as u32, row.peer_closed);
+        let answer = read_answer(bytes.len() as u32, row.state.peer_closed);
         let edit = SocketEdit::Take {
             side: Side::Read,
             bytes,
@@ -112,7 +112,7 @@ impl PlainWorld {
         if bytes.is_empty() {
             return Err(Refusal::SizeOutOfRange);
         }
-        let bytes = writable(&row.output, bytes.as_slice());
+        let bytes = writable(row.buffer(Side::Write), bytes.as_slice());
         let answer = write_answer(bytes.len() as u32);
         let edit = SocketEdit::Append {
             side: Side::Write,
@@ -129,10 +129,10 @@ impl PlainWorld {
         if count == 0 {
             return Err(Refusal::SizeOutOfRange);
         }
-        if row.output.bytes.len() < count as usize {
+        if row.buffer(Side::Write).bytes.len() < count as usize {
             return Err(Refusal::TooFewBytes);
         }
-        let Ok(bytes) = front(self.alloc, &row.output, count) else {
+        let Ok(bytes) = front(self.alloc, row.buffer(Side::Write), count) else {
             return Err(Refusal::Memory);
         };
         let edit = SocketEdit::Take {
@@ -156,9 +156,9 @@ impl PlainWorld {
         self.idle(goroutine)?;
         let row = self.socket_of(socket)?;
         self.sized(count)?;
-        let taken = (count as usize).min(row.input.bytes.len());
-        let answer = read_answer(taken as u32, row.peer_closed);
-        self.sockets.lose(socket as usize, Side::Read, taken);
+        let taken = (count as usize).min(row.buffer(Side::Read).bytes.len());
+        let answer = read_answer(taken as u32, row.state.peer_closed);
+        self.sockets.lose(socket, Side::Read, taken);
         Ok(answer)
     }
 
@@ -170,23 +170,22 @@ impl PlainWorld {
         if count == 0 {
             return Err(Refusal::SizeOutOfRange);
         }
-        if row.output.bytes.len() < count as usize {
+        if row.buffer(Side::Write).bytes.len() < count as usize {
             return Err(Refusal::TooFewBytes);
         }
-        self.sockets
-            .lose(socket as usize, Side::Write, count as usize);
+        self.sockets.lose(socket, Side::Write, count as usize);
         Ok(Answer::Done)
     }
 }
 
 /// A copy of so many bytes at the front, or of all where there are fewer.
-fn front(alloc: Global, buffer: &PlainBuffer, count: u32) -> Result<KeptBytes, AllocError>
-    ensures bytes { IfOk result (λ bytes. bytes ≡ take count buffer.now.bytes.items) }
-    ensures len { IfOk result (λ bytes. length bytes ≡ min count (length buffer.now.bytes.items)) }
-    ensures err { OnErr result (0 < min count (length buffer.now.bytes.items)) }
+fn front(alloc: Global, buffer: PlainBuffer, count: u32) -> Result<KeptBytes, AllocError>
+    ensures bytes { IfOk result (λ bytes. bytes ≡ take count buffer.entry.bytes.now) }
+    ensures len { IfOk result (λ bytes. length bytes ≡ min count (length buffer.entry.bytes.now)) }
+    ensures err { OnErr result (0 < min count (length buffer.entry.bytes.now)) }
 {
     let count = (count as usize).min(buffer.bytes.len());
-    KeptBytes::copy_of(alloc, &buffer.bytes.as_slice()[..count])
+    KeptBytes::copy_of(alloc, &buffer.bytes[..count])
 }
 
 /// The answer of `sysread` that got so many bytes.
@@ -203,10 +202,10 @@ fn read_answer(count: u32, peer_closed: bool) -> Answer
 }
 
 /// The bytes that there is room for.
-fn writable<'a>(buffer: &PlainBuffer, bytes: &'a [u8]) -> &'a [u8]
+fn writable<'a>(buffer: PlainBuffer, bytes: &'a [u8]) -> &'a [u8]
     ensures bytes { result.now
-        ≡ take (min (room_of (buffer_shown buffer.now)) (length bytes.now)) bytes.now }
-    ensures len { length result.now ≡ min (room_of (buffer_shown buffer.now)) (length bytes.now) }
+        ≡ take (min (room_of (buffer_shown buffer.entry)) (length bytes.now)) bytes.now }
+    ensures len { length result.now ≡ min (room_of (buffer_shown buffer.entry)) (length bytes.now) }
     ensures small { length result.now < 2 ^ 32 }
 {
     let count = buffer.room().min(bytes.len());

@@ -28,7 +28,7 @@ impl PlainWorld {
             goroutines,
             sockets: Sockets::with_room(
                 alloc,
-                limits.sockets as usize,
+                limits.sockets,
                 limits.goroutines as usize,
                 limits.buffer as usize,
             )?,
@@ -64,10 +64,10 @@ impl PlainWorld {
         ensures ok { IfOk result (λ bytes. bytes ≡ bytes_of self.now socket side) }
         ensures some { OnErr result (HasItems (bytes_of self.now socket side)) }
     {
-        let Some(row) = self.sockets.get(socket as usize) else {
+        let Some(row) = self.sockets.get(socket) else {
             return Ok(None);
         };
-        let bytes = copy_of(self.alloc, row.buffer(side).bytes.as_slice())?;
+        let bytes = copy_of(self.alloc, row.buffer(side).bytes)?;
         Ok(Some(Bytes::new(bytes)))
     }
 
@@ -76,10 +76,10 @@ impl PlainWorld {
         ensures ok { IfOk result (λ queue. queue ≡ queue_of self.now socket side) }
         ensures some { OnErr result (HasItems (queue_of self.now socket side)) }
     {
-        let Some(row) = self.sockets.get(socket as usize) else {
+        let Some(row) = self.sockets.get(socket) else {
             return Ok(None);
         };
-        let queue = copy_of(self.alloc, row.semaphore(side).queue.as_slice())?;
+        let queue = copy_of(self.alloc, row.semaphore(side).queue)?;
         Ok(Some(Queue::new(queue)))
     }
 }

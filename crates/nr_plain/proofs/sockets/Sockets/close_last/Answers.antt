@@ -1,16 +1,12 @@
-use Rattle.std.proofs.Common.{Some, arith}
-use Rattle.std.proofs.lemmas.List.Elements.{All-pop, All-push}
-use Rattle.nr_plain.specs.Socket.{HasRoom}
+use Rattle.std.proofs.Common.{List, ap}
+use Rattle.nr_rev.specs.Socket.{Socket}
+use Rattle.nr_plain.specs.Table.{SocketTable}
+use Rattle.nr_plain.proofs.SocketsLemmas.{socket_taken_back}
 use Rattle.nr_plain.proofs.sockets.Sockets.close_last.Goals as goal
 
-pub invariant_of-self : goal.invariant_of-self
-invariant_of-self c =
-    let has = HasRoom c.self.inside.queue_room c.self.inside.byte_room in
-    let left = All-pop has _ _ (Some c.in-Some.row) c.in-Some.ensures.items c.self.invariant.opened in
-    record {
-      counted = omega (arith, c.in-Some.ensures.len);
-      opened_room = omega (arith, c.in-Some.ensures.capacity);
-      spare_room = omega (arith, c.push_reserved.ensures.capacity);
-      opened = left.0;
-      spare = rw c.push_reserved.ensures.items (All-push has _ _ c.self.invariant.spare left.1);
-    }
+pub returns : goal.returns
+returns c =
+    let t = c.self.inside in
+    let table : List Socket → SocketTable = λ sockets. record { sockets = sockets; room = t.states.room; queue_room = t.queues.room; byte_room = t.buffers.room } in
+    rw (← c.self.view_is, c.drop_last.ensures, c.pop-2.ensures, c.pop.ensures, c.pop-4.ensures, c.pop-3.ensures)
+    (ap table (socket_taken_back t.states.items t.queues.rows t.buffers.rows c.self.invariant.queues c.self.invariant.buffers))
