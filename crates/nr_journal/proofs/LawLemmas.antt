@@ -1,0 +1,62 @@
+-- What the rule comes to.
+use Rattle.std.proofs.Common.{◌≡◌, ℕ, zero, suc, ◌+◌, ◌<◌, List, [], ◌∷◌, ◌++◌, length, get_or, refl, sym, ap, ◌∙◌, subst, arith}
+use Rattle.std.proofs.lemmas.List.{append-nil}
+use Rattle.std.specs.List.{All}
+use mathlib.Core.Option.{some, some-injective, some-ne-none}
+use lib.ListN.{get_elem?}
+use Rattle.nr_journal.specs.declared.view.Stand.{Stand}
+use Rattle.nr_journal.specs.declared.view.View.{View}
+use Rattle.nr_journal.specs.declared.view.View.TheVariants.{Outside, Within, Note, Spent}
+use Rattle.nr_journal.specs.Rule.{newcomer, tag_of, IsDrawn, IsEntry, IsOthers, HasTag}
+use Rattle.nr_journal.specs.Laws.{BeginsEmpty, EachWordHasItsPass, EmptyLookSeesAll}
+use Rattle.nr_journal.proofs.RowLemmas.{All-head}
+use Rattle.nr_journal.proofs.RuleLemmas.{is_word, before_end, found_opcode}
+
+pub empty_look : EmptyLookSeesAll
+empty_look room id stand words views k at zero_there = let c = (k.each_view id (Within stand) at).1 in go c.0 c.1
+  where
+    go : (rest : List ℕ) → k.log ≡ stand.seen ++ rest → k.log ≡ stand.seen
+    go [] is = is ∙ append-nil stand.seen
+    go (v ∷ rest) is =
+        let there : get_or words (suc (length stand.seen)) 0 ≡ v = before_end room words views k stand.seen v rest is in
+        let index : suc (length stand.seen) ≡ length stand.seen + 1 = omega arith in
+        absurd (is_word v (found_opcode room words views k stand.seen v rest is) (sym there ∙ (ap (λ (j : ℕ). get_or words j 0) index ∙ zero_there)))
+
+-- whoever has a tag is a pass
+pub of_pass : (v : View) (tag : ℕ) → HasTag v tag → (stand : Stand) × (v ≡ Within stand) × (stand.tag ≡ tag)
+of_pass (Outside tried) tag has = absurd has
+of_pass (Within stand) tag has = (stand, refl, has)
+of_pass (Note seen) tag has = absurd has
+of_pass Spent tag has = absurd has
+
+-- a word is among the words seen where none of the others has its tag
+pub among_seen : (seen rest : List ℕ) (tag place : ℕ) → All (IsOthers tag) rest → place < length (seen ++ rest) → tag_of (get_or (seen ++ rest) place 0) ≡ tag
+    → (place < length seen) × (get_or seen place 0 ≡ get_or (seen ++ rest) place 0)
+among_seen [] rest tag place others below is = absurd (others place 0 below is)
+among_seen (x ∷ xs) rest tag zero others below is = (omega arith, refl)
+among_seen (x ∷ xs) rest tag (suc place) others below is = let t = among_seen xs rest tag place others (omega arith) is in (omega (arith, t.0), t.1)
+
+pub each_word : EachWordHasItsPass
+each_word room words views k place below =
+    let drawn : IsDrawn k.tags (tag_of (get_or k.log place 0)) = (k.entries place 0 below).1 in
+    let o = k.taken (tag_of (get_or k.log place 0)) drawn in
+    let p = of_pass o.1 (tag_of (get_or k.log place 0)) o.3 in
+    let at : get_elem? views o.0 ≡ some (Within p.0) = o.2 ∙ ap some p.1 in
+    let c = (k.each_view o.0 (Within p.0) at).1 in
+    let lies = among_seen p.0.seen c.0 p.0.tag place c.2 (subst (λ (l : List ℕ). place < length l) c.1 below) (ap (λ (l : List ℕ). tag_of (get_or l place 0)) (sym c.1) ∙ sym p.2) in
+    (o.0, p.0, at, p.2, lies.0, lies.1 ∙ ap (λ (l : List ℕ). get_or l place 0) (sym c.1))
+
+-- the first seat has no tag
+nobody : (id : ℕ) (v : View) (tag : ℕ) → get_elem? (newcomer ∷ []) id ≡ some v → HasTag v tag → ⊥
+nobody zero v tag e has = subst (λ (u : View). HasTag u tag) (sym (some-injective newcomer v e)) has
+nobody (suc id) v tag e has = some-ne-none v (sym e)
+
+pub empty_at_first : BeginsEmpty
+empty_at_first room words k = go k.log refl
+  where
+    go : (log : List ℕ) → k.log ≡ log → k.log ≡ []
+    go [] is = is
+    go (x ∷ xs) is =
+        let drawn : IsDrawn k.tags (tag_of x) = (All-head (IsEntry k.tags) x xs (subst (All (IsEntry k.tags)) is k.entries)).1 in
+        let o = k.taken (tag_of x) drawn in
+        absurd (nobody o.0 o.1 (tag_of x) o.2 o.3)

@@ -1,0 +1,44 @@
+-- A pass, by the view of its seat.
+use Rattle.std.proofs.Common.{◌≡◌, ℕ, ◌+◌, ◌<◌, List, [], ◌∷◌, ◌++◌, length, refl, sym, ap, ◌∙◌, subst, arith, length-append, append_assoc}
+use Rattle.nr_journal.specs.declared.view.Stand.{Stand}
+use Rattle.nr_journal.specs.declared.view.View.TheVariants.{Within}
+use Rattle.nr_journal.specs.Rule.{shown, looked, IsOthers, StartsWith}
+use Rattle.nr_journal.specs.Step.{Seat}
+use Rattle.std.proofs.lemmas.List.{append-nil}
+use Rattle.std.proofs.lemmas.List.Elements.{All-nil}
+use Rattle.nr_journal.specs.Pass.{stand_of, Gains, AreInLine}
+use Rattle.nr_journal.proofs.RowLemmas.{All-snoc, in_line}
+
+pub seated : (me : Seat) (s : Stand) (place tag words : ℕ) → me ≡ (Within s, []) → place ≡ length s.seen → tag ≡ s.tag → place < words
+    → (me ≡ (Within (stand_of me.0), [])) × (place ≡ length (stand_of me.0).seen) × (tag ≡ (stand_of me.0).tag) × (place < words)
+seated me s place tag words is p t l = (
+  is ∙ sym (ap (λ (m : Seat). (Within (stand_of m.0), [])) is),
+  p ∙ ap (λ (m : Seat). length (stand_of m.0).seen) (sym is),
+  t ∙ ap (λ (m : Seat). (stand_of m.0).tag) (sym is),
+  l,
+)
+
+pub stands : (me : Seat) (s : Stand) → me ≡ (Within s, []) → stand_of me.0 ≡ s
+stands me s is = ap (λ (m : Seat). stand_of m.0) is
+
+pub one_more : (seen : List ℕ) (v place : ℕ) → place ≡ length seen → place + 1 ≡ length (seen ++ v ∷ [])
+one_more seen v place is = omega (arith, length-append seen (v ∷ []))
+
+pub gains_none : (a : Stand) → Gains a a
+gains_none a = ([], sym (append-nil a.seen), All-nil (IsOthers a.tag), refl, refl)
+
+pub gains_one : (a b : Stand) (v : ℕ) → Gains a b → IsOthers b.tag v → Gains a (shown b v)
+gains_one a b v g other = (
+  g.0 ++ v ∷ [],
+  ap (λ (l : List ℕ). l ++ v ∷ []) g.1 ∙ append_assoc a.seen g.0 (v ∷ []),
+  All-snoc (IsOthers a.tag) g.0 v g.2 (subst (λ (t : ℕ). IsOthers t v) g.3 other),
+  g.3,
+  g.4,
+)
+
+pub gains_look : (a b : Stand) → Gains a b → Gains a (looked b)
+gains_look a b g = g
+
+-- two lists that begin one
+pub are_in_line : (xs ys log : List ℕ) → StartsWith log xs → StartsWith log ys → AreInLine xs ys
+are_in_line xs ys log a b = ((λ le. in_line xs ys a.0 b.0 (sym a.1 ∙ b.1) le), (λ le. in_line ys xs b.0 a.0 (sym b.1 ∙ a.1) le))

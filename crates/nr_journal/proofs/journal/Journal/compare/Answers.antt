@@ -1,0 +1,15 @@
+use Rattle.std.proofs.Common.{sym, ap, ◌∙◌, subst, arith}
+use Rattle.nr_journal.specs.Step.{Seat, ComparesFrom}
+use Rattle.nr_journal.specs.Pass.{Entered, AreInLine}
+use Rattle.nr_journal.proofs.MeetLemmas.{compares}
+use Rattle.nr_journal.proofs.PassLemmas.{are_in_line}
+use Rattle.nr_journal.proofs.journal.Journal.compare.Goals as goal
+
+pub load-requires : goal.load-requires
+load-requires c =
+    (ap (λ (f : Entered). f.table) c.pass.view_is ∙ (c.requires ∙ sym c.self.view_is), omega (arith, c.self.invariant.1), compares _ _ _ _ _ c.pass.invariant.0)
+
+pub returns-clause-line : goal.returns-clause-line
+returns-clause-line c =
+    let told = subst (λ (m : Seat). ComparesFrom m.0 c.load.new.seat.me) c.pass.invariant.0 c.load.ensures.2 in
+    subst (λ (f : Entered). AreInLine f.stand.seen f.stand.told) c.pass.view_is (are_in_line _ _ told.1 told.2 told.3)

@@ -1,0 +1,69 @@
+use Rattle.std.proofs.Common.{◌≡◌, ℕ, [], refl, sym, ap, ◌∙◌, subst, arith}
+use Rattle.std.proofs.lemmas.Nat.{one_shl}
+use Rattle.atomic_table.specs.Seated.{TableId}
+use Rattle.nr_journal.specs.declared.view.View.TheVariants.{Outside}
+use Rattle.nr_journal.specs.Rule.{entering}
+use Rattle.nr_journal.specs.Step.{Seat, DrawsFrom}
+use Rattle.nr_journal.specs.Pass.{stand_of}
+use Rattle.nr_journal.specs.Seat.{Waiting, tried_of}
+use Rattle.nr_journal.proofs.DrawLemmas.{draws}
+use Rattle.nr_journal.proofs.PassLemmas.{seated, stands}
+use Rattle.nr_journal.proofs.journal.Journal.enter.Goals as goal
+
+pub loop-tried-init : goal.loop-tried-init
+loop-tried-init c =
+    let i = c.seat.invariant in
+    let same : c.seat.inside.tried ≡ c.args.seat.tried = i.1 ∙ ap (λ (w : Waiting). w.tried) c.seat.view_is in (
+      i.0 ∙ ap (λ (n : ℕ). (Outside n, [])) (sym i.1),
+      ap (λ (w : Waiting). w.table) c.seat.view_is,
+      i.2,
+      omega (arith, same),
+    )
+
+pub fetch_or-found-requires : goal.fetch_or-found-requires
+fetch_or-found-requires c =
+    let l = c.loop-tried.invariant in (
+      l.1 ∙ (c.requires ∙ sym c.self.view_is),
+      omega (arith, c.self.invariant.1),
+      draws _ _ _ _ _ _ l.0 (let bit = one_shl c.loop-tried.tried 64 (omega (arith, c.loop-tried-test.true, l.2)) in omega (arith, bit)),
+    )
+
+pub invariant_of-result : goal.invariant_of-result
+invariant_of-result c =
+    let l = c.loop-tried.invariant in
+    let f = c.fetch_or-found.ensures in
+    let told = subst (λ (m : Seat). DrawsFrom m.0 c.fetch_or-found.result c.fetch_or-found.new.seat.me) l.0 f.2 in
+    let is = told.0 c.if-found-tried-eq0.true in
+    let words : c.fetch_or-found.new.seat.table_id.words ≡ c.self.inside.table.shared.table_id.words = ap (λ (z : TableId). z.words) (f.0 ∙ (l.1 ∙ (c.requires ∙ sym c.self.view_is))) in
+    seated _ _ _ _ _ is refl refl (omega (arith, words, c.self.invariant.1))
+
+pub returns-then-found-tried-eq0-clause-ok : goal.returns-then-found-tried-eq0-clause-ok
+returns-then-found-tried-eq0-clause-ok c =
+    let l = c.loop-tried.invariant in
+    let f = c.fetch_or-found.ensures in
+    let told = subst (λ (m : Seat). DrawsFrom m.0 c.fetch_or-found.result c.fetch_or-found.new.seat.me) l.0 f.2 in
+    let is = stands _ _ (told.0 c.if-found-tried-eq0.true) in
+    let tag : (stand_of c.fetch_or-found.new.seat.me.0).tag ≡ c.loop-tried.tried = ap (λ s. s.tag) is in (
+      f.0 ∙ l.1,
+      is ∙ ap entering (sym tag),
+      omega (arith, tag, l.3),
+      omega (arith, tag, c.loop-tried-test.true),
+    )
+
+pub loop-tried-preserved : goal.loop-tried-preserved
+loop-tried-preserved c =
+    let l = c.loop-tried.invariant in
+    let f = c.fetch_or-found.ensures in
+    let told = subst (λ (m : Seat). DrawsFrom m.0 c.fetch_or-found.result c.fetch_or-found.new.seat.me) l.0 f.2 in
+    (told.1 c.if-found-tried-eq0.false, f.0 ∙ l.1, omega (arith, c.loop-tried-test.true), omega (arith, l.3))
+
+pub invariant_of-result-2 : goal.invariant_of-result-2
+invariant_of-result-2 c =
+    let l = c.loop-tried.invariant in
+    let tried : c.loop-tried.tried ≡ tried_of c.loop-tried.seat.me.0 = ap (λ (m : Seat). tried_of m.0) (sym l.0) in
+    (l.0 ∙ ap (λ (n : ℕ). (Outside n, [])) tried, tried, l.2)
+
+pub returns-clause-err : goal.returns-clause-err
+returns-clause-err c =
+    let l = c.loop-tried.invariant in
+    (l.1, ap (λ (m : Seat). tried_of m.0) l.0 ∙ omega (arith, l.2, c.loop-tried-test.false))

@@ -1,0 +1,39 @@
+-- What the rule comes to.
+use Rattle.std.specs.Prelude.{◌≡◌, ℕ, ◌+◌, ◌<◌, List, [], ◌∷◌, length, slice_index}
+use mathlib.Core.Option.{some}
+use lib.ListN.{get_elem?}
+use Rattle.nr_journal.specs.declared.journal.Journal.TheInside as journal_parts
+use Rattle.nr_journal.specs.declared.pass.Pass.TheInside as pass_parts
+use Rattle.nr_journal.specs.declared.seat.Seat.TheInside as seat_parts
+use Rattle.nr_journal.specs.declared.view.Stand.{Stand}
+use Rattle.nr_journal.specs.declared.view.View.{View}
+use Rattle.nr_journal.specs.declared.view.View.TheVariants.{Within}
+use Rattle.nr_journal.specs.Rule.{Kept, newcomer, tag_of}
+
+-- where the word behind all that a pass has seen is 0, the log is exactly what it has seen
+abbrev pub EmptyLookSeesAll : Type 0
+EmptyLookSeesAll = (room id : ℕ) (stand : Stand) (words : List ℕ) (views : List View)
+    → (k : Kept room words views) → get_elem? views id ≡ some (Within stand)
+    → slice_index words (length stand.seen + 1) ≡ 0 → k.log ≡ stand.seen
+
+-- each word of the log is, at its place, among the words that the pass with its tag has seen
+abbrev pub EachWordHasItsPass : Type 0
+EachWordHasItsPass = (room : ℕ) (words : List ℕ) (views : List View)
+    → (k : Kept room words views) → (place : ℕ) → place < length k.log
+    → (id : ℕ) × (stand : Stand) × (get_elem? views id ≡ some (Within stand))
+    × (stand.tag ≡ tag_of (slice_index k.log place)) × (place < length stand.seen)
+    × (slice_index stand.seen place ≡ slice_index k.log place)
+
+-- A pass is what it knows, a place and a tag, a seat what it knows and a number of tags, and a journal its table and a
+-- number of words. What is known takes no bytes.
+pub record NothingIsHidden : Type 0 where
+  pub pass : (one other : pass_parts.Inside)
+      → one.seat ≡ other.seat → one.place ≡ other.place → one.tag ≡ other.tag → one ≡ other
+  pub seat : (one other : seat_parts.Inside)
+      → one.seat ≡ other.seat → one.tried ≡ other.tried → one ≡ other
+  pub journal : (one other : journal_parts.Inside)
+      → one.table ≡ other.table → one.words ≡ other.words → one ≡ other
+
+-- while nothing is known but what the first seat knows, no word is written
+abbrev pub BeginsEmpty : Type 0
+BeginsEmpty = (room : ℕ) (words : List ℕ) → (k : Kept room words (newcomer ∷ [])) → k.log ≡ []

@@ -1,0 +1,17 @@
+-- What a contract sees of a seat.
+use Rattle.std.specs.Prelude.{ℕ}
+use Rattle.atomic_table.specs.Seated.{TableId}
+use Rattle.nr_journal.specs.declared.view.View.{View}
+use Rattle.nr_journal.specs.declared.view.View.TheVariants.{Outside, Within, Note, Spent}
+
+-- what a seat stands for: its journal, and how many tags, from 0 on, it has seen drawn
+pub record Waiting : Type 0 where
+  pub table : TableId
+  pub tried : ℕ
+
+-- how many tags were seen drawn, by a seat's view; no seat has another sort of view
+abbrev pub tried_of : View → ℕ
+tried_of (Outside tried) = tried
+tried_of (Within _) = 0
+tried_of (Note _) = 0
+tried_of Spent = 0

@@ -1,0 +1,242 @@
+//! The journal: words that are written once each, by a compare-exchange, and read in one order.
+
+ghost use Rattle.std.specs.Prelude.{◌≡◌, ◌≢◌, ◌⊎◌, ℕ, ◌+◌, ◌^◌, ◌<◌, ◌≤◌, length, IfSome, IfNone, IfOk, IfErr, slice_index};
+ghost use Rattle.std.specs.Ordering.{nat_cmp};
+ghost use Rattle.nr_journal.specs.Rule.{entering, informed, room_of, StartsWith, looked, shown, HasOpcode, IsOthers, tag_of};
+ghost use Rattle.nr_journal.specs.Pass.{WasOffered, AreInLine, Gains, CatchesUp};
+ghost use Rattle.nr_journal.specs.declared.rule.TheConstants.{MOST_PASSES, MOST_WORDS};
+
+use crate::pass::{Offered, Pass};
+use crate::rule::{InOneOrder, MOST_PASSES, MOST_WORDS};
+use crate::seat::{NoTag, Seat};
+use crate::step::{Compare, Draw, Learn, Look, Offer, Reread, Tell, Twin};
+use crate::view::View;
+use atomic_table::Table;
+use std::alloc::{AllocError, Global};
+use std::cmp::Ordering;
+use std::marker::Model;
+
+/// Words in one order, each written once, which up to `MOST_PASSES` passes place and read from as many threads without
+/// a lock. Contracts see which journal it is; a seat or a pass is used with the journal that it was made by and no
+/// other. No call waits.
+#[derive(Drop)]
+pub struct Journal {
+    table: Table<(), View, u64, InOneOrder, Global>,
+    words: usize,
+}
+
+impl Model for Journal {
+    ghost use Rattle.std.specs.Prelude.{◌≡◌, ◌+◌, ◌≤◌};
+    ghost use Rattle.atomic_table.specs.Seated.{TableId};
+    ghost use Rattle.nr_journal.specs.declared.rule.TheConstants.{MOST_WORDS};
+
+    ghost Value = { TableId };
+
+    ghost view = { λ j. j.table.shared.table_id };
+
+    ghost invariant = { λ j. (j.table.shared.key ≡ j.words)
+        × (j.table.shared.table_id.words ≡ j.words + 1)
+        × (j.table.shared.table_id.slots ≡ 0) × (j.words ≤ MOST_WORDS) };
+}
+
+impl Journal {
+    /// An empty journal with room for so many words, and its first seat.
+    ///
+    /// Memory is the only error; then nothing is left behind.
+    #[tactic(auto, using(crate::proofs::RuleLemmas::begins))]
+    pub fn new(alloc: Global, words: usize) -> Result<(Journal, Seat), AllocError>
+        requires { (1 ≤ words) × (words ≤ MOST_WORDS) }
+        ensures { IfOk result (λ r. (room_of r.0 ≡ words) × (r.1.table ≡ r.0) × (r.1.tried ≡ 0)) }
+    {
+        let zeros = Vec::from_elem(alloc, 0u64, words + 1)?;
+        let (table, seat) = Table::of_words(alloc, zeros.as_slice(), &(words as u64))?;
+        Ok((Journal { table, words }, Seat { seat, tried: 0 }))
+    }
+
+    /// A second seat of this journal, which knows as much as the first.
+    pub fn split(&self, seat: &mut Seat) -> Seat
+        requires { seat.old.table ≡ self.now }
+        ensures same { seat.new ≡ seat.old }
+        ensures new { result ≡ seat.old }
+    {
+        Seat {
+            seat: self.table.shared.split_seat::<Twin>(&mut seat.seat),
+            tried: seat.tried,
+        }
+    }
+
+    /// Draws the first tag that no pass has, and makes a pass with it that has seen nothing yet.
+    ///
+    /// `NoTag` only where each of the `MOST_PASSES` tags was seen to be drawn; then the seat comes back and knows so.
+    pub fn enter(&self, seat: Seat) -> Result<Pass, (Seat, NoTag)>
+        requires { seat.table ≡ self.now }
+        ensures ok { IfOk result (λ p. (p.table ≡ seat.table) × (p.stand ≡ entering p.stand.tag)
+            × (seat.tried ≤ p.stand.tag) × (p.stand.tag < MOST_PASSES)) }
+        ensures err { IfErr result (λ e. (e.0.table ≡ seat.table) × (e.0.tried ≡ MOST_PASSES)) }
+    {
+        let Seat {
+            mut seat,
+            mut tried,
+        } = seat;
+        while tried < MOST_PASSES {
+            let found = self
+                .table
+                .shared
+                .fetch_or::<Draw>(&mut seat, 0, 1u64 << tried);
+            if (found >> tried) % 2 == 0 {
+                return Ok(Pass {
+                    seat,
+                    place: 0,
+                    tag: tried as u8,
+                });
+            }
+            tried += 1;
+        }
+        Err((Seat { seat, tried }, NoTag))
+    }
+
+    /// The word behind those that the pass has seen, which is another's and is seen now. None where there was none yet,
+    /// which is an empty look and is counted, or where all words were seen.
+    pub fn next(&self, pass: &mut Pass) -> Option<u64>
+        requires { pass.old.table ≡ self.now }
+        ensures table { pass.new.table ≡ pass.old.table }
+        ensures room { IfSome result (λ v. length pass.old.stand.seen < room_of self.now) }
+        ensures some { IfSome result (λ v. (pass.new.stand ≡ shown pass.old.stand v)
+            × HasOpcode v × IsOthers pass.old.stand.tag v) }
+        // a body that doesn't look can't know that it was told no more than it has seen
+        ensures none { IfNone result (
+            ((pass.new.stand ≡ looked pass.old.stand)
+            × StartsWith pass.old.stand.seen pass.old.stand.told)
+            ⊎ ((pass.new.stand ≡ pass.old.stand)
+            × (length pass.old.stand.seen ≡ room_of self.now))) }
+    {
+        if pass.place >= self.words {
+            return None;
+        }
+        let found = self
+            .table
+            .shared
+            .load::<Look>(&mut pass.seat, pass.place + 1);
+        if found == 0 {
+            return None;
+        }
+        pass.place += 1;
+        Some(found)
+    }
+
+    /// Places the word behind all that the pass has seen, or says which word of another stands there. Either is seen now.
+    /// The word has to have an opcode from 1 to `GREATEST_OPCODE` and the pass's tag.
+    pub fn offer(&self, pass: &mut Pass, word: u64) -> Offered
+        requires table { pass.old.table ≡ self.now }
+        requires word { HasOpcode word × (tag_of word ≡ pass.old.stand.tag) }
+        ensures table { pass.new.table ≡ pass.old.table }
+        ensures offered { WasOffered word (room_of self.now) pass.old.stand pass.new.stand result }
+    {
+        if pass.place >= self.words {
+            return Offered::Full;
+        }
+        let found = self
+            .table
+            .shared
+            .compare_exchange::<Offer>(&mut pass.seat, pass.place + 1, 0, word);
+        pass.place += 1;
+        if found == 0 {
+            Offered::Placed
+        } else {
+            Offered::Lost(found)
+        }
+    }
+
+    /// How the first pass's count of words seen compares with the second's. Of what they have seen the shorter begins the
+    /// longer. From now on an empty look of either shows that it has seen what the other had seen when they met.
+    pub fn meet(&self, one: &mut Pass, other: &mut Pass) -> Ordering
+        requires { (one.old.table ≡ self.now) × (other.old.table ≡ self.now) }
+        ensures tables { (one.new.table ≡ one.old.table) × (other.new.table ≡ other.old.table) }
+        ensures told { (one.new.stand ≡ informed one.old.stand other.old.stand.seen)
+            × (other.new.stand ≡ informed other.old.stand one.old.stand.seen) }
+        ensures order { result ≡ nat_cmp (length one.old.stand.seen) (length other.old.stand.seen) }
+        ensures line { AreInLine one.old.stand.seen other.old.stand.seen }
+        ensures room { (length one.old.stand.seen ≤ room_of self.now)
+            × (length other.old.stand.seen ≤ room_of self.now) }
+    {
+        self.learn(one, other);
+        self.learn(other, one);
+        self.compare(one);
+        one.place.cmp(&other.place)
+    }
+
+    /// Lets the passes meet, and then the first look until it finds nothing: it has seen all that the other had seen.
+    pub fn see_all_of(&self, one: &mut Pass, other: &mut Pass)
+        requires { (one.old.table ≡ self.now) × (other.old.table ≡ self.now) }
+        ensures tables { (one.new.table ≡ one.old.table) × (other.new.table ≡ other.old.table) }
+        ensures all { StartsWith one.new.stand.seen other.old.stand.seen }
+        ensures gains { Gains (informed one.old.stand other.old.stand.seen) one.new.stand }
+        ensures caught { CatchesUp (room_of self.now)
+            (informed one.old.stand other.old.stand.seen) one.new.stand }
+        ensures other { other.new.stand ≡ informed other.old.stand one.old.stand.seen }
+    {
+        self.meet(one, other);
+        self.catch_up(one);
+        self.compare(one);
+    }
+
+    /// Looks until no word is found, or all words are seen, and then gives the words seen, in order, read again.
+    ///
+    /// Memory is the only error; it comes behind the looks, so the pass may have seen more words.
+    pub fn finish(&self, alloc: Global, pass: &mut Pass) -> Result<Vec<u64>, AllocError>
+        requires { pass.old.table ≡ self.now }
+        ensures table { pass.new.table ≡ pass.old.table }
+        ensures gains { Gains pass.old.stand pass.new.stand }
+        ensures caught { CatchesUp (room_of self.now) pass.old.stand pass.new.stand }
+        ensures words { IfOk result (λ words. words.items ≡ pass.new.stand.seen) }
+    {
+        self.catch_up(pass);
+        let mut words = Vec::with_capacity(alloc, pass.seen())?;
+        for at in 0..pass.seen() {
+            words.push(self.reread(pass, at))?;
+        }
+        Ok(words)
+    }
+
+    // Looks until no word is found.
+    fn catch_up(&self, pass: &mut Pass)
+        requires { pass.old.table ≡ self.now }
+        ensures table { pass.new.table ≡ pass.old.table }
+        ensures gains { Gains pass.old.stand pass.new.stand }
+        ensures caught { CatchesUp (room_of self.now) pass.old.stand pass.new.stand }
+    {
+        while let Some(_) = self.next(pass) {}
+    }
+
+    // Reads a word that was seen.
+    fn reread(&self, pass: &mut Pass, at: usize) -> u64
+        requires table { pass.old.table ≡ self.now }
+        requires seen { at < length pass.old.stand.seen }
+        ensures same { pass.new ≡ pass.old }
+        ensures word { result ≡ slice_index pass.old.stand.seen at }
+    {
+        self.table.shared.load::<Reread>(&mut pass.seat, at + 1)
+    }
+
+    // Lets the pass know what another has seen.
+    fn learn(&self, pass: &mut Pass, from: &mut Pass)
+        requires { (pass.old.table ≡ self.now) × (from.old.table ≡ self.now) }
+        ensures from { from.new ≡ from.old }
+        ensures told { (pass.new.table ≡ pass.old.table)
+            × (pass.new.stand ≡ informed pass.old.stand from.old.stand.seen) }
+        ensures room { length from.old.stand.seen ≤ room_of self.now }
+    {
+        let shared = &self.table.shared;
+        let note = shared.split_seat::<Tell>(&mut from.seat);
+        shared.join_seat::<Learn>(&mut pass.seat, note);
+    }
+
+    // What was seen and what was told are compared.
+    fn compare(&self, pass: &mut Pass)
+        requires { pass.old.table ≡ self.now }
+        ensures same { pass.new ≡ pass.old }
+        ensures line { AreInLine pass.old.stand.seen pass.old.stand.told }
+    {
+        self.table.shared.load::<Compare>(&mut pass.seat, 0);
+    }
+}

@@ -1,0 +1,24 @@
+//! What the rule comes to: laws that hold at every moment.
+
+ghost use Rattle.nr_journal.specs.Laws.{BeginsEmpty, EachWordHasItsPass, EmptyLookSeesAll, NothingIsHidden};
+
+/// A journal begins with no word, as long as there is only its first seat, which has tried no tag.
+pub fn begins_empty()
+    ensures { BeginsEmpty }
+{}
+
+/// Where a pass looks and finds no word, the journal has just the words that it has seen.
+pub fn empty_look_sees_all()
+    ensures { EmptyLookSeesAll }
+{}
+
+/// No word comes from nowhere: the pass whose tag it has is there and has seen it, at its place. And a pass sees a word
+/// of its own tag only by an offer that placed it.
+pub fn each_word_has_its_pass()
+    ensures { EachWordHasItsPass }
+{}
+
+/// A pass, a seat and a journal have nothing at run time that contracts don't see of them, so no call can go by it.
+pub fn nothing_is_hidden()
+    ensures { NothingIsHidden }
+{}

@@ -1,0 +1,28 @@
+//! The rule that a journal keeps at every moment, and the numbers in it.
+
+use crate::view::View;
+use atomic_table::TableRule;
+
+/// The greatest opcode of a word. The least is 1, so no word is 0.
+pub const GREATEST_OPCODE: u64 = 11;
+
+/// A word's lowest byte is its opcode and the next one its tag: how many values a byte has.
+pub const BYTE_VALUES: u64 = 256;
+
+/// The most passes that a journal has. Their tags are the numbers below.
+pub const MOST_PASSES: u32 = 64;
+
+/// The most words that a journal may be made for.
+pub const MOST_WORDS: usize = 1_000_000;
+
+/// What holds of a journal's words and of all that is known of them, whichever threads take which steps. The table is
+/// told how many words the journal has.
+pub struct InOneOrder;
+
+impl TableRule<(), View, u64> for InOneOrder {
+    ghost use Rattle.nr_journal.specs.Rule.{Kept, newcomer};
+
+    ghost holds = { λ room s. Kept room s.words s.views };
+
+    ghost first = { λ _. newcomer };
+}

@@ -1,0 +1,81 @@
+//! The steps on a journal's table, and what each tells whoever makes it.
+
+use crate::view::View;
+use atomic_table::{Join, Play, Split};
+
+/// A pass reads the word behind those that it has seen.
+pub(crate) struct Look;
+
+impl Play<(), View> for Look {
+    ghost use Rattle.nr_journal.specs.Step.{Looked};
+
+    ghost then = { Looked };
+}
+
+/// A pass puts a word of its own where that word is 0.
+pub(crate) struct Offer;
+
+impl Play<(), View> for Offer {
+    ghost use Rattle.nr_journal.specs.Step.{Offers};
+
+    ghost then = { Offers };
+}
+
+/// A seat sets the bit of the next tag.
+pub(crate) struct Draw;
+
+impl Play<(), View> for Draw {
+    ghost use Rattle.nr_journal.specs.Step.{Draws};
+
+    ghost then = { Draws };
+}
+
+/// A pass reads a word again that it has seen.
+pub(crate) struct Reread;
+
+impl Play<(), View> for Reread {
+    ghost use Rattle.nr_journal.specs.Step.{Rereads};
+
+    ghost then = { Rereads };
+}
+
+/// A pass compares what it has seen with what it was told.
+pub(crate) struct Compare;
+
+impl Play<(), View> for Compare {
+    ghost use Rattle.nr_journal.specs.Step.{Compares};
+
+    ghost then = { Compares };
+}
+
+/// A second seat knows as much.
+pub(crate) struct Twin;
+
+impl Split<View> for Twin {
+    ghost left = { λ v. v };
+
+    ghost right = { λ v. v };
+}
+
+/// A note is written of what a pass has seen.
+pub(crate) struct Tell;
+
+impl Split<View> for Tell {
+    ghost use Rattle.nr_journal.specs.Step.{note_of};
+
+    ghost left = { λ v. v };
+
+    ghost right = { note_of };
+}
+
+/// A pass takes in a note.
+pub(crate) struct Learn;
+
+impl Join<View> for Learn {
+    ghost use Rattle.nr_journal.specs.Step.{learned_from};
+    ghost use Rattle.nr_journal.specs.declared.view.View.TheVariants.{Spent};
+
+    ghost both = { learned_from };
+
+    ghost spent = { Spent };
+}
