@@ -5,6 +5,7 @@ pub mod Count
 pub mod Listing
 pub mod Reply
 pub mod Sender
+pub mod Sink
 pub mod Value
 pub mod Word
 pub mod Debugger

@@ -1,7 +1,8 @@
 -- What is sent, in parts, and how much of it a writer has then.
-use Rattle.std.specs.Prelude.{◌≡◌, ℕ, ◌-◌, ◌/◌, ◌%◌, ◌^◌, ◌<◌, min, List, [], ◌∷◌, ◌++◌, length, take, flat_map, slice_index, Option, Result, Ok, Err, codes, decimal}
+use Rattle.std.specs.Prelude.{◌≡◌, ℕ, ◌-◌, ◌/◌, ◌%◌, ◌^◌, ◌<◌, min, List, [], ◌∷◌, ◌++◌, length, take, flat_map, slice_index, true, Result, Ok, Err, codes, decimal}
 use Rattle.std.specs.Fmt.{signed_decimal}
 use Rattle.std.specs.Io.KnownBytes.{Appends}
+use Rattle.nr_command.specs.Sink.{Outgoing}
 use Rattle.nr_command.specs.declared.sender.Part.{Part}
 use Rattle.nr_command.specs.declared.sender.Token.{Token}
 use Rattle.nr_command.specs.declared.sender.Token.TheVariants as tokens
@@ -32,16 +33,24 @@ text_of_parts f (x ∷ y ∷ xs) = f x ++ text_of_parts f (y ∷ xs)
 abbrev pub saturating_count : ℕ → ℕ
 saturating_count n = min n (2 ^ 64 - 1)
 
--- Exactly the first n bytes of the text went out, and not the next, and n is told as this count.
-abbrev pub GoesInPart : Option (List ℕ) → Option (List ℕ) → List ℕ → ℕ → Type 0
-GoesInPart old new text count = (n : ℕ) × (n < length text) × (count ≡ saturating_count n) × Appends old new (take n text)
+-- The whole text went out, and no write failed.
+abbrev pub GoesOut : Outgoing → Outgoing → List ℕ → Type 0
+GoesOut old new text = Appends old.contents new.contents text × (new.failed ≡ old.failed)
 
--- The whole text went out, and its length is told; or a first part of it, and how much that is.
-abbrev pub Goes : Option (List ℕ) → Option (List ℕ) → List ℕ → Result ℕ Part → Type 0
-Goes old new text (Ok len) = (len ≡ saturating_count (length text)) × Appends old new text
+-- A write failed when exactly the first n bytes of the text were out, and not the next, and n is told as this count.
+pub record GoesInPart (old new : Outgoing) (text : List ℕ) (count : ℕ) : Type 0 where
+  pub n : ℕ
+  pub within : n < length text
+  pub told : count ≡ saturating_count n
+  pub out : Appends old.contents new.contents (take n text)
+  pub failed : new.failed ≡ true
+
+-- The whole text went out, and its length is told; or a write failed, and how much is out is told.
+abbrev pub Goes : Outgoing → Outgoing → List ℕ → Result ℕ Part → Type 0
+Goes old new text (Ok len) = (len ≡ saturating_count (length text)) × GoesOut old new text
 Goes old new text (Err part) = GoesInPart old new text part.0
 
--- The whole text went out; or a first part of it, and how much that is is told.
-abbrev pub Prints : Option (List ℕ) → Option (List ℕ) → List ℕ → Result (Unit {0}) Part → Type 0
-Prints old new text (Ok _) = Appends old new text
+-- The whole text went out; or a write failed, and how much is out is told.
+abbrev pub Prints : Outgoing → Outgoing → List ℕ → Result (Unit {0}) Part → Type 0
+Prints old new text (Ok _) = GoesOut old new text
 Prints old new text (Err part) = GoesInPart old new text part.0

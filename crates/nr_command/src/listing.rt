@@ -5,6 +5,7 @@ ghost use Rattle.nr_command.specs.Sender.{Goes};
 
 use crate::checkpoint::Checkpoint;
 use crate::sender::{Part, Sent, Token, send_all};
+use crate::sink::Sink;
 use crate::value::Piece;
 use nr_marks::{Break, Mark, NumberedMark};
 use std::io::Write;
@@ -13,7 +14,7 @@ use std::io::Write;
 impl Sent for NumberedMark {
     ghost text = { mark_line };
 
-    fn send<W: Write>(&self, w: &mut W) -> Result<u64, Part> {
+    fn send<W: Write>(&self, w: &mut Sink<W>) -> Result<u64, Part> {
         let number = Piece::Number(self.number);
         match self.mark {
             Mark::Break(Break::Kind(kind)) => {
@@ -45,7 +46,7 @@ impl Sent for NumberedMark {
 impl Sent for Checkpoint {
     ghost text = { checkpoint_line };
 
-    fn send<W: Write>(&self, w: &mut W) -> Result<u64, Part> {
+    fn send<W: Write>(&self, w: &mut Sink<W>) -> Result<u64, Part> {
         let tokens = [
             Token::Number(u64::from(self.number)),
             Token::Text(b" at "),
@@ -70,7 +71,7 @@ enum Listing<'a> {
 impl Sent for Listing<'_> {
     ghost text = { listing_text };
 
-    fn send<W: Write>(&self, w: &mut W) -> Result<u64, Part> {
+    fn send<W: Write>(&self, w: &mut Sink<W>) -> Result<u64, Part> {
         match self {
             Listing::Heading(name, count) => {
                 let count = Token::Number(*count as u64);
@@ -83,16 +84,19 @@ impl Sent for Listing<'_> {
 }
 
 /// Writes how many marks there are, and a line for each.
-pub(crate) fn send_marks<W: Write>(marks: &[NumberedMark], w: &mut W) -> Result<u64, Part>
-    ensures { Goes (W.contents w.old) (W.contents w.new) (marks_text marks.now) result }
+pub(crate) fn send_marks<W: Write>(marks: &[NumberedMark], w: &mut Sink<W>) -> Result<u64, Part>
+    ensures { Goes w.old w.new (marks_text marks.now) result }
 {
     let heading = Listing::Heading(b"marks ", marks.len());
     send_all(&[heading, Listing::Marks(marks)], w)
 }
 
 /// Writes how many checkpoints there are, and a line for each.
-pub(crate) fn send_checkpoints<W: Write>(checkpoints: &[Checkpoint], w: &mut W) -> Result<u64, Part>
-    ensures { Goes (W.contents w.old) (W.contents w.new) (checkpoints_text checkpoints.now) result }
+pub(crate) fn send_checkpoints<W: Write>(
+    checkpoints: &[Checkpoint],
+    w: &mut Sink<W>,
+) -> Result<u64, Part>
+    ensures { Goes w.old w.new (checkpoints_text checkpoints.now) result }
 {
     let heading = Listing::Heading(b"checkpoints ", checkpoints.len());
     send_all(&[heading, Listing::Checkpoints(checkpoints)], w)

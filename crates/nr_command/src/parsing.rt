@@ -271,8 +271,8 @@ fn at_least_one(number: u32) -> Result<NonZeroU32, LineFault>
     from_one(number).ok_or(LineFault::BadArgument)
 }
 
-/// A number below 2^32 in decimal digits.
-fn number(word: &[u8]) -> Result<u32, LineFault>
+/// A number below 2^32 in decimal digits, with leading zeros or without. `BadArgument` where it is none.
+pub fn number(word: &[u8]) -> Result<u32, LineFault>
     ensures { result ≡ number_of word.now }
 {
     if word.is_empty() {

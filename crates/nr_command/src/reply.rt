@@ -1,6 +1,7 @@
 //! What a line is answered, and how it is written.
 
 ghost use Rattle.std.specs.Prelude.{◌≡◌, ◌++◌, codes, decimal};
+ghost use Rattle.nr_command.specs.declared.reply.Fault.TheVariants as faults;
 ghost use Rattle.nr_command.specs.declared.reply.Reply.TheVariants as replies;
 ghost use Rattle.nr_command.specs.Reply.{direction_text, fault_text, text_of};
 ghost use Rattle.nr_command.specs.Sender.{Goes, Prints, token_text};
@@ -9,6 +10,7 @@ use crate::checkpoint::{Checkpoint, CheckpointFault, MOST_CHECKPOINTS};
 use crate::command::LineFault;
 use crate::listing::{send_checkpoints, send_marks};
 use crate::sender::{Part, Sent, Token, send, send_all};
+use crate::sink::Sink;
 use crate::value::Piece;
 use arrayvec::ArrayVec;
 use nr_marks::{MOST_MARKS, MarkFault, NumberedMark};
@@ -82,6 +84,10 @@ pub enum Fault {
     Line(LineFault),
     /// There was no memory for it.
     Memory,
+    /// There was no memory for a command that stands at this place of the journal, from 1. Its reply is owed.
+    Placed(usize),
+    /// Every place of the journal is taken.
+    JournalFull,
     Mark(MarkFault),
     Checkpoint(CheckpointFault),
 }
@@ -90,8 +96,8 @@ impl Reply {
     /// Writes the reply's text: one line, or in a list one for each item behind the first. It takes no memory.
     ///
     /// Where a write fails or takes nothing, `Part` says how many bytes of the text are out, and no more are written.
-    pub fn print<W: Write>(&self, w: &mut W) -> Result<(), Part>
-        ensures { Prints (W.contents w.old) (W.contents w.new) (text_of self.now) result }
+    pub fn print<W: Write>(&self, w: &mut Sink<W>) -> Result<(), Part>
+        ensures { Prints w.old w.new (text_of self.now) result }
     {
         self.send(w)?;
         Ok(())
@@ -101,7 +107,7 @@ impl Reply {
 impl Sent for Reply {
     ghost text = { text_of };
 
-    fn send<W: Write>(&self, w: &mut W) -> Result<u64, Part> {
+    fn send<W: Write>(&self, w: &mut Sink<W>) -> Result<u64, Part> {
         match self {
             Reply::At(position) => send_position(*position, b"\n", w),
             Reply::AtEnd(position) => send_position(*position, b" end\n", w),
@@ -132,21 +138,25 @@ impl Sent for Reply {
             Reply::Checkpoints(checkpoints) => send_checkpoints(checkpoints.as_slice(), w),
             Reply::NothingOwed => send(b"nothing owed\n", w),
             Reply::Bye => send(b"bye\n", w),
-            Reply::Fault(fault) => send(fault_line(*fault), w),
+            Reply::Fault(fault) => send_fault(*fault, w),
         }
     }
 }
 
-fn send_position<W: Write>(position: usize, end: &'static [u8], w: &mut W) -> Result<u64, Part>
-    ensures { Goes (W.contents w.old) (W.contents w.new)
+fn send_position<W: Write>(
+    position: usize,
+    end: &'static [u8],
+    w: &mut Sink<W>,
+) -> Result<u64, Part>
+    ensures { Goes w.old w.new
         (codes "at " ++ decimal position ++ end.now) result }
 {
     let number = Token::Number(position as u64);
     send_all(&[Token::Text(b"at "), number, Token::Text(end)], w)
 }
 
-fn send_hit<W: Write>(position: usize, marks: &[u32], w: &mut W) -> Result<u64, Part>
-    ensures { Goes (W.contents w.old) (W.contents w.new)
+fn send_hit<W: Write>(position: usize, marks: &[u32], w: &mut Sink<W>) -> Result<u64, Part>
+    ensures { Goes w.old w.new
         (text_of (replies.AtHit position (record { items = marks.now }))) result }
 {
     let tokens = [
@@ -159,8 +169,8 @@ fn send_hit<W: Write>(position: usize, marks: &[u32], w: &mut W) -> Result<u64, 
     send_all(&tokens, w)
 }
 
-fn send_direction<W: Write>(direction: Direction, w: &mut W) -> Result<u64, Part>
-    ensures { Goes (W.contents w.old) (W.contents w.new)
+fn send_direction<W: Write>(direction: Direction, w: &mut Sink<W>) -> Result<u64, Part>
+    ensures { Goes w.old w.new
         (text_of (replies.Direction direction)) result }
 {
     let way = direction_token(direction);
@@ -177,16 +187,16 @@ fn direction_token(direction: Direction) -> Token<'static>
 }
 
 /// Writes what a number is of, and the number.
-fn send_numbered<W: Write>(name: &'static [u8], number: u32, w: &mut W) -> Result<u64, Part>
-    ensures { Goes (W.contents w.old) (W.contents w.new)
+fn send_numbered<W: Write>(name: &'static [u8], number: u32, w: &mut Sink<W>) -> Result<u64, Part>
+    ensures { Goes w.old w.new
         (name.now ++ decimal number ++ codes "\n") result }
 {
     let number = Token::Number(u64::from(number));
     send_all(&[Token::Text(name), number, Token::Text(b"\n")], w)
 }
 
-fn send_checkpoint<W: Write>(checkpoint: Checkpoint, w: &mut W) -> Result<u64, Part>
-    ensures { Goes (W.contents w.old) (W.contents w.new)
+fn send_checkpoint<W: Write>(checkpoint: Checkpoint, w: &mut Sink<W>) -> Result<u64, Part>
+    ensures { Goes w.old w.new
         (text_of (replies.CheckpointMade checkpoint)) result }
 {
     let tokens = [
@@ -199,8 +209,8 @@ fn send_checkpoint<W: Write>(checkpoint: Checkpoint, w: &mut W) -> Result<u64, P
     send_all(&tokens, w)
 }
 
-fn send_printed<W: Write>(cell: Cell, value: CellValue, w: &mut W) -> Result<u64, Part>
-    ensures { Goes (W.contents w.old) (W.contents w.new)
+fn send_printed<W: Write>(cell: Cell, value: CellValue, w: &mut Sink<W>) -> Result<u64, Part>
+    ensures { Goes w.old w.new
         (text_of (replies.Printed cell value)) result }
 {
     let pieces = [
@@ -216,9 +226,9 @@ fn send_bytes<W: Write>(
     side: Side,
     socket: u32,
     bytes: &Option<Bytes>,
-    w: &mut W,
+    w: &mut Sink<W>,
 ) -> Result<u64, Part>
-    ensures { Goes (W.contents w.old) (W.contents w.new)
+    ensures { Goes w.old w.new
         (text_of (replies.Bytes side socket bytes.now)) result }
 {
     let name = match side {
@@ -237,9 +247,9 @@ fn send_queue<W: Write>(
     side: Side,
     socket: u32,
     queue: &Option<Queue>,
-    w: &mut W,
+    w: &mut Sink<W>,
 ) -> Result<u64, Part>
-    ensures { Goes (W.contents w.old) (W.contents w.new)
+    ensures { Goes w.old w.new
         (text_of (replies.Queue side socket queue.now)) result }
 {
     let name = match side {
@@ -259,9 +269,9 @@ fn send_dump<W: Write>(
     socket: u32,
     equals: &'static [u8],
     shown: Token<'_>,
-    w: &mut W,
+    w: &mut Sink<W>,
 ) -> Result<u64, Part>
-    ensures { Goes (W.contents w.old) (W.contents w.new)
+    ensures { Goes w.old w.new
         (name.now ++ decimal socket ++ equals.now ++ token_text shown.entry ++ codes "\n") result }
 {
     let tokens = [
@@ -278,9 +288,9 @@ fn send_place<W: Write>(
     position: usize,
     last: usize,
     direction: Direction,
-    w: &mut W,
+    w: &mut Sink<W>,
 ) -> Result<u64, Part>
-    ensures { Goes (W.contents w.old) (W.contents w.new)
+    ensures { Goes w.old w.new
         (text_of (replies.Position position last direction)) result }
 {
     let tokens = [
@@ -295,18 +305,54 @@ fn send_place<W: Write>(
     send_all(&tokens, w)
 }
 
-/// How a fault is told.
-fn fault_line(fault: Fault) -> &'static [u8]
-    ensures { result.now ≡ fault_text fault }
+fn send_fault<W: Write>(fault: Fault, w: &mut Sink<W>) -> Result<u64, Part>
+    ensures { Goes w.old w.new (fault_text fault) result }
 {
     match fault {
-        Fault::Line(LineFault::UnknownCommand) => b"fault 201 unknown command\n",
-        Fault::Line(LineFault::BadArgument) => b"fault 202 bad argument\n",
-        Fault::Line(LineFault::TooLong) => b"fault 203 line too long\n",
-        Fault::Memory => b"fault 301 memory\n",
-        Fault::Mark(MarkFault::NoSuchMark) => b"fault 401 no such mark\n",
-        Fault::Mark(MarkFault::MarksFull) => b"fault 402 marks full\n",
-        Fault::Checkpoint(CheckpointFault::NoSuchCheckpoint) => b"fault 403 no such checkpoint\n",
-        Fault::Checkpoint(CheckpointFault::CheckpointsFull) => b"fault 404 checkpoints full\n",
+        Fault::Line(fault) => send(line_fault(fault), w),
+        Fault::Memory => send(b"fault 301 memory\n", w),
+        Fault::Placed(place) => send_placed(place, w),
+        Fault::JournalFull => send(b"fault 303 journal full\n", w),
+        Fault::Mark(fault) => send(mark_fault(fault), w),
+        Fault::Checkpoint(fault) => send(checkpoint_fault(fault), w),
+    }
+}
+
+fn line_fault(fault: LineFault) -> &'static [u8]
+    ensures { result.now ≡ fault_text (faults.Line fault) }
+{
+    match fault {
+        LineFault::UnknownCommand => b"fault 201 unknown command\n",
+        LineFault::BadArgument => b"fault 202 bad argument\n",
+        LineFault::TooLong => b"fault 203 line too long\n",
+    }
+}
+
+fn send_placed<W: Write>(place: usize, w: &mut Sink<W>) -> Result<u64, Part>
+    ensures { Goes w.old w.new (fault_text (faults.Placed place)) result }
+{
+    let tokens = [
+        Token::Text(b"fault 302 memory, placed "),
+        Token::Number(place as u64),
+        Token::Text(b"\n"),
+    ];
+    send_all(&tokens, w)
+}
+
+fn mark_fault(fault: MarkFault) -> &'static [u8]
+    ensures { result.now ≡ fault_text (faults.Mark fault) }
+{
+    match fault {
+        MarkFault::NoSuchMark => b"fault 401 no such mark\n",
+        MarkFault::MarksFull => b"fault 402 marks full\n",
+    }
+}
+
+fn checkpoint_fault(fault: CheckpointFault) -> &'static [u8]
+    ensures { result.now ≡ fault_text (faults.Checkpoint fault) }
+{
+    match fault {
+        CheckpointFault::NoSuchCheckpoint => b"fault 403 no such checkpoint\n",
+        CheckpointFault::CheckpointsFull => b"fault 404 checkpoints full\n",
     }
 }

@@ -3,6 +3,7 @@
 ghost use Rattle.std.specs.Prelude.{ℕ, List};
 ghost use Rattle.nr_command.specs.Sender.{Goes, hex_pair, next_number, text_of_parts, token_text};
 
+use crate::sink::Sink;
 use itoa::Buffer;
 use std::io::Write;
 
@@ -17,8 +18,8 @@ pub trait Sent {
     ghost text: { Self → List ℕ };
 
     /// Writes the text, and tells its length.
-    fn send<W: Write>(&self, w: &mut W) -> Result<u64, Part>
-        ensures { Goes (W.contents w.old) (W.contents w.new) (text self.now) result };
+    fn send<W: Write>(&self, w: &mut Sink<W>) -> Result<u64, Part>
+        ensures { Goes w.old w.new (text self.now) result };
 }
 
 /// A part of a text.
@@ -36,7 +37,7 @@ pub enum Token<'a> {
 impl Sent for Token<'_> {
     ghost text = { token_text };
 
-    fn send<W: Write>(&self, w: &mut W) -> Result<u64, Part> {
+    fn send<W: Write>(&self, w: &mut Sink<W>) -> Result<u64, Part> {
         let mut digits = Buffer::new();
         match self {
             Token::Text(text) => send(text, w),
@@ -52,7 +53,7 @@ impl Sent for Token<'_> {
 impl Sent for u8 {
     ghost text = { hex_pair };
 
-    fn send<W: Write>(&self, w: &mut W) -> Result<u64, Part> {
+    fn send<W: Write>(&self, w: &mut Sink<W>) -> Result<u64, Part> {
         let digits = b"0123456789abcdef";
         let high = digits[usize::from(*self / 16)];
         let low = digits[usize::from(*self % 16)];
@@ -64,7 +65,7 @@ impl Sent for u8 {
 impl Sent for u32 {
     ghost text = { next_number };
 
-    fn send<W: Write>(&self, w: &mut W) -> Result<u64, Part> {
+    fn send<W: Write>(&self, w: &mut Sink<W>) -> Result<u64, Part> {
         let mut digits = Buffer::new();
         let digits = digits.format(*self).as_bytes();
         send_all(&[b" ".as_slice(), digits], w)
@@ -75,14 +76,14 @@ impl Sent for u32 {
 impl Sent for &[u8] {
     ghost text = { λ bytes. bytes.now };
 
-    fn send<W: Write>(&self, w: &mut W) -> Result<u64, Part> {
+    fn send<W: Write>(&self, w: &mut Sink<W>) -> Result<u64, Part> {
         send(self, w)
     }
 }
 
 /// Writes the parts one after the other.
-pub fn send_all<P: Sent, W: Write>(parts: &[P], w: &mut W) -> Result<u64, Part>
-    ensures { Goes (W.contents w.old) (W.contents w.new) (text_of_parts P.text parts.now) result }
+pub fn send_all<P: Sent, W: Write>(parts: &[P], w: &mut Sink<W>) -> Result<u64, Part>
+    ensures { Goes w.old w.new (text_of_parts P.text parts.now) result }
 {
     let mut out = 0u64;
     for part in parts {
@@ -95,8 +96,8 @@ pub fn send_all<P: Sent, W: Write>(parts: &[P], w: &mut W) -> Result<u64, Part>
 }
 
 /// Writes the bytes.
-pub fn send<W: Write>(bytes: &[u8], w: &mut W) -> Result<u64, Part>
-    ensures { Goes (W.contents w.old) (W.contents w.new) bytes.now result }
+pub fn send<W: Write>(bytes: &[u8], w: &mut Sink<W>) -> Result<u64, Part>
+    ensures { Goes w.old w.new bytes.now result }
 {
     let mut sent = 0;
     while sent < bytes.len() {

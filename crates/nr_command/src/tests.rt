@@ -1,6 +1,8 @@
 //! Lines, words and texts by worked examples.
 
-use crate::{Checkpoint, CheckpointFault, Checkpoints, Command, Line, LineFault, Query, Reply};
+use crate::{
+    Checkpoint, CheckpointFault, Checkpoints, Command, Line, LineFault, Query, Reply, Sink,
+};
 use arrayvec::ArrayVec;
 use nr_marks::{Break, Mark, NumberedMark};
 use nr_rev::{Cell, Kind};
@@ -128,7 +130,7 @@ fn lists_are_printed_line_by_line(rt: HostRuntime) -> Result<(), Fail> {
     let mut hits = ArrayVec::new();
     hits.push(1);
     hits.push(3);
-    let mut out = Vec::new(rt.alloc());
+    let mut out = Sink::new(Vec::new(rt.alloc()));
     let printed = [
         Reply::Marks(marks).print(&mut out),
         Reply::AtHit {
@@ -148,7 +150,8 @@ fn lists_are_printed_line_by_line(rt: HostRuntime) -> Result<(), Fail> {
     }
     let text =
         b"marks 3\n1 break rwlock\n2 break @7\n3 watch rg 0\nat 5 by 1 3\nat 5 of 12 reverse\n";
-    assert_eq!(rt; out.as_slice(), text.as_slice());
+    assert!(rt; !out.has_failed());
+    assert_eq!(rt; out.into_inner().as_slice(), text.as_slice());
     Ok(())
 }
 

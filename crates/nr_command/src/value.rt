@@ -6,12 +6,13 @@ ghost use Rattle.nr_command.specs.Sender.{Goes};
 ghost use Rattle.nr_command.specs.Value.{cell_text, piece_text, side_text, status_text, value_text, word_text};
 
 use crate::sender::{Part, Sent, Token, send, send_all};
+use crate::sink::Sink;
 use nr_rev::{Cell, CellValue, Side, Status, Word};
 use std::io::Write;
 
 /// Writes how the cell is spelled: its name, and its number behind a space if it has one.
-pub(crate) fn send_cell<W: Write>(cell: Cell, w: &mut W) -> Result<u64, Part>
-    ensures { Goes (W.contents w.old) (W.contents w.new) (cell_text cell) result }
+pub(crate) fn send_cell<W: Write>(cell: Cell, w: &mut Sink<W>) -> Result<u64, Part>
+    ensures { Goes w.old w.new (cell_text cell) result }
 {
     let name = cell.name().as_bytes();
     let Some(index) = cell.index() else {
@@ -22,8 +23,8 @@ pub(crate) fn send_cell<W: Write>(cell: Cell, w: &mut W) -> Result<u64, Part>
 }
 
 /// Writes the value of a cell.
-pub(crate) fn send_value<W: Write>(value: CellValue, w: &mut W) -> Result<u64, Part>
-    ensures { Goes (W.contents w.old) (W.contents w.new) (value_text value) result }
+pub(crate) fn send_value<W: Write>(value: CellValue, w: &mut Sink<W>) -> Result<u64, Part>
+    ensures { Goes w.old w.new (value_text value) result }
 {
     match value {
         CellValue::Absent => send(b"absent", w),
@@ -34,8 +35,8 @@ pub(crate) fn send_value<W: Write>(value: CellValue, w: &mut W) -> Result<u64, P
     }
 }
 
-fn send_word<W: Write>(word: Word, w: &mut W) -> Result<u64, Part>
-    ensures { Goes (W.contents w.old) (W.contents w.new) (word_text word) result }
+fn send_word<W: Write>(word: Word, w: &mut Sink<W>) -> Result<u64, Part>
+    ensures { Goes w.old w.new (word_text word) result }
 {
     match word {
         Word::Nil => send(b"nil", w),
@@ -45,8 +46,8 @@ fn send_word<W: Write>(word: Word, w: &mut W) -> Result<u64, Part>
     }
 }
 
-fn send_status<W: Write>(status: Status, w: &mut W) -> Result<u64, Part>
-    ensures { Goes (W.contents w.old) (W.contents w.new) (status_text status) result }
+fn send_status<W: Write>(status: Status, w: &mut Sink<W>) -> Result<u64, Part>
+    ensures { Goes w.old w.new (status_text status) result }
 {
     match status {
         Status::Idle => send(b"idle", w),
@@ -68,8 +69,8 @@ fn send_status<W: Write>(status: Status, w: &mut W) -> Result<u64, Part>
     }
 }
 
-fn send_owing<W: Write>(socket: u32, reads: u32, writes: u32, w: &mut W) -> Result<u64, Part>
-    ensures { Goes (W.contents w.old) (W.contents w.new)
+fn send_owing<W: Write>(socket: u32, reads: u32, writes: u32, w: &mut Sink<W>) -> Result<u64, Part>
+    ensures { Goes w.old w.new
         (status_text (Owing socket reads writes)) result }
 {
     let tokens = [
@@ -88,9 +89,9 @@ fn send_placed<W: Write>(
     name: &'static [u8],
     number: u32,
     side: Side,
-    w: &mut W,
+    w: &mut Sink<W>,
 ) -> Result<u64, Part>
-    ensures { Goes (W.contents w.old) (W.contents w.new)
+    ensures { Goes w.old w.new
         (name.now ++ decimal number ++ side_text side) result }
 {
     let side = match side {
@@ -102,8 +103,8 @@ fn send_placed<W: Write>(
 }
 
 /// Writes a name and a number.
-fn send_named<W: Write>(name: &'static [u8], number: u32, w: &mut W) -> Result<u64, Part>
-    ensures { Goes (W.contents w.old) (W.contents w.new) (name.now ++ decimal number) result }
+fn send_named<W: Write>(name: &'static [u8], number: u32, w: &mut Sink<W>) -> Result<u64, Part>
+    ensures { Goes w.old w.new (name.now ++ decimal number) result }
 {
     let number = Token::Number(u64::from(number));
     send_all(&[Token::Text(name), number], w)
@@ -121,7 +122,7 @@ pub(crate) enum Piece {
 impl Sent for Piece {
     ghost text = { piece_text };
 
-    fn send<W: Write>(&self, w: &mut W) -> Result<u64, Part> {
+    fn send<W: Write>(&self, w: &mut Sink<W>) -> Result<u64, Part> {
         match self {
             Piece::Text(text) => send(text, w),
             Piece::Number(number) => Token::Number(u64::from(*number)).send(w),

@@ -6,7 +6,7 @@ use Rattle.nr_command.proofs.sender.send_all.Goals as goal
 pub returns-in-Err : goal.returns-in-Err
 returns-in-Err g c =
     let part = c.part-item.result in
-    let failed = subst (λ (x : _). Goes (g.W.Write.contents c.loop-part.w) (g.W.Write.contents c.send.new.w) (g.P.Sent.text x) (Err c.in-Err.field-0)) c.part-item.is c.in-Err.ensures in
+    let failed = subst (λ (x : _). Goes c.loop-part.w c.send.new.w (g.P.Sent.text x) (Err c.in-Err.field-0)) c.part-item.is c.in-Err.ensures in
     part_cut g.P.Sent.text c.args.parts.now c.loop-part.part-index part _ _ _ _ c.in-Err.field-0 _ c.loop-part-test.true c.loop-part.invariant failed c.saturating_add.ensures
 
 pub returns : goal.returns

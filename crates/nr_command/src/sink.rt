@@ -1,0 +1,78 @@
+//! A writer that remembers whether a write failed.
+
+ghost use Rattle.std.specs.Prelude.{◌≡◌, ◌||◌, false};
+ghost use Rattle.std.specs.Io.{WritesAtMost};
+ghost use Rattle.std.specs.Io.KnownBytes.{WriteAppends};
+ghost use Rattle.nr_command.specs.Sink.{is_failure};
+
+use std::io;
+use std::io::{ErrorKind, Write};
+use std::marker::Model;
+
+/// A writer that remembers whether a write failed, or took nothing of the bytes that there were. Contracts see the bytes
+/// that it holds, where they are known, and whether one did.
+#[derive(Drop)]
+pub struct Sink<W: Write> {
+    writer: W,
+    failed: bool,
+}
+
+impl<W: Write> Model for Sink<W> {
+    ghost use Rattle.nr_command.specs.Sink.{Outgoing};
+
+    ghost Value = { Outgoing };
+
+    ghost view = { λ s. record { contents = W.contents s.writer; failed = s.failed } };
+}
+
+impl<W: Write> Sink<W> {
+    /// The writer, of which no write has failed.
+    pub fn new(writer: W) -> Sink<W>
+        ensures { result ≡ record { contents = W.contents writer; failed = false } }
+    {
+        Sink {
+            writer,
+            failed: false,
+        }
+    }
+
+    /// The writer.
+    pub fn into_inner(self) -> W
+        ensures { W.contents result ≡ self.contents }
+    {
+        let Sink { writer, failed: _ } = self;
+        writer
+    }
+
+    /// Whether a write failed, or took nothing of the bytes that there were.
+    pub fn has_failed(&self) -> bool
+        ensures { result ≡ self.now.failed }
+    {
+        self.failed
+    }
+
+    /// Writes some of the bytes, and says how many. A write that is interrupted is tried again, up to `u64::MAX` times.
+    pub fn write(&mut self, bytes: &[u8]) -> io::Result<usize>
+        ensures bound { WritesAtMost result bytes.now }
+        ensures bytes { WriteAppends self.old.contents self.new.contents result bytes.now }
+        ensures failed { self.new.failed ≡ (self.old.failed || is_failure result bytes.now) }
+    {
+        for _ in 0..u64::MAX {
+            match self.writer.write(bytes) {
+                Ok(count) => {
+                    if count == 0 && !bytes.is_empty() {
+                        self.failed = true;
+                    }
+                    return Ok(count);
+                }
+                Err(error) if error.kind() == ErrorKind::Interrupted => {}
+                Err(error) => {
+                    self.failed = true;
+                    return Err(error);
+                }
+            }
+        }
+        self.failed = true;
+        Err(ErrorKind::Interrupted.into())
+    }
+}
