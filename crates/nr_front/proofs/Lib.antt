@@ -1,0 +1,3 @@
+pub mod DeskLemmas
+pub mod StepsLemmas
+pub mod FrontLemmas

@@ -1,0 +1,15 @@
+use Rattle.std.proofs.Common.{◌∙◌, ap, refl}
+use Rattle.nr_front.specs.Desk.{Desk}
+use Rattle.nr_front.proofs.DeskLemmas.{seen_at}
+use Rattle.nr_front.proofs.StepsLemmas.{sees_word}
+use Rattle.nr_front.proofs.front.Front.offer.Goals as goal
+
+pub invariant_of-self-in-Lost : goal.invariant_of-self-in-Lost
+invariant_of-self-in-Lost g c =
+    let settled = ap (λ (d : Desk). d.due) c.self.view_is ∙ c.requires.settled in
+    seen_at _ _ _ _ _ _ _ settled c.self.invariant c.in-Lost.ensures.offered.0 c.at-self-inside.ensures
+
+pub returns-in-Lost : goal.returns-in-Lost
+returns-in-Lost g c =
+    let lost = c.in-Lost.ensures.offered in
+    sees_word _ _ _ _ _ c.self.view_is c.requires.table (record { table = c.offer-offered.ensures.table; recording = refl }) lost.0 lost.3 lost.1 c.at-self-inside.ensures

@@ -1,0 +1,162 @@
+//! A front: one user's replica of the shared session.
+
+ghost use Rattle.std.specs.Prelude.{◌≡◌, ◌≤◌, [], IfOk, IfErr};
+ghost use Rattle.nr_command.specs.Debugger.{opening};
+ghost use Rattle.nr_walker.specs.declared.walker.TheConstants.{LEAST_DEPTH, MOST_DEPTH};
+ghost use Rattle.nr_front.specs.Desk.{opened, pass_of};
+ghost use Rattle.nr_front.specs.Front.{Executes, IsSame, Looks, Resumes};
+
+use crate::due::Due;
+use crate::fault::FrontFault;
+use crate::machine::Machine;
+use crate::replica::Replica;
+use nr_command::{Command, Query, Reply};
+use nr_journal::{Journal, Pass};
+use nr_rev::Worlds;
+use nr_search::Finder;
+use nr_snaps::Film;
+use std::alloc::{AllocError, Global};
+use std::marker::Model;
+
+/// A pass of the journal, and a machine that runs the words that the pass sees. Contracts see the journal, the
+/// recording, what the pass knows, and what the machine hasn't run yet.
+#[derive(Drop)]
+pub struct Front<M: Machine> {
+    pub(crate) pass: Pass,
+    pub(crate) machine: M,
+    pub(crate) due: Due,
+}
+
+impl<M: Machine> Model for Front<M> {
+    ghost use Rattle.nr_front.specs.Desk.{Desk, IsAt, command_due};
+
+    ghost Value = { Desk };
+
+    ghost view = { λ f. record {
+      table = f.pass.table;
+      recording = M.recording f.machine;
+      stand = f.pass.stand;
+      due = f.due;
+    } };
+
+    ghost invariant = { λ f. IsAt (M.recording f.machine) f.pass.stand.seen (command_due f.due)
+        (M.debugger f.machine) };
+}
+
+impl<M: Machine> Front<M> {
+    /// A front over a machine that has run no command. Its pass has seen no word.
+    pub fn over(pass: Pass, machine: M) -> Front<M>
+        requires unseen { pass.stand.seen ≡ [] }
+        requires opening { M.debugger machine ≡ opening }
+        ensures { result ≡ opened pass (M.recording machine) }
+    {
+        Front {
+            pass,
+            machine,
+            due: Due::Nothing,
+        }
+    }
+
+    /// Runs what others placed, places the command, and answers what it does at its place: the reply is that of a
+    /// debugger that runs the words of the journal up to there.
+    ///
+    /// Refused memory for another's command that searches, it answers `Memory`, and its own isn't placed. Refused memory
+    /// for its own, which stands in the journal then, it answers `Placed`: `resume` gives the reply. While a reply is
+    /// owed it does nothing but answer `Placed` again. Where no place is left it answers `Full`, and has run all words.
+    pub fn exec(&mut self, journal: &Journal, command: Command) -> Result<Reply, FrontFault>
+        requires { self.old.table ≡ journal.now }
+        ensures same { IsSame self.old self.new }
+        ensures executes { Executes command self.old self.new result }
+    {
+        if self.owed().is_some() {
+            return Err(FrontFault::Placed(self.place()));
+        }
+        let Ok(()) = self.catch_up(journal) else {
+            return Err(FrontFault::Memory);
+        };
+        if let Err(fault) = self.offer_until_placed(journal, command) {
+            return Err(fault);
+        }
+        match self.run(command) {
+            Ok(reply) => Ok(reply),
+            Err(AllocError) => Err(FrontFault::Placed(self.place())),
+        }
+    }
+
+    /// Runs what others placed, until it finds no word more, and then looks. No word is placed.
+    ///
+    /// It answers `Memory` where another's command that searches was refused it, or the look was; and `Placed`, having
+    /// done nothing, while a reply is owed.
+    pub fn look(&mut self, journal: &Journal, query: Query) -> Result<Reply, FrontFault>
+        requires { self.old.table ≡ journal.now }
+        ensures same { IsSame self.old self.new }
+        ensures looks { Looks query self.old self.new result }
+    {
+        if self.owed().is_some() {
+            return Err(FrontFault::Placed(self.place()));
+        }
+        let Ok(()) = self.catch_up(journal) else {
+            return Err(FrontFault::Memory);
+        };
+        match self.look_here(query) {
+            Ok(reply) => Ok(reply),
+            Err(AllocError) => Err(FrontFault::Memory),
+        }
+    }
+
+    /// Gives the reply that is owed, once; None where none is. Refused memory again, it answers `Placed` with the same
+    /// place, and the reply is still owed.
+    pub fn resume(&mut self) -> Result<Option<Reply>, FrontFault>
+        ensures same { IsSame self.old self.new }
+        ensures resumes { Resumes self.old self.new result }
+    {
+        let Some(command) = self.owed() else {
+            return Ok(None);
+        };
+        let place = self.place();
+        match self.run(command) {
+            Ok(reply) => Ok(Some(reply)),
+            Err(AllocError) => Err(FrontFault::Placed(place)),
+        }
+    }
+}
+
+impl<M: Machine + Drop> Front<M> {
+    /// Gives the pass back. A reply that is still owed is given up; its word stays in the journal.
+    pub fn end(self) -> Pass
+        ensures { result ≡ pass_of self }
+    {
+        let Front {
+            pass,
+            machine: _,
+            due: _,
+        } = self;
+        pass
+    }
+}
+
+impl<'f, W: Worlds + Drop, F: Finder + Drop> Front<Replica<'f, W, F>>
+where
+    W::Delta: Drop,
+{
+    /// A front over a film, at its first position, with a walker that keeps the way back over its last `depth` steps.
+    /// The pass has seen no word. Refused memory, the pass comes back.
+    pub fn new(
+        alloc: Global,
+        pass: Pass,
+        film: &'f Film<W>,
+        finder: F,
+        depth: usize,
+    ) -> Result<Front<Replica<'f, W, F>>, (Pass, AllocError)>
+        requires unseen { pass.stand.seen ≡ [] }
+        requires least { LEAST_DEPTH ≤ depth }
+        requires most { depth ≤ MOST_DEPTH }
+        ensures ok { IfOk result (λ front. front ≡ opened pass film.now.recording) }
+        ensures err { IfErr result (λ refused. refused.0 ≡ pass) }
+    {
+        match Replica::new(alloc, film, finder, depth) {
+            Ok(machine) => Ok(Front::over(pass, machine)),
+            Err(refused) => Err((pass, refused)),
+        }
+    }
+}

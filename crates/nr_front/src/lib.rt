@@ -1,0 +1,18 @@
+//! One user's replica of the shared session: a pass of the journal, and a debugger that runs the words that the pass
+//! sees, its own and others', in the journal's order.
+#![tactic(auto)]
+
+mod due;
+mod fault;
+mod front;
+mod machine;
+mod replica;
+mod steps;
+
+pub use fault::FrontFault;
+pub use front::Front;
+pub use machine::Machine;
+pub use replica::Replica;
+
+#[cfg(test)]
+mod tests;
