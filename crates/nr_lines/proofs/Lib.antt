@@ -1,0 +1,5 @@
+pub mod EngineLemmas
+pub mod GrowLemmas
+pub mod LineLemmas
+pub mod StreamLemmas
+pub mod TurnLemmas

@@ -1,0 +1,42 @@
+-- The answers to lines that go on.
+use Rattle.std.proofs.Common.{◌≡◌, ℕ, ◌+◌, Bool, true, false, cond, ◌||◌, List, [], ◌∷◌, ◌++◌, arith, length, filter, refl, sym, ap, ◌∙◌, subst, nat_lt, append-nil, length-append}
+use Rattle.std.specs.List.{concat}
+use Rattle.std.proofs.lemmas.List.Folds.{concat-append}
+use Rattle.std.proofs.lemmas.List.Elements.{filter-append}
+use Rattle.nr_command.specs.Command.{meaning_of}
+use Rattle.nr_front.specs.Desk.{Desk}
+use Rattle.nr_command.specs.Sender.{saturating_count}
+use Rattle.nr_lines.specs.Turn.{MayReply, Turn, is_quit, count_with}
+use Rattle.nr_lines.specs.Engine.{Turns, has_quit, some_count}
+
+abbrev some : List ℕ → Bool
+some text = nat_lt 0 (length text)
+
+counted_text : (whole n : ℕ) (text : List ℕ) → whole ≡ saturating_count n → count_with whole text ≡ saturating_count (n + length (filter some (text ∷ [])))
+counted_text whole n text h =
+    elim (nat_lt 0 (length text)) as (λ t. cond t (saturating_count (whole + 1)) whole ≡ saturating_count (n + length (cond t (text ∷ []) [])))
+    [ true ↦ omega (arith, h) | false ↦ omega (arith, h) ]
+
+-- the count of the texts that aren't empty goes on
+pub counted_more : (texts : List (List ℕ)) (text : List ℕ) (whole : ℕ) → whole ≡ saturating_count (some_count texts) → count_with whole text ≡ saturating_count (some_count (texts ++ text ∷ []))
+counted_more texts text whole h =
+    counted_text whole (some_count texts) text h
+    ∙ ap saturating_count (sym (ap length (filter-append some texts (text ∷ [])) ∙ length-append (filter some texts) (filter some (text ∷ []))))
+
+pub has_quit-append : (xs ys : List (List ℕ)) → has_quit xs ≡ false → has_quit (xs ++ ys) ≡ has_quit ys
+has_quit-append [] ys = λ h. refl
+has_quit-append (x ∷ xs) ys =
+    elim (is_quit (meaning_of x)) as (λ t. (t || has_quit xs) ≡ false → (t || has_quit (xs ++ ys)) ≡ has_quit ys) [ true ↦ λ h. cc | false ↦ has_quit-append xs ys ]
+
+pub concat_more : (texts : List (List ℕ)) (text : List ℕ) → concat (texts ++ text ∷ []) ≡ concat texts ++ text
+concat_more texts text = concat-append texts (text ∷ []) ∙ ap (λ t. concat texts ++ t) (append-nil text)
+
+pub turns_more : (p : Desk) (lines texts : List (List ℕ)) (mid : Desk) (line text : List ℕ) (p' : Desk) → Turns p lines texts mid → Turn mid line text p' → Turns p (lines ++ line ∷ []) (texts ++ text ∷ []) p'
+turns_more p [] [] mid line text p' here turn = (p', subst (λ m. Turn m line text p') here turn, refl)
+turns_more p [] (t ∷ ts) mid line text p' here turn = absurd here
+turns_more p (l ∷ ls) [] mid line text p' here turn = absurd here
+turns_more p (l ∷ ls) (t ∷ ts) mid line text p' here turn = (here.0, here.1, turns_more here.0 ls ts mid line text p' here.2 turn)
+
+-- a line that asks for the same has the same turns
+pub turn_asks : (a b text : List ℕ) (p p' : Desk) → meaning_of a ≡ meaning_of b → Turn p a text p' → Turn p b text p'
+turn_asks a b text p p' e turn = (turn.0, subst (λ asked. MayReply asked p turn.0 p') e turn.1, turn.2)

@@ -1,0 +1,21 @@
+use Rattle.std.proofs.Common.{◌+◌, [], refl, ap, sym, subst, ◌∙◌, cond, rules, None, Some}
+use Rattle.nr_command.specs.Reply.{text_of}
+use Rattle.nr_command.specs.Sender.{saturating_count}
+use Rattle.nr_lines.specs.Turn.{MayReply}
+use Rattle.nr_command.proofs.ReplyLemmas.{has_text}
+use Rattle.nr_lines.proofs.StreamLemmas.{Appends-nil}
+use Rattle.nr_lines.proofs.turn.turn.Goals as goal
+
+pub returns-in-Ok-clause-ok : goal.returns-in-Ok-clause-ok
+returns-in-Ok-clause-ok g c =
+    let reply = c.in-Some.reply in
+    let whole = c.args.whole.now in
+    let count = c.saturating_add.ensures ∙ sym (ap (λ some. cond some (saturating_count (whole + 1)) whole) (has_text reply)) in
+    let asked = subst (λ asked. MayReply asked c.args.front.now (Some reply) c.reply_to_line.new.front) c.parse-asked.ensures c.in-Some.ensures.reply in
+    (text_of reply, (Some reply, asked, refl), c.in-Ok.ensures.0, count)
+
+pub returns-in_default-clause-ok : goal.returns-in_default-clause-ok
+returns-in_default-clause-ok g c =
+    let empty : MayReply c.parse-asked.result c.args.front.now None c.reply_to_line.new.front = search rules in
+    let asked = subst (λ asked. MayReply asked c.args.front.now None c.reply_to_line.new.front) c.parse-asked.ensures empty in
+    ([], (None, asked, refl), Appends-nil c.args.w.now.contents, refl)

@@ -1,0 +1,79 @@
+//! The line loop.
+
+ghost use Rattle.std.specs.Prelude.{◌≡◌, [], ◌∷◌, ◌++◌, false, take, true};
+ghost use Rattle.nr_lines.specs.Engine.{Serves, tells_read, tells_write};
+
+use crate::ending::{End, LineEnd};
+use crate::source::Source;
+use crate::turn::turn;
+use arrayvec::ArrayVec;
+use nr_command::{MAX_LINE, Sink};
+use nr_front::{Front, Machine};
+use nr_journal::Journal;
+use std::io::{Read, Write};
+use std::sync::Wait;
+
+/// One byte more than a line may have, so that a longer one is seen to be too long.
+const LINE_ROOM: usize = MAX_LINE + 1;
+
+/// How many bytes are read at once.
+const CHUNK: usize = 512;
+
+/// Answers the lines of a source, up to the first `quit`. The last line may lack its line feed.
+///
+/// The source may be read past `quit`, or past the line whose reply was not written. Where a read failed, the whole
+/// lines before it are answered. Whatever the end, the front can be used again, and each line up to there was run, also
+/// one whose reply was not written. A failure is told only where there was one.
+pub fn serve<R: Read, W: Write, M: Machine>(
+    rt: &impl Wait,
+    r: &mut Source<R>,
+    w: &mut Sink<W>,
+    front: &mut Front<M>,
+    journal: &Journal,
+) -> Result<End, LineEnd>
+    requires table { front.old.table ≡ journal.now }
+    requires reader { r.old.failed ≡ false }
+    requires writer { w.old.failed ≡ false }
+    ensures table { front.new.table ≡ front.old.table }
+    ensures serves { Serves r.old.remaining r.new.remaining w.old.contents w.new.contents
+        front.old front.new result }
+    ensures reader { r.new.failed ≡ tells_read result }
+    ensures writer { tells_write result ≡ true → w.new.failed ≡ true }
+{
+    let mut line = ArrayVec::<u8, LINE_ROOM>::new();
+    let mut whole = 0u64;
+    let mut chunk = [0u8; CHUNK];
+    for _ in rt.forever() {
+        let Ok(count) = r.read(rt, &mut chunk) else {
+            return Err(LineEnd::Read);
+        };
+        if count == 0 {
+            if !line.is_empty() && turn(line.as_slice(), w, front, journal, &mut whole)? {
+                return Ok(End::Quit);
+            }
+            return Ok(End::Closed);
+        }
+        let bytes = &chunk[..count];
+        for byte in bytes {
+            if *byte != b'\n' {
+                keep(&mut line, *byte);
+            } else {
+                let quits = turn(line.as_slice(), w, front, journal, &mut whole)?;
+                line.clear();
+                if quits {
+                    return Ok(End::Quit);
+                }
+            }
+        }
+    }
+    unreachable!()
+}
+
+/// Adds a byte to the line, where there is room.
+fn keep(line: &mut ArrayVec<u8, LINE_ROOM>, byte: u8)
+    ensures { line.new.items ≡ take LINE_ROOM (line.old.items ++ byte ∷ []) }
+{
+    if !line.is_full() {
+        line.push(byte);
+    }
+}

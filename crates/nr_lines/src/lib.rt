@@ -1,0 +1,19 @@
+//! Lines in, replies out: answers the lines of a reader by a front of the shared session.
+#![tactic(auto)]
+
+mod ending;
+mod engine;
+pub mod laws;
+mod source;
+mod turn;
+
+pub use ending::{End, LineEnd};
+pub use engine::serve;
+pub use source::Source;
+
+#[cfg(test)]
+mod stingy;
+#[cfg(test)]
+mod streams;
+#[cfg(test)]
+mod tests;

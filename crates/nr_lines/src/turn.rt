@@ -1,0 +1,115 @@
+//! One line and its answer.
+
+ghost use Rattle.std.specs.Prelude.{◌≡◌, ℕ, List, true, IfErr, IfOk, OnErr};
+ghost use Rattle.std.specs.Io.KnownBytes.{Appends};
+ghost use Rattle.nr_command.specs.Command.{meaning_of};
+ghost use Rattle.nr_lines.specs.Turn.{IsCut, MayReply, Turn, count_with, is_quit, outcome, resumed, told};
+
+use crate::ending::LineEnd;
+use nr_command::{Command, Fault, Line, LineFault, Part, Reply, Sink};
+use nr_front::{Front, FrontFault, Machine};
+use nr_journal::Journal;
+use std::io::Write;
+
+/// Answers a line, and says whether it is `quit`. `whole` counts the texts that went out whole.
+pub(crate) fn turn<W: Write, M: Machine>(
+    line: &[u8],
+    w: &mut Sink<W>,
+    front: &mut Front<M>,
+    journal: &Journal,
+    whole: &mut u64,
+) -> Result<bool, LineEnd>
+    requires { front.old.table ≡ journal.now }
+    ensures table { front.new.table ≡ front.old.table }
+    ensures quits { IfOk result (λ quits. quits ≡ is_quit (meaning_of line.now)) }
+    ensures ok { IfOk result (λ _. (text : List ℕ)
+        × Turn front.old line.now text front.new
+        × Appends w.old.contents w.new.contents text
+        × (whole.new ≡ count_with whole.old text)) }
+    ensures err { IfErr result (λ e. (text : List ℕ)
+        × Turn front.old line.now text front.new
+        × IsCut e whole.old text w.old.contents w.new.contents) }
+    ensures failed { OnErr result (w.new.failed ≡ true) }
+{
+    let asked = Command::parse(line);
+    let quits = is_quit(asked);
+    let Some(reply) = reply_to_line(front, journal, asked) else {
+        return Ok(false);
+    };
+    match reply.print(w) {
+        Ok(()) => {
+            *whole = whole.saturating_add(1);
+            Ok(quits)
+        }
+        Err(Part(part)) => Err(LineEnd::Write {
+            whole: *whole,
+            part,
+        }),
+    }
+}
+
+/// Whether it is `quit`.
+fn is_quit(asked: Result<Line, LineFault>) -> bool
+    ensures { result ≡ is_quit asked }
+{
+    match asked {
+        Ok(line) => line == Line::Quit,
+        Err(_) => false,
+    }
+}
+
+/// The reply, unless the line is empty.
+fn reply_to_line<M: Machine>(
+    front: &mut Front<M>,
+    journal: &Journal,
+    asked: Result<Line, LineFault>,
+) -> Option<Reply>
+    requires { front.old.table ≡ journal.now }
+    ensures table { front.new.table ≡ front.old.table }
+    ensures reply { MayReply asked front.old result front.new }
+{
+    let line = match asked {
+        Ok(line) => line,
+        Err(fault) => return Some(Reply::Fault(Fault::Line(fault))),
+    };
+    match line {
+        Line::Run(command) => Some(outcome(front.exec(journal, command))),
+        Line::Look(query) => Some(outcome(front.look(journal, query))),
+        Line::Resume => Some(resumed(front.resume())),
+        Line::Quit => Some(Reply::Bye),
+        Line::Empty => None,
+    }
+}
+
+/// What is told of a command or of a look.
+fn outcome(given: Result<Reply, FrontFault>) -> Reply
+    ensures { result ≡ outcome given }
+{
+    match given {
+        Ok(reply) => reply,
+        Err(fault) => told(fault),
+    }
+}
+
+/// What is told of a reply that was asked for once more.
+fn resumed(given: Result<Option<Reply>, FrontFault>) -> Reply
+    ensures { result ≡ resumed given }
+{
+    match given {
+        Ok(Some(reply)) => reply,
+        Ok(None) => Reply::NothingOwed,
+        Err(fault) => told(fault),
+    }
+}
+
+/// The reply that tells why there is none.
+fn told(fault: FrontFault) -> Reply
+    ensures { result ≡ told fault }
+{
+    let fault = match fault {
+        FrontFault::Memory => Fault::Memory,
+        FrontFault::Placed(place) => Fault::Placed(place),
+        FrontFault::Full => Fault::JournalFull,
+    };
+    Reply::Fault(fault)
+}
