@@ -1,0 +1,42 @@
+-- What becomes of a front that is served.
+use Rattle.std.specs.Prelude.{◌≡◌, ℕ, false, List, [], ◌∷◌, ◌++◌, Option, Result, IsOk}
+use Rattle.std.specs.List.{All}
+use Rattle.nr_front.specs.Desk.{Desk, pass_of}
+use Rattle.nr_lines.specs.Engine as engine
+use Rattle.nr_lines.specs.declared.ending.End.{End}
+use Rattle.nr_lines.specs.declared.ending.LineEnd.{LineEnd}
+use Rattle.nr_serving.specs.declared.fronts.Done.{Done}
+
+-- A front that stood as d served a caller and stands as d' then. Of the bytes that went to and fro nothing is known.
+pub record Serves (ending : Result End LineEnd) (d d' : Desk) : Type 0 where
+  pub from : Option (List ℕ)
+  pub left : Option (List ℕ)
+  pub old : Option (List ℕ)
+  pub new : Option (List ℕ)
+  pub serves : engine.Serves from left old new d d' ending
+
+-- Callers are served one after the other: with each the front goes on where it stood, and this is how serving each of
+-- them ended.
+abbrev pub Serving : List (Result End LineEnd) → Desk → Desk → Type 0
+Serving [] d d' = d' ≡ d
+Serving (ending ∷ endings) d d' = (mid : Desk) × Serves ending d mid × Serving endings mid d'
+
+-- A front that stood there was served, and this is what came back. Where no failure is told there was none.
+pub record IsServed (start : Desk) (done : Done) : Type 0 where
+  pub endings : List (Result End LineEnd)
+  pub last : Desk
+  pub serving : Serving endings start last
+  pub calm : done.failed ≡ false → All IsOk endings
+  pub pass : done.pass ≡ pass_of last
+  pub same : last.table ≡ start.table
+
+-- Fronts that stood there were served, and this came back of each.
+abbrev pub AreServed : List Desk → List Done → Type 0
+AreServed [] [] = Unit {0}
+AreServed (start ∷ starts) (done ∷ dones) = IsServed start done × AreServed starts dones
+AreServed [] (done ∷ dones) = ⊥
+AreServed (start ∷ starts) [] = ⊥
+
+-- What came back of them stands behind what was there.
+abbrev pub Adds : List Desk → List Done → List Done → Type 0
+Adds starts old new = (more : List Done) × (new ≡ old ++ more) × AreServed starts more

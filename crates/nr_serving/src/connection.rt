@@ -1,0 +1,71 @@
+//! Callers of a front, one after the other.
+
+ghost use Rattle.std.specs.Prelude.{◌≤◌, length, IfOk, None};
+
+use std::io;
+use std::io::{Read, Write};
+
+/// A caller, who is read and written through a shared reference.
+pub trait Connection {
+    /// Reads some bytes into the buffer, and says how many: none where no more come.
+    fn read(&self, buf: &mut [u8]) -> io::Result<usize>
+        ensures { IfOk result (λ n. n ≤ length buf.new) };
+
+    /// Writes some of the bytes, and says how many.
+    fn write(&self, bytes: &[u8]) -> io::Result<usize>
+        ensures { IfOk result (λ n. n ≤ length bytes.now) };
+}
+
+/// What a front does next.
+pub enum Next<C> {
+    /// It serves this caller.
+    Serve(C),
+    /// No caller comes any more.
+    Ended,
+    /// Its callers can't be had: the port wasn't bound, or a caller wasn't accepted.
+    Failed,
+}
+
+/// The callers of a front, one after the other.
+pub trait Connections {
+    type Connection: Connection + Drop + Send;
+
+    /// Waits for the next caller.
+    fn next(&mut self) -> Next<Self::Connection>;
+}
+
+/// A connection as a reader. Nothing is known of what it gives.
+#[derive(Drop)]
+pub struct Reader<'a, C: Connection>(pub &'a C);
+
+impl<C: Connection> Read for Reader<'_, C> {
+    ghost remaining = { λ _. None };
+
+    fn read(&mut self, buf: &mut [u8]) -> io::Result<usize> {
+        self.0.read(buf)
+    }
+}
+
+/// A connection as a writer. Nothing is known of what it took.
+#[derive(Drop)]
+pub struct Writer<'a, C: Connection>(pub &'a C);
+
+impl<C: Connection> Write for Writer<'_, C> {
+    ghost contents = { λ _. None };
+
+    fn write(&mut self, buf: &[u8]) -> io::Result<usize> {
+        self.0.write(buf)
+    }
+
+    fn flush(&mut self) -> io::Result<()> {
+        Ok(())
+    }
+}
+
+/// Where the callers of each front come from.
+pub trait Ports {
+    type Callers: Connections + Drop + Send;
+
+    /// The callers of the front of this number, counted from 0. Where they can't be had, the first `next` says so.
+    fn open(&mut self, front: usize) -> Self::Callers;
+}
