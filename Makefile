@@ -2,7 +2,7 @@
 
 NETREV = crates/netrev/out/netrev
 
-.PHONY: look run test refused netrev examples bench
+.PHONY: look run test refused netrev examples share bench
 
 # Runs the first example without waiting for proofs. Nothing is proved by it.
 look:
@@ -31,6 +31,11 @@ examples: netrev
 	@for name in first lost-wakeup stale-deadline past-deadline reused-descriptor leaked-reference; do \
 		echo; echo "== $$name"; sh examples/play.sh $$name || exit 1; \
 	done
+
+# Shares a session on the first example between two people, until it is interrupted.
+share: netrev
+	@echo "Join from two terminals:  nc 127.0.0.1 47200  and  nc 127.0.0.1 47201"
+	@$(NETREV) serve examples/first.jsonl --port 47200 --fronts 2
 
 # Loads and walks recordings of up to 1,000,000 steps: `make bench STEPS="10000 100000"` for fewer.
 bench: netrev

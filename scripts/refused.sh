@@ -3,9 +3,10 @@
 #
 # Over each example `run` and `check`, and besides a recording that is refused, a file that is missing and words that
 # ask for nothing. A refused allocation is told once, and of nothing else: while netrev loads as `fault 108 memory`
-# with status 1, and after that as `fault 301 memory` in place of one reply. The line that is answered so is sent again,
-# and then that reply and all others are the right ones. Where nothing is refused, or netrev could do without, status,
-# replies and standard error are the right ones. The first difference ends it.
+# with status 1, and after that in place of one reply: of a look as `fault 301 memory`, and the look is sent again; of a
+# `continue` or `reverse-continue` as `fault 302 memory, placed N`, and its reply is asked for by `resume`. Then that reply
+# and all others are the right ones. Where nothing is refused, or netrev could do without, status, replies and standard
+# error are the right ones. The first difference ends it.
 set -eu
 here=$(cd "$(dirname "$0")" && pwd)
 examples=$here/../examples
@@ -25,14 +26,18 @@ ask() {
 	read -r reply <&6
 }
 
-# Sends the script line by line, each once the one before is answered, and writes the replies. A line that is answered
-# that memory was refused is sent again, once, and leaves a line in $work/asked.
+# Sends the script line by line, each once the one before is answered, and writes the replies. Where memory was refused
+# the reply is asked for once more, and that leaves a line in $work/asked.
 answer() {
 	while read -r line; do
 		ask "$line" || return 0
-		if [ "$reply" = "fault 301 memory" ]; then
+		case $line in
+		continue | c | reverse-continue | rc) refused="fault 302 memory, placed " again=resume ;;
+		*) refused="fault 301 memory" again=$line ;;
+		esac
+		if [ "${reply#"$refused"}" != "$reply" ]; then
 			echo "$line" >> "$work/asked"
-			ask "$line" || return 0
+			ask "$again" || return 0
 		fi
 		echo "$reply"
 		case $reply in
@@ -125,14 +130,22 @@ input=$examples/first.script
 echo "step 4: fault 107 reason 2" > "$work/right"
 refuse_each 1 "$work/nothing" run "$work/refused.jsonl"
 refuse_each 1 "$work/nothing" check "$work/refused.jsonl"
+refuse_each 1 "$work/nothing" serve "$work/refused.jsonl" --port 65535
 
 : > "$work/right"
 refuse_each 3 "$work/nothing" run "$work/missing.jsonl"
 refuse_each 3 "$work/nothing" check "$work/missing.jsonl"
+refuse_each 3 "$work/nothing" serve "$work/missing.jsonl" --port 65535
 
-printf 'usage: netrev run FILE\n       netrev check FILE\n' > "$work/usage"
+{
+	echo "usage: netrev run FILE"
+	echo "       netrev check FILE"
+	echo "       netrev serve FILE --port P [--fronts N] [--journal H] [--connections C]"
+} > "$work/usage"
 refuse_each 2 "$work/usage" walk "$examples/first.jsonl"
 refuse_each 2 "$work/usage" run
 refuse_each 2 "$work/usage"
+refuse_each 2 "$work/usage" serve "$examples/first.jsonl"
+refuse_each 2 "$work/usage" serve "$examples/first.jsonl" --port 65535 --fronts 2
 
 echo "Of $all refused allocations $told were told, as they have to be, and $((all - told)) could be done without."

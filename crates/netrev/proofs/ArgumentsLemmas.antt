@@ -1,7 +1,7 @@
 -- What the program's arguments ask for.
-use Rattle.std.proofs.Common.{◌≡◌, List, Option, Some, None, option_map, sym, ap, ◌∙◌, codes, [], ◌∷◌, refl}
+use Rattle.std.proofs.Common.{◌≡◌, List, Option, Some, None, option_map, option_and_then, sym, ap, ◌∙◌, codes, [], ◌∷◌, refl}
 use Rattle.clap.specs.Words.{Row, Text, first_of}
-use Rattle.netrev.specs.Arguments.{program_in, Ask, IsPlain}
+use Rattle.netrev.specs.Arguments.{Ask, IsPlain, asked_in, asked_on}
 use Rattle.clap.proofs.OnLiterals.{clap_on_literals}
 
 -- two views of what is there, as a pair
@@ -10,20 +10,20 @@ both_views f g None x y e h = cc
 both_views f g (Some b) x y e h = cc
 
 -- a name with its file
-pub program_in-file : (found : Option (Text × List Row)) (name : Text) (rows : List Row) (file : Text) → found ≡ Some (name, rows) → Some file ≡ first_of (codes "file") rows → program_in found ≡ Some (name, file)
-program_in-file found name rows file is read = ap program_in is ∙ ap (option_map (λ f. (name, f))) (sym read)
+pub asked_in-file : (found : Option (Text × List Row)) (name : Text) (rows : List Row) (file : Text) → found ≡ Some (name, rows) → Some file ≡ first_of (codes "file") rows → asked_in found ≡ asked_on name rows file
+asked_in-file found name rows file is read = ap asked_in is ∙ ap (option_and_then (asked_on name rows)) (sym read)
 
--- a name without one
-pub program_in-none : (found : Option (Text × List Row)) (name : Text) (rows : List Row) → found ≡ Some (name, rows) → None ≡ first_of (codes "file") rows → program_in found ≡ None
-program_in-none found name rows is read = ap program_in is ∙ ap (option_map (λ f. (name, f))) (sym read)
+-- and without one
+pub asked_in-none : (found : Option (Text × List Row)) (name : Text) (rows : List Row) → found ≡ Some (name, rows) → None ≡ first_of (codes "file") rows → asked_in found ≡ None
+asked_in-none found name rows is read = ap asked_in is ∙ ap (option_and_then (asked_on name rows)) (sym read)
 
 -- a program's name and a plain file name ask for the program
-pub run_asks : (program file : Text) → IsPlain file → Ask (program ∷ codes "run" ∷ file ∷ []) (codes "run") file
+pub run_asks : (program file : Text) → IsPlain file → Ask (program ∷ codes "run" ∷ file ∷ []) (codes "run", file, None)
 unfolding clap_on_literals
 run_asks program [] plain = record { faultless = refl; is_asked = refl }
 run_asks program (x ∷ xs) plain = record { faultless = simp plain; is_asked = simp plain }
 
-pub check_asks : (program file : Text) → IsPlain file → Ask (program ∷ codes "check" ∷ file ∷ []) (codes "check") file
+pub check_asks : (program file : Text) → IsPlain file → Ask (program ∷ codes "check" ∷ file ∷ []) (codes "check", file, None)
 unfolding clap_on_literals
 check_asks program [] plain = record { faultless = refl; is_asked = refl }
 check_asks program (x ∷ xs) plain = record { faultless = simp plain; is_asked = simp plain }

@@ -1,6 +1,5 @@
 pub mod Arguments
-pub mod Engine
 pub mod Opening
 pub mod Run
+pub mod Serving
 pub mod Starting
-pub mod Turn

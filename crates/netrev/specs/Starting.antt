@@ -1,10 +1,14 @@
 -- What a program does over its file, and what is told where none runs.
-use Rattle.std.specs.Prelude.{◌≡◌, ℕ, List, take, Option, codes}
+use Rattle.std.specs.Prelude.{◌≡◌, ℕ, true, List, take, codes}
 use Rattle.std.specs.Io.KnownBytes.{Appends}
 use Rattle.std.specs.declared.io.ErrorKind.{ErrorKind}
 use Rattle.std.specs.declared.io.ErrorKind.TheVariants as kind
 use Rattle.netrev.specs.Opening.{fault_line}
+use Rattle.nr_command.specs.Sink.{Outgoing}
+use Rattle.nr_lines.specs.Streams.{Incoming}
+use Rattle.netrev.specs.Arguments.{is_in_range}
 use Rattle.netrev.specs.Run.{Checks, Prints, Runs}
+use Rattle.netrev.specs.Serving.{ServesAll}
 use Rattle.netrev.specs.declared.opening.OpenFault.TheVariants as faults
 use Rattle.netrev.specs.declared.run.ExitStatus.{ExitStatus}
 use Rattle.netrev.specs.declared.run.ExitStatus.TheVariants as statuses
@@ -27,21 +31,26 @@ unstarted_by _ other = other
 
 -- how netrev is called
 abbrev pub usage_text : List ℕ
-usage_text = codes "usage: netrev run FILE\n       netrev check FILE\n"
+usage_text = codes "usage: netrev run FILE\n       netrev check FILE\n       netrev serve FILE --port P [--fronts N] [--journal H] [--connections C]\n"
 
--- What a program does over the bytes of its file. `check` reads no input.
-abbrev pub Plays : {I O : Type 0} → (I → Option (List ℕ)) → (O → Option (List ℕ)) → Program → List ℕ → I → I → O → O → ExitStatus → Type 0
-Plays remaining contents (program.Run name) bytes input left old new status =
-    Runs remaining bytes input left (contents old) (contents new) status
-Plays remaining contents (program.Check name) bytes input left old new status =
-    (left ≡ input) × Checks bytes (contents old) (contents new) status
+-- the numbers that a program is asked for with are in their ranges
+abbrev pub IsInRange : Program → Type 0
+IsInRange (program.Run file) = Unit {0}
+IsInRange (program.Check file) = Unit {0}
+IsInRange (program.Serve file sharing) = is_in_range sharing ≡ true
+
+-- What a program does over the bytes of its file. `check` and `serve` read no input.
+abbrev pub Plays : Program → List ℕ → Incoming → Incoming → Outgoing → Outgoing → ExitStatus → Type 0
+Plays (program.Run file) bytes input left old new status = Runs bytes input left old new status
+Plays (program.Check file) bytes input left old new status = (left ≡ input) × Checks bytes old new status
+Plays (program.Serve file sharing) bytes input left old new status = (left ≡ input) × ServesAll bytes sharing old new status
 
 -- What is told where no program runs: a first part of how netrev is called, on the second stream; want of memory,
 -- on the first; nothing.
-abbrev pub Tells : {O E : Type 0} → (O → Option (List ℕ)) → (E → Option (List ℕ)) → Unstarted → O → O → E → E → ExitStatus → Type 0
-Tells contents errors unstarted.Usage old new before after status =
-    (status ≡ statuses.Usage) × (new ≡ old) × ((n : ℕ) × Appends (errors before) (errors after) (take n usage_text))
-Tells contents errors unstarted.Memory old new before after status =
-    Prints (fault_line faults.Memory) statuses.Refused (contents old) (contents new) status × (after ≡ before)
-Tells contents errors unstarted.File old new before after status =
+abbrev pub Tells : Unstarted → Outgoing → Outgoing → Outgoing → Outgoing → ExitStatus → Type 0
+Tells unstarted.Usage old new before after status =
+    (status ≡ statuses.Usage) × (new ≡ old) × ((n : ℕ) × Appends before.contents after.contents (take n usage_text))
+Tells unstarted.Memory old new before after status =
+    Prints (fault_line faults.Memory) statuses.Refused old new status × (after ≡ before)
+Tells unstarted.File old new before after status =
     (status ≡ statuses.StreamFailed) × (new ≡ old) × (after ≡ before)

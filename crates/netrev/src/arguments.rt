@@ -1,18 +1,60 @@
 //! The program's arguments.
 
-ghost use Rattle.std.specs.Prelude.{◌≡◌, ℕ, List, [], ◌∷◌, IfOk, IfErr, map, codes, false};
+ghost use Rattle.std.specs.Prelude.{◌≡◌, ℕ, List, [], ◌∷◌, None, IfOk, IfErr, IfSome, map, codes, false, true};
 ghost use Rattle.clap.specs.Values.{kind_of};
-ghost use Rattle.clap.specs.Words.{app_of, subcommand_rows_of};
+ghost use Rattle.clap.specs.Words.{app_of, found_of, rows_of, subcommand_rows_of, with_rule};
 ghost use Rattle.clap.specs.declared.builder.command.Command.TheViews.{out-Command};
-ghost use Rattle.netrev.specs.Arguments.{Ask, Asks, IsNamed, IsPlain, IsArgumentsFault, fault_of_kind, file_of, file_program, netrev};
+ghost use Rattle.netrev.specs.Arguments.{Ask, Asks, IsNamed, IsPlain, IsArgumentsFault, fault_of_kind, file_of, file_program, is_in_range, netrev, number_in, option_rule, serve_program, sharing_in};
+ghost use Rattle.netrev.specs.Starting.{IsInRange};
 ghost use Rattle.netrev.specs.declared.arguments.ArgumentsFault.TheVariants as faults;
 
 use clap::error::ErrorKind;
 use clap::{Arg, ArgMatches, Command, Error};
+use nr_command::number;
 use std::alloc::{AllocError, Global};
 
 /// How the program is called.
-pub const USAGE: &str = "usage: netrev run FILE\n       netrev check FILE\n";
+pub const USAGE: &str =
+    "usage: netrev run FILE\n       netrev check FILE\n       netrev serve FILE --port P [--fronts N] [--journal H] [--connections C]\n";
+
+/// The greatest port.
+pub const MOST_PORT: u32 = 65_535;
+
+/// The most fronts that share a session.
+pub const MOST_FRONTS: u32 = 64;
+
+/// How many words a session's journal has room for at most, and where the number isn't given.
+pub const MOST_JOURNAL: u32 = 1_000_000;
+
+pub const USUAL_JOURNAL: u32 = 4_096;
+
+/// What a session that is shared is to be like.
+#[derive(Clone, Copy, Debug, PartialEq, Eq)]
+pub struct Sharing {
+    /// The port of the first front, from 1. The others' are the next ones, up to `MOST_PORT`.
+    pub port: u32,
+    /// How many fronts there are, from 1 to `MOST_FRONTS`.
+    pub fronts: u32,
+    /// How many commands the session has room for, from 1 to `MOST_JOURNAL`.
+    pub journal: u32,
+    /// After how many connections each front ends; 0 where it never does.
+    pub connections: u32,
+}
+
+impl Sharing {
+    /// Whether each number is in its range.
+    pub fn is_in_range(&self) -> bool
+        ensures { result ≡ is_in_range self.now }
+    {
+        1 <= self.port
+            && 1 <= self.fronts
+            && self.fronts <= MOST_FRONTS
+            && self.port <= MOST_PORT
+            && self.port + self.fronts - 1 <= MOST_PORT
+            && 1 <= self.journal
+            && self.journal <= MOST_JOURNAL
+    }
+}
 
 /// Which program is asked for, and on which file.
 #[derive(Clone, Copy, Debug, PartialEq, Eq)]
@@ -21,6 +63,8 @@ pub enum Program<'a> {
     Run { file: &'a str },
     /// Reads and loads the recording.
     Check { file: &'a str },
+    /// Commands and replies over the loopback, of several people who share one session.
+    Serve { file: &'a str, sharing: Sharing },
 }
 
 impl<'a> Program<'a> {
@@ -29,7 +73,7 @@ impl<'a> Program<'a> {
         ensures { result.now ≡ file_of self.now }
     {
         match self {
-            Program::Run { file } | Program::Check { file } => file,
+            Program::Run { file } | Program::Check { file } | Program::Serve { file, .. } => file,
         }
     }
 }
@@ -71,23 +115,80 @@ fn file_command<'a>(alloc: Global, name: &'a str) -> Result<Command<'a>, AllocEr
     Command::new(alloc, name).arg(file)
 }
 
+// The program with an option more, which may be left out.
+fn with_option<'a>(
+    alloc: Global,
+    program: Command<'a>,
+    name: &'a str,
+) -> Result<Command<'a>, AllocError>
+    requires { (out-Command program).has_globals ≡ false }
+    ensures app { IfOk result (λ command. app_of command
+        ≡ with_rule (app_of program.entry) (option_rule name.entry.now)) }
+    ensures local { IfOk result (λ command. (out-Command command).has_globals ≡ false) }
+{
+    program.arg(Arg::new(alloc, name).long(name))
+}
+
+// The program that is shared, with its file and its numbers.
+fn serve_command<'a>(alloc: Global) -> Result<Command<'a>, AllocError>
+    ensures app { IfOk result (λ command. app_of command ≡ serve_program) }
+    ensures local { IfOk result (λ command. (out-Command command).has_globals ≡ false) }
+{
+    let command = file_command(alloc, "serve")?;
+    let command = with_option(alloc, command, "port")?;
+    let command = with_option(alloc, command, "fronts")?;
+    let command = with_option(alloc, command, "journal")?;
+    with_option(alloc, command, "connections")
+}
+
 // The command line of netrev.
 fn command<'a>(alloc: Global) -> Result<Command<'a>, AllocError>
     ensures { IfOk result (λ command. app_of command ≡ netrev) }
 {
     let run = file_command(alloc, "run")?;
     let check = file_command(alloc, "check")?;
+    let serve = serve_command(alloc)?;
     Command::new(alloc, "netrev")
         .disable_help_flag(true)
         .disable_help_subcommand(true)
         .subcommand_required(true)
         .subcommand(run)?
-        .subcommand(check)
+        .subcommand(check)?
+        .subcommand(serve)
+}
+
+// A number that stands behind an option, or where the option isn't there this one.
+fn number_in(matches: &ArgMatches<'_>, name: &str, usual: Option<u32>) -> Option<u32>
+    ensures { result ≡ number_in name.now usual (rows_of (found_of matches.now)) }
+{
+    match matches.get_str(name) {
+        Some(text) => number(text.as_bytes()).ok(),
+        None => usual,
+    }
+}
+
+// The numbers of the options.
+fn sharing_in(matches: &ArgMatches<'_>) -> Option<Sharing>
+    ensures asked { result ≡ sharing_in (rows_of (found_of matches.now)) }
+    ensures range { IfSome result (λ sharing. is_in_range sharing ≡ true) }
+{
+    let sharing = Sharing {
+        port: number_in(matches, "port", None)?,
+        fronts: number_in(matches, "fronts", Some(1))?,
+        journal: number_in(matches, "journal", Some(USUAL_JOURNAL))?,
+        connections: number_in(matches, "connections", Some(0))?,
+    };
+    if sharing.is_in_range() {
+        Some(sharing)
+    } else {
+        None
+    }
 }
 
 // The program that the matches name, with its file.
 fn matched_program<'a>(matches: &ArgMatches<'a>) -> Option<Program<'a>>
-    ensures { IsNamed (subcommand_rows_of matches.now) result }
+    ensures named { IsNamed (subcommand_rows_of matches.now) result }
+    ensures range { IfSome result IsInRange }
 {
     let Some((name, inner)) = matches.subcommand() else {
         return None;
@@ -98,6 +199,10 @@ fn matched_program<'a>(matches: &ArgMatches<'a>) -> Option<Program<'a>>
     match name {
         "run" => Some(Program::Run { file }),
         "check" => Some(Program::Check { file }),
+        "serve" => match sharing_in(inner) {
+            Some(sharing) => Some(Program::Serve { file, sharing }),
+            None => None,
+        },
         _ => None,
     }
 }
@@ -108,6 +213,7 @@ pub fn read_arguments<'a>(
     arguments: &'a [&'a str],
 ) -> Result<Program<'a>, ArgumentsFault>
     ensures ok { IfOk result (Asks (map (λ argument. argument.now) arguments.entry.now)) }
+    ensures range { IfOk result IsInRange }
     ensures err { IfErr result
         (IsArgumentsFault (map (λ argument. argument.now) arguments.entry.now)) }
 {
@@ -123,9 +229,9 @@ pub fn read_arguments<'a>(
 /// program.
 pub fn plain_arguments_ask()
     ensures run { (program file : List ℕ) → IsPlain file
-        → Ask (program ∷ codes "run" ∷ file ∷ []) (codes "run") file }
+        → Ask (program ∷ codes "run" ∷ file ∷ []) (codes "run", file, None) }
     ensures check { (program file : List ℕ) → IsPlain file
-        → Ask (program ∷ codes "check" ∷ file ∷ []) (codes "check") file }
+        → Ask (program ∷ codes "check" ∷ file ∷ []) (codes "check", file, None) }
 {}
 
 #[cfg(test)]
@@ -148,12 +254,85 @@ mod tests {
 
     static HELP: [&str; 2] = ["netrev", "--help"];
 
+    static SERVE: [&str; 5] = ["netrev", "serve", "a.jsonl", "--port", "47200"];
+
+    static SERVE_ALL: [&str; 11] = [
+        "netrev",
+        "serve",
+        "--fronts=64",
+        "--port",
+        "65472",
+        "--journal",
+        "1000000",
+        "a",
+        "--connections",
+        "4294967295",
+        "--",
+    ];
+
+    static NO_PORT: [&str; 3] = ["netrev", "serve", "a.jsonl"];
+
+    /// Options that a recording named `a` isn't served with.
+    static OUT_OF_RANGE: [[&str; 7]; 6] = [
+        ["netrev", "serve", "a", "--port", "0", "--fronts", "1"],
+        ["netrev", "serve", "a", "--port", "65473", "--fronts", "64"],
+        ["netrev", "serve", "a", "--port", "1", "--fronts", "0"],
+        ["netrev", "serve", "a", "--port", "1", "--fronts", "65"],
+        [
+            "netrev",
+            "serve",
+            "a",
+            "--port",
+            "1",
+            "--journal",
+            "1000001",
+        ],
+        [
+            "netrev",
+            "serve",
+            "a",
+            "--port",
+            "1",
+            "--connections",
+            "4294967296",
+        ],
+    ];
+
     #[test]
     fn programs_are_told(rt: HostRuntime) {
         let alloc = rt.alloc();
         assert!(rt; read_arguments(alloc, RUN.as_slice()) == Ok(Program::Run { file: "a.jsonl" }));
         assert!(rt; read_arguments(alloc, CHECK.as_slice()) == Ok(Program::Check { file: "" }));
         assert!(rt; read_arguments(alloc, HYPHEN.as_slice()) == Ok(Program::Run { file: "-x" }));
+    }
+
+    #[test]
+    fn sessions_are_shared_as_they_are_asked_for(rt: HostRuntime) {
+        let alloc = rt.alloc();
+        let sharing = Sharing {
+            port: 47200,
+            fronts: 1,
+            journal: 4096,
+            connections: 0,
+        };
+        let file = "a.jsonl";
+        assert!(rt;
+            read_arguments(alloc, SERVE.as_slice()) == Ok(Program::Serve { file, sharing })
+        );
+        let sharing = Sharing {
+            port: 65472,
+            fronts: 64,
+            journal: 1_000_000,
+            connections: u32::MAX,
+        };
+        let file = "a";
+        assert!(rt;
+            read_arguments(alloc, SERVE_ALL.as_slice()) == Ok(Program::Serve { file, sharing })
+        );
+        assert!(rt; read_arguments(alloc, NO_PORT.as_slice()) == Err(ArgumentsFault::Usage));
+        for arguments in OUT_OF_RANGE {
+            assert!(rt; read_arguments(alloc, arguments.as_slice()) == Err(ArgumentsFault::Usage));
+        }
     }
 
     #[test]

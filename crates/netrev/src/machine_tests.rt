@@ -1,6 +1,7 @@
 //! The programs over recordings of each kind of step.
 use crate::run::{ExitStatus, check_bytes};
 use crate::run_tests::{HEADER, assert_refused, run};
+use nr_command::Sink;
 use nr_plain::PlainWorld as World;
 use std::test::*;
 
@@ -290,10 +291,10 @@ fn a_firing_too_many_is_refused(rt: HostRuntime) -> Result<(), Fail> {
 ["setdeadline",0,0,"r",1]
 ["tick",3]"#;
     let recording = format!(in rt.alloc(); "{NARROW}{opened}")?;
-    let mut output = Vec::new(rt.alloc());
+    let mut output = Sink::new(Vec::new(rt.alloc()));
     let status = check_bytes::<World, _>(rt.alloc(), recording.as_bytes(), &mut output);
     assert_eq!(rt; status, ExitStatus::Done);
-    assert_eq!(rt; output.as_slice(), b"ok 10 steps\n".as_slice());
+    assert_eq!(rt; output.into_inner().as_slice(), b"ok 10 steps\n".as_slice());
     let recording = format!(in rt.alloc(); "{NARROW}{opened}\n[\"pop\"]\n")?;
     let line = "step 11: fault 107 reason 14\n";
     assert_refused(&rt, rt.alloc(), recording.as_str(), line);

@@ -1,17 +1,14 @@
 //! Walks a recorded schedule of goroutines, sockets and timers forwards and backwards.
 //!
 //! `netrev run FILE` reads commands from standard input and replies on standard output;
-//! `netrev check FILE` says whether the recording can be walked.
+//! `netrev check FILE` says whether the recording can be walked;
+//! `netrev serve FILE --port P` answers the commands of several people, who share one session, over the loopback.
 #![tactic(auto)]
 
 pub mod arguments;
-mod ending;
-mod engine;
 #[cfg(test)]
 mod film_tests;
-mod front;
-#[cfg(test)]
-mod line_tests;
+mod loopback;
 #[cfg(test)]
 mod machine_tests;
 #[cfg(test)]
@@ -20,20 +17,23 @@ pub mod opening;
 pub mod run;
 #[cfg(test)]
 mod run_tests;
-mod session;
+pub mod serving;
 #[cfg(test)]
 mod size_tests;
 pub mod starting;
 #[cfg(test)]
 mod streams;
-mod turn;
 
 use crate::arguments::read_arguments;
+use crate::loopback::Loopback;
 use crate::run::ExitStatus;
 use crate::starting::{Unstarted, start};
+use nr_command::Sink;
+use nr_lines::Source;
 use nr_plain::PlainWorld as World;
 use std::process::ExitCode;
 use std::sync::Wait;
+use std::thread::Threads;
 use std::{env, fs};
 
 // The process's arguments. One that is no text is none of a program.
@@ -44,22 +44,37 @@ fn collect_arguments(rt: &HostRuntime) -> Result<Vec<String>, Unstarted> {
     }
 }
 
-// Runs the program that the arguments ask for, on the process's streams. `run` may wait for its
-// input.
-fn run_program(rt: &HostRuntime, wait: &impl Wait) -> Result<ExitStatus, Unstarted> {
+// Runs the program that the arguments ask for, on the process's streams. `run` may wait for its input, and `serve` starts
+// threads that listen on ports.
+fn run_program<H: Threads + Wait + Sync>(
+    rt: &HostRuntime,
+    handles: &H,
+) -> Result<ExitStatus, Unstarted> {
     let alloc = rt.alloc();
     let texts = collect_arguments(rt)?;
     let arguments: Vec<&str> = texts.iter().map(|text| text.as_str()).collect(alloc)?;
     let program = read_arguments(alloc, arguments.as_slice())?;
     let file = fs::read(rt, program.file());
-    let (mut input, mut output) = (rt.stdin(), rt.stdout());
-    start::<World, _, _>(wait, alloc, program, file, &mut input, &mut output)
+    let mut input = Source::new(rt.stdin());
+    let mut output = Sink::new(rt.stdout());
+    let mut ports = Loopback::new(rt, program);
+    start::<World, _, _, _, _>(
+        handles,
+        alloc,
+        program,
+        file,
+        &mut input,
+        &mut output,
+        &mut ports,
+    )
 }
 
 fn main(rt: HostRuntime) -> ExitCode {
     let status = match run_program(&rt, &rt) {
         Ok(status) => status,
-        Err(unstarted) => unstarted.tell(&mut rt.stdout(), &mut rt.stderr()),
+        Err(unstarted) => {
+            unstarted.tell(&mut Sink::new(rt.stdout()), &mut Sink::new(rt.stderr()))
+        }
     };
     ExitCode::from(status)
 }

@@ -5,7 +5,7 @@ ghost use Rattle.netrev.specs.Opening.{IsGoodText, IsFirstFault, fault_of_readin
 ghost use Rattle.nr_command.specs.Sender.{Goes, Prints};
 ghost use Rattle.netrev.specs.declared.opening.OpenFault.TheVariants as faults;
 
-use nr_command::{Part, Token, send, send_all};
+use nr_command::{Part, Sink, Token, send, send_all};
 use nr_recording::{Fault, ReadFault, read};
 use nr_rev::{Refusal, Worlds};
 use nr_snaps::{Film, LoadFault, Snaps};
@@ -51,15 +51,15 @@ impl OpenFault {
     ///
     /// Where a write fails or takes nothing, `Part` says how many bytes of the line are out, and no
     /// more are written.
-    pub(crate) fn print<W: Write>(self, w: &mut W) -> Result<(), Part>
-        ensures { Prints (W.contents w.old) (W.contents w.new) (fault_line self) result }
+    pub(crate) fn print<W: Write>(self, w: &mut Sink<W>) -> Result<(), Part>
+        ensures { Prints w.old w.new (fault_line self) result }
     {
         self.send(w)?;
         Ok(())
     }
 
-    fn send<W: Write>(self, w: &mut W) -> Result<u64, Part>
-        ensures { Goes (W.contents w.old) (W.contents w.new) (fault_line self) result }
+    fn send<W: Write>(self, w: &mut Sink<W>) -> Result<u64, Part>
+        ensures { Goes w.old w.new (fault_line self) result }
     {
         match self {
             OpenFault::Line { line, fault } => send_line_fault(line, fault, w),
@@ -69,8 +69,8 @@ impl OpenFault {
     }
 }
 
-fn send_line_fault<W: Write>(line: usize, fault: Fault, w: &mut W) -> Result<u64, Part>
-    ensures { Goes (W.contents w.old) (W.contents w.new)
+fn send_line_fault<W: Write>(line: usize, fault: Fault, w: &mut Sink<W>) -> Result<u64, Part>
+    ensures { Goes w.old w.new
         (fault_line (faults.Line line fault)) result }
 {
     let tokens = [
@@ -83,8 +83,8 @@ fn send_line_fault<W: Write>(line: usize, fault: Fault, w: &mut W) -> Result<u64
     send_all(&tokens, w)
 }
 
-fn send_step_fault<W: Write>(step: usize, reason: Refusal, w: &mut W) -> Result<u64, Part>
-    ensures { Goes (W.contents w.old) (W.contents w.new)
+fn send_step_fault<W: Write>(step: usize, reason: Refusal, w: &mut Sink<W>) -> Result<u64, Part>
+    ensures { Goes w.old w.new
         (fault_line (faults.Step step reason)) result }
 {
     let tokens = [

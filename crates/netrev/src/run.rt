@@ -1,6 +1,6 @@
 //! The programs `run` and `check`, over the bytes of the file and the streams.
 
-ghost use Rattle.std.specs.Prelude.{◌≡◌, ◌⊎◌};
+ghost use Rattle.std.specs.Prelude.{◌≡◌, ◌⊎◌, false};
 ghost use Rattle.std.specs.Process.{exit_status};
 ghost use Rattle.nr_rev.specs.Run.{Recording, IsGood};
 ghost use Rattle.nr_recording.specs.Text.{IsTextOf};
@@ -9,16 +9,24 @@ ghost use Rattle.netrev.specs.Run.{Runs, Walks, TellsFault, Checks, Prints, code
 ghost use Rattle.netrev.specs.declared.opening.OpenFault.TheVariants as faults;
 ghost use Rattle.netrev.specs.declared.run.ExitStatus.TheVariants as statuses;
 
-use crate::engine::serve;
 use crate::opening::{OpenFault, open};
-use crate::session::Session;
-use nr_command::{Token, send_all};
+use nr_command::{Sink, Token, send_all};
+use nr_front::Front;
+use nr_journal::Journal;
+use nr_lines::{Source, serve};
 use nr_rev::Worlds;
+use nr_search::OneWorker;
 use nr_snaps::Film;
 use std::alloc::Global;
 use std::io::{Read, Write};
 use std::process::ExitCode;
 use std::sync::Wait;
+
+/// How many commands the one front of `run` can place.
+pub const JOURNAL_ROOM: usize = 65_536;
+
+/// How many steps a walker can undo at most before it goes from a copy.
+pub(crate) const DELTAS_KEPT: usize = 4_096;
 
 /// How a program ended.
 #[derive(Clone, Copy, Debug, PartialEq, Eq)]
@@ -58,7 +66,7 @@ impl From<ExitStatus> for ExitCode {
 /// Opens the recording, and answers the lines of the input on the output, one after the other, as
 /// a debugger does that stands at position 0 first: each reply is about the world after so many of
 /// the recording's first steps as the position says. A look, and a command that searches for a hit,
-/// may be refused memory, which is said and changes nothing.
+/// may be refused memory, which is said; the command's reply can be asked for again.
 ///
 /// `Done`: a line was `quit`, or the input's end was reached. `Refused`: the recording's first
 /// fault was printed, or `fault 108 memory`, as one line, and nothing was read. `StreamFailed`: a
@@ -67,21 +75,21 @@ pub fn run_bytes<W: Worlds + Drop, I: Read, O: Write>(
     rt: &impl Wait,
     alloc: Global,
     bytes: &[u8],
-    input: &mut I,
-    output: &mut O,
+    input: &mut Source<I>,
+    output: &mut Sink<O>,
 ) -> ExitStatus
 where
     W::Delta: Drop,
+    requires input { input.old.failed ≡ false }
+    requires output { output.old.failed ≡ false }
+
     // What was read and written, whatever the bytes are.
-    ensures runs { Runs I.remaining bytes.now input.old input.new
-        (O.contents output.old) (O.contents output.new) result }
+    ensures runs { Runs bytes.now input.old input.new output.old output.new result }
 
     // A recording whose steps all apply is walked, unless memory runs out before the first line.
     ensures good { (r : Recording) → IsTextOf bytes.now r → IsGood r
-        → Walks (I.remaining input.old) (I.remaining input.new)
-        (O.contents output.old) (O.contents output.new) r result
-        ⊎ TellsFault faults.Memory input.old input.new
-        (O.contents output.old) (O.contents output.new) result }
+        → Walks input.old input.new output.old output.new r result
+        ⊎ TellsFault faults.Memory input.old input.new output.old output.new result }
 {
     match open::<W>(alloc, bytes) {
         Ok(film) => walk(rt, alloc, &film, input, output),
@@ -94,29 +102,35 @@ fn walk<W: Worlds + Drop, I: Read, O: Write>(
     rt: &impl Wait,
     alloc: Global,
     film: &Film<W>,
-    input: &mut I,
-    output: &mut O,
+    input: &mut Source<I>,
+    output: &mut Sink<O>,
 ) -> ExitStatus
 where
     W::Delta: Drop,
-    ensures { Walks (I.remaining input.old) (I.remaining input.new)
-        (O.contents output.old) (O.contents output.new) film.now.recording result
-        ⊎ TellsFault faults.Memory input.old input.new
-        (O.contents output.old) (O.contents output.new) result }
+    requires input { input.old.failed ≡ false }
+    requires output { output.old.failed ≡ false }
+    ensures { Walks input.old input.new output.old output.new film.now.recording result
+        ⊎ TellsFault faults.Memory input.old input.new output.old output.new result }
 {
-    let Ok(mut session) = Session::new(alloc, film) else {
+    let Ok((journal, seat)) = Journal::new(alloc, JOURNAL_ROOM) else {
         return refuse(OpenFault::Memory, output);
     };
-    match serve(rt, input, output, &mut session) {
+    // there is a tag, since nobody else has a seat
+    let Ok(pass) = journal.enter(seat) else {
+        return refuse(OpenFault::Memory, output);
+    };
+    let Ok(mut front) = Front::new(alloc, pass, film, OneWorker, DELTAS_KEPT) else {
+        return refuse(OpenFault::Memory, output);
+    };
+    match serve(rt, input, output, &mut front, &journal) {
         Ok(_) => ExitStatus::Done,
         Err(_) => ExitStatus::StreamFailed,
     }
 }
 
 /// Prints the fault, as one line.
-pub(crate) fn refuse<O: Write>(fault: OpenFault, output: &mut O) -> ExitStatus
-    ensures { Prints (fault_line fault) statuses.Refused
-        (O.contents output.old) (O.contents output.new) result }
+pub(crate) fn refuse<O: Write>(fault: OpenFault, output: &mut Sink<O>) -> ExitStatus
+    ensures { Prints (fault_line fault) statuses.Refused output.old output.new result }
 {
     match fault.print(output) {
         Ok(()) => ExitStatus::Refused,
@@ -131,17 +145,17 @@ pub(crate) fn refuse<O: Write>(fault: OpenFault, output: &mut O) -> ExitStatus
 pub fn check_bytes<W: Worlds + Drop, O: Write>(
     alloc: Global,
     bytes: &[u8],
-    output: &mut O,
+    output: &mut Sink<O>,
 ) -> ExitStatus
     // What was written, whatever the bytes are.
-    ensures checks { Checks bytes.now (O.contents output.old) (O.contents output.new) result }
+    ensures checks { Checks bytes.now output.old output.new result }
 
     // A recording whose steps all apply is accepted, unless memory runs out.
     ensures good { (r : Recording) → IsTextOf bytes.now r → IsGood r
         → Prints (ok_line r) statuses.Done
-        (O.contents output.old) (O.contents output.new) result
+        output.old output.new result
         ⊎ Prints (fault_line faults.Memory) statuses.Refused
-        (O.contents output.old) (O.contents output.new) result }
+        output.old output.new result }
 {
     match open::<W>(alloc, bytes) {
         Ok(film) => accept(&film, output),
@@ -150,9 +164,9 @@ pub fn check_bytes<W: Worlds + Drop, O: Write>(
 }
 
 // Prints that the film has so many steps.
-fn accept<W: Worlds + Drop, O: Write>(film: &Film<W>, output: &mut O) -> ExitStatus
+fn accept<W: Worlds + Drop, O: Write>(film: &Film<W>, output: &mut Sink<O>) -> ExitStatus
     ensures { Prints (ok_line film.now.recording) statuses.Done
-        (O.contents output.old) (O.contents output.new) result }
+        output.old output.new result }
 {
     let steps = Token::Number(film.len() as u64);
     match send_all(

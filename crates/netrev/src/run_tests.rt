@@ -1,6 +1,8 @@
 //! Programs over stored recordings, and over streams that stop.
 use crate::run::{ExitStatus, check_bytes, run_bytes};
 use crate::streams::{Cup, Drip, make_cup};
+use nr_command::Sink;
+use nr_lines::Source;
 use nr_plain::PlainWorld as World;
 use std::alloc::Global;
 use std::process::Abort;
@@ -106,11 +108,11 @@ pub(crate) fn run(
     recording: &str,
     script: &str,
 ) -> (ExitStatus, Vec<u8>) {
-    let mut input = script.as_bytes();
-    let mut output = Vec::new(rt.alloc());
+    let mut input = Source::new(script.as_bytes());
+    let mut output = Sink::new(Vec::new(rt.alloc()));
     let bytes = recording.as_bytes();
     let status = run_bytes::<World, _, _>(wait, rt.alloc(), bytes, &mut input, &mut output);
-    (status, output)
+    (status, output.into_inner())
 }
 
 #[test]
@@ -159,16 +161,16 @@ fn looks_show_the_position(rt: HostRuntime) -> Result<(), Fail> {
 /// Runs and checks a recording that is refused with this line: no input is read for it.
 pub(crate) fn assert_refused(rt: &(impl Wait + Abort), alloc: Global, recording: &str, line: &str) {
     let bytes = recording.as_bytes();
-    let mut input = SCRIPT.as_bytes();
-    let mut output = Vec::new(alloc);
+    let mut input = Source::new(SCRIPT.as_bytes());
+    let mut output = Sink::new(Vec::new(alloc));
     let status = run_bytes::<World, _, _>(rt, alloc, bytes, &mut input, &mut output);
     assert_eq!(rt; status, ExitStatus::Refused);
-    assert_eq!(rt; output.as_slice(), line.as_bytes());
-    assert_eq!(rt; input, SCRIPT.as_bytes());
-    let mut output = Vec::new(alloc);
+    assert_eq!(rt; output.into_inner().as_slice(), line.as_bytes());
+    assert_eq!(rt; input.into_inner(), SCRIPT.as_bytes());
+    let mut output = Sink::new(Vec::new(alloc));
     let status = check_bytes::<World, _>(alloc, bytes, &mut output);
     assert_eq!(rt; status, ExitStatus::Refused);
-    assert_eq!(rt; output.as_slice(), line.as_bytes());
+    assert_eq!(rt; output.into_inner().as_slice(), line.as_bytes());
 }
 
 #[test]
@@ -193,26 +195,26 @@ fn accepted_recordings_tell_their_length(rt: HostRuntime) -> Result<(), Fail> {
         (READ, "ok 12 steps\n"),
     ] {
         let recording = format!(in rt.alloc(); "{HEADER}{steps}")?;
-        let mut output = Vec::new(rt.alloc());
+        let mut output = Sink::new(Vec::new(rt.alloc()));
         let bytes = recording.as_bytes();
         let status = check_bytes::<World, _>(rt.alloc(), bytes, &mut output);
         assert_eq!(rt; status, ExitStatus::Done);
-        assert_eq!(rt; output.as_slice(), line.as_bytes());
+        assert_eq!(rt; output.into_inner().as_slice(), line.as_bytes());
     }
     Ok(())
 }
 
 #[test]
 fn one_byte_a_call_makes_no_difference(rt: HostRuntime) {
-    let mut input = Drip {
+    let mut input = Source::new(Drip {
         bytes: SCRIPT.as_bytes(),
         left: SCRIPT.len() + 1,
-    };
-    let mut output = make_cup(&rt, REPLIES.len());
+    });
+    let mut output = Sink::new(make_cup(&rt, REPLIES.len()));
     let bytes = LOCKS.as_bytes();
     let status = run_bytes::<World, _, _>(&rt, rt.alloc(), bytes, &mut input, &mut output);
     assert_eq!(rt; status, ExitStatus::Done);
-    assert_eq!(rt; output.held.as_slice(), REPLIES.as_bytes());
+    assert_eq!(rt; output.into_inner().held.as_slice(), REPLIES.as_bytes());
 }
 
 #[test]
@@ -224,42 +226,51 @@ fn a_failed_read_leaves_whole_replies(rt: HostRuntime) {
         (8, "at 6\n"),
         (21, "at 6\nlock 0 = 8388626\n"),
     ] {
-        let mut input = Drip {
+        let mut input = Source::new(Drip {
             bytes: SCRIPT.as_bytes(),
             left,
-        };
-        let mut output = Vec::new(rt.alloc());
+        });
+        let mut output = Sink::new(Vec::new(rt.alloc()));
         let status = run_bytes::<World, _, _>(&rt, rt.alloc(), bytes, &mut input, &mut output);
         assert_eq!(rt; status, ExitStatus::StreamFailed);
-        assert_eq!(rt; output.as_slice(), replies.as_bytes());
+        assert!(rt; input.has_failed() && !output.has_failed());
+        assert_eq!(rt; output.into_inner().as_slice(), replies.as_bytes());
     }
 }
 
 /// Runs a recording on writers that fail after so many bytes of the text, for each number of them.
 fn assert_run_cut(rt: &(impl Wait + Abort), alloc: Global, recording: &str, text: &str) {
     for room in 0..text.len() {
-        let mut input = SCRIPT.as_bytes();
-        let mut output = Cup {
+        let mut input = Source::new(SCRIPT.as_bytes());
+        let mut output = Sink::new(Cup {
             held: Vec::new(alloc),
             room,
-        };
+        });
         let bytes = recording.as_bytes();
         let status = run_bytes::<World, _, _>(rt, alloc, bytes, &mut input, &mut output);
         assert_eq!(rt; status, ExitStatus::StreamFailed);
-        assert_eq!(rt; Some(output.held.as_slice()), text.as_bytes().get(..room));
+        assert!(rt; output.has_failed());
+        assert_eq!(rt;
+            Some(output.into_inner().held.as_slice()),
+            text.as_bytes().get(..room)
+        );
     }
 }
 
 /// Checks a recording on such writers.
 fn assert_check_cut(rt: &impl Abort, alloc: Global, recording: &str, text: &str) {
     for room in 0..text.len() {
-        let mut output = Cup {
+        let mut output = Sink::new(Cup {
             held: Vec::new(alloc),
             room,
-        };
+        });
         let status = check_bytes::<World, _>(alloc, recording.as_bytes(), &mut output);
         assert_eq!(rt; status, ExitStatus::StreamFailed);
-        assert_eq!(rt; Some(output.held.as_slice()), text.as_bytes().get(..room));
+        assert!(rt; output.has_failed());
+        assert_eq!(rt;
+            Some(output.into_inner().held.as_slice()),
+            text.as_bytes().get(..room)
+        );
     }
 }
 

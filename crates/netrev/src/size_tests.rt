@@ -1,6 +1,7 @@
 //! The programs over recordings, dumps and texts that are larger than any that a body could have in mind.
 use crate::run::{ExitStatus, check_bytes};
 use crate::run_tests::{HEADER, run};
+use nr_command::Sink;
 use nr_plain::PlainWorld as World;
 use std::alloc::{AllocError, Global};
 use std::test::*;
@@ -48,9 +49,12 @@ fn a_large_buffer_is_dumped(rt: HostRuntime) -> Result<(), Fail> {
 fn a_text_of_more_than_a_megabyte_is_checked(rt: HostRuntime) -> Result<(), Fail> {
     let recording = ticks(rt.alloc(), 100000)?;
     assert!(rt; recording.len() > 1 << 20);
-    let mut output = Vec::new(rt.alloc());
+    let mut output = Sink::new(Vec::new(rt.alloc()));
     let status = check_bytes::<World, _>(rt.alloc(), recording.as_bytes(), &mut output);
     assert_eq!(rt; status, ExitStatus::Done);
-    assert_eq!(rt; output.as_slice(), "ok 100000 steps\n".as_bytes());
+    assert_eq!(rt;
+        output.into_inner().as_slice(),
+        "ok 100000 steps\n".as_bytes()
+    );
     Ok(())
 }

@@ -1,20 +1,24 @@
 //! Starting a program: from its arguments and its file to the exit status.
 
-ghost use Rattle.std.specs.Prelude.{◌≡◌, IfOk, IfErr};
+ghost use Rattle.std.specs.Prelude.{◌≡◌, false, IfOk, IfErr};
 ghost use Rattle.std.specs.IoError.{error_kind};
-ghost use Rattle.netrev.specs.Starting.{Plays, Tells, unstarted_of_arguments, unstarted_by};
+ghost use Rattle.netrev.specs.Starting.{IsInRange, Plays, Tells, unstarted_of_arguments, unstarted_by};
 ghost use Rattle.netrev.specs.declared.run.ExitStatus.{ExitStatus as Status};
 ghost use Rattle.netrev.specs.declared.starting.Unstarted.TheVariants as reasons;
 
 use crate::arguments::{ArgumentsFault, Program, USAGE};
 use crate::opening::OpenFault;
 use crate::run::{ExitStatus, check_bytes, refuse, run_bytes};
-use nr_command::send;
+use crate::serving::serve_bytes;
+use nr_command::{Sink, send};
+use nr_lines::Source;
 use nr_rev::Worlds;
+use nr_serving::Ports;
 use std::alloc::{AllocError, Global};
 use std::io;
 use std::io::{ErrorKind, Read, Write};
 use std::sync::Wait;
+use std::thread::Threads;
 
 /// Why no program ran.
 #[derive(Clone, Copy, Debug, PartialEq, Eq)]
@@ -63,9 +67,8 @@ impl Unstarted {
     ///
     /// `Usage`, also where not all of that text could be written; `Refused` for want of memory;
     /// `StreamFailed` for a file, or where the write to the output failed.
-    pub fn tell<O: Write, E: Write>(self, output: &mut O, errors: &mut E) -> ExitStatus
-        ensures { Tells O.contents E.contents self
-            output.old output.new errors.old errors.new result }
+    pub fn tell<O: Write, E: Write>(self, output: &mut Sink<O>, errors: &mut Sink<E>) -> ExitStatus
+        ensures { Tells self output.old output.new errors.old errors.new result }
     {
         match self {
             Unstarted::Usage => {
@@ -79,20 +82,28 @@ impl Unstarted {
 }
 
 /// Runs the program over what reading its file gave. Where that is an error nothing is read or
-/// written.
-pub fn start<W: Worlds + Drop, I: Read, O: Write>(
-    rt: &impl Wait,
+/// written. `ports` are where the callers of `serve` come from; the other programs open none.
+pub fn start<W, R, P, I, O>(
+    rt: &R,
     alloc: Global,
     program: Program<'_>,
     file: io::Result<Vec<u8>>,
-    input: &mut I,
-    output: &mut O,
+    input: &mut Source<I>,
+    output: &mut Sink<O>,
+    ports: &mut P,
 ) -> Result<ExitStatus, Unstarted>
 where
-    W::Delta: Drop,
+    W: Worlds + Drop + Send + Sync,
+    W::Delta: Drop + Send,
+    R: Threads + Wait + Sync,
+    P: Ports,
+    I: Read,
+    O: Write,
+    requires program { IsInRange program }
+    requires input { input.old.failed ≡ false }
+    requires output { output.old.failed ≡ false }
     ensures plays { IfOk file (λ bytes. (status : Status) × (result ≡ Ok status)
-        × Plays I.remaining O.contents program.entry bytes.items
-        input.old input.new output.old output.new status) }
+        × Plays program.entry bytes.items input.old input.new output.old output.new status) }
     ensures no_file { IfErr file (λ error.
         (result ≡ Err (unstarted_by (error_kind error) reasons.File))
         × (input.new ≡ input.old) × (output.new ≡ output.old)) }
@@ -102,8 +113,36 @@ where
         Err(error) => return Err(Unstarted::of_kind(error.kind(), Unstarted::File)),
     };
     let bytes = bytes.as_slice();
+    Ok(play::<W, R, P, I, O>(rt, alloc, program, bytes, input, output, ports))
+}
+
+// Runs the program over the bytes of its file.
+fn play<W, R, P, I, O>(
+    rt: &R,
+    alloc: Global,
+    program: Program<'_>,
+    bytes: &[u8],
+    input: &mut Source<I>,
+    output: &mut Sink<O>,
+    ports: &mut P,
+) -> ExitStatus
+where
+    W: Worlds + Drop + Send + Sync,
+    W::Delta: Drop + Send,
+    R: Threads + Wait + Sync,
+    P: Ports,
+    I: Read,
+    O: Write,
+    requires program { IsInRange program }
+    requires input { input.old.failed ≡ false }
+    requires output { output.old.failed ≡ false }
+    ensures { Plays program.entry bytes.now input.old input.new output.old output.new result }
+{
     match program {
-        Program::Run { .. } => Ok(run_bytes::<W, _, _>(rt, alloc, bytes, input, output)),
-        Program::Check { .. } => Ok(check_bytes::<W, _>(alloc, bytes, output)),
+        Program::Run { .. } => run_bytes::<W, I, O>(rt, alloc, bytes, input, output),
+        Program::Check { .. } => check_bytes::<W, O>(alloc, bytes, output),
+        Program::Serve { sharing, .. } => {
+            serve_bytes::<W, R, P, O>(rt, alloc, bytes, sharing, ports, output)
+        }
     }
 }

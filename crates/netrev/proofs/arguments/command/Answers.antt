@@ -30,4 +30,6 @@ returns c =
     let top_is : app_of c.subcommand_required.result ≡ top = wants_is ∙ ap (on_top wants_program) (help_is ∙ ap (on_top no_help) (flag_is ∙ ap (on_top no_help_flag) new_is)) in
     let first_is : app_of c.in_ok-subcommand.field-0 ≡ with_subcommand top (file_program (codes "run")).top =
     c.in_ok-subcommand.ensures.shape c.in_ok-run.ensures.local ∙ ap₂ with_subcommand top_is (ap (λ (a : App). a.top) run_is) in
-    IfOk-weaker c.subcommand-2.result _ _ (λ command h. h.shape c.in_ok-check.ensures.local ∙ ap₂ with_subcommand first_is (ap (λ (a : App). a.top) check_is)) c.subcommand-2.ensures
+    let second_is : app_of c.in_ok-subcommand-2.field-0 ≡ with_subcommand (with_subcommand top (file_program (codes "run")).top) (file_program (codes "check")).top =
+    c.in_ok-subcommand-2.ensures.shape c.in_ok-check.ensures.local ∙ ap₂ with_subcommand first_is (ap (λ (a : App). a.top) check_is) in
+    IfOk-weaker c.subcommand-3.result _ _ (λ command h. h.shape c.in_ok-serve.ensures.local ∙ ap₂ with_subcommand second_is (ap (λ (a : App). a.top) c.in_ok-serve.ensures.app)) c.subcommand-3.ensures

@@ -12,4 +12,4 @@ returns g c =
     let number : c.from.result ≡ refusal_number c.args.reason = search rules in
     let same = regrouped (codes "step ") (decimal c.args.step) (codes ": fault 107 reason ") (decimal (refusal_number c.args.reason)) (codes "\n") in
     let text = ap (λ n. codes "step " ++ (decimal c.args.step ++ (codes ": fault 107 reason " ++ (decimal n ++ codes "\n")))) number ∙ sym same in
-    subst (λ text. Goes (g.W.Write.contents c.args.w.now) (g.W.Write.contents c.send_all.new.w) text c.send_all.result) text c.send_all.ensures
+    subst (λ text. Goes c.args.w.now c.send_all.new.w text c.send_all.result) text c.send_all.ensures

@@ -15,5 +15,5 @@ returns-in-Err-clause-good g c = λ r text good.
     let memory = only_memory c.args.bytes.now c.in-Err.fault r c.in-Err.ensures.fault text good in
     inr (record {
       unread = refl;
-      told = subst (λ fault. Prints (fault_line fault) statuses.Refused (g.O.Write.contents c.args.output.now) (g.O.Write.contents c.refuse.new.output) c.refuse.result) memory c.refuse.ensures;
+      told = subst (λ fault. Prints (fault_line fault) statuses.Refused c.args.output.now c.refuse.new.output c.refuse.result) memory c.refuse.ensures;
     })

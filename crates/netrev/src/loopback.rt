@@ -1,0 +1,99 @@
+//! Callers over the loopback.
+
+use crate::arguments::Program;
+use nr_serving::{Connection, Connections, Next, Ports};
+use std::io;
+use std::io::{Read, Write};
+use std::net::{Ipv4Addr, SocketAddr, TcpListener, TcpStream};
+
+/// A caller on a port of the loopback.
+#[derive(Drop)]
+pub(crate) struct Caller(TcpStream);
+
+impl Connection for Caller {
+    fn read(&self, buf: &mut [u8]) -> io::Result<usize> {
+        let mut stream = &self.0;
+        stream.read(buf)
+    }
+
+    fn write(&self, bytes: &[u8]) -> io::Result<usize> {
+        let mut stream = &self.0;
+        stream.write(bytes)
+    }
+}
+
+/// The callers at a port, one after the other.
+#[derive(Drop)]
+pub(crate) struct Callers {
+    /// None where the port couldn't be bound.
+    listener: Option<TcpListener>,
+    /// How many are served before it ends, if it ever does.
+    left: Option<u32>,
+}
+
+impl Connections for Callers {
+    type Connection = Caller;
+
+    fn next(&mut self) -> Next<Caller> {
+        if self.left == Some(0) {
+            return Next::Ended;
+        }
+        let Some(listener) = &self.listener else {
+            return Next::Failed;
+        };
+        let Ok((stream, _)) = listener.accept() else {
+            return Next::Failed;
+        };
+        // replies are short, and go out when they are there; where that can't be set they go out later
+        let _ = stream.set_nodelay(true);
+        self.left = self.left.map(|left| left.saturating_sub(1));
+        Next::Serve(Caller(stream))
+    }
+}
+
+/// Ports of 127.0.0.1, one above the other.
+#[derive(Drop)]
+pub(crate) struct Loopback<'a> {
+    rt: &'a HostRuntime,
+    /// That of the first front.
+    port: u32,
+    /// After how many callers each ends, if it ever does.
+    connections: Option<u32>,
+}
+
+impl<'a> Loopback<'a> {
+    /// The ports that a program is asked for with.
+    pub(crate) fn new(rt: &'a HostRuntime, program: Program<'_>) -> Loopback<'a> {
+        let (port, connections) = match program {
+            Program::Serve { sharing, .. } => (sharing.port, sharing.connections),
+            Program::Run { .. } | Program::Check { .. } => (0, 0),
+        };
+        Loopback {
+            rt,
+            port,
+            connections: if connections == 0 {
+                None
+            } else {
+                Some(connections)
+            },
+        }
+    }
+
+    // Listens at the port of a front.
+    fn listen(&self, front: usize) -> Option<TcpListener> {
+        let front = u32::try_from(front).ok()?;
+        let port = u16::try_from(self.port.checked_add(front)?).ok()?;
+        TcpListener::bind(self.rt, SocketAddr::from((Ipv4Addr::LOCALHOST, port))).ok()
+    }
+}
+
+impl Ports for Loopback<'_> {
+    type Callers = Callers;
+
+    fn open(&mut self, front: usize) -> Callers {
+        Callers {
+            listener: self.listen(front),
+            left: self.connections,
+        }
+    }
+}
