@@ -7,13 +7,13 @@ use native.Mathlib.Decide.{ℕ_discrete}
 use Rattle.std.specs.Int.{bit_at}
 use Rattle.std.specs.Prelude.{bit_or, ◌^◌, max}
 use Rattle.std.proofs.lemmas.Nat.Bits.{bit_at_or, bit_at-lt, bit_at-pow_same, bit_at-pow_other}
+use Rattle.std.proofs.lemmas.List.Elements.{All-weaker}
 use Rattle.atomic_table.specs.Table.{step, Allows, Splits}
 use Rattle.atomic_table.proofs.Lists.{at_set, set_again}
 use Rattle.nr_journal.specs.declared.view.View.{View}
 use Rattle.nr_journal.specs.declared.view.View.TheVariants.{Outside, Within, Note, Spent}
 use Rattle.nr_journal.specs.Rule.{tag_of, IsDrawn, AreDrawn, AreTaken, IsEntry, IsOthers, Fits, HasTag, AreApart, Kept, entering}
 use Rattle.nr_journal.specs.Step.{Seat, Draws, DrawsFrom}
-use Rattle.nr_journal.proofs.RowLemmas.{All-map}
 use Rattle.nr_journal.proofs.RuleLemmas.{each_set, apart_set, taken_set, set_there, Rule, Picks, allowed, snoc_view, drawn_by}
 
 -- a seat outside is cut in two
@@ -60,7 +60,7 @@ module _ (room : ℕ) where
     free = k.free;
     words_are = ap (λ (ws : List ℕ). set ws 0 more) k.words_are;
     room_is = k.room_is;
-    entries = All-map (IsEntry k.tags) (IsEntry more) k.log (λ word (e : IsEntry k.tags word). (e.0, up (tag_of word) e.1)) k.entries;
+    entries = All-weaker (IsEntry k.tags) (IsEntry more) (λ word (e : IsEntry k.tags word). (e.0, up (tag_of word) e.1)) k.log k.entries;
     each_view = each_set (Fits more k.log) views id w (λ j v apart e. fits_drawn k.tags more k.log v up (k.each_view j v e)) fits;
     apart = apart;
     taken = taken;
@@ -117,8 +117,8 @@ module _ (room : ℕ) where
           (
             k.log,
             refl,
-            All-map (IsEntry k.tags) (IsOthers tried) k.log
-                (λ word (e : IsEntry k.tags word) (same : tag_of word ≡ tried). let z : zero ≡ 1 = sym clear ∙ subst (IsDrawn k.tags) same e.1 in omega arith) k.entries,
+            All-weaker (IsEntry k.tags) (IsOthers tried)
+                (λ word (e : IsEntry k.tags word) (same : tag_of word ≡ tried). let z : zero ≡ 1 = sym clear ∙ subst (IsDrawn k.tags) same e.1 in omega arith) k.log k.entries,
           ),
           (k.log, refl),
         )

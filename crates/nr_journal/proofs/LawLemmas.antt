@@ -2,6 +2,7 @@
 use Rattle.std.proofs.Common.{◌≡◌, ℕ, zero, suc, ◌+◌, ◌<◌, List, [], ◌∷◌, ◌++◌, length, get_or, refl, sym, ap, ◌∙◌, subst, arith}
 use Rattle.std.proofs.lemmas.List.{append-nil}
 use Rattle.std.specs.List.{All}
+use Rattle.std.proofs.lemmas.List.Elements.{All-head}
 use mathlib.Core.Option.{some, some-injective, some-ne-none}
 use lib.ListN.{get_elem?}
 use Rattle.nr_journal.specs.declared.view.Stand.{Stand}
@@ -9,7 +10,6 @@ use Rattle.nr_journal.specs.declared.view.View.{View}
 use Rattle.nr_journal.specs.declared.view.View.TheVariants.{Outside, Within, Note, Spent}
 use Rattle.nr_journal.specs.Rule.{newcomer, tag_of, IsDrawn, IsEntry, IsOthers, HasTag}
 use Rattle.nr_journal.specs.Laws.{BeginsEmpty, EachWordHasItsPass, EmptyLookSeesAll}
-use Rattle.nr_journal.proofs.RowLemmas.{All-head}
 use Rattle.nr_journal.proofs.RuleLemmas.{is_word, before_end, found_opcode}
 
 pub empty_look : EmptyLookSeesAll

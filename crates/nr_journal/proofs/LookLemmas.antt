@@ -2,6 +2,7 @@
 use Rattle.std.proofs.Common.{◌≡◌, ℕ, suc, ◌<◌, List, [], ◌∷◌, ◌++◌, length, get_or, set, replicate, refl, sym, ap, ◌∙◌, subst, arith}
 use Rattle.std.proofs.lemmas.List.{set-get_or, append-nil}
 use Rattle.std.specs.List.{All}
+use Rattle.std.proofs.lemmas.List.Elements.{All-head}
 use mathlib.Core.Option.{some, none}
 use lib.ListN.{get_elem?}
 use Rattle.atomic_table.specs.Table.{step, Allows}
@@ -10,7 +11,7 @@ use Rattle.nr_journal.specs.declared.view.View.{View}
 use Rattle.nr_journal.specs.declared.view.View.TheVariants.{Within}
 use Rattle.nr_journal.specs.Rule.{IsOthers, StartsWith, Kept, looked, shown}
 use Rattle.nr_journal.specs.Step.{Seat, Looked, LookedFrom, Rereads, RereadsFrom}
-use Rattle.nr_journal.proofs.RowLemmas.{All-head, among}
+use Rattle.nr_journal.proofs.RowLemmas.{among}
 use Rattle.nr_journal.proofs.RuleLemmas.{same_tags, is_word, kept_view, at_place, before_end, kept_found, found_opcode, Rule, Picks, allowed, stays}
 
 module _ (room : ℕ) where

@@ -2,7 +2,7 @@
 use Rattle.std.proofs.Common.{◌≡◌, ℕ, suc, ◌+◌, ◌<◌, List, [], ◌∷◌, ◌++◌, length, get_or, set, replicate, eqb, ◌-◌, refl, sym, ap, ◌∙◌, subst, arith, append_assoc, length-append}
 use Rattle.std.proofs.lemmas.List.{set-get_or, append-nil}
 use Rattle.std.specs.List.{All}
-use Rattle.std.proofs.lemmas.List.Elements.{All-nil}
+use Rattle.std.proofs.lemmas.List.Elements.{All-head, All-nil, All-push}
 use mathlib.Core.Option.{some, none}
 use lib.ListN.{get_elem?}
 use prog.Atomic.{either}
@@ -13,7 +13,7 @@ use Rattle.nr_journal.specs.declared.view.View.{View}
 use Rattle.nr_journal.specs.declared.view.View.TheVariants.{Outside, Within, Note, Spent}
 use Rattle.nr_journal.specs.Rule.{tag_of, HasOpcode, IsDrawn, IsEntry, IsOthers, StartsWith, Fits, HasTag, Kept, shown}
 use Rattle.nr_journal.specs.Step.{Seat, Offers, OffersFrom}
-use Rattle.nr_journal.proofs.RowLemmas.{All-head, All-snoc, placed}
+use Rattle.nr_journal.proofs.RowLemmas.{placed}
 use Rattle.nr_journal.proofs.RuleLemmas.{each_set, apart_set, taken_set, is_word, at_place, before_end, kept_found, found_opcode, Rule, Picks, allowed}
 
 pub begins_more : (log told : List ℕ) (word : ℕ) → StartsWith log told → StartsWith (log ++ word ∷ []) told
@@ -24,7 +24,7 @@ pub fits_more : (tags : ℕ) (log : List ℕ) (word : ℕ) (v : View) → (HasTa
 fits_more tags log word (Outside tried) never fits = fits
 fits_more tags log word (Within stand) never fits = let c = fits.1 in (
   fits.0,
-  (c.0 ++ word ∷ [], ap (λ (l : List ℕ). l ++ word ∷ []) c.1 ∙ append_assoc stand.seen c.0 (word ∷ []), All-snoc (IsOthers stand.tag) c.0 word c.2 (λ e. never (sym e))),
+  (c.0 ++ word ∷ [], ap (λ (l : List ℕ). l ++ word ∷ []) c.1 ∙ append_assoc stand.seen c.0 (word ∷ []), All-push (IsOthers stand.tag) c.0 word c.2 (λ e. never (sym e))),
   begins_more log stand.told word fits.2,
 )
 fits_more tags log word (Note seen) never fits = begins_more log seen word fits
@@ -49,7 +49,7 @@ module _ (room : ℕ) where
             ∙ (ap (λ (n : ℕ). k.tags ∷ set ((k.log ++ []) ++ replicate n 0) (length k.log) word) one
             ∙ ap (λ (l : List ℕ). k.tags ∷ l) (placed k.log (k.free - 1) word))));
         room_is = omega (arith, length-append k.log (word ∷ []));
-        entries = All-snoc (IsEntry k.tags) k.log word k.entries (code, subst (IsDrawn k.tags) (sym tag) (c.0 stand.tag (omega arith)));
+        entries = All-push (IsEntry k.tags) k.log word k.entries (code, subst (IsDrawn k.tags) (sym tag) (c.0 stand.tag (omega arith)));
         each_view = each_set (Fits k.tags (k.log ++ word ∷ [])) views id (Within (shown stand word))
             (λ j v apart e. fits_more k.tags k.log word v (λ has. apart (k.apart j id (tag_of word) v (Within stand) e at has (sym tag))) (k.each_view j v e))
             (c.0, ([], ap (λ (l : List ℕ). l ++ word ∷ []) all ∙ sym (append-nil (stand.seen ++ word ∷ [])), All-nil (IsOthers stand.tag)), begins_more k.log stand.told word c.2);

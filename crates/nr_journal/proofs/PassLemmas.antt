@@ -5,9 +5,9 @@ use Rattle.nr_journal.specs.declared.view.View.TheVariants.{Within}
 use Rattle.nr_journal.specs.Rule.{shown, looked, IsOthers, StartsWith}
 use Rattle.nr_journal.specs.Step.{Seat}
 use Rattle.std.proofs.lemmas.List.{append-nil}
-use Rattle.std.proofs.lemmas.List.Elements.{All-nil}
+use Rattle.std.proofs.lemmas.List.Elements.{All-nil, All-push}
 use Rattle.nr_journal.specs.Pass.{stand_of, Gains, AreInLine}
-use Rattle.nr_journal.proofs.RowLemmas.{All-snoc, in_line}
+use Rattle.nr_journal.proofs.RowLemmas.{in_line}
 
 pub seated : (me : Seat) (s : Stand) (place tag words : ℕ) → me ≡ (Within s, []) → place ≡ length s.seen → tag ≡ s.tag → place < words
     → (me ≡ (Within (stand_of me.0), [])) × (place ≡ length (stand_of me.0).seen) × (tag ≡ (stand_of me.0).tag) × (place < words)
@@ -31,7 +31,7 @@ pub gains_one : (a b : Stand) (v : ℕ) → Gains a b → IsOthers b.tag v → G
 gains_one a b v g other = (
   g.0 ++ v ∷ [],
   ap (λ (l : List ℕ). l ++ v ∷ []) g.1 ∙ append_assoc a.seen g.0 (v ∷ []),
-  All-snoc (IsOthers a.tag) g.0 v g.2 (subst (λ (t : ℕ). IsOthers t v) g.3 other),
+  All-push (IsOthers a.tag) g.0 v g.2 (subst (λ (t : ℕ). IsOthers t v) g.3 other),
   g.3,
   g.4,
 )

@@ -2,7 +2,7 @@
 use Rattle.std.proofs.Common.{◌≡◌, ◌≢◌, ℕ, zero, suc, ◌+◌, ◌%◌, ◌<◌, ◌≤◌, List, [], ◌∷◌, ◌++◌, length, get_or, set, replicate, refl, sym, ap, ◌∙◌, subst, ⊎_elim, arith, add-one, append_assoc}
 use Rattle.std.proofs.lemmas.List.{set-get_or, append-nil}
 use Rattle.std.specs.List.{All}
-use Rattle.std.proofs.lemmas.List.Elements.{All-nil}
+use Rattle.std.proofs.lemmas.List.Elements.{All-head, All-nil, All-tail}
 use mathlib.Core.Option.{some, some-injective, some-ne-none}
 use lib.ListN.{get_elem?}
 use mathlib.Core.Logic.{dite}
@@ -15,7 +15,7 @@ use Rattle.nr_journal.specs.declared.view.View.{View}
 use Rattle.nr_journal.specs.declared.view.View.TheVariants.{Outside, Within, Note, Spent}
 use Rattle.nr_journal.specs.Rule.{HasOpcode, IsDrawn, AreTaken, IsEntry, IsOthers, Fits, HasTag, AreApart, Kept, shown, newcomer}
 use Rattle.nr_journal.specs.Step.{Seat}
-use Rattle.nr_journal.proofs.RowLemmas.{All-head, All-tail, All-right, behind, beside}
+use Rattle.nr_journal.proofs.RowLemmas.{All-right, behind, beside}
 
 -- each view after a change of one
 pub each_set : (P : View → Type 0) (views : List View) (id : ℕ) (w : View) → ((j : ℕ) (v : View) → j ≢ id → get_elem? views j ≡ some v → P v) → P w
