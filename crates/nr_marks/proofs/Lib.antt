@@ -1,1 +1,1 @@
-mod MarksLemmas
+pub mod NumberedLemmas

@@ -15,7 +15,7 @@ use Rattle.nr_marks.specs.declared.mark.Break.TheVariants as break
 use Rattle.nr_marks.specs.declared.mark.Mark.{Mark}
 use Rattle.nr_marks.specs.declared.mark.Mark.TheVariants as mark
 use Rattle.nr_marks.specs.declared.mark.NextStep.{NextStep}
-use Rattle.nr_marks.specs.declared.marks.NumberedMark.{NumberedMark}
+use Rattle.nr_marks.specs.Marks.{NumberedMark}
 
 -- what `==` says of two values of cells
 abbrev pub same_value : CellValue → CellValue → Bool
@@ -39,7 +39,7 @@ mark_hits before after next (mark.Watch c) = not (same_value (cell before c) (ce
 
 -- The numbers of the marks that hit, in the order of the marks.
 abbrev pub hits_between : World → World → Option NextStep → List NumberedMark → List ℕ
-hits_between before after next marks = map (λ m. m.number) (filter (λ m. mark_hits before after next m.mark) marks)
+hits_between before after next marks = map (λ m. m.number) (filter (λ m. mark_hits before after next m.item) marks)
 
 -- a step as the one that comes next at a position
 abbrev pub numbered : ℕ → Option Step → Option NextStep

@@ -1,2 +1,3 @@
 pub mod Hit
 pub mod Marks
+pub mod Numbered

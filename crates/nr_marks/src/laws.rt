@@ -17,5 +17,5 @@ pub fn just_equals_are_the_same()
 /// No watch hits at position 0, before which nothing has changed.
 pub fn no_watch_hits_at_the_start()
     ensures { (r : Recording) (number : ℕ) (c : Cell)
-        → hits_at r (record { number = number; mark = Watch c } ∷ []) 0 ≡ [] }
+        → hits_at r (record { number = number; item = Watch c } ∷ []) 0 ≡ [] }
 {}

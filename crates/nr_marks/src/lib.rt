@@ -4,9 +4,11 @@
 pub mod laws;
 mod mark;
 mod marks;
+mod numbered;
 
 pub use mark::{Break, Mark, NextStep};
 pub use marks::{MOST_MARKS, MarkFault, Marks, NumberedMark};
+pub use numbered::{MOST_NUMBERED, Numbered, NumberedList};
 
 #[cfg(test)]
 mod tests;

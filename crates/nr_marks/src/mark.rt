@@ -26,6 +26,13 @@ pub enum Mark {
     Watch(Cell),
 }
 
+// What an unused place of a list holds.
+impl Default for Mark {
+    fn default() -> Mark {
+        Mark::Watch(Cell::Clock)
+    }
+}
+
 /// The step that comes next at a position.
 #[derive(Clone, Copy, Debug, PartialEq, Eq)]
 pub struct NextStep {

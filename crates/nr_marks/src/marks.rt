@@ -1,31 +1,16 @@
 //! The marks that stand, by number.
 
 use crate::mark::{Break, Mark, NextStep};
+use crate::numbered::{MOST_NUMBERED, Numbered, NumberedList};
 use arrayvec::ArrayVec;
 use nr_rev::{Cell, Worlds};
 use std::marker::Model;
 
 /// The most marks that stand at once.
-pub const MOST_MARKS: usize = 64;
+pub const MOST_MARKS: usize = MOST_NUMBERED;
 
 /// A mark that stands, with its number.
-#[derive(Clone, Copy, Debug, PartialEq, Eq)]
-pub struct NumberedMark {
-    /// From 1, as GDB counts breakpoints.
-    pub number: u32,
-    /// Where it hits.
-    pub mark: Mark,
-}
-
-// What an unused place of the table holds.
-impl Default for NumberedMark {
-    fn default() -> NumberedMark {
-        NumberedMark {
-            number: 0,
-            mark: Mark::Watch(Cell::Clock),
-        }
-    }
-}
+pub type NumberedMark = Numbered<Mark>;
 
 /// Why the marks stay as they are.
 #[derive(Clone, Copy, Debug, PartialEq, Eq)]
@@ -40,34 +25,31 @@ pub enum MarkFault {
 /// twice. No call takes memory.
 #[derive(Debug, Drop)]
 pub struct Marks {
-    standing: ArrayVec<NumberedMark, MOST_MARKS>,
-    made: u32,
+    list: NumberedList<Mark>,
 }
 
 impl Model for Marks {
-    ghost use Rattle.nr_marks.specs.Marks.{MarkTable, RisesWithin, numbers_of};
+    ghost use Rattle.nr_marks.specs.Marks.{MarkTable};
 
     ghost Value = { MarkTable };
 
-    ghost view = { λ m. record { standing = m.standing.items; made = m.made } };
-
-    ghost invariant = { λ m. RisesWithin 0 (numbers_of m.standing.items) m.made };
+    ghost view = { λ m. m.list };
 }
 
 impl Marks {
     ghost use Rattle.std.specs.Prelude.{◌≡◌, ◌≤◌, length, OnErr};
     ghost use Rattle.nr_marks.specs.Hit.{hits_between};
-    ghost use Rattle.nr_marks.specs.Marks.{RisesWithin, deletion, no_marks, next_number, numbers_of, stands, with_mark, without_mark};
+    ghost use Rattle.nr_marks.specs.Marks.{deletion, next_number};
+    ghost use Rattle.nr_marks.specs.Numbered.{RisesWithin, empty, numbers_of, with_item, without_item};
     ghost use Rattle.nr_marks.specs.declared.marks.TheConstants.{MOST_MARKS};
     ghost use Rattle.nr_marks.specs.declared.mark.Mark.TheVariants as mark;
 
     /// No marks.
     pub fn new() -> Marks
-        ensures { result ≡ no_marks }
+        ensures { result ≡ empty }
     {
         Marks {
-            standing: ArrayVec::new(),
-            made: 0,
+            list: NumberedList::new(),
         }
     }
 
@@ -75,7 +57,7 @@ impl Marks {
     /// refused and nothing changes.
     pub fn add_break(&mut self, wanted: Break) -> Result<u32, MarkFault>
         ensures number { result ≡ next_number self.old }
-        ensures marks { self.new ≡ with_mark (mark.Break wanted) self.old }
+        ensures marks { self.new ≡ with_item (mark.Break wanted) self.old }
         ensures unchanged { OnErr result (self.new ≡ self.old) }
     {
         self.add(Mark::Break(wanted))
@@ -85,7 +67,7 @@ impl Marks {
     /// refused and nothing changes.
     pub fn add_watch(&mut self, cell: Cell) -> Result<u32, MarkFault>
         ensures number { result ≡ next_number self.old }
-        ensures marks { self.new ≡ with_mark (mark.Watch cell) self.old }
+        ensures marks { self.new ≡ with_item (mark.Watch cell) self.old }
         ensures unchanged { OnErr result (self.new ≡ self.old) }
     {
         self.add(Mark::Watch(cell))
@@ -94,40 +76,27 @@ impl Marks {
     // Makes a mark, if one can be made.
     fn add(&mut self, mark: Mark) -> Result<u32, MarkFault>
         ensures number { result ≡ next_number self.old }
-        ensures marks { self.new ≡ with_mark mark self.old }
+        ensures marks { self.new ≡ with_item mark self.old }
         ensures unchanged { OnErr result (self.new ≡ self.old) }
     {
-        if self.standing.is_full() || self.made == u32::MAX {
-            return Err(MarkFault::MarksFull);
+        match self.list.make(mark) {
+            Some(made) => Ok(made.number),
+            None => Err(MarkFault::MarksFull),
         }
-        let number = self.made + 1;
-        self.standing.push(NumberedMark { number, mark });
-        self.made = number;
-        Ok(number)
     }
 
     /// Deletes the mark of this number. The others keep theirs. Where none of this number stands, it is refused and
     /// nothing changes.
     pub fn delete(&mut self, number: u32) -> Result<(), MarkFault>
         ensures answer { result ≡ deletion number self.old }
-        ensures marks { self.new ≡ without_mark number self.old }
+        ensures marks { self.new ≡ without_item number self.old }
         ensures unchanged { OnErr result (self.new ≡ self.old) }
     {
-        if !self.stands(number) {
-            return Err(MarkFault::NoSuchMark);
+        if self.list.delete(number) {
+            Ok(())
+        } else {
+            Err(MarkFault::NoSuchMark)
         }
-        self.standing.retain(|mark| mark.number != number);
-        Ok(())
-    }
-
-    /// Whether a mark of this number stands.
-    pub fn stands(&self, number: u32) -> bool
-        ensures { result ≡ stands number self.now }
-    {
-        self.standing
-            .as_slice()
-            .iter()
-            .any(|mark| mark.number == number)
     }
 
     /// The marks that stand, rising by number.
@@ -136,7 +105,7 @@ impl Marks {
         ensures few { length result.now ≤ MOST_MARKS }
         ensures rising { RisesWithin 0 (numbers_of result.now) self.now.made }
     {
-        self.standing.as_slice()
+        self.list.as_slice()
     }
 
     /// How many marks stand.
@@ -144,7 +113,7 @@ impl Marks {
         ensures count { result ≡ length self.now.standing }
         ensures few { result ≤ MOST_MARKS }
     {
-        self.standing.len()
+        self.list.as_slice().len()
     }
 
     /// The numbers of the marks that hit at a position, rising: those between a world and the one after it, where
@@ -163,7 +132,7 @@ impl Marks {
     {
         let mut hits = ArrayVec::new();
         for numbered in self.as_slice() {
-            if numbered.mark.hits(before, after, next) {
+            if numbered.item.hits(before, after, next) {
                 hits.push(numbered.number);
             }
         }

@@ -20,11 +20,11 @@ fn a_deleted_number_is_not_given_again(rt: HostRuntime) -> Result<(), Fail> {
         [
             NumberedMark {
                 number: 1,
-                mark: Mark::Break(Break::Kind(Kind::RwLock)),
+                item: Mark::Break(Break::Kind(Kind::RwLock)),
             },
             NumberedMark {
                 number: 3,
-                mark: Mark::Break(third),
+                item: Mark::Break(third),
             },
         ]
         .as_slice()

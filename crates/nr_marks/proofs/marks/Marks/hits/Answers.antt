@@ -1,8 +1,8 @@
 use Rattle.std.proofs.Common.{◌≡◌, ◌≤◌, length, take, sym, subst}
 use Rattle.std.proofs.lemmas.List.{take_all}
 use Rattle.nr_marks.specs.Hit.{hits_between, mark_hits}
-use Rattle.nr_marks.specs.Marks.{RisesWithin, numbers_of}
-use Rattle.nr_marks.proofs.MarksLemmas.{RisesWithin-filter}
+use Rattle.nr_marks.specs.Numbered.{RisesWithin, numbers_of}
+use Rattle.nr_marks.proofs.NumberedLemmas.{RisesWithin-filter}
 use Rattle.nr_marks.proofs.marks.Marks.hits.Goals as goal
 
 -- some of the marks' numbers rise as all of them do
@@ -16,4 +16,4 @@ returns-clause-rising g c =
     let all : c.loop-numbered.hits.items ≡ hits_between before after c.args.next marks =
     subst (λ ms. c.loop-numbered.hits.items ≡ hits_between before after c.args.next ms) whole c.loop-numbered.invariant.so_far in
     subst (λ ns. RisesWithin 0 ns c.args.self.now.made) (sym all)
-    (RisesWithin-filter (λ m. mark_hits before after c.args.next m.mark) 0 marks c.args.self.now.made (subst (λ ms. RisesWithin 0 (numbers_of ms) c.args.self.now.made) seen c.as_slice-numbered-items.ensures.rising))
+    (RisesWithin-filter (λ m. mark_hits before after c.args.next m.item) 0 marks c.args.self.now.made (subst (λ ms. RisesWithin 0 (numbers_of ms) c.args.self.now.made) seen c.as_slice-numbered-items.ensures.rising))
