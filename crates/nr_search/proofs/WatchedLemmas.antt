@@ -5,7 +5,7 @@ use Rattle.std.proofs.lemmas.List.Folds.{list_any_more}
 use Rattle.nr_rev.specs.Run.{Recording, world_at}
 use Rattle.nr_rev.specs.World.{World}
 use Rattle.nr_marks.specs.Hit.{mark_hits, hits_between, is_hit_at, numbered}
-use Rattle.nr_marks.specs.declared.marks.NumberedMark.{NumberedMark}
+use Rattle.nr_marks.specs.Marks.{NumberedMark}
 use Rattle.nr_marks.specs.declared.mark.NextStep.{NextStep}
 
 -- one mark more
@@ -23,10 +23,10 @@ any-filter number p [] = refl
 any-filter number p (x ∷ xs) = any-first number (p x) x (filter p xs) (list_any p xs) (any-filter number p xs)
 
 -- some mark hits at position n + 1, by the worlds there and one step before
-pub is_hit_at-next : (r : Recording) (marks : List NumberedMark) (n : ℕ) (before after : World) (next : Option NextStep) → before ≡ world_at r n → after ≡ world_at r (n + 1) → next ≡ numbered (n + 1) (slice_get r.steps (n + 1)) → list_any (λ m. mark_hits before after next m.mark) marks ≡ is_hit_at r marks (n + 1)
+pub is_hit_at-next : (r : Recording) (marks : List NumberedMark) (n : ℕ) (before after : World) (next : Option NextStep) → before ≡ world_at r n → after ≡ world_at r (n + 1) → next ≡ numbered (n + 1) (slice_get r.steps (n + 1)) → list_any (λ m. mark_hits before after next m.item) marks ≡ is_hit_at r marks (n + 1)
 is_hit_at-next r marks n before after next b a s =
     let place : n ≡ n + 1 - 1 = omega arith in
-    any-filter (λ m. m.number) (λ m. mark_hits before after next m.mark) marks
+    any-filter (λ m. m.number) (λ m. mark_hits before after next m.item) marks
     ∙ ap (λ w. nat_lt 0 (length (hits_between w after next marks))) (b ∙ ap (world_at r) place)
     ∙ ap (λ w. nat_lt 0 (length (hits_between (world_at r (n + 1 - 1)) w next marks))) a
     ∙ ap (λ x. nat_lt 0 (length (hits_between (world_at r (n + 1 - 1)) (world_at r (n + 1)) x marks))) s

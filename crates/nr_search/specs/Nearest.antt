@@ -2,7 +2,7 @@
 use Rattle.std.specs.Prelude.{◌≡◌, ℕ, zero, suc, ◌+◌, ◌-◌, ◌<◌, ◌≤◌, Bool, true, false, List, length, if◌then◌else◌}
 use Rattle.nr_rev.specs.Run.{Recording}
 use Rattle.nr_marks.specs.Hit.{is_hit_at}
-use Rattle.nr_marks.specs.declared.marks.NumberedMark.{NumberedMark}
+use Rattle.nr_marks.specs.Marks.{NumberedMark}
 use Rattle.nr_search.specs.declared.direction.Direction.{Direction}
 use Rattle.nr_search.specs.declared.direction.Direction.TheVariants.{Forward, Backward}
 use Rattle.nr_search.specs.declared.found.Found.{Found}

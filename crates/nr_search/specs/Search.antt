@@ -6,7 +6,7 @@ use Rattle.nr_rev.specs.declared.cell_value.CellValue.{CellValue}
 use Rattle.nr_rev.specs.declared.cell_value.CellValue.TheVariants.{Absent}
 use Rattle.nr_marks.specs.declared.mark.Mark.{Mark}
 use Rattle.nr_marks.specs.declared.mark.Mark.TheVariants.{Break, Watch}
-use Rattle.nr_marks.specs.declared.marks.NumberedMark.{NumberedMark}
+use Rattle.nr_marks.specs.Marks.{NumberedMark}
 use Rattle.nr_search.specs.declared.direction.Direction.{Direction}
 use Rattle.nr_search.specs.declared.direction.Direction.TheVariants.{Forward, Backward}
 use Rattle.nr_search.specs.declared.found.Found.{Found}
@@ -30,4 +30,4 @@ watched w (Watch c) = cell w c
 
 -- The values, place by place, are those that the marks watch in the world.
 pub record Remembers (w : World) (marks : List NumberedMark) (values : List CellValue) : Type 0 where
-  pub each : (i : ℕ) (m : NumberedMark) → slice_get marks i ≡ Some m → slice_get values i ≡ Some (watched w m.mark)
+  pub each : (i : ℕ) (m : NumberedMark) → slice_get marks i ≡ Some m → slice_get values i ≡ Some (watched w m.item)

@@ -2,7 +2,7 @@
 
 ghost use Rattle.std.specs.Prelude.{◌+◌, ◌≤◌, length, List, ℕ};
 ghost use Rattle.nr_marks.specs.Hit.{is_hit_at};
-ghost use Rattle.nr_marks.specs.declared.marks.NumberedMark.{NumberedMark};
+ghost use Rattle.nr_marks.specs.Marks.{NumberedMark};
 ghost use Rattle.nr_rev.specs.Run.{Recording};
 ghost use Rattle.nr_search.specs.Nearest.{IsFound, nearest_hit};
 ghost use Rattle.nr_search.specs.declared.direction.Direction.TheVariants.{Forward, Backward};

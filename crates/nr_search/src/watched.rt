@@ -49,12 +49,12 @@ pub(crate) fn look<W: Worlds>(
     requires well_formed { W.is_well_formed world.now }
     requires few { length marks.now ≤ MOST_MARKS }
     ensures hits { (before : World) → Remembers before marks.now values.old
-        → result ≡ list_any (λ m. mark_hits before (W.world world.now) next m.mark) marks.now }
+        → result ≡ list_any (λ m. mark_hits before (W.world world.now) next m.item) marks.now }
     ensures values { Remembers (W.world world.now) marks.now values.new }
 {
     let mut hits = false;
     for (i, numbered) in marks.iter().enumerate() {
-        let (value, now) = look_at(numbered.mark, values[i], world, next);
+        let (value, now) = look_at(numbered.item, values[i], world, next);
         values[i] = value;
         hits = hits | now;
     }

@@ -22,13 +22,13 @@ loop-i-preserved g c =
     let kept : slice_get values i ≡ Some old = so_far.old i (omega arith) ∙ slice_get-get_or c.args.values.now i Absent within in
     record {
       hits = λ before remembered.
-          any-next (λ x. mark_hits before now c.args.next x.mark) marks i m c.loop-i.hits c.look_at-value.result.1 c.loop-i-test.true c.index-marks-i.is (so_far.hits before remembered)
-          (c.look_at-value.ensures.hits before (get_or_from_slice_get values i (watched before m.mark) Absent (so_far.old i (omega arith) ∙ remembered.each i m there)));
+          any-next (λ x. mark_hits before now c.args.next x.item) marks i m c.loop-i.hits c.look_at-value.result.1 c.loop-i-test.true c.index-marks-i.is (so_far.hits before remembered)
+          (c.look_at-value.ensures.hits before (get_or_from_slice_get values i (watched before m.item) Absent (so_far.old i (omega arith) ∙ remembered.each i m there)));
       new = λ k x less read. elim (slice_get-set_cases values i old c.look_at-value.result.0 k kept) [
         | inl here ↦
             let same : Some m ≡ Some x = sym there ∙ ap (slice_get marks) (sym here.0) ∙ read in
             let is : m ≡ x = cc in
-            here.1 ∙ ap Some (c.look_at-value.ensures.value ∙ ap (λ y. watched now y.mark) is)
+            here.1 ∙ ap Some (c.look_at-value.ensures.value ∙ ap (λ y. watched now y.item) is)
         | inr other ↦ other.1 ∙ so_far.new k x (below-more k i less other.0) read
       ];
       old = λ k more. elim (slice_get-set_cases values i old c.look_at-value.result.0 k kept) [
