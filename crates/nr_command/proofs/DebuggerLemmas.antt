@@ -3,7 +3,7 @@ use Rattle.std.proofs.Common.{◌≡◌, ℕ, zero, suc, ◌+◌, ◌-◌, ◌<�
 use Rattle.std.specs.Prelude.{OnErr}
 use Rattle.nr_rev.specs.Run.{Recording}
 use Rattle.nr_marks.specs.Hit.{is_hit_at}
-use Rattle.nr_marks.specs.declared.marks.NumberedMark.{NumberedMark}
+use Rattle.nr_marks.specs.Marks.{NumberedMark}
 use Rattle.nr_search.specs.Nearest.{NeedsCopy, first_of, last_below, nearest_hit}
 use Rattle.nr_search.specs.declared.direction.Direction.{Direction}
 use Rattle.nr_search.specs.declared.direction.Direction.TheVariants.{Forward, Backward}

@@ -2,9 +2,11 @@
 use Rattle.std.proofs.Common.{◌≡◌, ℕ, ◌+◌, ◌-◌, ◌≤◌, ◌==◌, Bool, true, false, cond, not, List, [], ◌∷◌, length, find, Option, Some, None, Result, Ok, Err, nat_lt, refl, sym, ap, subst, arith}
 use Rattle.std.specs.Prelude.{All, IfOk, OnErr, option_map}
 use Rattle.std.proofs.lemmas.Bool.{ltb-false}
-use Rattle.std.proofs.lemmas.List.Elements.{All-head, All-tail, All-push, All-filter}
+use Rattle.std.proofs.lemmas.List.Elements.{All-head, All-tail, All-filter}
 use Rattle.nr_rev.specs.Run.{Recording}
 use Rattle.nr_marks.specs.Marks.{deletion, next_number}
+use Rattle.nr_marks.specs.Numbered.{item_of}
+use Rattle.nr_marks.proofs.NumberedLemmas.{with_item-All}
 use Rattle.nr_marks.specs.declared.mark.Mark.{Mark}
 use Rattle.nr_marks.specs.declared.mark.Mark.TheVariants as marks
 use Rattle.nr_marks.specs.declared.marks.MarkFault.{MarkFault}
@@ -13,12 +15,11 @@ use Rattle.nr_search.specs.declared.direction.Direction.{Direction}
 use Rattle.nr_search.specs.declared.direction.Direction.TheVariants.{Forward, Backward}
 use Rattle.nr_search.specs.declared.found.Found.{Found}
 use Rattle.nr_search.specs.declared.found.Found.TheVariants.{Hit, Nothing}
+use Rattle.nr_command.specs.Checkpoints.{Checkpoint}
 use Rattle.nr_command.specs.Checkpoints as checkpoints
 use Rattle.nr_command.specs.Debugger.{IsWithin, Ran, after_tagged, after_words, arrive, at, checkpoint_deleted, continue, mark_deleted, mark_made, opening, position_kept, restarted, run, step, to_end}
 use Rattle.nr_command.specs.Word.{command_of}
-use Rattle.nr_command.specs.declared.checkpoint.Checkpoint.{Checkpoint}
 use Rattle.nr_command.specs.declared.checkpoint.CheckpointFault.{CheckpointFault}
-use Rattle.nr_command.specs.declared.checkpoint.CheckpointFault.TheVariants.{CheckpointsFull}
 use Rattle.nr_command.specs.declared.command.Command.{Command}
 use Rattle.nr_command.specs.declared.command.Command.TheVariants as commands
 use Rattle.nr_command.specs.declared.debugger.Debugger.{Debugger}
@@ -62,18 +63,16 @@ module _ (last : ℕ) (d : Debugger) (w : IsWithin last d) where
   deleted-within number (Ok _) = record { position = w.position; kept = w.kept }
   deleted-within number (Err fault) = w
 
-  kept-within : (full : Bool) (made : Checkpoint) (fault : CheckpointFault) → made.position ≡ d.position → IsWithin last (position_kept d (cond full (Err fault) (Ok made))).1
-  kept-within true made fault same = w
-  kept-within false made fault same =
-      let here = w.position in
-      record { position = w.position; kept = All-push (λ c. c.position ≤ last) d.checkpoints.standing made w.kept (omega (arith, here, same)) }
+  kept-within : (kept : Result Checkpoint CheckpointFault) → IsWithin last (position_kept d kept).1
+  kept-within (Ok made) = record { position = w.position; kept = with_item-All (λ c. c.item ≤ last) d.position d.checkpoints w.kept w.position }
+  kept-within (Err fault) = w
 
-  restarted-within : (number : ℕ) (found : Option Checkpoint) → find (λ c. c.number == number) d.checkpoints.standing ≡ found → IsWithin last (restarted d (option_map (λ c. c.position) found)).1
+  restarted-within : (number : ℕ) (found : Option Checkpoint) → find (λ c. c.number == number) d.checkpoints.standing ≡ found → IsWithin last (restarted d (option_map (λ c. c.item) found)).1
   restarted-within number None is = w
-  restarted-within number (Some c) is = at-within c.position (found_kept (λ c. c.position ≤ last) (λ c. c.number == number) d.checkpoints.standing c w.kept is)
+  restarted-within number (Some c) is = at-within c.item (found_kept (λ c. c.item ≤ last) (λ c. c.number == number) d.checkpoints.standing c w.kept is)
 
   unkept-within : (number : ℕ) (gone : Result (Unit {0}) CheckpointFault) → IsWithin last (checkpoint_deleted number d gone).1
-  unkept-within number (Ok _) = record { position = w.position; kept = All-filter (λ c. not (c.number == number)) (λ c. c.position ≤ last) d.checkpoints.standing w.kept }
+  unkept-within number (Ok _) = record { position = w.position; kept = All-filter (λ c. not (c.number == number)) (λ c. c.item ≤ last) d.checkpoints.standing w.kept }
   unkept-within number (Err fault) = w
 
 module _ (r : Recording) (d : Debugger) (w : IsWithin (length r.steps) d) where
@@ -93,9 +92,9 @@ module _ (r : Recording) (d : Debugger) (w : IsWithin (length r.steps) d) where
   run-within (commands.Break wanted) = marked-within (length r.steps) d w (marks.Break wanted) (next_number d.marks)
   run-within (commands.Watch c) = marked-within (length r.steps) d w (marks.Watch c) (next_number d.marks)
   run-within (commands.Delete number) = deleted-within (length r.steps) d w number (deletion number d.marks)
-  run-within commands.Checkpoint = kept-within (length r.steps) d w (checkpoints.is_full d.checkpoints) (record { number = d.checkpoints.made + 1; position = d.position }) CheckpointsFull refl
+  run-within commands.Checkpoint = kept-within (length r.steps) d w (checkpoints.next_checkpoint d.position d.checkpoints)
   run-within (commands.Restart number) =
-      either_within (length r.steps) (number == 0) (replies.At 0, at 0 d) (restarted d (checkpoints.position_of number d.checkpoints))
+      either_within (length r.steps) (number == 0) (replies.At 0, at 0 d) (restarted d (item_of number d.checkpoints))
       (λ start. at-within (length r.steps) d w 0 (omega arith))
       (λ other. restarted-within (length r.steps) d w number (find (λ c. c.number == number) d.checkpoints.standing) refl)
   run-within (commands.DeleteCheckpoint number) = unkept-within (length r.steps) d w number (checkpoints.deletion number d.checkpoints)

@@ -4,7 +4,8 @@ use Rattle.nr_rev.specs.Cell.{cell, bytes_of, queue_of}
 use Rattle.nr_rev.specs.Run.{Recording, world_at}
 use Rattle.nr_rev.specs.Worlds.{HasItems}
 use Rattle.nr_marks.specs.Hit.{hits_at}
-use Rattle.nr_marks.specs.Marks.{deletion, next_number, no_marks, with_mark, without_mark}
+use Rattle.nr_marks.specs.Marks.{deletion, next_number}
+use Rattle.nr_marks.specs.Numbered.{empty, item_of, with_item, without_item}
 use Rattle.nr_marks.specs.declared.mark.Mark.{Mark}
 use Rattle.nr_marks.specs.declared.mark.Mark.TheVariants as marks
 use Rattle.nr_marks.specs.declared.marks.MarkFault.{MarkFault}
@@ -13,10 +14,9 @@ use Rattle.nr_search.specs.declared.direction.Direction.{Direction}
 use Rattle.nr_search.specs.declared.direction.Direction.TheVariants.{Forward, Backward}
 use Rattle.nr_search.specs.declared.found.Found.{Found}
 use Rattle.nr_search.specs.declared.found.Found.TheVariants.{Hit, Nothing}
-use Rattle.nr_command.specs.Checkpoints.{next_checkpoint, no_checkpoints, position_of, with_checkpoint, without_checkpoint}
+use Rattle.nr_command.specs.Checkpoints.{Checkpoint, next_checkpoint}
 use Rattle.nr_command.specs.Checkpoints as checkpoints
 use Rattle.nr_command.specs.Word.{command_of}
-use Rattle.nr_command.specs.declared.checkpoint.Checkpoint.{Checkpoint}
 use Rattle.nr_command.specs.declared.checkpoint.CheckpointFault.{CheckpointFault}
 use Rattle.nr_command.specs.declared.checkpoint.CheckpointFault.TheVariants.{NoSuchCheckpoint}
 use Rattle.nr_command.specs.declared.command.Command.{Command}
@@ -30,7 +30,7 @@ use Rattle.nr_command.specs.declared.reply.Reply.TheVariants as replies
 
 -- before the first command
 abbrev pub opening : Debugger
-opening = record { position = 0; direction = Forward; marks = no_marks; checkpoints = no_checkpoints }
+opening = record { position = 0; direction = Forward; marks = empty; checkpoints = empty }
 
 -- what a command is answered, and the debugger after it
 abbrev pub Ran : Type 0
@@ -61,7 +61,7 @@ continue way r d = arrive way r d (nearest_hit way r d.marks.standing d.position
 
 -- it makes a mark
 abbrev pub mark_made : Mark → Debugger → Result ℕ MarkFault → Ran
-mark_made mark d (Ok number) = (replies.MarkMade number, record d { marks = with_mark mark d.marks })
+mark_made mark d (Ok number) = (replies.MarkMade number, record d { marks = with_item mark d.marks })
 mark_made mark d (Err fault) = (replies.Fault (faults.Mark fault), d)
 
 abbrev pub make_mark : Mark → Debugger → Ran
@@ -69,7 +69,7 @@ make_mark mark d = mark_made mark d (next_number d.marks)
 
 -- it deletes a mark
 abbrev pub mark_deleted : ℕ → Debugger → Result (Unit {0}) MarkFault → Ran
-mark_deleted number d (Ok _) = (replies.MarkDeleted number, record d { marks = without_mark number d.marks })
+mark_deleted number d (Ok _) = (replies.MarkDeleted number, record d { marks = without_item number d.marks })
 mark_deleted number d (Err fault) = (replies.Fault (faults.Mark fault), d)
 
 abbrev pub delete_mark : ℕ → Debugger → Ran
@@ -77,7 +77,7 @@ delete_mark number d = mark_deleted number d (deletion number d.marks)
 
 -- it keeps its position
 abbrev pub position_kept : Debugger → Result Checkpoint CheckpointFault → Ran
-position_kept d (Ok made) = (replies.CheckpointMade made, record d { checkpoints = with_checkpoint made d.checkpoints })
+position_kept d (Ok made) = (replies.CheckpointMade made, record d { checkpoints = with_item d.position d.checkpoints })
 position_kept d (Err fault) = (replies.Fault (faults.Checkpoint fault), d)
 
 abbrev pub keep_position : Debugger → Ran
@@ -90,11 +90,11 @@ restarted d None = (replies.Fault (faults.Checkpoint NoSuchCheckpoint), d)
 
 -- checkpoint 0 stands for the start
 abbrev pub restart : ℕ → Debugger → Ran
-restart number d = if number == 0 then (replies.At 0, at 0 d) else restarted d (position_of number d.checkpoints)
+restart number d = if number == 0 then (replies.At 0, at 0 d) else restarted d (item_of number d.checkpoints)
 
 -- it deletes a checkpoint
 abbrev pub checkpoint_deleted : ℕ → Debugger → Result (Unit {0}) CheckpointFault → Ran
-checkpoint_deleted number d (Ok _) = (replies.CheckpointDeleted number, record d { checkpoints = without_checkpoint number d.checkpoints })
+checkpoint_deleted number d (Ok _) = (replies.CheckpointDeleted number, record d { checkpoints = without_item number d.checkpoints })
 checkpoint_deleted number d (Err fault) = (replies.Fault (faults.Checkpoint fault), d)
 
 abbrev pub delete_checkpoint : ℕ → Debugger → Ran
@@ -117,7 +117,7 @@ run r (commands.DeleteCheckpoint number) d = delete_checkpoint number d
 -- it stands in the recording, and so do the positions that it keeps
 pub record IsWithin (last : ℕ) (d : Debugger) : Type 0 where
   pub position : d.position ≤ last
-  pub kept : All (λ c. c.position ≤ last) d.checkpoints.standing
+  pub kept : All (λ c. c.item ≤ last) d.checkpoints.standing
 
 abbrev pub NeedsWorlds : Direction → Recording → Debugger → Type 0
 NeedsWorlds way r d = (0 < length d.marks.standing) × NeedsCopy way r d.position

@@ -1,4 +1,3 @@
-pub mod CheckpointTable
 pub mod Checkpoints
 pub mod Command
 pub mod Count

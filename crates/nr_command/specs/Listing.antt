@@ -2,11 +2,11 @@
 use Rattle.std.specs.Prelude.{ℕ, List, ◌++◌, length, flat_map, codes, decimal}
 use Rattle.nr_rev.specs.Kind.{kind_name}
 use Rattle.nr_command.specs.Value.{cell_text}
-use Rattle.nr_command.specs.declared.checkpoint.Checkpoint.{Checkpoint}
+use Rattle.nr_command.specs.Checkpoints.{Checkpoint}
 use Rattle.nr_marks.specs.declared.mark.Break.TheVariants as breaks
 use Rattle.nr_marks.specs.declared.mark.Mark.{Mark}
 use Rattle.nr_marks.specs.declared.mark.Mark.TheVariants.{Break, Watch}
-use Rattle.nr_marks.specs.declared.marks.NumberedMark.{NumberedMark}
+use Rattle.nr_marks.specs.Marks.{NumberedMark}
 use Rattle.nr_command.specs.declared.listing.Listing.{Listing}
 use Rattle.nr_command.specs.declared.listing.Listing.TheVariants.{Heading, Marks, Checkpoints}
 
@@ -18,11 +18,11 @@ mark_text (Watch cell) = codes "watch " ++ cell_text cell
 
 -- a line of the list of marks
 abbrev pub mark_line : NumberedMark → List ℕ
-mark_line m = decimal m.number ++ codes " " ++ mark_text m.mark ++ codes "\n"
+mark_line m = decimal m.number ++ codes " " ++ mark_text m.item ++ codes "\n"
 
 -- a line of the list of checkpoints
 abbrev pub checkpoint_line : Checkpoint → List ℕ
-checkpoint_line c = decimal c.number ++ codes " at " ++ decimal c.position ++ codes "\n"
+checkpoint_line c = decimal c.number ++ codes " at " ++ decimal c.item ++ codes "\n"
 
 -- the list of marks: how many, and a line for each
 abbrev pub marks_text : List NumberedMark → List ℕ

@@ -64,7 +64,7 @@ text_of (replies.AtHit p marks) = codes "at " ++ decimal p ++ codes " by" ++ fla
 text_of (replies.Direction direction) = codes "direction " ++ direction_text direction ++ codes "\n"
 text_of (replies.MarkMade n) = codes "mark " ++ decimal n ++ codes "\n"
 text_of (replies.MarkDeleted n) = codes "deleted mark " ++ decimal n ++ codes "\n"
-text_of (replies.CheckpointMade c) = codes "checkpoint " ++ decimal c.number ++ codes " at " ++ decimal c.position ++ codes "\n"
+text_of (replies.CheckpointMade c) = codes "checkpoint " ++ decimal c.number ++ codes " at " ++ decimal c.item ++ codes "\n"
 text_of (replies.CheckpointDeleted n) = codes "deleted checkpoint " ++ decimal n ++ codes "\n"
 text_of (replies.Printed cell value) = cell_text cell ++ codes " = " ++ value_text value ++ codes "\n"
 text_of (replies.Bytes side s bytes) = buffer_name side ++ decimal s ++ codes " = " ++ bytes_text bytes ++ codes "\n"

@@ -1,5 +1,5 @@
 -- Writers that remember whether they failed.
-use Rattle.std.specs.Prelude.{ℕ, ◌==◌, ◌&&◌, nat_lt, Bool, true, false, List, length, Option, Result, Ok, Err}
+use Rattle.std.specs.Prelude.{ℕ, ◌==◌, ◌&&◌, nat_lt, Bool, true, List, length, Option, Result, Ok, Err}
 
 -- what is seen of a writer: the bytes that it holds, where they are known, and whether a write failed
 pub record Outgoing : Type 0 where

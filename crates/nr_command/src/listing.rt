@@ -16,7 +16,7 @@ impl Sent for NumberedMark {
 
     fn send<W: Write>(&self, w: &mut Sink<W>) -> Result<u64, Part> {
         let number = Piece::Number(self.number);
-        match self.mark {
+        match self.item {
             Mark::Break(Break::Kind(kind)) => {
                 let kind = Piece::Text(kind.name().as_bytes());
                 send_all(
@@ -50,7 +50,7 @@ impl Sent for Checkpoint {
         let tokens = [
             Token::Number(u64::from(self.number)),
             Token::Text(b" at "),
-            Token::Number(self.position as u64),
+            Token::Number(self.item as u64),
             Token::Text(b"\n"),
         ];
         send_all(&tokens, w)

@@ -203,7 +203,7 @@ fn send_checkpoint<W: Write>(checkpoint: Checkpoint, w: &mut Sink<W>) -> Result<
         Token::Text(b"checkpoint "),
         Token::Number(u64::from(checkpoint.number)),
         Token::Text(b" at "),
-        Token::Number(checkpoint.position as u64),
+        Token::Number(checkpoint.item as u64),
         Token::Text(b"\n"),
     ];
     send_all(&tokens, w)

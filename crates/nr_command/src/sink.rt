@@ -5,7 +5,6 @@ ghost use Rattle.std.specs.Io.{WritesAtMost};
 ghost use Rattle.std.specs.Io.KnownBytes.{WriteAppends};
 ghost use Rattle.nr_command.specs.Sink.{is_failure};
 
-use std::io;
 use std::io::{ErrorKind, Write};
 use std::marker::Model;
 
@@ -24,6 +23,10 @@ impl<W: Write> Model for Sink<W> {
 
     ghost view = { λ s. record { contents = W.contents s.writer; failed = s.failed } };
 }
+
+/// A write failed.
+#[derive(Clone, Copy, Debug, PartialEq, Eq)]
+pub(crate) struct WriteFailed;
 
 impl<W: Write> Sink<W> {
     /// The writer, of which no write has failed.
@@ -52,7 +55,7 @@ impl<W: Write> Sink<W> {
     }
 
     /// Writes some of the bytes, and says how many. A write that is interrupted is tried again, up to `u64::MAX` times.
-    pub fn write(&mut self, bytes: &[u8]) -> io::Result<usize>
+    pub(crate) fn write(&mut self, bytes: &[u8]) -> Result<usize, WriteFailed>
         ensures bound { WritesAtMost result bytes.now }
         ensures bytes { WriteAppends self.old.contents self.new.contents result bytes.now }
         ensures failed { self.new.failed ≡ (self.old.failed || is_failure result bytes.now) }
@@ -66,13 +69,13 @@ impl<W: Write> Sink<W> {
                     return Ok(count);
                 }
                 Err(error) if error.kind() == ErrorKind::Interrupted => {}
-                Err(error) => {
+                Err(_) => {
                     self.failed = true;
-                    return Err(error);
+                    return Err(WriteFailed);
                 }
             }
         }
         self.failed = true;
-        Err(ErrorKind::Interrupted.into())
+        Err(WriteFailed)
     }
 }

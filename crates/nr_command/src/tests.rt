@@ -124,7 +124,7 @@ fn lists_are_printed_line_by_line(rt: HostRuntime) -> Result<(), Fail> {
         (2, Mark::Break(Break::Step(times(7)))),
         (3, Mark::Watch(Cell::ReadWord(0))),
     ] {
-        let mark = NumberedMark { number, mark };
+        let mark = NumberedMark { number, item: mark };
         assert!(rt; marks.try_push(mark).is_ok());
     }
     let mut hits = ArrayVec::new();
@@ -158,10 +158,7 @@ fn lists_are_printed_line_by_line(rt: HostRuntime) -> Result<(), Fail> {
 #[test]
 fn a_checkpoint_number_is_not_given_again(rt: HostRuntime) -> Result<(), Fail> {
     let mut checkpoints = Checkpoints::new();
-    let first = Checkpoint {
-        number: 1,
-        position: 5,
-    };
+    let first = Checkpoint { number: 1, item: 5 };
     assert_eq!(rt; checkpoints.make(5), Ok(first));
     assert_eq!(rt; checkpoints.delete(1), Ok(()));
     assert_eq!(rt;
@@ -170,11 +167,7 @@ fn a_checkpoint_number_is_not_given_again(rt: HostRuntime) -> Result<(), Fail> {
     );
     assert_eq!(rt; checkpoints.position_of(1), None);
     for number in 2..=65 {
-        let position = 7;
-        assert_eq!(rt;
-            checkpoints.make(position),
-            Ok(Checkpoint { number, position })
-        );
+        assert_eq!(rt; checkpoints.make(7), Ok(Checkpoint { number, item: 7 }));
     }
     assert_eq!(rt; checkpoints.make(7), Err(CheckpointFault::CheckpointsFull));
     assert_eq!(rt; checkpoints.as_slice().len(), 64);
