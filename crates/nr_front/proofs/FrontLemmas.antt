@@ -1,13 +1,11 @@
 -- What a command comes to that is offered after a front has seen all others.
-use Rattle.std.proofs.Common.{◌≡◌, ℕ, Option, Some, None, refl, sym, ap, ◌∙◌, subst, inl, inr, Result, Ok, Err}
+use Rattle.std.proofs.Common.{◌≡◌, ℕ, refl, sym, ap, ◌∙◌, subst, inl, Ok, Err}
 use Rattle.nr_journal.specs.Rule.{room_of}
 use Rattle.nr_command.specs.declared.command.Command.{Command}
 use Rattle.nr_command.specs.declared.reply.Reply.{Reply}
 use Rattle.nr_front.specs.Desk.{Desk, RepliesLast, SearchIsDue, own_due, owed, place_of}
-use Rattle.nr_front.specs.Front.{Answers, CatchesAll, Executes, FindsFull, IsLeftOwed, IsRefused, Places, settled}
+use Rattle.nr_front.specs.Front.{Answers, CatchesAll, Executes, Places, settled}
 use Rattle.nr_front.specs.Steps.{Placing}
-use Rattle.nr_front.specs.declared.due.Due.{Due}
-use Rattle.nr_front.specs.declared.due.Due.TheVariants.{Own}
 use Rattle.nr_front.specs.declared.fault.FrontFault.{FrontFault}
 use Rattle.nr_front.specs.declared.fault.FrontFault.TheVariants.{Memory, Placed, Full}
 use Rattle.nr_front.proofs.StepsLemmas.{learns_then, places_then}

@@ -1,5 +1,5 @@
 -- What a look, an offer and a command that is run do to a front, one after the other.
-use Rattle.std.proofs.Common.{◌≡◌, ℕ, ◌+◌, ◌<◌, ◌≤◌, ◌⊎◌, List, [], ◌∷◌, ◌++◌, arith, length, refl, sym, ap, ◌∙◌, subst, append_assoc, append-nil, Option, Some, None, Bool, true, false, inl, inr, Result, Ok, Err}
+use Rattle.std.proofs.Common.{◌≡◌, ℕ, ◌+◌, ◌<◌, ◌≤◌, List, [], ◌∷◌, ◌++◌, arith, length, refl, sym, ap, ◌∙◌, subst, append_assoc, append-nil, Option, Some, None, false, inl, inr}
 use Rattle.std.specs.List.{All}
 use Rattle.std.proofs.lemmas.List.Elements.{All-append, All-cons, All-nil}
 use Rattle.atomic_table.specs.Seated.{TableId}
@@ -12,8 +12,6 @@ use Rattle.nr_command.specs.Word.{command_of, word_of}
 use Rattle.nr_front.specs.Desk.{Desk, SearchIsDue, own_due, owed}
 use Rattle.nr_front.specs.Front.{CatchesAll, FindsFull, IsRefused, IsSame, Learns, Places, settled}
 use Rattle.nr_front.specs.Steps.{FindsNone, HasSeenAll, Offers, Sees, SeesWord, due_at}
-use Rattle.nr_front.specs.declared.due.Due.{Due}
-use Rattle.nr_front.specs.declared.due.Due.TheVariants.{Nothing, Own}
 
 own_due-others : (x : Option (ℕ × Command)) → own_due (due_at x) ≡ None
 own_due-others None = refl
@@ -87,10 +85,7 @@ learns_none a b same none before after = record {
   unowed_still = after;
 }
 
--- nothing was done
-pub learns_nothing : (a : Desk) → owed a ≡ None → Learns a a
-learns_nothing a unowed = learns_none a a (record { table = refl; recording = refl }) (same_stand a.stand a.stand refl) unowed unowed
-
+-- one after the other
 pub learns_then : (a b d : Desk) → Learns a b → Learns b d → Learns a d
 learns_then a b d x y = record {
   same = same_then a b d x.same y.same;

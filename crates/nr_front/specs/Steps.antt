@@ -1,5 +1,5 @@
 -- What the steps do that the calls of a front are made of.
-use Rattle.std.specs.Prelude.{◌≡◌, ℕ, ◌+◌, ◌<◌, ◌⊎◌, Bool, true, false, length, Option, Some, None, Result, Ok, Err}
+use Rattle.std.specs.Prelude.{◌≡◌, ℕ, ◌<◌, ◌⊎◌, Bool, true, false, length, Option, Some, None, Result, Ok, Err}
 use Rattle.nr_journal.specs.Rule.{IsOthers, StartsWith, looked, room_of, shown}
 use Rattle.nr_journal.specs.declared.pass.Offered.{Offered}
 use Rattle.nr_journal.specs.declared.pass.Offered.TheVariants as offered

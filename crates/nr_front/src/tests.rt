@@ -1,4 +1,4 @@
-//! Fronts that share a journal, by calls in turn.
+//! Fronts that share a journal, by calls in turn and in threads of their own.
 
 ghost use Rattle.std.specs.Prelude.{◌≡◌, ◌≤◌, [], IfOk};
 
@@ -14,6 +14,7 @@ use std::alloc::Global;
 use std::cmp::Ordering;
 use std::num::NonZeroU32;
 use std::test::*;
+use std::thread::join;
 
 type Ticking<'f> = Front<Replica<'f, PlainWorld, OneWorker>>;
 
@@ -24,10 +25,10 @@ const LIMITS: Limits = Limits {
     buffer: 1,
 };
 
-/// Nine steps that set the clock to 1, 2 and so on.
-fn film(alloc: Global) -> Result<Film<PlainWorld>, &'static str> {
+/// So many steps that set the clock to 1, 2 and so on.
+fn film(alloc: Global, count: u32) -> Result<Film<PlainWorld>, &'static str> {
     let mut steps = Vec::new(alloc);
-    for time in 1..10 {
+    for time in 1..=i64::from(count) {
         steps
             .push(Step::Tick { time })
             .map_err(|_| "no memory for a step")?;
@@ -87,34 +88,19 @@ fn one_back() -> Command {
     Command::ReverseStep(NonZeroU32::MIN)
 }
 
+/// A look told that it stands there, in a recording of so many steps.
+fn is_at(at: usize, count: usize, shown: Result<Reply, FrontFault>) -> bool {
+    matches!(shown, Ok(Reply::Position { position, last, .. }) if position == at && last == count)
+}
+
 #[test]
 fn a_command_counts_at_its_place(rt: HostRuntime) -> Result<(), Fail> {
-    let film = film(rt.alloc())?;
+    let film = film(rt.alloc(), 9)?;
     let (journal, mut one, mut other, mut third) = share(rt.alloc(), 4, &film)?;
     assert!(rt; matches!(one.exec(&journal, three_steps()), Ok(Reply::At(3))));
     assert!(rt; matches!(other.exec(&journal, one_back()), Ok(Reply::At(2))));
-    let shown = one.look(&journal, Query::Position);
-    assert!(rt;
-        matches!(
-            shown,
-            Ok(Reply::Position {
-                position: 2,
-                last: 9,
-                ..
-            })
-        )
-    );
-    let shown = other.look(&journal, Query::Position);
-    assert!(rt;
-        matches!(
-            shown,
-            Ok(Reply::Position {
-                position: 2,
-                last: 9,
-                ..
-            })
-        )
-    );
+    assert!(rt; is_at(2, 9, one.look(&journal, Query::Position)));
+    assert!(rt; is_at(2, 9, other.look(&journal, Query::Position)));
     assert!(rt; matches!(one.resume(), Ok(None)));
     let (mut one, mut other) = (one.end(), other.end());
     assert_eq!(rt; (one.seen(), other.seen()), (2, 2));
@@ -127,43 +113,62 @@ fn a_command_counts_at_its_place(rt: HostRuntime) -> Result<(), Fail> {
 
 #[test]
 fn the_other_order_has_other_replies(rt: HostRuntime) -> Result<(), Fail> {
-    let film = film(rt.alloc())?;
+    let film = film(rt.alloc(), 9)?;
     let (journal, mut one, mut other, _) = share(rt.alloc(), 4, &film)?;
     assert!(rt; matches!(other.exec(&journal, one_back()), Ok(Reply::AtStart)));
     assert!(rt; matches!(one.exec(&journal, three_steps()), Ok(Reply::At(3))));
-    let shown = other.look(&journal, Query::Position);
-    assert!(rt;
-        matches!(
-            shown,
-            Ok(Reply::Position {
-                position: 3,
-                last: 9,
-                ..
-            })
-        )
-    );
+    assert!(rt; is_at(3, 9, other.look(&journal, Query::Position)));
     assert_eq!(rt; (one.end().seen(), other.end().seen()), (2, 2));
     Ok(())
 }
 
 #[test]
 fn a_full_journal_takes_no_command(rt: HostRuntime) -> Result<(), Fail> {
-    let film = film(rt.alloc())?;
+    let film = film(rt.alloc(), 9)?;
     let (journal, mut one, mut other, _) = share(rt.alloc(), 1, &film)?;
     assert!(rt; matches!(one.exec(&journal, three_steps()), Ok(Reply::At(3))));
     assert!(rt; matches!(other.exec(&journal, one_back()), Err(FrontFault::Full)));
-    let shown = other.look(&journal, Query::Position);
-    assert!(rt;
-        matches!(
-            shown,
-            Ok(Reply::Position {
-                position: 3,
-                last: 9,
-                ..
-            })
-        )
-    );
+    assert!(rt; is_at(3, 9, other.look(&journal, Query::Position)));
     assert!(rt; matches!(one.exec(&journal, one_back()), Err(FrontFault::Full)));
     assert_eq!(rt; other.end().seen(), 1);
+    Ok(())
+}
+
+/// Places a hundred commands, and looks until as many came of another front.
+fn step_and_wait(journal: &Journal, mut front: Ticking<'_>) -> Pass
+    requires { front.table ≡ journal.now }
+    ensures { result.table ≡ journal.now }
+{
+    for _ in 0..100 {
+        let _reply = front.exec(journal, Command::Step(NonZeroU32::MIN));
+    }
+    for _ in 0..10_000_000 {
+        if is_at(200, 300, front.look(journal, Query::Position)) {
+            return front.end();
+        }
+    }
+    front.end()
+}
+
+#[test]
+fn two_threads_place_a_hundred_commands_each(rt: HostRuntime) -> Result<(), Fail> {
+    let film = film(rt.alloc(), 300)?;
+    let (journal, one, other, _) = share(rt.alloc(), 4096, &film)?;
+    let shared = &journal;
+    let (mut one, mut other) = join(
+        &rt,
+        move || -> Pass
+            requires { one.table ≡ shared.now }
+            ensures { result.table ≡ shared.entry.now }
+        { step_and_wait(shared, one) },
+        move || -> Pass
+            requires { other.table ≡ shared.now }
+            ensures { result.table ≡ shared.entry.now }
+        { step_and_wait(shared, other) },
+    );
+    assert_eq!(rt; journal.meet(&mut one, &mut other), Ordering::Equal);
+    let words = journal.finish(rt.alloc(), &mut one)?;
+    let first = words.iter().filter(|word| **word / 256 % 256 == 0).count();
+    assert_eq!(rt; (words.len(), first), (200, 100));
     Ok(())
 }
