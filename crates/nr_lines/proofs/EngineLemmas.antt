@@ -6,7 +6,8 @@ use Rattle.std.specs.List.{concat}
 use Rattle.std.specs.Io.KnownBytes.{Appends, Consumes, IsAtEnd}
 use Rattle.nr_command.specs.Command.{meaning_of}
 use Rattle.nr_front.specs.Desk.{Desk}
-use Rattle.nr_lines.proofs.StreamLemmas.{Appends-then, Appends-nil, Consumes-nil, Consumes-then}
+use Rattle.nr_command.proofs.StreamLemmas.{Appends-nil, Appends-then}
+use Rattle.nr_lines.proofs.StreamLemmas.{Consumes-nil, Consumes-then}
 use Rattle.nr_lines.specs.declared.ending.End.TheVariants.{Closed, Quit}
 use Rattle.nr_lines.specs.declared.ending.LineEnd.{LineEnd}
 use Rattle.nr_lines.specs.declared.ending.LineEnd.TheVariants.{Read, Write}
@@ -243,15 +244,16 @@ came_more r r' r'' w w' p p' read line bytes whole st more = record {
   count = st.count;
 }
 
--- a read that gave none
-pub came_none : (r r' r'' w w' : Option (List ℕ)) (p p' : Desk) (read line buf : List ℕ) (whole n : ℕ) → Standing r r' w w' p p' read read line whole → Consumes r' r'' (take n buf) → n ≡ 0 → Standing r r'' w w' p p' read read line whole
-came_none r r' r'' w w' p p' read line buf whole n st more none =
-    subst (λ came. Standing r r'' w w' p p' came read line whole) (append-nil read)
-    (came_more r r' r'' w w' p p' read line [] whole st (subst (λ m. Consumes r' r'' (take m buf)) none more))
-
 -- the line by another name
 pub relined : (r r' w w' : Option (List ℕ)) (p p' : Desk) (came read line slice : List ℕ) (whole : ℕ) → Standing r r' w w' p p' came read line whole → slice ≡ line → Standing r r' w w' p p' came read slice whole
 relined r r' w w' p p' came read line slice whole st e = subst (λ l. Standing r r' w w' p p' came read l whole) (sym e) st
+
+-- a read that gave none
+pub last_stands : (r r' r'' w w' : Option (List ℕ)) (p p' : Desk) (read line slice buf : List ℕ) (whole n : ℕ) → Standing r r' w w' p p' read read line whole → Consumes r' r'' (take n buf) → n ≡ 0 → slice ≡ line → Standing r r'' w w' p p' read read slice whole
+last_stands r r' r'' w w' p p' read line slice buf whole n st more none e =
+    relined r r'' w w' p p' read read line slice whole
+    (subst (λ came. Standing r r'' w w' p p' came read line whole) (append-nil read)
+    (came_more r r' r'' w w' p p' read line [] whole st (subst (λ m. Consumes r' r'' (take m buf)) none more))) e
 
 -- what came, at the byte at i
 pub came_at : (before bytes : List ℕ) (i : ℕ) → i < length bytes → before ++ bytes ≡ (before ++ take i bytes) ++ get_or bytes i 0 ∷ drop (suc i) bytes

@@ -1,5 +1,5 @@
 -- A transcript only goes on.
-use Rattle.std.proofs.Common.{◌≡◌, ℕ, ◌≤◌, ap, sym, ◌∙◌, inl, inr, arith, List, [], ◌∷◌, ◌++◌, append-nil, append_assoc, Option, Some, None, Result, Ok, Err}
+use Rattle.std.proofs.Common.{◌≡◌, ℕ, ap, sym, ◌∙◌, inl, inr, arith, List, [], ◌∷◌, ◌++◌, append-nil, append_assoc, Option, Some, None, Result, Ok, Err}
 use Rattle.nr_journal.specs.declared.view.Stand.{Stand}
 use Rattle.nr_command.specs.Command.{meaning_of}
 use Rattle.nr_command.specs.Word.{word_of}

@@ -23,7 +23,7 @@ const CHUNK: usize = 512;
 ///
 /// The source may be read past `quit`, or past the line whose reply was not written. Where a read failed, the whole
 /// lines before it are answered. Whatever the end, the front can be used again, and each line up to there was run, also
-/// one whose reply was not written. A failure is told only where there was one.
+/// one whose reply was not written. A failure is told just where there was one.
 pub fn serve<R: Read, W: Write, M: Machine>(
     rt: &impl Wait,
     r: &mut Source<R>,
@@ -38,7 +38,7 @@ pub fn serve<R: Read, W: Write, M: Machine>(
     ensures serves { Serves r.old.remaining r.new.remaining w.old.contents w.new.contents
         front.old front.new result }
     ensures reader { r.new.failed ≡ tells_read result }
-    ensures writer { tells_write result ≡ true → w.new.failed ≡ true }
+    ensures writer { w.new.failed ≡ tells_write result }
 {
     let mut line = ArrayVec::<u8, LINE_ROOM>::new();
     let mut whole = 0u64;

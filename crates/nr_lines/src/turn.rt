@@ -1,6 +1,6 @@
 //! One line and its answer.
 
-ghost use Rattle.std.specs.Prelude.{◌≡◌, ℕ, List, true, IfErr, IfOk, OnErr};
+ghost use Rattle.std.specs.Prelude.{◌≡◌, ℕ, List, true, IfErr, IfOk, OnErr, OnOk};
 ghost use Rattle.std.specs.Io.KnownBytes.{Appends};
 ghost use Rattle.nr_command.specs.Command.{meaning_of};
 ghost use Rattle.nr_lines.specs.Turn.{IsCut, MayReply, Turn, count_with, is_quit, outcome, resumed, told};
@@ -29,6 +29,7 @@ pub(crate) fn turn<W: Write, M: Machine>(
     ensures err { IfErr result (λ e. (text : List ℕ)
         × Turn front.old line.now text front.new
         × IsCut e whole.old text w.old.contents w.new.contents) }
+    ensures calm { OnOk result (w.new.failed ≡ w.old.failed) }
     ensures failed { OnErr result (w.new.failed ≡ true) }
 {
     let asked = Command::parse(line);
