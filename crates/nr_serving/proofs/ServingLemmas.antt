@@ -1,9 +1,9 @@
 -- Callers served one after the other.
-use Rattle.std.proofs.Common.{◌≡◌, List, [], ◌∷◌, ◌++◌, length, map, Option, Some, None, Result, Ok, Err, Bool, true, false, ◌||◌, true≢false, refl, sym, ap, ◌∙◌, subst, append_assoc, append-nil, arith}
-use Rattle.std.specs.List.{All}
-use Rattle.std.specs.Prelude.{IfSome, IsOk, option_to_list}
-use Rattle.std.specs.Result.{is_err}
-use Rattle.std.proofs.lemmas.List.Elements.{All-push}
+use Rattle.std.proofs.Common.{◌≡◌, List, [], ◌∷◌, ◌++◌, map, Option, Some, None, Result, Bool, ◌||◌, refl, sym, ap, ◌∙◌, subst, append_assoc}
+use Rattle.std.specs.List.{list_any}
+use Rattle.std.specs.Prelude.{IfSome, is_err, option_to_list}
+use Rattle.std.proofs.lemmas.List.Folds.{list_any-append}
+use Rattle.std.proofs.Math.Bool.{or-false}
 use Rattle.std.proofs.lemmas.List.{map-append}
 use Rattle.nr_front.specs.Desk.{Desk}
 use Rattle.nr_lines.specs.declared.ending.End.{End}
@@ -16,11 +16,10 @@ pub serving_more : (endings : List (Result End LineEnd)) (a b d : Desk) (ending 
 serving_more [] a b d ending is last = (d, subst (λ (s : Desk). Serves ending s d) is last, refl)
 serving_more (e ∷ es) a b d ending (mid, first, rest) last = (mid, first, serving_more es mid b d ending rest last)
 
--- where no failure is told each ended well, and so does one more
-pub calm_more : (endings : List (Result End LineEnd)) (ending : Result End LineEnd) (was now : Bool) → now ≡ (was || is_err ending) → (was ≡ false → All IsOk endings) → now ≡ false → All IsOk (endings ++ ending ∷ [])
-calm_more endings (Ok e) false now is calm told = All-push IsOk endings (Ok e) (calm refl) refl
-calm_more endings (Err e) false now is calm told = absurd (true≢false (sym is ∙ told))
-calm_more endings ending true now is calm told = absurd (true≢false (sym is ∙ told))
+-- a failure is told just where one of them ended with one, and so with one more
+pub told_more : (endings : List (Result End LineEnd)) (ending : Result End LineEnd) (was now : Bool) → was ≡ list_any is_err endings → now ≡ (was || is_err ending) → now ≡ list_any is_err (endings ++ ending ∷ [])
+told_more endings ending was now told is =
+    is ∙ ap (λ (t : Bool). t || is_err ending) told ∙ ap (λ (t : Bool). list_any is_err endings || t) (sym (or-false (is_err ending))) ∙ sym (list_any-append is_err endings (ending ∷ []))
 
 -- the last of some pairs was taken
 pub last_taken : {A B : Type 0} (old new : List (A × B)) (taken : Option (A × B)) → old ≡ new ++ option_to_list taken → IfSome taken (λ f. map {A = A × B} {B = A} (λ p. p.0) old ≡ map {A = A × B} {B = A} (λ p. p.0) new ++ f.0 ∷ [])

@@ -1,6 +1,6 @@
 -- What becomes of a front that is served.
-use Rattle.std.specs.Prelude.{◌≡◌, ℕ, false, List, [], ◌∷◌, ◌++◌, Option, Result, IsOk}
-use Rattle.std.specs.List.{All}
+use Rattle.std.specs.Prelude.{◌≡◌, ℕ, Bool, ◌||◌, List, [], ◌∷◌, ◌++◌, Option, Result, is_err}
+use Rattle.std.specs.List.{list_any}
 use Rattle.nr_front.specs.Desk.{Desk, pass_of}
 use Rattle.nr_lines.specs.Engine as engine
 use Rattle.nr_lines.specs.declared.ending.End.{End}
@@ -21,14 +21,24 @@ abbrev pub Serving : List (Result End LineEnd) → Desk → Desk → Type 0
 Serving [] d d' = d' ≡ d
 Serving (ending ∷ endings) d d' = (mid : Desk) × Serves ending d mid × Serving endings mid d'
 
--- A front that stood there was served, and this is what came back. Where no failure is told there was none.
-pub record IsServed (start : Desk) (done : Done) : Type 0 where
+-- The course of a front: how serving each of its callers ended, whether it had no more of them before its time, and
+-- where the front stood in the end.
+pub record Course : Type 0 where
   pub endings : List (Result End LineEnd)
+  pub cut_off : Bool
   pub last : Desk
-  pub serving : Serving endings start last
-  pub calm : done.failed ≡ false → All IsOk endings
-  pub pass : done.pass ≡ pass_of last
-  pub same : last.table ≡ start.table
+
+-- its callers couldn't be had any more, or a connection failed
+abbrev pub has_failed : Course → Bool
+has_failed course = course.cut_off || list_any is_err course.endings
+
+-- A front that stood there was served, and this is what came back: a failure is told just where there was one.
+pub record IsServed (start : Desk) (done : Done) : Type 0 where
+  pub course : Course
+  pub serving : Serving course.endings start course.last
+  pub failed : done.failed ≡ has_failed course
+  pub pass : done.pass ≡ pass_of course.last
+  pub same : course.last.table ≡ start.table
 
 -- Fronts that stood there were served, and this came back of each.
 abbrev pub AreServed : List Desk → List Done → Type 0

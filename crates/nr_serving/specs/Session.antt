@@ -1,13 +1,11 @@
 -- What a session leaves that several people shared.
-use Rattle.std.specs.Prelude.{◌≡◌, ℕ, Bool, false, List, length, Result, IsOk}
-use Rattle.std.specs.List.{All}
+use Rattle.std.specs.Prelude.{◌≡◌, ℕ, Bool, ◌||◌, List, length}
+use Rattle.std.specs.List.{All, list_any}
 use Rattle.atomic_table.specs.Seated.{TableId}
 use Rattle.nr_rev.specs.Run.{Recording}
 use Rattle.nr_journal.specs.Rule.{StartsWith, entering, room_of}
 use Rattle.nr_front.specs.Desk.{Desk, opened}
-use Rattle.nr_lines.specs.declared.ending.End.{End}
-use Rattle.nr_lines.specs.declared.ending.LineEnd.{LineEnd}
-use Rattle.nr_serving.specs.Fronts.{Serving}
+use Rattle.nr_serving.specs.Fronts.{Course, Serving, has_failed}
 use Rattle.nr_serving.specs.declared.fronts.Done.{Done}
 
 -- A front of this journal and recording that has seen no word.
@@ -18,23 +16,30 @@ IsFresh table r desk = (tag : ℕ) × (desk ≡ opened (record { table = table; 
 abbrev pub HoldsAll : List Done → List ℕ → Type 0
 HoldsAll done history = All (λ d. StartsWith history d.pass.stand.seen) done
 
--- Where no failure is told, none of the fronts had one.
-abbrev pub AreCalm : List Done → Bool → Type 0
-AreCalm done failed = failed ≡ false → All (λ d. d.failed ≡ false) done
+-- one of them failed
+abbrev pub any_failed : List Done → Bool
+any_failed done = list_any (λ d. d.failed) done
 
--- A front that began fresh stood there when its callers had been served. Where no failure is told there was none.
-pub record EndsAt (table : TableId) (r : Recording) (failed : Bool) (last : Desk) : Type 0 where
+-- What one front had seen begins what it has seen then, and so does what another had; and it tells a failure just where one
+-- of the two did.
+pub record TakesIn (one other then : Done) : Type 0 where
+  pub own : StartsWith then.pass.stand.seen one.pass.stand.seen
+  pub others : StartsWith then.pass.stand.seen other.pass.stand.seen
+  pub failed : then.failed ≡ (other.failed || one.failed)
+
+-- The course began with a fresh front.
+pub record BeginsFresh (table : TableId) (r : Recording) (course : Course) : Type 0 where
   pub start : Desk
   pub fresh : IsFresh table r start
-  pub endings : List (Result End LineEnd)
-  pub serving : Serving endings start last
-  pub calm : failed ≡ false → All IsOk endings
+  pub serving : Serving course.endings start course.last
 
--- So many fronts shared the session, and what each had seen in the end begins the one history.
+-- So many fronts shared the session: what each had seen in the end begins the one history, and a failure is told just where
+-- one of them failed.
 pub record IsShared (r : Recording) (room fronts : ℕ) (history : List ℕ) (failed : Bool) : Type 0 where
   pub table : TableId
   pub room_is : room_of table ≡ room
-  pub ends : List Desk
-  pub counted : length ends ≡ fronts
-  pub served : All (EndsAt table r failed) ends
-  pub one_history : All (λ last. StartsWith history last.stand.seen) ends
+  pub courses : List Course
+  pub counted : length courses ≡ fronts
+  pub served : All (BeginsFresh table r) courses
+  pub one_history : All (λ course. StartsWith history course.last.stand.seen) courses
+  pub told : failed ≡ list_any has_failed courses

@@ -5,7 +5,8 @@ ghost use Rattle.std.specs.List.{All};
 ghost use Rattle.nr_walker.specs.declared.walker.TheConstants.{LEAST_DEPTH, MOST_DEPTH};
 ghost use Rattle.nr_journal.specs.declared.rule.TheConstants.{MOST_WORDS};
 ghost use Rattle.nr_serving.specs.declared.session.Unshared.TheVariants as unshared;
-ghost use Rattle.nr_serving.specs.Session.{AreCalm, HoldsAll, IsFresh, IsShared};
+ghost use Rattle.nr_journal.specs.Rule.{StartsWith};
+ghost use Rattle.nr_serving.specs.Session.{HoldsAll, IsFresh, IsShared, TakesIn, any_failed};
 
 use crate::connection::{Connections, Ports};
 use crate::fronts::{Done, serve_each};
@@ -43,7 +44,7 @@ pub struct Shape {
 pub enum Unshared {
     /// There was no memory.
     Memory,
-    /// There are more fronts than tags.
+    /// There was no tag left for a front.
     NoTag,
 }
 
@@ -106,30 +107,46 @@ where
     Ok(fronts)
 }
 
-// Gives the ended fronts' history: all words that one of them had seen, and any that nobody had.
+// Gives the ended fronts' history, all words that one of them had seen and any that nobody had, and whether one failed.
 fn finish(alloc: Global, journal: &Journal, mut done: Vec<Done>) -> Result<Ended, AllocError>
     requires { All (λ d. d.pass.table ≡ journal.now) done.items }
     ensures history { IfOk result (λ ended. HoldsAll done.items ended.history.items) }
-    ensures calm { IfOk result (λ ended. AreCalm done.items ended.failed) }
+    ensures failed { IfOk result (λ ended. ended.failed ≡ any_failed done.items) }
 {
-    let Some(
-        Done {
-            mut pass,
-            mut failed,
-        },
-    ) = take_done(journal, &mut done)
-    else {
+    let Some(mut one) = take_done(journal, &mut done) else {
         return Ok(Ended {
             history: Vec::new(alloc),
             failed: false,
         });
     };
-    while let Some(mut other) = take_done(journal, &mut done) {
-        journal.see_all_of(&mut pass, &mut other.pass);
-        failed = failed | other.failed;
+    while let Some(other) = take_done(journal, &mut done) {
+        take_in(journal, &mut one, other);
     }
-    let history = journal.finish(alloc, &mut pass)?;
-    Ok(Ended { history, failed })
+    conclude(alloc, journal, one)
+}
+
+// Lets one front see all that another had seen, and tell its failure.
+fn take_in(journal: &Journal, one: &mut Done, mut other: Done)
+    requires one { one.old.pass.table ≡ journal.now }
+    requires other { other.pass.table ≡ journal.now }
+    ensures table { one.new.pass.table ≡ journal.now }
+    ensures takes { TakesIn one.old other one.new }
+{
+    journal.see_all_of(&mut one.pass, &mut other.pass);
+    one.failed = other.failed | one.failed;
+}
+
+// Gives the words that a front had seen, and any that nobody had.
+fn conclude(alloc: Global, journal: &Journal, mut one: Done) -> Result<Ended, AllocError>
+    requires { one.pass.table ≡ journal.now }
+    ensures history { IfOk result (λ ended. StartsWith ended.history.items one.pass.stand.seen) }
+    ensures failed { IfOk result (λ ended. ended.failed ≡ one.failed) }
+{
+    let history = journal.finish(alloc, &mut one.pass)?;
+    Ok(Ended {
+        history,
+        failed: one.failed,
+    })
 }
 
 // Takes the last of the fronts that ended.
@@ -147,8 +164,8 @@ fn take_done(journal: &Journal, done: &mut Vec<Done>) -> Option<Done>
 /// Opens the fronts, each with a debugger of its own over the film, serves each in a thread of its own until its callers
 /// end, and gives the history that they placed.
 ///
-/// `Memory` comes before any caller is served, or where the history is collected behind them; `NoTag` only where there are
-/// more fronts than `MOST_PASSES`.
+/// `Memory` comes before any caller is served, or where the history is collected behind them. `NoTag` means that the
+/// journal had no tag left for a front: it has `MOST_PASSES`. The contract doesn't say when an error comes.
 pub fn share<W, F, R, P>(
     rt: &R,
     alloc: Global,

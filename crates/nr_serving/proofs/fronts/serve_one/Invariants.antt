@@ -1,6 +1,6 @@
-use Rattle.std.proofs.Common.{◌≡◌, false, List, Result}
-use Rattle.std.specs.List.{All}
-use Rattle.std.specs.Prelude.{IsOk}
+use Rattle.std.proofs.Common.{◌≡◌, List, Result}
+use Rattle.std.specs.List.{list_any}
+use Rattle.std.specs.Prelude.{is_err}
 use Rattle.nr_lines.specs.declared.ending.End.{End}
 use Rattle.nr_lines.specs.declared.ending.LineEnd.{LineEnd}
 use Rattle.nr_serving.specs.Fronts.{Serving}
@@ -10,4 +10,4 @@ use Rattle.nr_serving.proofs.fronts.serve_one.Given as goal
 abbrev pub invariant-loop : goal.invariant-loop
 invariant-loop g l =
     (goal.iterator-loop g).can_next l.iterator' × (goal.iterator-loop g).is_finite l.iterator'
-    × (l.front.table ≡ l.journal) × ((endings : List (Result End LineEnd)) × Serving endings l.fn.front l.front × (l.failed ≡ false → All IsOk endings))
+    × (l.front.table ≡ l.journal) × ((endings : List (Result End LineEnd)) × Serving endings l.fn.front l.front × (l.failed ≡ list_any is_err endings))

@@ -1,4 +1,4 @@
-use Rattle.std.proofs.Common.{◌≡◌, ◌∙◌, sym, rules, map, length}
+use Rattle.std.proofs.Common.{◌≡◌, ◌∙◌, rules, map, length}
 use Rattle.std.proofs.lemmas.List.{length-map}
 use Rattle.nr_serving.proofs.SessionLemmas.{fresh_journal, fresh_starts, same_journal, served_all, shared}
 use Rattle.nr_serving.proofs.session.share.Goals as goal
@@ -20,4 +20,4 @@ returns g c =
     let fresh = fresh_starts table r c.in_ok-fronts.fronts.items c.in_ok-fronts.ensures.fresh in
     let are = served_all starts c.in_ok-done.done.items dones c.serve_each-done.ensures.served c.in_ok-done.ensures.items in
     let count : length starts ≡ c.args.shape.fronts = length-map c.in_ok-fronts.fronts.items (λ f. f.0) ∙ (search rules) in
-    shared table r _ _ starts dones c.args.shape.room c.args.shape.fronts c.in_ok-journal.ensures.0 count are fresh c.in_ok-ended.ensures.history c.in_ok-ended.ensures.calm
+    shared table r _ _ starts dones c.args.shape.room c.args.shape.fronts c.in_ok-journal.ensures.0 count are fresh c.in_ok-ended.ensures.history c.in_ok-ended.ensures.failed
