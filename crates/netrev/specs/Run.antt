@@ -44,7 +44,7 @@ pub record Walks (from left : Incoming) (old new : Outgoing) (r : Recording) (st
   pub serves : Serves from.remaining left.remaining old.contents new.contents (opened (record { table = table; stand = entering tag }) r) last ending
   pub ends : status ≡ status_after ending
   pub read_failed : left.failed ≡ tells_read ending
-  pub write_failed : tells_write ending ≡ true → new.failed ≡ true
+  pub write_failed : new.failed ≡ tells_write ending
 
 -- Nothing was read, and the fault's line is all that was written.
 pub record TellsFault {I : Type 0} (fault : OpenFault) (input left : I) (old new : Outgoing) (status : ExitStatus) : Type 0 where
