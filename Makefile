@@ -1,8 +1,9 @@
-# netrev: see README.md. All that is needed is the toolchain (`rt`), make and the usual tools of a shell.
+# netrev: see README.md. All that is needed is the toolchain (`rt`), make and the usual tools of a shell, and for the gate
+# a C compiler and Python (3.10 or later).
 
 NETREV = crates/netrev/out/netrev
 
-.PHONY: look run test refused netrev examples share bench
+.PHONY: look run test refused loopback netrev examples share bench
 
 # Runs the first example without waiting for proofs. Nothing is proved by it.
 look:
@@ -14,29 +15,38 @@ run: netrev
 	@echo
 	@sh examples/play.sh first
 
-# The gate: every proof from nothing, the edits that must fail, the tests, the program, and the program refused memory.
+# The gate: every proof from nothing, the edits that must fail, the tests, the program, the program refused memory, and
+# sessions over the loopback.
 test:
 	@sh scripts/gate.sh
 
-# The built program with each of its allocations refused in turn, a missing file and bad usage.
+# The built program with each of its allocations refused in turn, a missing file and bad usage; and a shared session too.
 refused: netrev
 	@sh scripts/refused.sh
+	@python3 scripts/refused_serving.py
+
+# Sessions of the built program over the loopback: up to 64 fronts at a time, and callers who misbehave.
+loopback: netrev
+	@python3 scripts/loopback.py
 
 # Leaves the proved program at $(NETREV). With no change since, nothing is proved again.
 netrev:
 	cd crates/netrev && rt run -- check ../../examples/first.jsonl
 
-# All examples, compared with their replies.
+# All examples, compared with their replies, and last a session that two share.
 examples: netrev
 	@for name in first lost-wakeup stale-deadline past-deadline reused-descriptor leaked-reference; do \
 		echo; echo "== $$name"; sh examples/play.sh $$name || exit 1; \
 	done
+	@echo; echo "== shared"; sh examples/shared.sh
 
 # Shares a session on the first example between two people, until it is interrupted.
 share: netrev
 	@echo "Join from two terminals:  nc 127.0.0.1 47200  and  nc 127.0.0.1 47201"
 	@$(NETREV) serve examples/first.jsonl --port 47200 --fronts 2
 
-# Loads and walks recordings of up to 1,000,000 steps: `make bench STEPS="10000 100000"` for fewer.
+# Loads and walks recordings of up to 1,000,000 steps: `make bench STEPS="10000 100000"` for fewer. Then shares a session.
 bench: netrev
 	@sh bench/run.sh $(STEPS)
+	@echo
+	@python3 bench/serving.py

@@ -3,8 +3,8 @@
 #
 # First `rt ci`, whose log is kept in out/gate.log. Where it passes, no edit that must fail may have been refused only
 # because a proof file names what the edit takes away, which says nothing of the contract; and the program that was
-# built has to stand scripts/refused.sh. The last line is that of `rt ci`, with one more failed for each of these two
-# that fails.
+# built has to stand scripts/refused.sh, scripts/refused_serving.py and scripts/loopback.py, and play examples/shared.sh.
+# The last line is that of `rt ci`, with one more failed for each of these that fails.
 set -eu
 cd "$(dirname "$0")/.."
 mkdir -p out
@@ -21,6 +21,9 @@ if grep "only because a proof file names" "$log" >&2; then
 	more=$((more + 1))
 fi
 sh scripts/refused.sh || more=$((more + 1))
+python3 scripts/refused_serving.py || more=$((more + 1))
+python3 scripts/loopback.py || more=$((more + 1))
+sh examples/shared.sh || more=$((more + 1))
 
 last=$(tail -n 1 "$log")
 passed=${last%% passed*} failed=${last#*passed, }

@@ -1,8 +1,10 @@
 /* Put before the C library by LD_PRELOAD: refuses one allocation, that of the number in REFUSED, counted from 1, and
-   tells so by a byte on file descriptor 9. netrev allocates by malloc and realloc alone. */
+   tells so by a byte on file descriptor 9. netrev allocates by malloc and realloc alone. Where THREADS is 0 no thread
+   can be started, which is told alike. */
 #define _GNU_SOURCE
 #include <dlfcn.h>
 #include <errno.h>
+#include <pthread.h>
 #include <stdlib.h>
 #include <unistd.h>
 
@@ -37,4 +39,18 @@ void *realloc(void *block, size_t size)
 	if (!next)
 		next = (void *(*)(void *, size_t))dlsym(RTLD_NEXT, "realloc");
 	return is_refused() ? NULL : next(block, size);
+}
+
+int pthread_create(pthread_t *thread, const pthread_attr_t *attributes, void *(*start)(void *), void *argument)
+{
+	static int (*next)(pthread_t *, const pthread_attr_t *, void *(*)(void *), void *);
+	const char *threads = getenv("THREADS");
+	if (threads && atol(threads) == 0) {
+		if (write(9, "!", 1) != 1)
+			_exit(99);
+		return EAGAIN;
+	}
+	if (!next)
+		next = (int (*)(pthread_t *, const pthread_attr_t *, void *(*)(void *), void *))dlsym(RTLD_NEXT, "pthread_create");
+	return next(thread, attributes, start, argument);
 }

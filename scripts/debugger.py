@@ -1,0 +1,301 @@
+"""A plain model of the shared debugger, against which the replies of a session are held.
+
+`Recording` knows what stands at each position of a recording: the kinds of its steps by its text, and the replies of
+looks by one pass of `netrev run` over it. What the commands do with that, and which line is answered what, is the
+model's own, as docs/COMMANDS.md tells it: `read_line` says what a line asks for, and `Recording.answer` what it is
+answered in a state of the session, and the state behind it.
+"""
+
+import json
+import subprocess
+from bisect import bisect_left, bisect_right
+from dataclasses import dataclass
+from functools import lru_cache
+from pathlib import Path
+from typing import NamedTuple
+
+MOST = 4_294_967_295
+MOST_LINE = 256
+MOST_STANDING = 64
+
+UNKNOWN = "fault 201 unknown command"
+BAD = "fault 202 bad argument"
+TOO_LONG = "fault 203 line too long"
+FULL = "fault 303 journal full"
+NO_MARK = "fault 401 no such mark"
+MARKS_FULL = "fault 402 marks full"
+NO_CHECKPOINT = "fault 403 no such checkpoint"
+CHECKPOINTS_FULL = "fault 404 checkpoints full"
+
+KINDS = """spawn exit sockopen arrive peerclose sysread syswrite drain incref increfclose decref rwlock rwunlock acquire
+release pollopen pollclose pollreset waitbegin blockarm blockcheck parkcommit blockswap waitcheck setdeadline evict
+pollevent tick pop fire""".split()
+CELLS_OF_ALL = "clock waiters timers firings least".split()
+CELLS_OF_ONE = "gor lock rsem wsem in out rg wg rd wd rseq wseq fdseq info".split()
+DUMPS = "in out rq wq".split()
+ABBREVIATIONS = {
+    "si": "stepi",
+    "rsi": "reverse-stepi",
+    "c": "continue",
+    "rc": "reverse-continue",
+    "b": "break",
+    "p": "print",
+    "q": "quit",
+}
+FIRST_WORDS = """stepi reverse-stepi continue reverse-continue set break watch delete checkpoint restart print dump info
+resume quit""".split()
+
+
+class Asked(NamedTuple):
+    """What a line asks for: a command, which is placed, a look, or what is answered alike in every state."""
+
+    sort: str
+    what: object = None
+
+
+class State(NamedTuple):
+    """What all share: marks and checkpoints are pairs of a number and what has it, in rising order."""
+
+    position: int = 0
+    reverse: bool = False
+    marks: tuple = ()
+    marks_made: int = 0
+    checkpoints: tuple = ()
+    checkpoints_made: int = 0
+
+
+COMMANDS = {"step", "seek", "turn", "mark", "delete", "checkpoint", "restart", "forget"}
+
+
+def number_of(word):
+    """The number that a word spells, or None."""
+    if not (word.isascii() and word.isdigit()):
+        return None
+    number = int(word)
+    return number if number <= MOST else None
+
+
+def cell_of(words):
+    """The cell that the words spell, as replies spell it, or None."""
+    if len(words) == 1 and words[0] in CELLS_OF_ALL:
+        return words[0]
+    if len(words) == 2 and words[0] in CELLS_OF_ONE and number_of(words[1]) is not None:
+        return f"{words[0]} {number_of(words[1])}"
+    return None
+
+
+def break_of(words):
+    """The break that the words spell, as `info breakpoints` does, or None."""
+    if len(words) != 1:
+        return None
+    word = words[0]
+    if word in KINDS:
+        return f"break {word}"
+    step = number_of(word[1:]) if word.startswith("@") else None
+    return f"break @{step}" if step else None
+
+
+def read_line(line):
+    """What a line of bytes, without its line feed, asks for. None where it has no words."""
+    if len(line) > MOST_LINE:
+        return Asked("fault", TOO_LONG)
+    text = line.removesuffix(b"\r").decode("latin-1")
+    words = [word for word in text.split(" ") if word]
+    if not words:
+        return None
+    first = ABBREVIATIONS.get(words[0], words[0])
+    if first not in FIRST_WORDS:
+        return Asked("fault", UNKNOWN)
+    return read_words(first, words[1:]) or Asked("fault", BAD)
+
+
+def read_words(first, rest):
+    """What the words ask for of which the first is known, or None where something is wrong with the rest."""
+    number = number_of(rest[0]) if len(rest) == 1 else None
+    match first:
+        case "stepi" | "reverse-stepi":
+            count = 1 if not rest else number
+            return Asked("step", (count, first == "reverse-stepi")) if count else None
+        case "continue" | "reverse-continue" if not rest:
+            return Asked("seek", first == "reverse-continue")
+        case "set" if rest in (["exec-direction", "forward"], ["exec-direction", "reverse"]):
+            return Asked("turn", rest[1] == "reverse")
+        case "break" if mark := break_of(rest):
+            return Asked("mark", mark)
+        case "watch" if cell := cell_of(rest):
+            return Asked("mark", f"watch {cell}")
+        case "delete" if number is not None:
+            return Asked("delete", number)
+        case "delete" if len(rest) == 2 and rest[0] == "checkpoint" and number_of(rest[1]) is not None:
+            return Asked("forget", number_of(rest[1]))
+        case "checkpoint" if not rest:
+            return Asked("checkpoint")
+        case "restart" if number is not None:
+            return Asked("restart", number)
+        case "print" if cell := cell_of(rest):
+            return Asked("look", f"print {cell}")
+        case "dump" if len(rest) == 2 and rest[0] in DUMPS and number_of(rest[1]) is not None:
+            return Asked("look", f"dump {rest[0]} {number_of(rest[1])}")
+        case "info" if rest in (["position"], ["breakpoints"], ["checkpoints"]):
+            return Asked("info", rest[0])
+        case "resume" if not rest:
+            return Asked("fault", "nothing owed")
+        case "quit" if not rest:
+            return Asked("quit")
+    return None
+
+
+def is_command(asked):
+    """Whether a line asks for a command, which takes a place of the journal."""
+    return asked is not None and asked.sort in COMMANDS
+
+
+@dataclass(frozen=True, eq=False)
+class Recording:
+    """A recording, and what each of some looks shows at each of its positions. It lives as long as the script."""
+
+    path: Path
+    kinds: tuple
+    shown: dict
+
+    @staticmethod
+    def read(netrev, path, looks):
+        """Reads the recording, and looks at all its positions in one pass of `netrev run`."""
+        with open(path, encoding="ascii") as lines:
+            kinds = tuple(json.loads(line)[0] for line in list(lines)[1:] if line.strip())
+        lines = "\n".join([*looks, "stepi"]) + "\n"
+        ended = subprocess.run(
+            [netrev, "run", path],
+            input=lines * (len(kinds) + 1),
+            capture_output=True,
+            text=True,
+            timeout=60,
+            check=True,
+        )
+        replies = ended.stdout.splitlines()
+        every = len(looks) + 1
+        moves = [f"at {position}" for position in range(1, len(kinds) + 1)] + [f"at {len(kinds)} end"]
+        assert replies[every - 1 :: every] == moves, "one pass of `netrev run` over the recording"
+        return Recording(path, kinds, {look: tuple(replies[at::every]) for at, look in enumerate(looks)})
+
+    @property
+    def length(self):
+        return len(self.kinds)
+
+    @lru_cache(maxsize=None)
+    def hits_of(self, mark):
+        """The positions at which a mark hits, rising."""
+        sort, what = mark.split(" ", 1)
+        if sort == "break" and what.startswith("@"):
+            step = int(what[1:])
+            return (step - 1,) if step <= self.length else ()
+        if sort == "break":
+            return tuple(at for at, kind in enumerate(self.kinds) if kind == what)
+        values = self.shown[f"print {what}"]
+        return tuple(at for at in range(1, self.length + 1) if values[at - 1] != values[at])
+
+    @lru_cache(maxsize=200_000)
+    def nearest(self, marks, position, reverse):
+        """The nearest hit that way and the marks that hit there, or None."""
+        found = [hit for _, mark in marks if (hit := self.nearest_of(mark, position, reverse)) is not None]
+        if not found:
+            return None
+        hit = max(found) if reverse else min(found)
+        return hit, [number for number, mark in marks if self.is_hit(mark, hit)]
+
+    def nearest_of(self, mark, position, reverse):
+        """The nearest position that way at which a mark hits, or None."""
+        hits = self.hits_of(mark)
+        if reverse:
+            at = bisect_left(hits, position)
+            return hits[at - 1] if at else None
+        at = bisect_right(hits, position)
+        return hits[at] if at < len(hits) else None
+
+    def is_hit(self, mark, position):
+        """Whether a mark hits at a position."""
+        hits = self.hits_of(mark)
+        at = bisect_left(hits, position)
+        return at < len(hits) and hits[at] == position
+
+    def answer(self, state, asked):
+        """The state behind what is asked in a state, and the lines of its reply."""
+        return getattr(self, f"answer_{asked.sort}")(state, asked.what)
+
+    def answer_fault(self, state, text):
+        return state, (text,)
+
+    def answer_quit(self, state, _):
+        return state, ("bye",)
+
+    def answer_look(self, state, look):
+        return state, (self.shown[look][state.position],)
+
+    def answer_info(self, state, what):
+        if what == "position":
+            way = "reverse" if state.reverse else "forward"
+            return state, (f"at {state.position} of {self.length} {way}",)
+        if what == "breakpoints":
+            return state, (f"marks {len(state.marks)}", *(f"{number} {mark}" for number, mark in state.marks))
+        listed = state.checkpoints
+        return state, (f"checkpoints {len(listed)}", *(f"{number} at {place}" for number, place in listed))
+
+    def answer_step(self, state, what):
+        count, backwards = what
+        if backwards or state.reverse:
+            there = max(state.position - count, 0)
+            reply = "at 0 start" if count > state.position else f"at {there}"
+        else:
+            there = min(state.position + count, self.length)
+            reply = f"at {there} end" if state.position + count > self.length else f"at {there}"
+        return moved(state, there), (reply,)
+
+    def answer_seek(self, state, backwards):
+        reverse = backwards or state.reverse
+        found = self.nearest(state.marks, state.position, reverse)
+        if found:
+            hit, numbers = found
+            return moved(state, hit), (" ".join(["at", str(hit), "by", *map(str, numbers)]),)
+        there = 0 if reverse else self.length
+        return moved(state, there), ("at 0 start" if reverse else f"at {there} end",)
+
+    def answer_turn(self, state, reverse):
+        reply = "direction reverse" if reverse else "direction forward"
+        return (state if state.reverse == reverse else state._replace(reverse=reverse)), (reply,)
+
+    def answer_mark(self, state, mark):
+        if len(state.marks) == MOST_STANDING:
+            return state, (MARKS_FULL,)
+        number = state.marks_made + 1
+        return state._replace(marks=(*state.marks, (number, mark)), marks_made=number), (f"mark {number}",)
+
+    def answer_delete(self, state, number):
+        left = tuple(mark for mark in state.marks if mark[0] != number)
+        if len(left) == len(state.marks):
+            return state, (NO_MARK,)
+        return state._replace(marks=left), (f"deleted mark {number}",)
+
+    def answer_checkpoint(self, state, _):
+        if len(state.checkpoints) == MOST_STANDING:
+            return state, (CHECKPOINTS_FULL,)
+        number = state.checkpoints_made + 1
+        kept = (*state.checkpoints, (number, state.position))
+        reply = f"checkpoint {number} at {state.position}"
+        return state._replace(checkpoints=kept, checkpoints_made=number), (reply,)
+
+    def answer_restart(self, state, number):
+        place = 0 if number == 0 else dict(state.checkpoints).get(number)
+        if place is None:
+            return state, (NO_CHECKPOINT,)
+        return moved(state, place), (f"at {place}",)
+
+    def answer_forget(self, state, number):
+        left = tuple(kept for kept in state.checkpoints if kept[0] != number)
+        if len(left) == len(state.checkpoints):
+            return state, (NO_CHECKPOINT,)
+        return state._replace(checkpoints=left), (f"deleted checkpoint {number}",)
+
+
+def moved(state, position):
+    """The state at another position, or the very same where it is none."""
+    return state if state.position == position else state._replace(position=position)

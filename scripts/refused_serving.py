@@ -1,0 +1,174 @@
+#!/usr/bin/env python3
+"""Plays `serve` of the built program with each of its allocations refused in turn:  scripts/refused_serving.py
+
+Two callers, at a front each, send fixed lines one after the other, so the right replies are known, and the order of the
+allocations is the same each time but for those of the threads that start: these are few, and each number is refused
+until one is left that no allocation has. A refused allocation is told once, and of nothing else:
+
+- before a caller is served as `fault 108 memory`, with status 1;
+- in place of a reply: of a look, or of a line before which another's search is to be made, as `fault 301 memory`, and
+  the line is sent again; of a search as `fault 302 memory, placed N`, whose reply `resume` gives, and no other line;
+- at the end in place of `placed K`, as `fault 108 memory` with status 1.
+
+Then all other replies are the right ones, and so they all are where netrev could do without. So no command is lost or
+placed twice. Last, no thread can be started: then each front is served in its turn.
+"""
+
+import subprocess
+import sys
+import tempfile
+from concurrent.futures import ThreadPoolExecutor
+from dataclasses import dataclass
+from pathlib import Path
+
+from debugger import is_command, read_line
+from loopback import PARKED
+from sharing import ROOT, Server, Wrong, expect
+
+CALLERS = (
+    (
+        ("watch rg 0", "mark 1"),
+        ("continue", "at 2 by 1"),
+        ("stepi 6", "at 8"),
+        ("dump in 0", "in 0 = 6869"),
+        ("stepi 3", "at 11"),
+        ("dump in 0", "in 0 = -"),
+        ("reverse-continue", "at 10 by 1"),
+        ("print in 0", "in 0 = 2"),
+        ("resume", "nothing owed"),
+        ("quit", "bye"),
+    ),
+    (
+        ("stepi", "at 11"),
+        ("info position", "at 11 of 12 forward"),
+        ("reverse-continue", "at 10 by 1"),
+        ("dump in 0", "in 0 = 6869"),
+        ("continue", "at 12 end"),
+        ("dump rq 0", "rq 0 = -"),
+        ("resume", "nothing owed"),
+        ("quit", "bye"),
+    ),
+)
+NO_MEMORY = "fault 108 memory"
+
+
+@dataclass
+class Played:
+    """What came of a session: whether anything was refused, and how often that was told."""
+
+    refused: bool
+    told: int
+
+
+@dataclass
+class Session:
+    """The callers of a session, and what they were told of memory."""
+
+    server: Server
+    placed: int = 0
+    told: int = 0
+
+    def talk(self, front, lines):
+        """Plays a caller's lines, and says whether it was served."""
+        caller = self.server.call(front)
+        if caller is None:
+            return False
+        with caller, caller.makefile("r", encoding="ascii", newline="\n") as replies:
+            for at, (line, right) in enumerate(lines):
+                came = self.ask(caller, replies, line)
+                if came is None and front == 0 and at == 0:
+                    return False
+                self.placed += is_command(read_line(line.encode()))
+                self.expect_reply(caller, replies, front, at, line, right, came)
+            expect(f"what comes behind {line}", "", replies.read())
+        return True
+
+    @staticmethod
+    def ask(caller, replies, line):
+        """A line's reply, or None where the connection ended."""
+        try:
+            caller.sendall(f"{line}\n".encode())
+            return replies.readline().removesuffix("\n") or None
+        except ConnectionError:
+            return None
+
+    def expect_reply(self, caller, replies, front, at, line, right, came):
+        """Sees that a line was answered right, at once or when it was asked again."""
+        asked = read_line(line.encode())
+        placed = f"fault 302 memory, placed {self.placed}"
+        if came == "fault 301 memory" and (asked.sort in ("look", "info") or (front > 0 and at == 0)):
+            self.told += 1
+            came = self.ask(caller, replies, line)
+        elif came == placed and asked.sort == "seek":
+            self.told += 1
+            expect("a further line while a reply is owed", placed, self.ask(caller, replies, "stepi"))
+            came = self.ask(caller, replies, "resume")
+        expect(f"the reply to {line} at front {front}", right, came)
+
+
+def play(folder, words):
+    """A session of a netrev that is started by the command `env` with these words, its allocations told in a file."""
+    told = folder / "-".join(words[1:]).replace("=", "-")
+    through = ["sh", "-c", 'told=$1; shift; exec env "$@" 9> "$told"', "sh", str(told), *words]
+    with Server(folder / "parked.jsonl", fronts=2, journal=16, through=through) as server:
+        session = Session(server)
+        served = session.talk(0, CALLERS[0]) and session.talk(1, CALLERS[1])
+        ended = server.ended()
+    refused = told.stat().st_size > 0
+    right = (0, f"placed {session.placed}\n", "")
+    if refused and session.told == 0 and ended == (1, f"{NO_MEMORY}\n", ""):
+        session.told = 1
+        if not served:
+            expect("commands that were placed by callers who weren't served", 0, session.placed)
+            return Played(refused, session.told)
+    else:
+        expect("the end of netrev serve: status, output and errors", right, ended)
+    expect("whether each caller was served", True, served)
+    expect("commands that were placed", 8, session.placed)
+    expect("how often memory was told of is at most once where it was refused", True, session.told <= refused)
+    return Played(refused, session.told)
+
+
+def play_all(folder):
+    """Refuses each allocation in turn, several sessions at the same time. Says how many were refused, and told."""
+    library = folder / "refused.so"
+    subprocess.run(
+        ["cc", "-O2", "-fPIC", "-shared", "-o", library, ROOT / "scripts/refused.c", "-ldl"], timeout=60, check=True
+    )
+    preload = f"LD_PRELOAD={library}"
+
+    def play_number(number):
+        try:
+            return play(folder, [preload, f"REFUSED={number}"])
+        except Wrong as wrong:
+            raise Wrong(f"with allocation {number} refused: {wrong}") from None
+
+    played = []
+    with ThreadPoolExecutor(4) as pool:
+        while all(one.refused for one in played):
+            played += pool.map(play_number, range(len(played) + 1, len(played) + 17))
+    threadless = play(folder, [preload, "THREADS=0"])
+    expect("with no thread: whether any was refused, and memory told of", Played(True, 0), threadless)
+    refused = sum(one.refused for one in played)
+    expect("the refused allocations are the first ones", True, all(one.refused for one in played[:refused]))
+    return refused, sum(one.told for one in played)
+
+
+def main():
+    with tempfile.TemporaryDirectory() as name:
+        folder = Path(name)
+        (folder / "parked.jsonl").write_text(PARKED, encoding="ascii")
+        try:
+            refused, told = play_all(folder)
+        except (Wrong, OSError) as wrong:
+            print(f"refused_serving.py: {wrong}", file=sys.stderr)
+            return 1
+    print(
+        f"Of {refused} refused allocations of serve {told} were told, as they have to be, "
+        f"and {refused - told} could be done without."
+    )
+    return 0
+
+
+if __name__ == "__main__":
+    sys.exit(main())
