@@ -1,2 +1,3 @@
+pub mod BufferedLemmas
 pub mod ServingLemmas
 pub mod SessionLemmas
