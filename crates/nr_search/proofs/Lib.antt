@@ -1,3 +1,4 @@
 mod FinderLemmas
 mod NearestLemmas
+mod SegmentLemmas
 mod WatchedLemmas

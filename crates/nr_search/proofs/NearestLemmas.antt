@@ -1,7 +1,7 @@
 -- The nearest hit of more and more positions.
 use Rattle.std.proofs.Common.{◌≡◌, ◌⊎◌, inl, inr, ℕ, zero, suc, ◌+◌, ◌<◌, ◌≤◌, Bool, true, false, cond, refl, sym, ap, ◌∙◌, subst, arith}
 use Rattle.nr_search.specs.Nearest.{IsNearest, NoneHits, IsFound, first_of, last_below}
-use Rattle.nr_search.specs.Search.{found_after, is_settled}
+use Rattle.nr_search.specs.Search.{found_after, is_hit, is_settled}
 use Rattle.nr_search.specs.declared.direction.Direction.{Direction}
 use Rattle.nr_search.specs.declared.direction.Direction.TheVariants.{Forward, Backward}
 use Rattle.nr_search.specs.declared.found.Found.{Found}
@@ -23,24 +23,6 @@ module _ (hit : ℕ → Bool) where
   -- of no positions nothing is found
   pub found-first : (direction : Direction) (low : ℕ) → IsFound direction hit low low Nothing
   found-first direction low = record { none = λ q a b. absurd (omega arith) }
-
-  -- where none hits from low to below mid and from mid to below high
-  pub none-joined : (low mid high : ℕ) → NoneHits hit low mid → NoneHits hit mid high → NoneHits hit low high
-  none-joined low mid high lower upper =
-      record { none = λ q a b. elim (split q mid) [ inl below ↦ lower.none q a below | inr above ↦ upper.none q above b ] }
-
-  -- the last hit of a stretch behind which none hits
-  pub nearest-backward : (low from mid high p : ℕ) → low ≤ from → mid ≤ high → NoneHits hit mid high → IsNearest Backward hit from mid p → IsNearest Backward hit low high p
-  nearest-backward low from mid high p lower higher none found =
-      record {
-        above = omega (arith, found.above);
-        below = omega (arith, found.below);
-        hits = found.hits;
-        nearest = λ q a b c. elim (split q mid) [
-          | inl below ↦ found.nearest q (omega (arith, found.above, c)) below c
-          | inr above ↦ none.none q above b
-        ];
-      }
 
   -- one position more, where it hits
   found-hit : (direction : Direction) (low b : ℕ) (found : Found) → is_settled direction found ≡ false → low ≤ b → hit b ≡ true → IsFound direction hit low b found → IsFound direction hit low (b + 1) (Hit b)
@@ -81,12 +63,22 @@ module _ (hit : ℕ → Bool) where
   pub found-whole : (direction : Direction) (low b high : ℕ) (found : Found) → b ≡ high → IsFound direction hit low b found → IsFound direction hit low high found
   found-whole direction low b high found same rest = subst (λ k. IsFound direction hit low k found) same rest
 
-  -- of the first position, the last on the way back
-  pub found-start : (n : ℕ) (hits : Bool) → 0 < n → hits ≡ hit 0 → NoneHits hit 1 n → IsFound Backward hit 0 n (found_after Nothing 0 hits)
+  -- position 0, the last on the way back, behind which none hits
+  found-start : (n : ℕ) (hits : Bool) → 0 < n → hits ≡ hit 0 → NoneHits hit 1 n → IsFound Backward hit 0 n (found_after Nothing 0 hits)
   found-start n true some is none =
       record { above = omega arith; below = some; hits = sym is; nearest = λ q a b c. none.none q c b }
   found-start n false some is none =
       record { none = λ q a b. elim (first-or-behind 0 q a) [ inl behind ↦ none.none q behind b | inr same ↦ at-once q 0 false same (sym is) ] }
+
+  pub found-to-start : (n : ℕ) (found : Found) (hits : Bool) → is_hit found ≡ false → 0 < n → hits ≡ hit 0 → IsFound Backward hit 1 n found → IsFound Backward hit 0 n (found_after found 0 hits)
+  found-to-start n Nothing hits miss some is none = found-start n hits some is none
+  found-to-start n (Hit p) hits miss some is found = cc
+
+  -- behind it one hits
+  pub found-before-start : (n : ℕ) (found : Found) → is_hit found ≡ true → IsFound Backward hit 1 n found → IsFound Backward hit 0 n found
+  found-before-start n Nothing hits none = cc
+  found-before-start n (Hit p) hits found =
+      record { above = omega arith; below = found.below; hits = found.hits; nearest = λ q a b c. found.nearest q (omega (arith, found.above, c)) b c }
 
   -- ---- what is found is the one that the definition computes
 

@@ -1,2 +1,4 @@
+pub mod Known
 pub mod Nearest
 pub mod Search
+pub mod Segments

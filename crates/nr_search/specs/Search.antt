@@ -17,6 +17,11 @@ abbrev pub found_after : Found → ℕ → Bool → Found
 found_after found p true = Hit p
 found_after found p false = found
 
+-- something is found
+abbrev pub is_hit : Found → Bool
+is_hit (Hit p) = true
+is_hit Nothing = false
+
 -- no position farther forward is nearer
 abbrev pub is_settled : Direction → Found → Bool
 is_settled Forward (Hit p) = true

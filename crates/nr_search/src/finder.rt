@@ -7,27 +7,80 @@ ghost use Rattle.nr_search.specs.declared.direction.Direction.TheVariants.{Forwa
 
 use crate::direction::Direction;
 use crate::found::Found;
-use crate::stretch::{copy_at, hits_at_start, search_stretch};
+use crate::gate::{Gate, Open};
+use crate::search::Search;
+use crate::stretch::hits_at_start;
+use crate::workers::{Claims, ManyWorkers, search_by};
 use nr_marks::Marks;
 use nr_rev::Worlds;
 use nr_snaps::Film;
 use std::alloc::AllocError;
+use std::marker::PhantomData;
+use std::thread::Threads;
 
-/// How a search is done. `nearest_hit` takes any way, so that who calls it can stay generic over the ways that there
-/// are.
-pub trait Finder {}
+/// How a search is done. `nearest_hit` takes any way and answers the same for each, so who calls it can stay generic over
+/// the ways that there are.
+pub trait Finder {
+    /// What starts the threads.
+    type Runtime: Threads + Sync;
 
-/// Searches alone, one position after the other, with no thread.
+    /// What is told who searches.
+    type Gate: Gate + Sync;
+
+    /// The workers; `None` where the caller's thread searches alone.
+    fn workers(&self) -> Option<&ManyWorkers<Self::Runtime, Self::Gate>>;
+}
+
+/// Searches alone, in the caller's thread. The runtime that could start threads is a type alone.
 #[derive(Clone, Copy, Debug)]
-pub struct OneWorker;
+pub struct OneWorker<R> {
+    _runtime: PhantomData<R>,
+}
 
-impl Finder for OneWorker {}
+impl<R: Threads + Sync> OneWorker<R> {
+    /// One worker.
+    pub fn new() -> OneWorker<R> {
+        OneWorker {
+            _runtime: PhantomData,
+        }
+    }
+}
+
+impl<R: Threads + Sync> Finder for OneWorker<R> {
+    type Runtime = R;
+
+    type Gate = Open;
+
+    fn workers(&self) -> Option<&ManyWorkers<R, Open>> {
+        None
+    }
+}
+
+impl<R: Threads + Sync, G: Gate + Sync> Finder for ManyWorkers<R, G> {
+    type Runtime = R;
+
+    type Gate = G;
+
+    fn workers(&self) -> Option<&ManyWorkers<R, G>> {
+        Some(self)
+    }
+}
+
+impl<F: Finder> Finder for &F {
+    type Runtime = F::Runtime;
+
+    type Gate = F::Gate;
+
+    fn workers(&self) -> Option<&ManyWorkers<F::Runtime, F::Gate>> {
+        (**self).workers()
+    }
+}
 
 /// The nearest position from n where a mark hits: forwards the least above n, up to the end; backwards the greatest
-/// below n. Memory is wanted for copies of the film's worlds alone; for none where no mark stands, or where no position
-/// but the start lies that way.
-pub fn nearest_hit<W: Worlds + Drop, F: Finder>(
-    _finder: &F,
+/// below n. Memory is wanted for copies of the film's worlds, and for what several workers report; for nothing where no
+/// mark stands, or where no position but the start lies that way.
+pub fn nearest_hit<W: Worlds + Drop + Sync, F: Finder>(
+    finder: &F,
     film: &Film<W>,
     marks: &Marks,
     direction: Direction,
@@ -43,32 +96,16 @@ pub fn nearest_hit<W: Worlds + Drop, F: Finder>(
         return Ok(Found::Nothing);
     }
     match direction {
-        Direction::Forward => first_above(film, marks, n),
-        Direction::Backward => last_below(film, marks, n),
+        Direction::Forward => {
+            search_between(finder, film, marks, Direction::Forward, n, film.len())
+        }
+        Direction::Backward => last_below(finder, film, marks, n),
     }
 }
 
-// The least hit above position n.
-fn first_above<W: Worlds + Drop>(
-    film: &Film<W>,
-    marks: &Marks,
-    n: usize,
-) -> Result<Found, AllocError>
-    requires { n ≤ length film.now.recording.steps }
-    ensures found { IfOk result
-        (IsFound Forward (is_hit_at film.now.recording marks.now.standing)
-        (n + 1) (length film.now.recording.steps + 1)) }
-    ensures copy { OnErr result (n < length film.now.recording.steps) }
-{
-    if n == film.len() {
-        return Ok(Found::Nothing);
-    }
-    let mut world = copy_at(film, n)?;
-    Ok(search_stretch(film, marks, Direction::Forward, &mut world, n, film.len()))
-}
-
-// The greatest hit below position n: from the copies, from the last one below n to the first.
-fn last_below<W: Worlds + Drop>(
+// The greatest hit below position n. Position 0 is the last one on the way, and needs no copy.
+fn last_below<W: Worlds + Drop + Sync, F: Finder>(
+    finder: &F,
     film: &Film<W>,
     marks: &Marks,
     n: usize,
@@ -81,18 +118,35 @@ fn last_below<W: Worlds + Drop>(
     if n == 0 {
         return Ok(Found::Nothing);
     }
-    let every = film.every();
-    let mut to = n - 1;
-    while 0 < to {
-        let from = (to - 1) / every * every;
-        let Ok(mut world) = film.snap_below(to - 1).try_copy() else {
-            return Err(AllocError);
-        };
-        let found = search_stretch(film, marks, Direction::Backward, &mut world, from, to);
-        if let Found::Hit(_) = found {
-            return Ok(found);
-        }
-        to = from;
+    let found = search_between(finder, film, marks, Direction::Backward, 0, n - 1)?;
+    if found.is_hit() {
+        return Ok(found);
     }
-    Ok(Found::Nothing.after(0, hits_at_start(film, marks)))
+    Ok(found.after(0, hits_at_start(film, marks)))
+}
+
+// The nearest hit of those behind position `after` and up to position `last`, by one worker or by several.
+fn search_between<W: Worlds + Drop + Sync, F: Finder>(
+    finder: &F,
+    film: &Film<W>,
+    marks: &Marks,
+    direction: Direction,
+    after: usize,
+    last: usize,
+) -> Result<Found, AllocError>
+    requires order { after ≤ last }
+    requires within { last ≤ length film.now.recording.steps }
+    ensures found { IfOk result
+        (IsFound direction (is_hit_at film.now.recording marks.now.standing)
+        (after + 1) (last + 1)) }
+    ensures copy { OnErr result (after < last) }
+{
+    if after == last {
+        return Ok(Found::Nothing);
+    }
+    let search = Search::new(film, marks, direction, after, last);
+    match finder.workers() {
+        Some(many) => search_by(many, &search, &Claims::new()),
+        None => search.settle(&[]),
+    }
 }

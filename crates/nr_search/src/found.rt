@@ -1,7 +1,7 @@
 //! What a search finds.
 
 ghost use Rattle.std.specs.Prelude.{◌≡◌};
-ghost use Rattle.nr_search.specs.Search.{found_after, is_settled};
+ghost use Rattle.nr_search.specs.Search.{found_after, is_hit, is_settled};
 
 use crate::direction::Direction;
 
@@ -20,6 +20,16 @@ impl Found {
         ensures { result ≡ found_after self p hits }
     {
         if hits { Found::Hit(p) } else { self }
+    }
+
+    // Whether there is one.
+    pub(crate) fn is_hit(self) -> bool
+        ensures { result ≡ is_hit self }
+    {
+        match self {
+            Found::Hit(_) => true,
+            Found::Nothing => false,
+        }
     }
 
     // Whether no position farther forward can change it.

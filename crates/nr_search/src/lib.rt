@@ -4,12 +4,22 @@
 mod direction;
 mod finder;
 mod found;
+mod gate;
 mod hits;
 pub mod laws;
+mod search;
+mod segments;
+mod slot;
 mod stretch;
 mod watched;
+mod workers;
 
 pub use direction::Direction;
 pub use finder::{Finder, OneWorker, nearest_hit};
 pub use found::Found;
+pub use gate::{Gate, Open};
 pub use hits::hits_at;
+pub use workers::{LEAST_WORKERS, MOST_WORKERS, ManyWorkers};
+
+#[cfg(test)]
+mod tests;

@@ -1,9 +1,9 @@
 //! A stretch of a film, searched position by position.
 
-ghost use Rattle.std.specs.Prelude.{◌≡◌, ◌<◌, ◌≤◌, ◌+◌, length, slice_get, IfOk};
+ghost use Rattle.std.specs.Prelude.{◌≡◌, ◌<◌, ◌≤◌, ◌+◌, length, slice_get, false, IfOk, IfSome};
 ghost use Rattle.nr_marks.specs.Hit.{is_hit_at, numbered};
 ghost use Rattle.nr_search.specs.Nearest.{IsFound};
-ghost use Rattle.nr_search.specs.Search.{Remembers};
+ghost use Rattle.nr_search.specs.Search.{Remembers, is_settled};
 ghost use Rattle.nr_marks.specs.declared.marks.TheConstants.{MOST_MARKS};
 ghost use Rattle.nr_snaps.specs.Film.{IsFrame};
 
@@ -48,7 +48,8 @@ fn go_on<W: Worlds + Drop>(
     look(marks, values, world, next_step(film, n + 1))
 }
 
-/// The nearest hit of those behind position `at` and up to position `to`. The world stands at `at`, and is led on.
+/// The nearest hit of those behind position `at` and up to position `to`. The world stands at `at` and is led on: to `to`,
+/// unless a hit ends the search.
 pub(crate) fn search_stretch<W: Worlds + Drop>(
     film: &Film<W>,
     marks: &Marks,
@@ -60,8 +61,10 @@ pub(crate) fn search_stretch<W: Worlds + Drop>(
     requires frame { IsFrame W.is_well_formed W.world W.steps film.now at world.old }
     requires order { at ≤ to }
     requires within { to ≤ length film.now.recording.steps }
-    ensures { IsFound direction (is_hit_at film.now.recording marks.now.standing)
+    ensures found { IsFound direction (is_hit_at film.now.recording marks.now.standing)
         (at + 1) (to + 1) result }
+    ensures led { is_settled direction result ≡ false
+        → IsFrame W.is_well_formed W.world W.steps film.now to world.new }
 {
     let marks = marks.as_slice();
     let mut values = [CellValue::Absent; MOST_MARKS];
@@ -77,19 +80,62 @@ pub(crate) fn search_stretch<W: Worlds + Drop>(
     found
 }
 
+/// A world, and where it stands.
+#[derive(Drop)]
+pub(crate) struct Standing<W: Worlds + Drop> {
+    pub position: usize,
+    pub world: W,
+}
+
+impl<W: Worlds + Drop> Standing<W> {
+    // Leads the world on to position n.
+    fn lead_to(self, film: &Film<W>, n: usize) -> W
+        requires frame { IsFrame W.is_well_formed W.world W.steps film.now self.position self.world }
+        requires below { self.position ≤ n }
+        requires within { n ≤ length film.now.recording.steps }
+        ensures { IsFrame W.is_well_formed W.world W.steps film.now n result }
+    {
+        let mut world = self.world;
+        for k in self.position..n {
+            film.advance(&mut world, k);
+        }
+        world
+    }
+}
+
+/// The world at position n: the one at hand, where it stands no farther below than two copies of the film do; else a copy
+/// of the film's copy below, led on.
+pub(crate) fn world_at<W: Worlds + Drop>(
+    film: &Film<W>,
+    held: Option<Standing<W>>,
+    n: usize,
+) -> Result<W, AllocError>
+    requires held { IfSome held (λ h. IsFrame W.is_well_formed W.world W.steps film.now h.position h.world) }
+    requires within { n ≤ length film.now.recording.steps }
+    ensures { IfOk result (λ world. IsFrame W.is_well_formed W.world W.steps film.now n world) }
+{
+    match held {
+        Some(held) if held.position <= n && n - held.position <= film.every() => {
+            Ok(held.lead_to(film, n))
+        }
+        _ => copy_at(film, n),
+    }
+}
+
 /// A copy of the world at position n, led on from the film's copy below.
 pub(crate) fn copy_at<W: Worlds + Drop>(film: &Film<W>, n: usize) -> Result<W, AllocError>
     requires { n ≤ length film.now.recording.steps }
     ensures { IfOk result (λ world. IsFrame W.is_well_formed W.world W.steps film.now n world) }
 {
-    let Ok(mut world) = film.snap_below(n).try_copy() else {
+    let Ok(world) = film.snap_below(n).try_copy() else {
         return Err(AllocError);
     };
-    let _ = film.len();
-    for k in n / film.every() * film.every()..n {
-        film.advance(&mut world, k);
-    }
-    Ok(world)
+    let every = film.every();
+    let below = Standing {
+        position: n / every * every,
+        world,
+    };
+    Ok(below.lead_to(film, n))
 }
 
 /// Whether a mark hits at position 0.

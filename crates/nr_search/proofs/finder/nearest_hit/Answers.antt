@@ -1,4 +1,8 @@
-use Rattle.std.proofs.Common.{sym, ◌∙◌}
+use Rattle.std.proofs.Common.{◌+◌, sym, ◌∙◌, subst}
+use Rattle.std.specs.Prelude.{IfOk}
+use Rattle.nr_marks.specs.Hit.{is_hit_at}
+use Rattle.nr_search.specs.Nearest.{IsFound}
+use Rattle.nr_search.specs.declared.direction.Direction.TheVariants.{Forward}
 use Rattle.nr_search.proofs.FinderLemmas.{if-found-backward, if-found-forward, nothing-found}
 use Rattle.nr_search.proofs.finder.nearest_hit.Goals as goal
 
@@ -8,7 +12,10 @@ returns-then-len-eq0-clause-found g c =
 
 pub returns-in-Forward-clause-found : goal.returns-in-Forward-clause-found
 returns-in-Forward-clause-found g c =
-    if-found-forward c.args.film.now.recording c.args.marks.now.standing c.args.n c.args.direction c.first_above.result c.in-Forward.is c.requires c.first_above.ensures.found
+    let r = c.args.film.now.recording in
+    let hit = is_hit_at r c.args.marks.now.standing in
+    if-found-forward r c.args.marks.now.standing c.args.n c.args.direction c.search_between.result c.in-Forward.is c.requires
+    (subst (λ last. IfOk c.search_between.result (IsFound Forward hit (c.args.n + 1) (last + 1))) c.len-in-Forward.ensures.is c.search_between.ensures.found)
 
 pub returns-in-Backward-clause-found : goal.returns-in-Backward-clause-found
 returns-in-Backward-clause-found g c =

@@ -5,8 +5,8 @@ use Rattle.nr_search.proofs.NearestLemmas.{found-settled, found-then, found-whol
 use Rattle.nr_search.proofs.stretch.search_stretch.Goals as goal
 
 -- what is found after one position more is what is found of the stretch
-pub returns-then-is_settled : goal.returns-then-is_settled
-returns-then-is_settled g c =
+pub returns-then-is_settled-clause-found : goal.returns-then-is_settled-clause-found
+returns-then-is_settled-clause-found g c =
     let r = c.args.film.now.recording in
     let hit = is_hit_at r c.as_slice-marks.result.now in
     let low = c.args.at + 1 in
@@ -27,8 +27,8 @@ loop-n-preserved g c =
       unsettled = sym c.is_settled.ensures ∙ c.if-is_settled.false;
     }
 
-pub returns : goal.returns
-returns g c =
+pub returns-clause-found : goal.returns-clause-found
+returns-clause-found g c =
     let r = c.args.film.now.recording in
     subst (λ ms. IsFound c.args.direction (is_hit_at r ms) (c.args.at + 1) (c.args.to + 1) c.loop-n.found) c.as_slice-marks.ensures.marks
     (found-whole (is_hit_at r c.as_slice-marks.result.now) c.args.direction (c.args.at + 1) (c.loop-n.n + 1) (c.args.to + 1) c.loop-n.found (omega arith) c.loop-n.invariant.found)

@@ -1,5 +1,5 @@
 use Rattle.nr_snaps.specs.Film.{IsFrame}
-use Rattle.nr_search.proofs.stretch.copy_at.Given as goal
+use Rattle.nr_search.proofs.stretch.Standing.lead_to.Given as goal
 
 -- it stands at position k
 abbrev pub invariant-loop-k : goal.invariant-loop-k

@@ -1,0 +1,128 @@
+//! A search through a film, segment by segment.
+
+ghost use Rattle.std.specs.Prelude.{◌≡◌, ◌<◌, ◌≤◌, ◌+◌, length, IfOk, IfSome};
+ghost use Rattle.nr_marks.specs.Hit.{is_hit_at};
+ghost use Rattle.nr_search.specs.Known.{AreTrue, IsFoundIn};
+ghost use Rattle.nr_search.specs.Nearest.{IsFound};
+ghost use Rattle.nr_snaps.specs.Film.{IsFrame};
+
+use crate::direction::Direction;
+use crate::found::Found;
+use crate::segments::Span;
+use crate::slot::Slot;
+use crate::stretch::{Standing, search_stretch, world_at};
+use nr_marks::Marks;
+use nr_rev::Worlds;
+use nr_snaps::Film;
+use std::alloc::AllocError;
+
+/// A search through a film for where marks hit.
+#[derive(Drop)]
+pub(crate) struct Search<'a, W: Worlds + Drop> {
+    pub film: &'a Film<W>,
+    pub marks: &'a Marks,
+    /// The positions that are searched.
+    pub span: Span,
+    ghost every: { span.every ≡ film.now.every },
+    ghost within: { span.last ≤ length film.now.recording.steps },
+}
+
+impl<'a, W: Worlds + Drop> Search<'a, W> {
+    /// A search of the positions behind `after` and up to `last`.
+    pub fn new(
+        film: &'a Film<W>,
+        marks: &'a Marks,
+        direction: Direction,
+        after: usize,
+        last: usize,
+    ) -> Search<'a, W>
+        requires some { after < last }
+        requires within { last ≤ length film.now.recording.steps }
+        ensures film { result.film.now ≡ film.now }
+        ensures marks { result.marks.now ≡ marks.now }
+        ensures direction { result.span.direction ≡ direction }
+        ensures after { result.span.after ≡ after }
+        ensures last { result.span.last ≡ last }
+    {
+        let _ = film.len();
+        Search {
+            film,
+            marks,
+            span: Span::new(direction, after, last, film.every()),
+        }
+    }
+
+    /// The nearest hit of a segment. The world at hand is led on to it, where that is less work than a copy; afterwards
+    /// the world at hand stands at its end, if the search came there.
+    pub fn search_segment(
+        &self,
+        s: usize,
+        held: &mut Option<Standing<W>>,
+    ) -> Result<Found, AllocError>
+        requires first { self.now.span.first ≤ s }
+        requires last { s < self.now.span.first + self.now.span.count }
+        requires held { IfSome held.old (λ h.
+            IsFrame W.is_well_formed W.world W.steps self.now.film.now h.position h.world) }
+        ensures found { IfOk result (IsFoundIn self.now.span
+            (is_hit_at self.now.film.now.recording self.now.marks.now.standing) s) }
+        ensures held { IfSome held.new (λ h.
+            IsFrame W.is_well_formed W.world W.steps self.now.film.now h.position h.world) }
+    {
+        let (from, to) = self.span.stretch(s);
+        let mut world = world_at(self.film, held.take(), from)?;
+        let direction = self.span.direction;
+        let found = search_stretch(self.film, self.marks, direction, &mut world, from, to);
+        if !found.is_settled(direction) {
+            *held = Some(Standing {
+                position: to,
+                world,
+            });
+        }
+        Ok(found)
+    }
+
+    // The nearest hit of a segment, by what is known of it, or else by a search.
+    fn settle_segment(
+        &self,
+        known: &[Slot],
+        s: usize,
+        held: &mut Option<Standing<W>>,
+    ) -> Result<Found, AllocError>
+        requires first { self.now.span.first ≤ s }
+        requires last { s < self.now.span.first + self.now.span.count }
+        requires known { AreTrue self.now.span
+            (is_hit_at self.now.film.now.recording self.now.marks.now.standing) known.now }
+        requires held { IfSome held.old (λ h.
+            IsFrame W.is_well_formed W.world W.steps self.now.film.now h.position h.world) }
+        ensures found { IfOk result (IsFoundIn self.now.span
+            (is_hit_at self.now.film.now.recording self.now.marks.now.standing) s) }
+        ensures held { IfSome held.new (λ h.
+            IsFrame W.is_well_formed W.world W.steps self.now.film.now h.position h.world) }
+    {
+        match known.get(s) {
+            Some(Slot::Searched(found)) => Ok(*found),
+            Some(Slot::Refused) => Err(AllocError),
+            _ => self.search_segment(s, held),
+        }
+    }
+
+    /// The nearest hit: segment by segment on the way, by what is known of each, or else by a search of it. The first
+    /// segment with a hit decides.
+    pub fn settle(&self, known: &[Slot]) -> Result<Found, AllocError>
+        requires { AreTrue self.now.span
+            (is_hit_at self.now.film.now.recording self.now.marks.now.standing) known.now }
+        ensures { IfOk result (IsFound self.now.span.direction
+            (is_hit_at self.now.film.now.recording self.now.marks.now.standing)
+            (self.now.span.after + 1) (self.now.span.last + 1)) }
+    {
+        let mut held = None;
+        for k in 0..self.span.count {
+            let s = self.span.nth(k);
+            let found = self.settle_segment(known, s, &mut held)?;
+            if found.is_hit() {
+                return Ok(found);
+            }
+        }
+        Ok(Found::Nothing)
+    }
+}

@@ -1,0 +1,71 @@
+//! The positions that a search is for, and the segments that they lie in.
+
+ghost use Rattle.std.specs.Prelude.{◌≡◌, ◌<◌, ◌≤◌, ◌+◌, ◌*◌, ◌^◌};
+ghost use Rattle.nr_search.specs.Segments.{from_of, nth_segment, to_of};
+
+use crate::direction::Direction;
+
+/// The positions that a search is for: those behind `after` and up to `last`. A film's segments lie between neighbouring
+/// copies, and one more from the last copy to the end: segment s has the positions behind `s * every` and up to
+/// `(s + 1) * every`. These positions lie in `count` segments, from segment `first` on.
+#[derive(Debug, Drop)]
+pub(crate) struct Span {
+    pub direction: Direction,
+    pub after: usize,
+    pub last: usize,
+    pub every: usize,
+    pub first: usize,
+    pub count: usize,
+    ghost fits: { last + every < 2 ^ 63 },
+    ghost some: { after < last },
+    ghost begins: { first * every ≤ after },
+    ghost enters: { after < (first + 1) * every },
+    ghost ends: { last ≤ (first + count) * every },
+    ghost needed: { (first + count) * every < last + every },
+}
+
+impl Span {
+    /// The positions behind `after` and up to `last`.
+    pub fn new(direction: Direction, after: usize, last: usize, every: usize) -> Span
+        requires some { after < last }
+        requires every { 0 < every }
+        requires fits { last + every < 2 ^ 63 }
+        ensures direction { result.direction ≡ direction }
+        ensures after { result.after ≡ after }
+        ensures last { result.last ≡ last }
+        ensures every { result.every ≡ every }
+    {
+        let first = after / every;
+        Span {
+            direction,
+            after,
+            last,
+            every,
+            first,
+            count: (last - 1) / every - first + 1,
+        }
+    }
+
+    /// The segment that comes behind k others on the way.
+    pub fn nth(&self, k: usize) -> usize
+        requires { k < self.now.count }
+        ensures { result ≡ nth_segment self.now.direction self.now.first self.now.count k }
+    {
+        match self.direction {
+            Direction::Forward => self.first + k,
+            Direction::Backward => self.first + (self.count - 1 - k),
+        }
+    }
+
+    /// The positions of a segment: behind the first number, and up to the second.
+    pub fn stretch(&self, s: usize) -> (usize, usize)
+        requires first { self.now.first ≤ s }
+        requires last { s < self.now.first + self.now.count }
+        ensures from { result.0 ≡ from_of self.now.after self.now.every s }
+        ensures to { result.1 ≡ to_of self.now.last self.now.every s }
+        ensures order { result.0 < result.1 }
+    {
+        let base = s * self.every;
+        (self.after.max(base), self.last.min(base + self.every))
+    }
+}

@@ -1,0 +1,361 @@
+//! Searches by one worker and by several.
+
+use crate::search::Search;
+use crate::slot::Slot;
+use crate::workers::{Claims, search_by};
+use crate::{Direction, Finder, Found, Gate, ManyWorkers, OneWorker, Open, nearest_hit};
+use nr_marks::{Break, Marks};
+use nr_plain::PlainWorld;
+use nr_recording::Recording;
+use nr_rev::{Cell, Kind, Limits, Mode, Side, Step};
+use nr_snaps::{Film, Snaps};
+use std::alloc::Global;
+use std::num::NonZeroU32;
+use std::sync::atomic::Ordering::SeqCst;
+use std::sync::atomic::{AtomicBool, AtomicUsize};
+use std::test::*;
+use std::thread::{Threads, yield_now};
+
+const LIMITS: Limits = Limits {
+    goroutines: 1,
+    sockets: 1,
+    descriptors: 1,
+    buffer: 1,
+};
+
+const OPEN: Step = Step::SockOpen {
+    read_capacity: 1,
+    write_capacity: 1,
+};
+
+const POLL: Step = Step::PollOpen {
+    goroutine: 0,
+    socket: 0,
+};
+
+/// A socket and its descriptor are opened.
+fn opening(alloc: Global) -> Result<Vec<Step>, &'static str> {
+    let mut steps = Vec::new(alloc);
+    steps.push(OPEN).map_err(|_| "no memory for a step")?;
+    steps.push(POLL).map_err(|_| "no memory for a step")?;
+    Ok(steps)
+}
+
+/// The film of these steps, with a copy each 64 of them.
+fn film_of(alloc: Global, steps: Vec<Step>) -> Result<Film<PlainWorld>, &'static str> {
+    let recording = Recording::new(LIMITS, steps).map_err(|_| "no recording")?;
+    Snaps::load(alloc, recording, 64).map_err(|_| "no film")
+}
+
+/// 192 steps: from the third on they set the clock to 1, 2 and so on.
+fn ticking(alloc: Global) -> Result<Film<PlainWorld>, &'static str> {
+    let mut steps = opening(alloc)?;
+    for time in 1..191 {
+        steps
+            .push(Step::Tick { time })
+            .map_err(|_| "no memory for a step")?;
+    }
+    film_of(alloc, steps)
+}
+
+/// Watches the descriptor's word for reading, and breaks at a step, unless it is 0.
+fn marks(step: u32) -> Marks {
+    let mut marks = Marks::new();
+    let _ = marks.add_watch(Cell::ReadWord(0));
+    if let Some(step) = NonZeroU32::new(step) {
+        let _ = marks.add_break(Break::Step(step));
+    }
+    marks
+}
+
+/// So many workers, from 1 to 16.
+fn crew<R: Threads + Sync>(rt: &R, alloc: Global, workers: usize) -> ManyWorkers<&R, Open> {
+    ManyWorkers::new(rt, alloc, Open, workers.max(1).min(16))
+}
+
+/// What is found from a position that the film has, where there is memory.
+fn find<F: Finder>(
+    finder: &F,
+    film: &Film<PlainWorld>,
+    marks: &Marks,
+    direction: Direction,
+    n: usize,
+) -> Option<Found> {
+    if n > film.len() {
+        return None;
+    }
+    nearest_hit(finder, film, marks, direction, n).ok()
+}
+
+/// Holds one worker, until another one has searched a segment.
+#[derive(Drop)]
+struct Turnstile {
+    held: usize,
+    other_has_left: AtomicBool,
+    gave_up: AtomicBool,
+}
+
+impl Gate for Turnstile {
+    fn enter(&self, worker: usize) {
+        if worker != self.held {
+            return;
+        }
+        for _ in 0..10_000_000u32 {
+            if self.other_has_left.load(SeqCst) {
+                return;
+            }
+            yield_now();
+        }
+        self.gave_up.store(true, SeqCst);
+    }
+
+    fn leave(&self, worker: usize) {
+        if worker != self.held {
+            self.other_has_left.store(true, SeqCst);
+        }
+    }
+}
+
+#[test]
+fn two_workers_search_at_once(rt: HostRuntime) -> Result<(), Fail> {
+    let film = ticking(rt.alloc())?;
+    for held in [1, 2] {
+        let gate = Turnstile {
+            held,
+            other_has_left: AtomicBool::new(false),
+            gave_up: AtomicBool::new(false),
+        };
+        let many = ManyWorkers::new(&rt, rt.alloc(), &gate, 2);
+        let found = find(&many, &film, &marks(0), Direction::Backward, 192);
+        assert_eq!(rt; found, Some(Found::Hit(2)));
+        assert!(rt; gate.other_has_left.load(SeqCst) && !gate.gave_up.load(SeqCst));
+    }
+    Ok(())
+}
+
+/// What is found from 192 and 99 backwards, and from 2 and 99 forwards.
+fn four<F: Finder>(finder: &F, film: &Film<PlainWorld>) -> [Option<Found>; 4] {
+    let marks = marks(100);
+    [
+        find(finder, film, &marks, Direction::Backward, 192),
+        find(finder, film, &marks, Direction::Backward, 99),
+        find(finder, film, &marks, Direction::Forward, 2),
+        find(finder, film, &marks, Direction::Forward, 99),
+    ]
+}
+
+const FOUR: [Option<Found>; 4] = [
+    Some(Found::Hit(99)),
+    Some(Found::Hit(2)),
+    Some(Found::Hit(99)),
+    Some(Found::Nothing),
+];
+
+#[test]
+fn any_number_of_workers_finds_the_same(rt: HostRuntime) -> Result<(), Fail> {
+    let film = ticking(rt.alloc())?;
+    assert_eq!(rt; four(&OneWorker::<&HostRuntime>::new(), &film), FOUR);
+    for workers in [1, 2, 3, 16] {
+        let many = crew(&rt, rt.alloc(), workers);
+        assert_eq!(rt; many.workers(), workers);
+        assert_eq!(rt; four(&many, &film), FOUR, "{workers} workers");
+    }
+    Ok(())
+}
+
+/// What is found by workers who are told that segments are claimed and a hit is known.
+fn mislead<R: Threads + Sync>(
+    many: &ManyWorkers<R, Open>,
+    film: &Film<PlainWorld>,
+    direction: Direction,
+    after: usize,
+    last: usize,
+    told: (usize, usize),
+) -> Option<Found> {
+    if after >= last || last > film.len() {
+        return None;
+    }
+    let marks = marks(100);
+    let search = Search::new(film, &marks, direction, after, last);
+    let claims = Claims {
+        next: AtomicUsize::new(told.0),
+        hint: AtomicUsize::new(told.1),
+    };
+    search_by(many, &search, &claims).ok()
+}
+
+#[test]
+fn a_wrong_hint_changes_nothing(rt: HostRuntime) -> Result<(), Fail> {
+    let film = ticking(rt.alloc())?;
+    for workers in [1, 2, 3, 16] {
+        let many = crew(&rt, rt.alloc(), workers);
+        for told in [(0, 0), (0, 1), (0, 2), (1, 9), (2, 9), (3, 9), (1, 0)] {
+            let found = [
+                mislead(&many, &film, Direction::Backward, 0, 191, told),
+                mislead(&many, &film, Direction::Backward, 0, 98, told),
+                mislead(&many, &film, Direction::Forward, 2, 192, told),
+                mislead(&many, &film, Direction::Forward, 99, 192, told),
+            ];
+            assert_eq!(rt; found, FOUR, "told {told:?}");
+        }
+    }
+    Ok(())
+}
+
+/// What a search backwards from the end comes to where a worker was refused memory for the second of three segments.
+fn settle_refused(film: &Film<PlainWorld>, step: u32) -> Result<Option<Found>, &'static str> {
+    if film.len() != 192 {
+        return Err("another film");
+    }
+    let marks = marks(step);
+    let search = Search::new(film, &marks, Direction::Backward, 0, 191);
+    let known = [Slot::Unknown, Slot::Refused, Slot::Unknown];
+    Ok(search.settle(&known).ok())
+}
+
+#[test]
+fn want_of_memory_is_told_only_where_no_nearer_segment_has_a_hit(
+    rt: HostRuntime,
+) -> Result<(), Fail> {
+    let film = ticking(rt.alloc())?;
+    assert_eq!(rt; settle_refused(&film, 180)?, Some(Found::Hit(179)));
+    assert_eq!(rt; settle_refused(&film, 100)?, None);
+    Ok(())
+}
+
+/// A generator of numbers below 2^31.
+#[derive(Drop)]
+struct Numbers(u64);
+
+impl Numbers {
+    fn next(&mut self) -> u64 {
+        self.0 = self
+            .0
+            .wrapping_mul(6364136223846793005)
+            .wrapping_add(1442695040888963407);
+        self.0 >> 33
+    }
+
+    fn mode(&mut self) -> Mode {
+        match self.next() % 3 {
+            0 => Mode::Read,
+            1 => Mode::Write,
+            _ => Mode::Both,
+        }
+    }
+
+    /// A step that always applies to the open descriptor; seldom one that changes more than the clock.
+    fn step(&mut self, time: i64) -> Step {
+        match self.next() % 64 {
+            0 => Step::PollEvent {
+                descriptor: 0,
+                tag: self.next() % 2,
+                mode: self.mode(),
+                error: self.next() % 4 == 0,
+            },
+            1 => Step::PollReset {
+                goroutine: 0,
+                descriptor: 0,
+                side: Side::Read,
+            },
+            2 => Step::SetDeadline {
+                goroutine: 0,
+                descriptor: 0,
+                mode: self.mode(),
+                time: if self.next() % 2 == 0 { 1000 } else { -1 },
+            },
+            _ => Step::Tick { time: time / 8 },
+        }
+    }
+}
+
+/// The film of steps that numbers choose.
+fn chosen(alloc: Global, numbers: &mut Numbers) -> Result<Film<PlainWorld>, &'static str> {
+    let mut steps = opening(alloc)?;
+    for time in 0..298 {
+        let step = numbers.step(time);
+        steps.push(step).map_err(|_| "no memory for a step")?;
+    }
+    film_of(alloc, steps)
+}
+
+/// Some marks that numbers choose.
+fn chosen_marks(numbers: &mut Numbers) -> Marks {
+    let mut marks = Marks::new();
+    for cell in [
+        Cell::ReadWord(0),
+        Cell::Info(0),
+        Cell::Timers,
+        Cell::WriteDeadline(0),
+    ] {
+        if numbers.next() % 2 == 0 {
+            let _ = marks.add_watch(cell);
+        }
+    }
+    if numbers.next() % 2 == 0 {
+        let _ = marks.add_break(Break::Kind(Kind::PollEvent));
+    }
+    marks
+}
+
+#[test]
+fn several_workers_agree_with_one_at_each_position(rt: HostRuntime) -> Result<(), Fail> {
+    let one = OneWorker::<&HostRuntime>::new();
+    let mut numbers = Numbers(2026);
+    for _ in 0..3 {
+        let film = chosen(rt.alloc(), &mut numbers)?;
+        let marks = chosen_marks(&mut numbers);
+        for workers in [2, 3, 16] {
+            let many = crew(&rt, rt.alloc(), workers);
+            for n in 0..film.len() + 1 {
+                for direction in [Direction::Forward, Direction::Backward] {
+                    let found = find(&many, &film, &marks, direction, n);
+                    let alone = find(&one, &film, &marks, direction, n);
+                    assert!(rt; found.is_some() && found == alone, "{direction:?} from {n}");
+                }
+            }
+        }
+    }
+    Ok(())
+}
+
+/// What is found at last, where one request for memory is refused; and how often it was refused.
+fn find_at_last<F: Finder>(
+    finder: &F,
+    film: &Film<PlainWorld>,
+    direction: Direction,
+    n: usize,
+    refusals: &mut u32,
+) -> Option<Found> {
+    for _ in 0..2 {
+        match find(finder, film, &marks(100), direction, n) {
+            Some(found) => return Some(found),
+            None => *refusals = refusals.wrapping_add(1),
+        }
+    }
+    None
+}
+
+#[test]
+fn refused_memory_once_a_search_can_be_done_again(rt: HostRuntime) -> Result<(), Fail> {
+    let mut refusals: u32 = 0;
+    for _ in 0..2 {
+        let Ok(film) = ticking(rt.alloc()) else {
+            refusals = refusals.wrapping_add(1);
+            continue;
+        };
+        let many = crew(&rt, rt.alloc(), 3);
+        for (direction, n, hit) in [
+            (Direction::Backward, 192, Found::Hit(99)),
+            (Direction::Backward, 99, Found::Hit(2)),
+            (Direction::Forward, 2, Found::Hit(99)),
+            (Direction::Forward, 99, Found::Nothing),
+        ] {
+            let found = find_at_last(&many, &film, direction, n, &mut refusals);
+            assert_eq!(rt; found, Some(hit));
+        }
+        break;
+    }
+    assert!(rt; refusals <= 1);
+    Ok(())
+}

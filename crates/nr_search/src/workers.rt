@@ -1,0 +1,198 @@
+//! A search by several workers, each in a thread of its own.
+
+ghost use Rattle.std.specs.Prelude.{◌≡◌, ◌<◌, ◌≤◌, ◌+◌, All, IfOk, IfSome};
+ghost use Rattle.std.specs.Thread.{IsSync};
+ghost use Rattle.nr_marks.specs.Hit.{is_hit_at};
+ghost use Rattle.nr_search.specs.Known.{IsTrue};
+ghost use Rattle.nr_search.specs.Nearest.{IsFound};
+ghost use Rattle.nr_search.specs.declared.workers.TheConstants.{LEAST_WORKERS, MOST_WORKERS};
+ghost use Rattle.nr_snaps.specs.Film.{IsFrame};
+
+use crate::found::Found;
+use crate::gate::Gate;
+use crate::search::Search;
+use crate::slot::{Report, Slot, note_all, unknown};
+use crate::stretch::Standing;
+use nr_rev::Worlds;
+use std::alloc::{AllocError, Global};
+use std::marker::Model;
+use std::sync::atomic::{AtomicUsize, Ordering};
+use std::thread::{Threads, map_indices};
+
+/// The fewest workers of a search.
+pub const LEAST_WORKERS: usize = 1;
+
+/// The most workers of a search.
+pub const MOST_WORKERS: usize = 16;
+
+/// Searches by several workers, each in a thread of its own where one can be started. They claim the segments between the
+/// film's copies, in their order on the way. Contracts see how many workers there are.
+#[derive(Debug, Drop)]
+pub struct ManyWorkers<R: Threads + Sync, G: Gate + Sync> {
+    rt: R,
+    alloc: Global,
+    gate: G,
+    workers: usize,
+}
+
+impl<R: Threads + Sync, G: Gate + Sync> Model for ManyWorkers<R, G> {
+    ghost use Rattle.std.specs.Prelude.{◌≤◌, ℕ};
+    ghost use Rattle.nr_search.specs.declared.workers.TheConstants.{LEAST_WORKERS, MOST_WORKERS};
+
+    ghost Value = { ℕ };
+
+    ghost view = { λ m. m.workers };
+
+    ghost invariant = { λ m. (LEAST_WORKERS ≤ m.workers) × (m.workers ≤ MOST_WORKERS) };
+}
+
+impl<R: Threads + Sync, G: Gate + Sync> ManyWorkers<R, G> {
+    /// So many workers. Each goes through the gate for each segment that it searches.
+    pub fn new(rt: R, alloc: Global, gate: G, workers: usize) -> ManyWorkers<R, G>
+        requires least { LEAST_WORKERS ≤ workers }
+        requires most { workers ≤ MOST_WORKERS }
+        ensures { result ≡ workers }
+    {
+        ManyWorkers {
+            rt,
+            alloc,
+            gate,
+            workers,
+        }
+    }
+
+    /// How many workers there are.
+    pub fn workers(&self) -> usize
+        ensures is { result ≡ self.now }
+        ensures least { LEAST_WORKERS ≤ result }
+        ensures most { result ≤ MOST_WORKERS }
+    {
+        self.workers
+    }
+}
+
+/// What the workers of a search share. No proof rests on what it holds.
+#[derive(Drop)]
+pub(crate) struct Claims {
+    /// How many segments on the way are claimed.
+    pub next: AtomicUsize,
+    /// The place on the way of the nearest segment where a hit is known: those behind it need no search.
+    pub hint: AtomicUsize,
+}
+
+impl Claims {
+    /// Nothing is claimed, and no hit is known.
+    pub fn new() -> Claims {
+        Claims {
+            next: AtomicUsize::new(0),
+            hint: AtomicUsize::new(usize::MAX),
+        }
+    }
+
+    // The place on the way of the next segment, unless a hit is known before it.
+    fn claim(&self, count: usize) -> Option<usize>
+        ensures { IfSome result (λ k. k < count) }
+    {
+        let k = self.next.fetch_add(1, Ordering::SeqCst);
+        if k >= count || k > self.hint.load(Ordering::SeqCst) {
+            return None;
+        }
+        Some(k)
+    }
+
+    // Tells the others of a hit at a place on the way.
+    fn tell(&self, k: usize, slot: Slot) {
+        if let Slot::Searched(Found::Hit(_)) = slot {
+            self.hint.fetch_min(k, Ordering::SeqCst);
+        }
+    }
+}
+
+// What a worker's search of a segment comes to.
+fn searched<W: Worlds + Drop>(
+    search: &Search<'_, W>,
+    s: usize,
+    held: &mut Option<Standing<W>>,
+) -> Slot
+    requires first { search.now.span.first ≤ s }
+    requires last { s < search.now.span.first + search.now.span.count }
+    requires held { IfSome held.old (λ h.
+        IsFrame W.is_well_formed W.world W.steps search.now.film.now h.position h.world) }
+    ensures is { IsTrue search.now.span
+        (is_hit_at search.now.film.now.recording search.now.marks.now.standing) s result }
+    ensures held { IfSome held.new (λ h.
+        IsFrame W.is_well_formed W.world W.steps search.now.film.now h.position h.world) }
+{
+    match search.search_segment(s, held) {
+        Ok(found) => Slot::Searched(found),
+        Err(AllocError) => Slot::Refused,
+    }
+}
+
+// Searches the segments that it claims, and reports each.
+fn work<W: Worlds + Drop, G: Gate>(
+    search: &Search<'_, W>,
+    alloc: Global,
+    claims: &Claims,
+    gate: &G,
+    worker: usize,
+) -> Vec<Report>
+    ensures { All (λ r. IsTrue search.now.span
+        (is_hit_at search.now.film.now.recording search.now.marks.now.standing)
+        r.segment r.slot) result.items }
+{
+    let mut reports = Vec::new(alloc);
+    let mut held = None;
+    for _ in 0..search.span.count {
+        let Some(k) = claims.claim(search.span.count) else {
+            return reports;
+        };
+        let segment = search.span.nth(k);
+        gate.enter(worker);
+        let slot = searched(search, segment, &mut held);
+        gate.leave(worker);
+        claims.tell(k, slot);
+        // A report that finds no room is lost, and nothing is known of the segment.
+        let _ = reports.push(Report { segment, slot });
+    }
+    reports
+}
+
+// The reports of each worker.
+fn gather<W: Worlds + Drop + Sync, R: Threads + Sync, G: Gate + Sync>(
+    many: &ManyWorkers<R, G>,
+    search: &Search<'_, W>,
+    claims: &Claims,
+) -> Result<Vec<Vec<Report>>, AllocError>
+    ensures { IfOk result (λ rows. All (λ row. All (λ r. IsTrue search.now.span
+        (is_hit_at search.now.film.now.recording search.now.marks.now.standing)
+        r.segment r.slot) row.items) rows.items) }
+{
+    let alloc = many.alloc;
+    let gate = &many.gate;
+    let worker = |i: usize| -> Vec<Report>
+        requires { IsSync W.row × IsSync G.row × (i < MOST_WORKERS) }
+        ensures { All (λ r. IsTrue search.entry.now.span
+            (is_hit_at search.entry.now.film.now.recording search.entry.now.marks.now.standing)
+            r.segment r.slot) result.items }
+    { work(search, alloc, claims, gate, i + 1) };
+    map_indices(&many.rt, alloc, many.workers, &worker)
+}
+
+/// The nearest hit of a search, by what the workers report. Where that leaves it open, the segments are searched here.
+pub(crate) fn search_by<W: Worlds + Drop + Sync, R: Threads + Sync, G: Gate + Sync>(
+    many: &ManyWorkers<R, G>,
+    search: &Search<'_, W>,
+    claims: &Claims,
+) -> Result<Found, AllocError>
+    ensures { IfOk result (IsFound search.now.span.direction
+        (is_hit_at search.now.film.now.recording search.now.marks.now.standing)
+        (search.now.span.after + 1) (search.now.span.last + 1)) }
+{
+    let rows = gather(many, search, claims)?;
+    let mut known = unknown(many.alloc, search.span.first + search.span.count)?;
+    for reports in &rows {
+        note_all(known.as_mut_slice(), reports.as_slice());
+    }
+    search.settle(known.as_slice())
+}
