@@ -47,7 +47,7 @@ impl Debugger {
     ///
     /// Memory is wanted by `continue` and `reverse-continue` alone, for copies of the film's worlds, and only where
     /// marks stand and a position other than the start lies that way. Refused it, nothing has changed.
-    pub fn exec<W: Worlds + Drop, F: Finder>(
+    pub fn exec<W: Worlds + Drop + Sync, F: Finder>(
         &mut self,
         film: &Film<W>,
         finder: &F,
@@ -63,7 +63,7 @@ impl Debugger {
         self.run(film, finder, command)
     }
 
-    fn run<W: Worlds + Drop, F: Finder>(
+    fn run<W: Worlds + Drop + Sync, F: Finder>(
         &mut self,
         film: &Film<W>,
         finder: &F,
@@ -133,7 +133,7 @@ impl Debugger {
     }
 
     /// Goes to the nearest hit that way, or to the end there.
-    fn go_on<W: Worlds + Drop, F: Finder>(
+    fn go_on<W: Worlds + Drop + Sync, F: Finder>(
         &mut self,
         film: &Film<W>,
         finder: &F,
