@@ -1,14 +1,12 @@
 //! A front: one user's replica of the shared session.
 
 ghost use Rattle.std.specs.Prelude.{◌≡◌, ◌≤◌, [], IfOk, IfErr};
-ghost use Rattle.nr_command.specs.Debugger.{opening};
 ghost use Rattle.nr_walker.specs.declared.walker.TheConstants.{LEAST_DEPTH, MOST_DEPTH};
 ghost use Rattle.nr_front.specs.Desk.{opened, pass_of};
 ghost use Rattle.nr_front.specs.Front.{Executes, IsSame, Looks, Resumes};
 
 use crate::due::Due;
 use crate::fault::FrontFault;
-use crate::machine::Machine;
 use crate::replica::Replica;
 use nr_command::{Command, Query, Reply};
 use nr_journal::{Journal, Pass};
@@ -21,42 +19,37 @@ use std::marker::Model;
 /// A pass of the journal, and a machine that runs the words that the pass sees. Contracts see the journal, the
 /// recording, what the pass knows, and what the machine hasn't run yet.
 #[derive(Drop)]
-pub struct Front<M: Machine> {
+pub struct Front<'f, W: Worlds + Drop + Sync, F: Finder>
+where
+    W::Delta: Drop,
+{
     pub(crate) pass: Pass,
-    pub(crate) machine: M,
+    pub(crate) machine: Replica<'f, W, F>,
     pub(crate) due: Due,
 }
 
-impl<M: Machine> Model for Front<M> {
+impl<'f, W: Worlds + Drop + Sync, F: Finder> Model for Front<'f, W, F>
+where
+    W::Delta: Drop,
+{
     ghost use Rattle.nr_front.specs.Desk.{Desk, IsAt, command_due};
 
     ghost Value = { Desk };
 
     ghost view = { λ f. record {
       table = f.pass.table;
-      recording = M.recording f.machine;
+      recording = f.machine.0;
       stand = f.pass.stand;
       due = f.due;
     } };
 
-    ghost invariant = { λ f. IsAt (M.recording f.machine) f.pass.stand.seen (command_due f.due)
-        (M.debugger f.machine) };
+    ghost invariant = { λ f. IsAt f.machine.0 f.pass.stand.seen (command_due f.due) f.machine.1 };
 }
 
-impl<M: Machine> Front<M> {
-    /// A front over a machine that has run no command. Its pass has seen no word.
-    pub fn over(pass: Pass, machine: M) -> Front<M>
-        requires unseen { pass.stand.seen ≡ [] }
-        requires opening { M.debugger machine ≡ opening }
-        ensures { result ≡ opened pass (M.recording machine) }
-    {
-        Front {
-            pass,
-            machine,
-            due: Due::Nothing,
-        }
-    }
-
+impl<'f, W: Worlds + Drop + Sync, F: Finder> Front<'f, W, F>
+where
+    W::Delta: Drop,
+{
     /// Runs what others placed, places the command, and answers what it does at its place: the reply is that of a
     /// debugger that runs the words of the journal up to there.
     ///
@@ -121,21 +114,7 @@ impl<M: Machine> Front<M> {
     }
 }
 
-impl<M: Machine + Drop> Front<M> {
-    /// Gives the pass back. A reply that is still owed is given up; its word stays in the journal.
-    pub fn end(self) -> Pass
-        ensures { result ≡ pass_of self }
-    {
-        let Front {
-            pass,
-            machine: _,
-            due: _,
-        } = self;
-        pass
-    }
-}
-
-impl<'f, W: Worlds + Drop, F: Finder + Drop> Front<Replica<'f, W, F>>
+impl<'f, W: Worlds + Drop + Sync, F: Finder + Drop> Front<'f, W, F>
 where
     W::Delta: Drop,
 {
@@ -147,7 +126,7 @@ where
         film: &'f Film<W>,
         finder: F,
         depth: usize,
-    ) -> Result<Front<Replica<'f, W, F>>, (Pass, AllocError)>
+    ) -> Result<Front<'f, W, F>, (Pass, AllocError)>
         requires unseen { pass.stand.seen ≡ [] }
         requires least { LEAST_DEPTH ≤ depth }
         requires most { depth ≤ MOST_DEPTH }
@@ -155,8 +134,24 @@ where
         ensures err { IfErr result (λ refused. refused.0 ≡ pass) }
     {
         match Replica::new(alloc, film, finder, depth) {
-            Ok(machine) => Ok(Front::over(pass, machine)),
+            Ok(machine) => Ok(Front {
+                pass,
+                machine,
+                due: Due::Nothing,
+            }),
             Err(refused) => Err((pass, refused)),
         }
+    }
+
+    /// Gives the pass back. A reply that is still owed is given up; its word stays in the journal.
+    pub fn end(self) -> Pass
+        ensures { result ≡ pass_of self.entry }
+    {
+        let Front {
+            pass,
+            machine: _,
+            due: _,
+        } = self;
+        pass
     }
 }

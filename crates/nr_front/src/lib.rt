@@ -5,13 +5,11 @@
 mod due;
 mod fault;
 mod front;
-mod machine;
 mod replica;
 mod steps;
 
 pub use fault::FrontFault;
 pub use front::Front;
-pub use machine::Machine;
 pub use replica::Replica;
 
 #[cfg(test)]

@@ -1,10 +1,9 @@
 //! A replica: a debugger over a film, and the walker that is led to where it stands when somebody looks.
 
-ghost use Rattle.std.specs.Prelude.{◌≡◌, ◌≤◌, IfOk};
-ghost use Rattle.nr_command.specs.Debugger.{opening};
+ghost use Rattle.std.specs.Prelude.{◌≡◌, ◌≤◌, IfOk, OnErr};
+ghost use Rattle.nr_command.specs.Debugger.{Searches, opening, run, shown};
 ghost use Rattle.nr_walker.specs.declared.walker.TheConstants.{LEAST_DEPTH, MOST_DEPTH};
 
-use crate::machine::Machine;
 use nr_command::{Command, Debugger, Query, Reply};
 use nr_rev::Worlds;
 use nr_search::Finder;
@@ -15,7 +14,7 @@ use std::marker::Model;
 
 /// A debugger over a film, with a walker of its own. Contracts see the film's recording and the debugger.
 #[derive(Drop)]
-pub struct Replica<'f, W: Worlds + Drop, F: Finder>
+pub struct Replica<'f, W: Worlds + Drop + Sync, F: Finder>
 where
     W::Delta: Drop,
 {
@@ -24,7 +23,7 @@ where
     finder: F,
 }
 
-impl<'f, W: Worlds + Drop, F: Finder> Model for Replica<'f, W, F>
+impl<'f, W: Worlds + Drop + Sync, F: Finder> Model for Replica<'f, W, F>
 where
     W::Delta: Drop,
 {
@@ -40,7 +39,7 @@ where
     ghost invariant = { λ s. IsWithin (length s.walker.film.recording.steps) s.debugger };
 }
 
-impl<'f, W: Worlds + Drop, F: Finder + Drop> Replica<'f, W, F>
+impl<'f, W: Worlds + Drop + Sync, F: Finder + Drop> Replica<'f, W, F>
 where
     W::Delta: Drop,
 {
@@ -65,20 +64,27 @@ where
     }
 }
 
-impl<'f, W: Worlds + Drop, F: Finder> Machine for Replica<'f, W, F>
+impl<'f, W: Worlds + Drop + Sync, F: Finder> Replica<'f, W, F>
 where
     W::Delta: Drop,
 {
-    ghost recording = { λ s. s.0 };
-
-    ghost debugger = { λ s. s.1 };
-
-    fn exec(&mut self, command: Command) -> Result<Reply, AllocError> {
+    /// Runs a command. Only one that searches can be refused memory, and then nothing has changed.
+    pub(crate) fn exec(&mut self, command: Command) -> Result<Reply, AllocError>
+        ensures recording { self.new.0 ≡ self.old.0 }
+        ensures ok { IfOk result (λ reply. (reply, self.new.1) ≡ run self.old.0 command self.old.1) }
+        ensures unchanged { OnErr result (self.new.1 ≡ self.old.1) }
+        ensures memory { OnErr result (Searches self.old.0 command self.old.1) }
+    {
         self.debugger
             .exec(self.walker.film(), &self.finder, command)
     }
 
-    fn look(&mut self, query: Query) -> Result<Reply, AllocError> {
+    /// Looks at what the debugger shows where it stands. Nothing changes, also where it is refused memory.
+    pub(crate) fn look(&mut self, query: Query) -> Result<Reply, AllocError>
+        ensures recording { self.new.0 ≡ self.old.0 }
+        ensures unchanged { self.new.1 ≡ self.old.1 }
+        ensures ok { IfOk result (λ reply. reply ≡ shown self.old.0 self.old.1 query) }
+    {
         self.walker.goto(self.debugger.position())?;
         self.debugger
             .look(self.walker.film(), self.walker.world(), query)

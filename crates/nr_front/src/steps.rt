@@ -10,12 +10,16 @@ ghost use Rattle.nr_front.specs.declared.due.Due.TheVariants.{Nothing};
 use crate::due::Due;
 use crate::fault::FrontFault;
 use crate::front::Front;
-use crate::machine::Machine;
 use nr_command::{Command, Query, Reply};
 use nr_journal::{Journal, Offered};
+use nr_rev::Worlds;
+use nr_search::Finder;
 use std::alloc::AllocError;
 
-impl<M: Machine> Front<M> {
+impl<'f, W: Worlds + Drop + Sync, F: Finder> Front<'f, W, F>
+where
+    W::Delta: Drop,
+{
     /// The command whose reply is owed.
     pub(crate) fn owed(&self) -> Option<Command>
         ensures { result ≡ owed self.now }

@@ -2,7 +2,7 @@
 
 ghost use Rattle.std.specs.Prelude.{◌≡◌, ◌≤◌, [], IfOk};
 
-use crate::{Front, FrontFault, Replica};
+use crate::{Front, FrontFault};
 use nr_command::{Command, Query, Reply};
 use nr_journal::{Journal, Pass};
 use nr_plain::PlainWorld;
@@ -14,9 +14,9 @@ use std::alloc::Global;
 use std::cmp::Ordering;
 use std::num::NonZeroU32;
 use std::test::*;
-use std::thread::join;
+use std::thread::{Threads, join};
 
-type Ticking<'f> = Front<Replica<'f, PlainWorld, OneWorker>>;
+type Ticking<'f, R> = Front<'f, PlainWorld, OneWorker<R>>;
 
 const LIMITS: Limits = Limits {
     goroutines: 1,
@@ -37,26 +37,27 @@ fn film(alloc: Global, count: u32) -> Result<Film<PlainWorld>, &'static str> {
     Snaps::load(alloc, recording, 64).map_err(|_| "no film")
 }
 
-fn front<'f>(
+fn front<'f, R: Threads + Sync>(
     alloc: Global,
     pass: Pass,
     film: &'f Film<PlainWorld>,
-) -> Result<Ticking<'f>, &'static str>
+) -> Result<Ticking<'f, R>, &'static str>
     requires { pass.stand.seen ≡ [] }
     ensures { IfOk result (λ front. front.table ≡ pass.table) }
 {
-    match Front::new(alloc, pass, film, OneWorker, 64) {
+    match Front::new(alloc, pass, film, OneWorker::new(), 64) {
         Ok(front) => Ok(front),
         Err(_) => Err("no memory for a front"),
     }
 }
 
 /// A journal of so many words, two fronts with the tags 0 and 1, and a third pass.
-fn share<'f>(
+fn share<'f, R: Threads + Sync>(
+    _rt: &R,
     alloc: Global,
     words: usize,
     film: &'f Film<PlainWorld>,
-) -> Result<(Journal, Ticking<'f>, Ticking<'f>, Pass), &'static str>
+) -> Result<(Journal, Ticking<'f, R>, Ticking<'f, R>, Pass), &'static str>
     requires { (1 ≤ words) × (words ≤ 1000000) }
     ensures { IfOk result (λ shared. (shared.1.table ≡ shared.0)
         × (shared.2.table ≡ shared.0) × (shared.3.table ≡ shared.0)) }
@@ -96,7 +97,7 @@ fn is_at(at: usize, count: usize, shown: Result<Reply, FrontFault>) -> bool {
 #[test]
 fn a_command_counts_at_its_place(rt: HostRuntime) -> Result<(), Fail> {
     let film = film(rt.alloc(), 9)?;
-    let (journal, mut one, mut other, mut third) = share(rt.alloc(), 4, &film)?;
+    let (journal, mut one, mut other, mut third) = share(&rt, rt.alloc(), 4, &film)?;
     assert!(rt; matches!(one.exec(&journal, three_steps()), Ok(Reply::At(3))));
     assert!(rt; matches!(other.exec(&journal, one_back()), Ok(Reply::At(2))));
     assert!(rt; is_at(2, 9, one.look(&journal, Query::Position)));
@@ -114,7 +115,7 @@ fn a_command_counts_at_its_place(rt: HostRuntime) -> Result<(), Fail> {
 #[test]
 fn the_other_order_has_other_replies(rt: HostRuntime) -> Result<(), Fail> {
     let film = film(rt.alloc(), 9)?;
-    let (journal, mut one, mut other, _) = share(rt.alloc(), 4, &film)?;
+    let (journal, mut one, mut other, _) = share(&rt, rt.alloc(), 4, &film)?;
     assert!(rt; matches!(other.exec(&journal, one_back()), Ok(Reply::AtStart)));
     assert!(rt; matches!(one.exec(&journal, three_steps()), Ok(Reply::At(3))));
     assert!(rt; is_at(3, 9, other.look(&journal, Query::Position)));
@@ -125,7 +126,7 @@ fn the_other_order_has_other_replies(rt: HostRuntime) -> Result<(), Fail> {
 #[test]
 fn a_full_journal_takes_no_command(rt: HostRuntime) -> Result<(), Fail> {
     let film = film(rt.alloc(), 9)?;
-    let (journal, mut one, mut other, _) = share(rt.alloc(), 1, &film)?;
+    let (journal, mut one, mut other, _) = share(&rt, rt.alloc(), 1, &film)?;
     assert!(rt; matches!(one.exec(&journal, three_steps()), Ok(Reply::At(3))));
     assert!(rt; matches!(other.exec(&journal, one_back()), Err(FrontFault::Full)));
     assert!(rt; is_at(3, 9, other.look(&journal, Query::Position)));
@@ -135,7 +136,7 @@ fn a_full_journal_takes_no_command(rt: HostRuntime) -> Result<(), Fail> {
 }
 
 /// Places a hundred commands, and looks until as many came of another front.
-fn step_and_wait(journal: &Journal, mut front: Ticking<'_>) -> Pass
+fn step_and_wait<R: Threads + Sync>(journal: &Journal, mut front: Ticking<'_, R>) -> Pass
     requires { front.table ≡ journal.now }
     ensures { result.table ≡ journal.now }
 {
@@ -153,7 +154,7 @@ fn step_and_wait(journal: &Journal, mut front: Ticking<'_>) -> Pass
 #[test]
 fn two_threads_place_a_hundred_commands_each(rt: HostRuntime) -> Result<(), Fail> {
     let film = film(rt.alloc(), 300)?;
-    let (journal, one, other, _) = share(rt.alloc(), 4096, &film)?;
+    let (journal, one, other, _) = share(&rt, rt.alloc(), 4096, &film)?;
     let shared = &journal;
     let (mut one, mut other) = join(
         &rt,

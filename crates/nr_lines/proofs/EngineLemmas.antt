@@ -244,6 +244,12 @@ came_more r r' r'' w w' p p' read line bytes whole st more = record {
   count = st.count;
 }
 
+-- of what it gave nothing is done with yet
+pub came_first : (r r' r'' w w' : Option (List ℕ)) (p p' : Desk) (read line bytes : List ℕ) (whole : ℕ) → Standing r r' w w' p p' read read line whole → Consumes r' r'' bytes → Standing r r'' w w' p p' (read ++ bytes) (read ++ []) line whole
+came_first r r' r'' w w' p p' read line bytes whole st more =
+    subst (λ done. Standing r r'' w w' p p' (read ++ bytes) done line whole) (sym (append-nil read))
+    (came_more r r' r'' w w' p p' read line bytes whole st more)
+
 -- the line by another name
 pub relined : (r r' w w' : Option (List ℕ)) (p p' : Desk) (came read line slice : List ℕ) (whole : ℕ) → Standing r r' w w' p p' came read line whole → slice ≡ line → Standing r r' w w' p p' came read slice whole
 relined r r' w w' p p' came read line slice whole st e = subst (λ l. Standing r r' w w' p p' came read l whole) (sym e) st

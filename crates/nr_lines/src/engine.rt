@@ -8,8 +8,10 @@ use crate::source::Source;
 use crate::turn::turn;
 use arrayvec::ArrayVec;
 use nr_command::{MAX_LINE, Sink};
-use nr_front::{Front, Machine};
+use nr_front::Front;
 use nr_journal::Journal;
+use nr_rev::Worlds;
+use nr_search::Finder;
 use std::io::{Read, Write};
 use std::sync::Wait;
 
@@ -24,13 +26,15 @@ const CHUNK: usize = 512;
 /// The source may be read past `quit`, or past the line whose reply was not written. Where a read failed, the whole
 /// lines before it are answered. Whatever the end, the front can be used again, and each line up to there was run, also
 /// one whose reply was not written. A failure is told just where there was one.
-pub fn serve<R: Read, W: Write, M: Machine>(
+pub fn serve<R: Read, W: Write, S: Worlds + Drop + Sync, F: Finder>(
     rt: &impl Wait,
     r: &mut Source<R>,
     w: &mut Sink<W>,
-    front: &mut Front<M>,
+    front: &mut Front<'_, S, F>,
     journal: &Journal,
 ) -> Result<End, LineEnd>
+where
+    S::Delta: Drop,
     requires table { front.old.table ≡ journal.now }
     requires reader { r.old.failed ≡ false }
     requires writer { w.old.failed ≡ false }

@@ -6,7 +6,7 @@ use crate::stingy::Stingy;
 use crate::streams::{Cup, Drip, Stutter, make_cup};
 use crate::{End, LineEnd, Source, serve};
 use nr_command::Sink;
-use nr_front::{Front, Replica};
+use nr_front::Front;
 use nr_journal::{Journal, Pass};
 use nr_recording::Recording;
 use nr_rev::{Limits, Step};
@@ -16,8 +16,9 @@ use std::alloc::Global;
 use std::io::{Read, Write};
 use std::sync::Wait;
 use std::test::*;
+use std::thread::Threads;
 
-type Ticking<'f> = Front<Replica<'f, Stingy, OneWorker>>;
+type Ticking<'f, R> = Front<'f, Stingy, OneWorker<R>>;
 
 const LIMITS: Limits = Limits {
     goroutines: 1,
@@ -38,22 +39,27 @@ fn make_film(alloc: Global) -> Result<Film<Stingy>, &'static str> {
     Snaps::load(alloc, recording, 64).map_err(|_| "no film")
 }
 
-fn front<'f>(alloc: Global, pass: Pass, film: &'f Film<Stingy>) -> Result<Ticking<'f>, &'static str>
+fn front<'f, R: Threads + Sync>(
+    alloc: Global,
+    pass: Pass,
+    film: &'f Film<Stingy>,
+) -> Result<Ticking<'f, R>, &'static str>
     requires { pass.stand.seen ≡ [] }
     ensures { IfOk result (λ front. front.table ≡ pass.table) }
 {
-    match Front::new(alloc, pass, film, OneWorker, 64) {
+    match Front::new(alloc, pass, film, OneWorker::new(), 64) {
         Ok(front) => Ok(front),
         Err(_) => Err("no memory for a front"),
     }
 }
 
 /// A journal of so many words, and two fronts.
-fn share<'f>(
+fn share<'f, R: Threads + Sync>(
+    _rt: &R,
     alloc: Global,
     words: usize,
     film: &'f Film<Stingy>,
-) -> Result<(Journal, Ticking<'f>, Ticking<'f>), &'static str>
+) -> Result<(Journal, Ticking<'f, R>, Ticking<'f, R>), &'static str>
     requires { (1 ≤ words) × (words ≤ 1000000) }
     ensures { IfOk result (λ shared. (shared.1.table ≡ shared.0) × (shared.2.table ≡ shared.0)) }
 {
@@ -73,10 +79,10 @@ fn share<'f>(
 }
 
 /// Serves a script to a cup.
-fn serve_cup(
-    rt: &impl Wait,
+fn serve_cup<R: Wait + Threads + Sync>(
+    rt: &R,
     script: &str,
-    front: &mut Ticking<'_>,
+    front: &mut Ticking<'_, R>,
     journal: &Journal,
     cup: Cup,
 ) -> (Result<End, LineEnd>, Cup)
@@ -96,7 +102,7 @@ fn a_script_is_answered(rt: HostRuntime) -> Result<(), Fail> {
     let text =
         "at 3\nclock = 3\nfault 201 unknown command\ngor 0 = idle\nat 0 start\nat 9 end\nrq 1 = absent\nnothing owed\nat 8\n";
     let film = make_film(rt.alloc())?;
-    let (journal, mut one, mut other) = share(rt.alloc(), 8, &film)?;
+    let (journal, mut one, mut other) = share(&rt, rt.alloc(), 8, &film)?;
     let (end, cup) = serve_cup(&rt, script, &mut one, &journal, make_cup(&rt, 200));
     assert_eq!(rt; end, Ok(End::Closed));
     assert_eq!(rt; cup.held.as_slice(), text.as_bytes());
@@ -126,7 +132,7 @@ fn a_script_is_answered(rt: HostRuntime) -> Result<(), Fail> {
 #[test]
 fn a_reply_is_owed(rt: HostRuntime) -> Result<(), Fail> {
     let film = make_film(rt.alloc())?;
-    let (journal, mut one, _) = share(rt.alloc(), 8, &film)?;
+    let (journal, mut one, _) = share(&rt, rt.alloc(), 8, &film)?;
     // the first search is refused, and once more; the second search too
     film.snap_below(0).refuse(0b10011);
     let script = "b @3\nc\nsi\nprint clock\nresume\nresume\nresume\nc\n";
@@ -143,7 +149,7 @@ fn a_reply_is_owed(rt: HostRuntime) -> Result<(), Fail> {
 #[test]
 fn anothers_command_comes_first(rt: HostRuntime) -> Result<(), Fail> {
     let film = make_film(rt.alloc())?;
-    let (journal, mut one, mut other) = share(rt.alloc(), 8, &film)?;
+    let (journal, mut one, mut other) = share(&rt, rt.alloc(), 8, &film)?;
     let (_, cup) = serve_cup(&rt, "b @3\nc\n", &mut one, &journal, make_cup(&rt, 100));
     assert_eq!(rt; cup.held.as_slice(), b"mark 1\nat 2 by 1\n".as_slice());
     film.snap_below(0).refuse(0b11);
@@ -158,7 +164,7 @@ fn anothers_command_comes_first(rt: HostRuntime) -> Result<(), Fail> {
 #[test]
 fn a_full_journal_is_told(rt: HostRuntime) -> Result<(), Fail> {
     let film = make_film(rt.alloc())?;
-    let (journal, mut one, mut other) = share(rt.alloc(), 1, &film)?;
+    let (journal, mut one, mut other) = share(&rt, rt.alloc(), 1, &film)?;
     let (_, cup) = serve_cup(&rt, "si 3\n", &mut one, &journal, make_cup(&rt, 100));
     assert_eq!(rt; cup.held.as_slice(), b"at 3\n".as_slice());
     let script = "rsi\nprint clock\nq\nsi";
@@ -181,7 +187,7 @@ fn a_write_fails(rt: HostRuntime) -> Result<(), Fail> {
         (15, 2, 0, "at 3\nclock = 3\n"),
         (18, 2, 3, "at 3\nclock = 3\nbye"),
     ] {
-        let (journal, mut one, _) = share(rt.alloc(), 8, &film)?;
+        let (journal, mut one, _) = share(&rt, rt.alloc(), 8, &film)?;
         let (end, cup) = serve_cup(&rt, script, &mut one, &journal, make_cup(&rt, room));
         assert_eq!(rt; end, Err(LineEnd::Write { whole, part }));
         assert_eq!(rt; cup.held.as_slice(), text.as_bytes());
@@ -197,7 +203,7 @@ fn a_write_fails(rt: HostRuntime) -> Result<(), Fail> {
 fn a_read_fails(rt: HostRuntime) -> Result<(), Fail> {
     let film = make_film(rt.alloc())?;
     for (left, text) in [(0, ""), (4, ""), (5, "at 3\n"), (12, "at 3\n")] {
-        let (journal, mut one, _) = share(rt.alloc(), 8, &film)?;
+        let (journal, mut one, _) = share(&rt, rt.alloc(), 8, &film)?;
         let bytes = b"si 3\nstepi 2".as_slice();
         let mut source = Source::new(Drip { bytes, left });
         let mut sink = Sink::new(make_cup(&rt, 100));

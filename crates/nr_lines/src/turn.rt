@@ -7,18 +7,22 @@ ghost use Rattle.nr_lines.specs.Turn.{IsCut, MayReply, Turn, count_with, is_quit
 
 use crate::ending::LineEnd;
 use nr_command::{Command, Fault, Line, LineFault, Part, Reply, Sink};
-use nr_front::{Front, FrontFault, Machine};
+use nr_front::{Front, FrontFault};
 use nr_journal::Journal;
+use nr_rev::Worlds;
+use nr_search::Finder;
 use std::io::Write;
 
 /// Answers a line, and says whether it is `quit`. `whole` counts the texts that went out whole.
-pub(crate) fn turn<W: Write, M: Machine>(
+pub(crate) fn turn<W: Write, S: Worlds + Drop + Sync, F: Finder>(
     line: &[u8],
     w: &mut Sink<W>,
-    front: &mut Front<M>,
+    front: &mut Front<'_, S, F>,
     journal: &Journal,
     whole: &mut u64,
 ) -> Result<bool, LineEnd>
+where
+    S::Delta: Drop,
     requires { front.old.table ≡ journal.now }
     ensures table { front.new.table ≡ front.old.table }
     ensures quits { IfOk result (λ quits. quits ≡ is_quit (meaning_of line.now)) }
@@ -60,11 +64,13 @@ fn is_quit(asked: Result<Line, LineFault>) -> bool
 }
 
 /// The reply, unless the line is empty.
-fn reply_to_line<M: Machine>(
-    front: &mut Front<M>,
+fn reply_to_line<S: Worlds + Drop + Sync, F: Finder>(
+    front: &mut Front<'_, S, F>,
     journal: &Journal,
     asked: Result<Line, LineFault>,
 ) -> Option<Reply>
+where
+    S::Delta: Drop,
     requires { front.old.table ≡ journal.now }
     ensures table { front.new.table ≡ front.old.table }
     ensures reply { MayReply asked front.old result front.new }

@@ -2,7 +2,7 @@ use Rattle.std.proofs.Common.{refl, rules, ◌≡◌, ◌≢◌, [], take, ℕ, 
 use Rattle.std.proofs.Common.{inl, inr}
 use Rattle.std.proofs.lemmas.Bool.Decides.{eqb_tells}
 use Rattle.std.proofs.lemmas.Result.{err_from_is_err_and}
-use Rattle.nr_lines.proofs.EngineLemmas.{standing_at_first, last_stands, relined, came_at, read_at, byte_more, line_more, closed, closed_after, last_quits, last_cut, line_quits, line_cut, some_left}
+use Rattle.nr_lines.proofs.EngineLemmas.{standing_at_first, came_first, last_stands, relined, came_at, read_at, byte_more, line_more, closed, closed_after, last_quits, last_cut, line_quits, line_cut, some_left}
 use Rattle.nr_lines.proofs.engine.serve.Goals.{then-byte-ne10, else-byte-ne10+in_ok-quits+else-quits, else-not-is_empty-via-then-not-is_empty+in_ok-turn+else-branch, else-not-is_empty-via-else-not-is_empty}
 use Rattle.nr_lines.proofs.engine.serve.Goals as goal
 
@@ -62,6 +62,15 @@ returns-then-quits-clause-serves g c =
     let st = relined _ _ _ _ _ _ _ _ _ _ _ c.loop-byte.invariant.stands c.as_slice-else-byte-ne10.ensures.value in
     let there = came_at c.loop-byte.invariant.before (take c.in-Ok.count c.read.new.buf) c.loop-byte.byte-index c.loop-byte-test.true in
     line_quits _ _ _ _ _ _ _ _ _ _ _ _ _ _ _ st there (eq-eqb _ _ c.if-byte-ne10.false) (sym c.in_ok-quits.ensures.quits ∙ c.if-quits.true) c.in_ok-quits.ensures.ok
+
+pub loop-byte-init : goal.loop-byte-init
+loop-byte-init g c = record {
+  table = c.loop.invariant.table;
+  reader = c.in-Ok.ensures.ok ∙ c.loop.invariant.reader;
+  writer = c.loop.invariant.writer;
+  before = c.loop.invariant.read;
+  stands = came_first _ _ _ _ _ _ _ _ _ (take c.in-Ok.count c.read.new.buf) _ c.loop.invariant.stands c.in-Ok.ensures.bytes.0;
+}
 
 pub loop-byte-preserved : goal.loop-byte-preserved
 loop-byte-preserved g c =
