@@ -1,5 +1,5 @@
 -- Callers served one after the other.
-use Rattle.std.proofs.Common.{◌≡◌, List, [], ◌∷◌, ◌++◌, map, Option, Some, None, Result, Bool, ◌||◌, refl, sym, ap, ◌∙◌, subst, append_assoc}
+use Rattle.std.proofs.Common.{◌≡◌, List, [], ◌∷◌, ◌++◌, map, Option, Some, None, Result, Bool, ◌||◌, refl, sym, ap, ◌∙◌, subst, append_assoc, append-nil}
 use Rattle.std.specs.List.{list_any}
 use Rattle.std.specs.Prelude.{IfSome, is_err, option_to_list}
 use Rattle.std.proofs.lemmas.List.Folds.{list_any-append}
@@ -36,3 +36,7 @@ served_more (s ∷ starts) (d ∷ dones) start done are is = (are.0, served_more
 pub adds_one : (starts all : List Desk) (old mid new : List Done) (start : Desk) (done : Done) → all ≡ starts ++ start ∷ [] → Adds starts old mid → IsServed start done → new ≡ mid ++ done ∷ [] → Adds all old new
 adds_one starts all old mid new start done whole (more, behind, are) is put =
     (more ++ done ∷ [], put ∙ ap (λ (l : List Done). l ++ done ∷ []) behind ∙ append_assoc old more (done ∷ []), subst (λ (l : List Desk). AreServed l (more ++ done ∷ [])) (sym whole) (served_more starts more start done are is))
+
+-- none was left
+pub adds_none : (starts : List Desk) (old : List Done) → starts ≡ [] → Adds starts old old
+adds_none starts old none = ([], sym (append-nil old), subst (λ (l : List Desk). AreServed l []) (sym none) tt)

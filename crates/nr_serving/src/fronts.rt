@@ -8,9 +8,11 @@ ghost use denote.Param.Send.{IsSend, IsSync};
 use crate::buffered::Buffered;
 use crate::connection::{Connections, Next, Reader, Writer};
 use nr_command::Sink;
-use nr_front::{Front, Machine};
+use nr_front::Front;
 use nr_journal::{Journal, Pass};
 use nr_lines::{Source, serve};
+use nr_rev::Worlds;
+use nr_search::Finder;
 use std::sync::Wait;
 use std::thread::{Threads, join};
 
@@ -23,14 +25,20 @@ pub struct Done {
 }
 
 // Serves a front's callers one after the other, and gives its pass back.
-fn serve_one<R: Wait, M: Machine + Drop, C: Connections + Drop>(
+fn serve_one<R, W, F, C>(
     rt: &R,
     journal: &Journal,
-    mut front: Front<M>,
+    mut front: Front<'_, W, F>,
     mut connections: C,
 ) -> Done
+where
+    R: Wait,
+    W: Worlds + Drop + Sync,
+    W::Delta: Drop,
+    F: Finder + Drop,
+    C: Connections + Drop,
     requires { front.table ≡ journal.now }
-    ensures { IsServed front result }
+    ensures { IsServed front.entry result }
 {
     let mut failed = false;
     for _ in rt.forever() {
@@ -60,16 +68,22 @@ fn serve_one<R: Wait, M: Machine + Drop, C: Connections + Drop>(
 
 /// Serves each front in a thread of its own, and where none can be started in this one, once all others are started. What
 /// comes of them stands behind what is there, in their order.
-pub fn serve_each<R: Threads + Wait + Sync, M: Machine + Drop + Send, C: Connections + Drop + Send>(
+pub fn serve_each<R, W, F, C>(
     rt: &R,
     journal: &Journal,
-    mut fronts: Vec<(Front<M>, C)>,
+    mut fronts: Vec<(Front<'_, W, F>, C)>,
     done: Vec<Done>,
 ) -> Vec<Done>
+where
+    R: Threads + Wait + Sync,
+    W: Worlds + Drop + Send + Sync,
+    W::Delta: Drop + Send,
+    F: Finder + Drop + Send,
+    C: Connections + Drop + Send,
     requires tables { All (λ f. f.0.table ≡ journal.now) fronts.items }
     requires room { vec_len done + vec_len fronts ≤ vec_capacity done }
-    ensures served { Adds (map (λ f. f.0) fronts.items) done.items result.items }
-    ensures len { vec_len result ≡ vec_len done + vec_len fronts }
+    ensures served { Adds (map (λ f. f.0) fronts.entry.items) done.items result.items }
+    ensures len { vec_len result ≡ vec_len done + vec_len fronts.entry }
     ensures capacity { vec_capacity result ≡ vec_capacity done }
 {
     let Some((front, connections)) = pop_front(journal, &mut fronts) else {
@@ -78,15 +92,17 @@ pub fn serve_each<R: Threads + Wait + Sync, M: Machine + Drop + Send, C: Connect
     let (one, mut done) = join(
         rt,
         move || -> Done
-            requires { IsSync R.row × (front.table ≡ journal.now) }
-            ensures { IsServed front result }
+            requires { IsSync R.row × IsSync W.row × IsSync F.Runtime.row × IsSync F.Gate.row
+                × (front.table ≡ journal.now) }
+            ensures { IsServed front.entry result }
         { serve_one(rt, journal, front, connections) },
         move || -> Vec<Done>
-            requires { IsSync R.row × IsSend M.row × IsSend C.row
+            requires { IsSync R.row × IsSend W.row × IsSync W.row × IsSend W.Delta.row × IsSend F.row
+                × IsSync F.Runtime.row × IsSync F.Gate.row × IsSend C.row × IsSend C.Connection.row
                 × All (λ f. f.0.table ≡ journal.now) fronts.items
                 × (vec_len done + vec_len fronts ≤ vec_capacity done) }
-            ensures served { Adds (map (λ f. f.0) fronts.items) done.items result.items }
-            ensures len { vec_len result ≡ vec_len done + vec_len fronts }
+            ensures served { Adds (map (λ f. f.0) fronts.entry.items) done.items result.items }
+            ensures len { vec_len result ≡ vec_len done + vec_len fronts.entry }
             ensures capacity { vec_capacity result ≡ vec_capacity done }
         { serve_each(rt, journal, fronts, done) },
     );
@@ -95,16 +111,18 @@ pub fn serve_each<R: Threads + Wait + Sync, M: Machine + Drop + Send, C: Connect
 }
 
 // Takes the last front.
-fn pop_front<M: Machine, C>(
+fn pop_front<'f, W: Worlds + Drop + Sync, F: Finder, C>(
     journal: &Journal,
-    fronts: &mut Vec<(Front<M>, C)>,
-) -> Option<(Front<M>, C)>
+    fronts: &mut Vec<(Front<'f, W, F>, C)>,
+) -> Option<(Front<'f, W, F>, C)>
+where
+    W::Delta: Drop,
     requires { All (λ f. f.0.table ≡ journal.now) fronts.old.items }
     ensures some { IfSome result (λ f. (f.0.table ≡ journal.now)
         × (vec_len fronts.new + 1 ≡ vec_len fronts.old)) }
     ensures last { IfSome result (λ f. map (λ f. f.0) fronts.old.items
         ≡ map (λ f. f.0) fronts.new.items ++ f.0 ∷ []) }
-    ensures none { IfNone result (vec_len fronts.old ≡ 0) }
+    ensures none { IfNone result (fronts.old.items ≡ []) }
     ensures rest { All (λ f. f.0.table ≡ journal.now) fronts.new.items }
 {
     fronts.pop()

@@ -10,7 +10,7 @@ ghost use Rattle.nr_serving.specs.Session.{HoldsAll, IsFresh, IsShared, TakesIn,
 
 use crate::connection::{Connections, Ports};
 use crate::fronts::{Done, serve_each};
-use nr_front::{Front, Replica};
+use nr_front::Front;
 use nr_journal::{Journal, Seat};
 use nr_rev::Worlds;
 use nr_search::Finder;
@@ -57,14 +57,14 @@ impl From<AllocError> for Unshared {
 }
 
 // Opens a front over the film.
-fn open_front<'f, W: Worlds + Drop, F: Finder + Drop>(
+fn open_front<'f, W: Worlds + Drop + Sync, F: Finder + Drop>(
     alloc: Global,
     journal: &Journal,
     seat: &mut Seat,
     film: &'f Film<W>,
     finder: F,
     depth: usize,
-) -> Result<Front<Replica<'f, W, F>>, Unshared>
+) -> Result<Front<'f, W, F>, Unshared>
 where
     W::Delta: Drop,
     requires table { seat.old.table ≡ journal.now }
@@ -82,7 +82,7 @@ where
 }
 
 // Opens each front, and its port.
-fn open_fronts<'f, W: Worlds + Drop, F: Finder + Copy + Drop, P: Ports>(
+fn open_fronts<'f, W: Worlds + Drop + Sync, F: Finder + Copy + Drop, P: Ports>(
     alloc: Global,
     journal: &Journal,
     mut seat: Seat,
@@ -90,7 +90,7 @@ fn open_fronts<'f, W: Worlds + Drop, F: Finder + Copy + Drop, P: Ports>(
     finder: F,
     shape: Shape,
     ports: &mut P,
-) -> Result<Vec<(Front<Replica<'f, W, F>>, P::Callers)>, Unshared>
+) -> Result<Vec<(Front<'f, W, F>, P::Callers)>, Unshared>
 where
     W::Delta: Drop,
     requires table { seat.table ≡ journal.now }

@@ -144,7 +144,9 @@ fn share_between<R: Threads + Wait + Sync>(
         room: 4,
         depth: 64,
     };
-    let ended = share(rt, alloc, &film, OneWorker, shape, &mut wires).map_err(|_| "not shared")?;
+    let ended = share(rt, alloc, &film, OneWorker::<&R>::new(), shape, &mut wires).map_err(
+        |_| "not shared",
+    )?;
     Ok(ended)
 }
 
