@@ -7,7 +7,7 @@ use Rattle.clap.specs.Simple.{on_top}
 use Rattle.clap.specs.declared.error.kind.ErrorKind.{ErrorKind}
 use Rattle.clap.specs.declared.error.kind.ErrorKind.TheVariants as kind
 use Rattle.nr_command.specs.Command.{number_of}
-use Rattle.netrev.specs.declared.arguments.TheConstants.{MOST_FRONTS, MOST_JOURNAL, MOST_PORT, USUAL_JOURNAL}
+use Rattle.netrev.specs.declared.arguments.TheConstants.{MOST_FRONTS, MOST_JOURNAL, MOST_PORT, MOST_WORKERS, USUAL_JOURNAL}
 use Rattle.netrev.specs.declared.arguments.Sharing.{Sharing}
 use Rattle.netrev.specs.declared.arguments.Program.{Program}
 use Rattle.netrev.specs.declared.arguments.Program.TheVariants as program
@@ -29,8 +29,9 @@ option_rule name = record (new_rule name) { long = Some name }
 -- the program that is shared, with its FILE and its options
 abbrev pub serve_program : App
 serve_program =
-    with_rule (with_rule (with_rule (with_rule (file_program (codes "serve"))
-    (option_rule (codes "port"))) (option_rule (codes "fronts"))) (option_rule (codes "journal"))) (option_rule (codes "connections"))
+    with_rule (with_rule (with_rule (with_rule (with_rule (file_program (codes "serve"))
+    (option_rule (codes "port"))) (option_rule (codes "fronts"))) (option_rule (codes "workers")))
+    (option_rule (codes "journal"))) (option_rule (codes "connections"))
 
 -- `netrev run FILE`, `netrev check FILE` and `netrev serve FILE --port P ..`, and no other
 abbrev pub netrev : App
@@ -53,6 +54,7 @@ abbrev pub is_in_range : Sharing → Bool
 is_in_range s =
     not (nat_lt s.port 1) && not (nat_lt s.fronts 1) && not (nat_lt MOST_FRONTS s.fronts)
     && not (nat_lt MOST_PORT s.port) && not (nat_lt MOST_PORT (s.port + s.fronts - 1))
+    && not (nat_lt s.workers 1) && not (nat_lt MOST_WORKERS s.workers)
     && not (nat_lt s.journal 1) && not (nat_lt MOST_JOURNAL s.journal)
 
 abbrev pub if_in_range : Sharing → Option Sharing
@@ -63,10 +65,18 @@ abbrev pub sharing_in : List Row → Option Sharing
 sharing_in rows =
     option_and_then (λ port.
     option_and_then (λ fronts.
+    option_and_then (λ workers.
     option_and_then (λ journal.
-    option_and_then (λ connections. if_in_range (record { port = port; fronts = fronts; journal = journal; connections = connections }))
+    option_and_then (λ connections. if_in_range (record {
+      port = port;
+      fronts = fronts;
+      workers = workers;
+      journal = journal;
+      connections = connections;
+    }))
     (number_in (codes "connections") (Some 0) rows))
     (number_in (codes "journal") (Some USUAL_JOURNAL) rows))
+    (number_in (codes "workers") (Some 1) rows))
     (number_in (codes "fronts") (Some 1) rows))
     (number_in (codes "port") None rows)
 

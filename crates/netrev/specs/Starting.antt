@@ -31,7 +31,7 @@ unstarted_by _ other = other
 
 -- how netrev is called
 abbrev pub usage_text : List ℕ
-usage_text = codes "usage: netrev run FILE\n       netrev check FILE\n       netrev serve FILE --port P [--fronts N] [--journal H] [--connections C]\n"
+usage_text = codes "usage: netrev run FILE\n       netrev check FILE\n       netrev serve FILE --port P [--fronts N] [--workers W] [--journal H] [--connections C]\n"
 
 -- the numbers that a program is asked for with are in their ranges
 abbrev pub IsInRange : Program → Type 0

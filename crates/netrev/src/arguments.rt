@@ -15,13 +15,16 @@ use std::alloc::{AllocError, Global};
 
 /// How the program is called.
 pub const USAGE: &str =
-    "usage: netrev run FILE\n       netrev check FILE\n       netrev serve FILE --port P [--fronts N] [--journal H] [--connections C]\n";
+    "usage: netrev run FILE\n       netrev check FILE\n       netrev serve FILE --port P [--fronts N] [--workers W] [--journal H] [--connections C]\n";
 
 /// The greatest port.
 pub const MOST_PORT: u32 = 65_535;
 
 /// The most fronts that share a session.
 pub const MOST_FRONTS: u32 = 64;
+
+/// The most threads that search for one front.
+pub const MOST_WORKERS: u32 = 16;
 
 /// How many words a session's journal has room for at most, and where the number isn't given.
 pub const MOST_JOURNAL: u32 = 1_000_000;
@@ -35,6 +38,8 @@ pub struct Sharing {
     pub port: u32,
     /// How many fronts there are, from 1 to `MOST_FRONTS`.
     pub fronts: u32,
+    /// How many threads search for each front, from 1 to `MOST_WORKERS`.
+    pub workers: u32,
     /// How many commands the session has room for, from 1 to `MOST_JOURNAL`.
     pub journal: u32,
     /// After how many connections each front ends; 0 where it never does.
@@ -51,6 +56,8 @@ impl Sharing {
             && self.fronts <= MOST_FRONTS
             && self.port <= MOST_PORT
             && self.port + self.fronts - 1 <= MOST_PORT
+            && 1 <= self.workers
+            && self.workers <= MOST_WORKERS
             && 1 <= self.journal
             && self.journal <= MOST_JOURNAL
     }
@@ -137,6 +144,7 @@ fn serve_command<'a>(alloc: Global) -> Result<Command<'a>, AllocError>
     let command = file_command(alloc, "serve")?;
     let command = with_option(alloc, command, "port")?;
     let command = with_option(alloc, command, "fronts")?;
+    let command = with_option(alloc, command, "workers")?;
     let command = with_option(alloc, command, "journal")?;
     with_option(alloc, command, "connections")
 }
@@ -175,6 +183,7 @@ fn sharing_in(matches: &ArgMatches<'_>) -> Option<Sharing>
     let sharing = Sharing {
         port: number_in(matches, "port", None)?,
         fronts: number_in(matches, "fronts", Some(1))?,
+        workers: number_in(matches, "workers", Some(1))?,
         journal: number_in(matches, "journal", Some(USUAL_JOURNAL))?,
         connections: number_in(matches, "connections", Some(0))?,
     };
@@ -256,12 +265,13 @@ mod tests {
 
     static SERVE: [&str; 5] = ["netrev", "serve", "a.jsonl", "--port", "47200"];
 
-    static SERVE_ALL: [&str; 11] = [
+    static SERVE_ALL: [&str; 12] = [
         "netrev",
         "serve",
         "--fronts=64",
         "--port",
         "65472",
+        "--workers=16",
         "--journal",
         "1000000",
         "a",
@@ -273,11 +283,13 @@ mod tests {
     static NO_PORT: [&str; 3] = ["netrev", "serve", "a.jsonl"];
 
     /// Options that a recording named `a` isn't served with.
-    static OUT_OF_RANGE: [[&str; 7]; 6] = [
+    static OUT_OF_RANGE: [[&str; 7]; 8] = [
         ["netrev", "serve", "a", "--port", "0", "--fronts", "1"],
         ["netrev", "serve", "a", "--port", "65473", "--fronts", "64"],
         ["netrev", "serve", "a", "--port", "1", "--fronts", "0"],
         ["netrev", "serve", "a", "--port", "1", "--fronts", "65"],
+        ["netrev", "serve", "a", "--port", "1", "--workers", "0"],
+        ["netrev", "serve", "a", "--port", "1", "--workers", "17"],
         [
             "netrev",
             "serve",
@@ -312,6 +324,7 @@ mod tests {
         let sharing = Sharing {
             port: 47200,
             fronts: 1,
+            workers: 1,
             journal: 4096,
             connections: 0,
         };
@@ -322,6 +335,7 @@ mod tests {
         let sharing = Sharing {
             port: 65472,
             fronts: 64,
+            workers: 16,
             journal: 1_000_000,
             connections: u32::MAX,
         };

@@ -4,11 +4,12 @@ use crate::run_tests::{EARLY, HEADER, READ, run};
 use std::process::Abort;
 use std::sync::Wait;
 use std::test::*;
+use std::thread::Threads;
 
 /// Plays a script of lines on the steps, and compares the replies.
 fn assert_replies(
     rt: &HostRuntime,
-    wait: &(impl Wait + Abort),
+    wait: &(impl Wait + Threads + Sync + Abort),
     steps: &str,
     script: &str,
     replies: &str,

@@ -21,6 +21,7 @@ use std::alloc::Global;
 use std::io::{Read, Write};
 use std::process::ExitCode;
 use std::sync::Wait;
+use std::thread::Threads;
 
 /// How many commands the one front of `run` can place.
 pub const JOURNAL_ROOM: usize = 65_536;
@@ -71,15 +72,19 @@ impl From<ExitStatus> for ExitCode {
 /// `Done`: a line was `quit`, or the input's end was reached. `Refused`: the recording's first
 /// fault was printed, or `fault 108 memory`, as one line, and nothing was read. `StreamFailed`: a
 /// read or a write failed; then a first part of these texts is written, and nothing else.
-pub fn run_bytes<W: Worlds + Drop, I: Read, O: Write>(
-    rt: &impl Wait,
+pub fn run_bytes<W, R, I, O>(
+    rt: &R,
     alloc: Global,
     bytes: &[u8],
     input: &mut Source<I>,
     output: &mut Sink<O>,
 ) -> ExitStatus
 where
+    W: Worlds + Drop + Sync,
     W::Delta: Drop,
+    R: Threads + Wait + Sync,
+    I: Read,
+    O: Write,
     requires input { input.old.failed ≡ false }
     requires output { output.old.failed ≡ false }
 
@@ -98,15 +103,19 @@ where
 }
 
 // Walks a film by the lines of the input.
-fn walk<W: Worlds + Drop, I: Read, O: Write>(
-    rt: &impl Wait,
+fn walk<W, R, I, O>(
+    rt: &R,
     alloc: Global,
     film: &Film<W>,
     input: &mut Source<I>,
     output: &mut Sink<O>,
 ) -> ExitStatus
 where
+    W: Worlds + Drop + Sync,
     W::Delta: Drop,
+    R: Threads + Wait + Sync,
+    I: Read,
+    O: Write,
     requires input { input.old.failed ≡ false }
     requires output { output.old.failed ≡ false }
     ensures { Walks input.old input.new output.old output.new film.now.recording result
@@ -119,7 +128,7 @@ where
     let Ok(pass) = journal.enter(seat) else {
         return refuse(OpenFault::Memory, output);
     };
-    let Ok(mut front) = Front::new(alloc, pass, film, OneWorker, DELTAS_KEPT) else {
+    let Ok(mut front) = Front::new(alloc, pass, film, OneWorker::<R>::new(), DELTAS_KEPT) else {
         return refuse(OpenFault::Memory, output);
     };
     match serve(rt, input, output, &mut front, &journal) {

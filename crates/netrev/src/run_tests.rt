@@ -8,6 +8,7 @@ use std::alloc::Global;
 use std::process::Abort;
 use std::sync::Wait;
 use std::test::*;
+use std::thread::Threads;
 
 /// Two goroutines read on one socket, while a third closes it.
 const LOCKS: &str = "{\"netrev\":1,\"gor\":4,\"sock\":2,\"desc\":2,\"buf\":16}
@@ -104,14 +105,14 @@ const REFUSED: [(&str, &str); 7] = [
 /// Runs a script, and answers how it ended and what is written.
 pub(crate) fn run(
     rt: &HostRuntime,
-    wait: &impl Wait,
+    wait: &(impl Wait + Threads + Sync),
     recording: &str,
     script: &str,
 ) -> (ExitStatus, Vec<u8>) {
     let mut input = Source::new(script.as_bytes());
     let mut output = Sink::new(Vec::new(rt.alloc()));
     let bytes = recording.as_bytes();
-    let status = run_bytes::<World, _, _>(wait, rt.alloc(), bytes, &mut input, &mut output);
+    let status = run_bytes::<World, _, _, _>(wait, rt.alloc(), bytes, &mut input, &mut output);
     (status, output.into_inner())
 }
 
@@ -159,11 +160,16 @@ fn looks_show_the_position(rt: HostRuntime) -> Result<(), Fail> {
 }
 
 /// Runs and checks a recording that is refused with this line: no input is read for it.
-pub(crate) fn assert_refused(rt: &(impl Wait + Abort), alloc: Global, recording: &str, line: &str) {
+pub(crate) fn assert_refused(
+    rt: &(impl Wait + Threads + Sync + Abort),
+    alloc: Global,
+    recording: &str,
+    line: &str,
+) {
     let bytes = recording.as_bytes();
     let mut input = Source::new(SCRIPT.as_bytes());
     let mut output = Sink::new(Vec::new(alloc));
-    let status = run_bytes::<World, _, _>(rt, alloc, bytes, &mut input, &mut output);
+    let status = run_bytes::<World, _, _, _>(rt, alloc, bytes, &mut input, &mut output);
     assert_eq!(rt; status, ExitStatus::Refused);
     assert_eq!(rt; output.into_inner().as_slice(), line.as_bytes());
     assert_eq!(rt; input.into_inner(), SCRIPT.as_bytes());
@@ -212,7 +218,7 @@ fn one_byte_a_call_makes_no_difference(rt: HostRuntime) {
     });
     let mut output = Sink::new(make_cup(&rt, REPLIES.len()));
     let bytes = LOCKS.as_bytes();
-    let status = run_bytes::<World, _, _>(&rt, rt.alloc(), bytes, &mut input, &mut output);
+    let status = run_bytes::<World, _, _, _>(&rt, rt.alloc(), bytes, &mut input, &mut output);
     assert_eq!(rt; status, ExitStatus::Done);
     assert_eq!(rt; output.into_inner().held.as_slice(), REPLIES.as_bytes());
 }
@@ -231,7 +237,7 @@ fn a_failed_read_leaves_whole_replies(rt: HostRuntime) {
             left,
         });
         let mut output = Sink::new(Vec::new(rt.alloc()));
-        let status = run_bytes::<World, _, _>(&rt, rt.alloc(), bytes, &mut input, &mut output);
+        let status = run_bytes::<World, _, _, _>(&rt, rt.alloc(), bytes, &mut input, &mut output);
         assert_eq!(rt; status, ExitStatus::StreamFailed);
         assert!(rt; input.has_failed() && !output.has_failed());
         assert_eq!(rt; output.into_inner().as_slice(), replies.as_bytes());
@@ -239,7 +245,12 @@ fn a_failed_read_leaves_whole_replies(rt: HostRuntime) {
 }
 
 /// Runs a recording on writers that fail after so many bytes of the text, for each number of them.
-fn assert_run_cut(rt: &(impl Wait + Abort), alloc: Global, recording: &str, text: &str) {
+fn assert_run_cut(
+    rt: &(impl Wait + Threads + Sync + Abort),
+    alloc: Global,
+    recording: &str,
+    text: &str,
+) {
     for room in 0..text.len() {
         let mut input = Source::new(SCRIPT.as_bytes());
         let mut output = Sink::new(Cup {
@@ -247,7 +258,7 @@ fn assert_run_cut(rt: &(impl Wait + Abort), alloc: Global, recording: &str, text
             room,
         });
         let bytes = recording.as_bytes();
-        let status = run_bytes::<World, _, _>(rt, alloc, bytes, &mut input, &mut output);
+        let status = run_bytes::<World, _, _, _>(rt, alloc, bytes, &mut input, &mut output);
         assert_eq!(rt; status, ExitStatus::StreamFailed);
         assert!(rt; output.has_failed());
         assert_eq!(rt;

@@ -15,7 +15,7 @@ use crate::opening::{OpenFault, open};
 use crate::run::{DELTAS_KEPT, ExitStatus, refuse};
 use nr_command::{Sink, Token, send_all};
 use nr_rev::Worlds;
-use nr_search::OneWorker;
+use nr_search::{ManyWorkers, OneWorker, Open};
 use nr_serving::{Ended, Ports, Shape, Unshared, share};
 use nr_snaps::Film;
 use std::alloc::Global;
@@ -81,7 +81,13 @@ where
         room: sharing.journal as usize,
         depth: DELTAS_KEPT,
     };
-    match share(rt, alloc, film, OneWorker, shape, ports) {
+    let shared = if sharing.workers == 1 {
+        share(rt, alloc, film, OneWorker::<&R>::new(), shape, ports)
+    } else {
+        let many = ManyWorkers::new(rt, alloc, Open, sharing.workers as usize);
+        share(rt, alloc, film, &many, shape, ports)
+    };
+    match shared {
         Ok(ended) => tell_placed(&ended, output),
         // there are as many tags as fronts, at most
         Err(Unshared::Memory | Unshared::NoTag) => refuse(OpenFault::Memory, output),

@@ -139,7 +139,7 @@ where
     ensures { Plays program.entry bytes.now input.old input.new output.old output.new result }
 {
     match program {
-        Program::Run { .. } => run_bytes::<W, I, O>(rt, alloc, bytes, input, output),
+        Program::Run { .. } => run_bytes::<W, R, I, O>(rt, alloc, bytes, input, output),
         Program::Check { .. } => check_bytes::<W, O>(alloc, bytes, output),
         Program::Serve { sharing, .. } => {
             serve_bytes::<W, R, P, O>(rt, alloc, bytes, sharing, ports, output)
