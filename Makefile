@@ -45,8 +45,11 @@ share: netrev
 	@echo "Join from two terminals:  nc 127.0.0.1 47200  and  nc 127.0.0.1 47201"
 	@$(NETREV) serve examples/first.jsonl --port 47200 --fronts 2
 
-# Loads and walks recordings of up to 1,000,000 steps: `make bench STEPS="10000 100000"` for fewer. Then shares a session.
+# Loads and walks recordings of up to 1,000,000 steps: `make bench STEPS="10000 100000"` for fewer. Then shares sessions,
+# and searches with several workers.
 bench: netrev
 	@sh bench/run.sh $(STEPS)
 	@echo
 	@python3 bench/serving.py
+	@echo
+	@python3 bench/searching.py

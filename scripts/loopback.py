@@ -151,12 +151,12 @@ def commands_in(lines):
     return sum(is_command(read_line(line)) for line in lines)
 
 
-def share_lines(recording, fronts, journal=4096, windows=(1,), at_once=None):
+def share_lines(recording, fronts, journal=4096, workers=1, windows=(1,), at_once=None):
     """Plays the lines of each front's connections, each caller with one of the windows, and gives what each front
     exchanged. All callers are connected from the beginning. The first one talks alone; then as many fronts as are said
     do so at the same time, or all."""
     at_once = at_once or len(fronts)
-    with Server(recording.path, len(fronts), len(fronts[0]), journal) as server:
+    with Server(recording.path, len(fronts), len(fronts[0]), journal, workers) as server:
         talkers = [
             [Talker(server.call(at), lines, windows[(at + turn) % len(windows)]) for turn, lines in enumerate(front)]
             for at, front in enumerate(fronts)
@@ -307,14 +307,15 @@ def race_forwards(lives, dice, fronts, connections):
     return share_lines(lives, some, windows=(1, 4, 1000))
 
 
-def play_mixed(lives, dice, windows):
-    """Lines of all sorts at 64 fronts. Where the search gives up it is done again with other lines, twice at most."""
+def play_mixed(lives, dice, windows, workers):
+    """Lines of all sorts at 64 fronts, whose `continue` has so many workers. Where the search for a history gives up it is
+    done again with other lines, twice at most."""
     lines = Lines(dice, lives)
     for left in (2, 1, 0):
         mixed = [[lines.some(15) for _ in range(2)] for _ in range(64)]
         mixed[0][0] = lines.opening()
         try:
-            return history_of(lives, share_lines(lives, mixed, windows=windows, at_once=8))
+            return history_of(lives, share_lines(lives, mixed, workers=workers, windows=windows, at_once=8))
         except GaveUp:
             if not left:
                 raise
@@ -323,8 +324,8 @@ def play_mixed(lives, dice, windows):
 def play_histories(parked, lives, dice):
     """Random lines at many fronts: one history."""
     history_of(lives, race_forwards(lives, dice, fronts=64, connections=2))
-    for windows in ((1,), (1, 4)):
-        play_mixed(lives, dice, windows)
+    for windows, workers in ((1,), 1), ((1, 4), 3):
+        play_mixed(lives, dice, windows, workers)
     for _ in range(10):
         two = [[Lines(dice, parked).some(30)] for _ in range(2)]
         for journal in (7, sum(commands_in(front[0]) for front in two)):

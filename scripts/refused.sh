@@ -140,7 +140,7 @@ refuse_each 3 "$work/nothing" serve "$work/missing.jsonl" --port 65535
 {
 	echo "usage: netrev run FILE"
 	echo "       netrev check FILE"
-	echo "       netrev serve FILE --port P [--fronts N] [--journal H] [--connections C]"
+	echo "       netrev serve FILE --port P [--fronts N] [--workers W] [--journal H] [--connections C]"
 } > "$work/usage"
 refuse_each 2 "$work/usage" walk "$examples/first.jsonl"
 refuse_each 2 "$work/usage" run

@@ -1,9 +1,10 @@
 #!/usr/bin/env python3
 """Plays `serve` of the built program with each of its allocations refused in turn:  scripts/refused_serving.py
 
-Two callers, at a front each, send fixed lines one after the other, so the right replies are known, and the order of the
-allocations is the same each time but for those of the threads that start: these are few, and each number is refused
-until one is left that no allocation has. A refused allocation is told once, and of nothing else:
+Two callers, at a front each, send fixed lines one after the other, so the right replies are known: first over a short
+recording, which one worker searches, then over one of more than three thousand steps, which three do. The order of the
+allocations is the same each time but for those of the threads that start; so each number is refused until there are as
+many as sessions at a time that no allocation has. A refused allocation is told once, and of nothing else:
 
 - before a caller is served as `fault 108 memory`, with status 1;
 - in place of a reply: of a look, or of a line before which another's search is to be made, as `fault 301 memory`, and
@@ -11,7 +12,7 @@ until one is left that no allocation has. A refused allocation is told once, and
 - at the end in place of `placed K`, as `fault 108 memory` with status 1.
 
 Then all other replies are the right ones, and so they all are where netrev could do without. So no command is lost or
-placed twice. Last, no thread can be started: then each front is served in its turn.
+placed twice. Last, no thread can be started: then each front is served in its turn, and searches for itself.
 """
 
 import subprocess
@@ -20,12 +21,35 @@ import tempfile
 from concurrent.futures import ThreadPoolExecutor
 from dataclasses import dataclass
 from pathlib import Path
+from typing import NamedTuple
 
 from debugger import is_command, read_line
 from loopback import PARKED
 from sharing import ROOT, Server, Wrong, expect
 
-CALLERS = (
+
+class Played(NamedTuple):
+    """What came of a session: whether anything was refused, and how often that was told."""
+
+    refused: bool
+    told: int
+
+
+@dataclass
+class Script:
+    """A recording, the workers of a search, and the lines of two callers with the right replies."""
+
+    name: str
+    text: str
+    workers: int
+    callers: tuple
+
+    def commands(self):
+        """How many of the lines are commands."""
+        return sum(is_command(read_line(line.encode())) for lines in self.callers for line, _ in lines)
+
+
+SHORT = (
     (
         ("watch rg 0", "mark 1"),
         ("continue", "at 2 by 1"),
@@ -49,15 +73,29 @@ CALLERS = (
         ("quit", "bye"),
     ),
 )
+LONG = (
+    (
+        ("watch rg 0", "mark 1"),
+        ("stepi 9999", "at 3612 end"),
+        ("reverse-continue", "at 10 by 1"),
+        ("break @3000", "mark 2"),
+        ("continue", "at 2999 by 2"),
+        ("info position", "at 2999 of 3612 forward"),
+        ("quit", "bye"),
+    ),
+    (
+        ("info position", "at 2999 of 3612 forward"),
+        ("continue", "at 3612 end"),
+        ("reverse-continue", "at 2999 by 2"),
+        ("reverse-continue", "at 10 by 1"),
+        ("dump in 0", "in 0 = 6869"),
+        ("quit", "bye"),
+    ),
+)
+TICKS = "".join(f'["tick",{time}]\n' for time in range(1, 3601))
+SCRIPTS = (Script("short", PARKED, 1, SHORT), Script("long", PARKED + TICKS, 3, LONG))
 NO_MEMORY = "fault 108 memory"
-
-
-@dataclass
-class Played:
-    """What came of a session: whether anything was refused, and how often that was told."""
-
-    refused: bool
-    told: int
+AT_A_TIME = 16
 
 
 @dataclass
@@ -65,11 +103,13 @@ class Session:
     """The callers of a session, and what they were told of memory."""
 
     server: Server
+    callers: tuple
     placed: int = 0
     told: int = 0
 
-    def talk(self, front, lines):
+    def talk(self, front):
         """Plays a caller's lines, and says whether it was served."""
+        lines = self.callers[front]
         caller = self.server.call(front)
         if caller is None:
             return False
@@ -106,13 +146,14 @@ class Session:
         expect(f"the reply to {line} at front {front}", right, came)
 
 
-def play(folder, words):
+def play(folder, script, words):
     """A session of a netrev that is started by the command `env` with these words, its allocations told in a file."""
-    told = folder / "-".join(words[1:]).replace("=", "-")
+    told = folder / "-".join([script.name, *words[1:]]).replace("=", "-")
     through = ["sh", "-c", 'told=$1; shift; exec env "$@" 9> "$told"', "sh", str(told), *words]
-    with Server(folder / "parked.jsonl", fronts=2, journal=16, through=through) as server:
-        session = Session(server)
-        served = session.talk(0, CALLERS[0]) and session.talk(1, CALLERS[1])
+    recording = folder / f"{script.name}.jsonl"
+    with Server(recording, fronts=2, journal=16, workers=script.workers, through=through) as server:
+        session = Session(server, script.callers)
+        served = session.talk(0) and session.talk(1)
         ended = server.ended()
     refused = told.stat().st_size > 0
     right = (0, f"placed {session.placed}\n", "")
@@ -124,40 +165,44 @@ def play(folder, words):
     else:
         expect("the end of netrev serve: status, output and errors", right, ended)
     expect("whether each caller was served", True, served)
-    expect("commands that were placed", 8, session.placed)
+    expect("commands that were placed", script.commands(), session.placed)
     expect("how often memory was told of is at most once where it was refused", True, session.told <= refused)
     return Played(refused, session.told)
 
 
-def play_all(folder):
-    """Refuses each allocation in turn, several sessions at the same time. Says how many were refused, and told."""
-    library = folder / "refused.so"
-    subprocess.run(
-        ["cc", "-O2", "-fPIC", "-shared", "-o", library, ROOT / "scripts/refused.c", "-ldl"], timeout=60, check=True
-    )
-    preload = f"LD_PRELOAD={library}"
+def play_script(folder, preload, script):
+    """Refuses each allocation in turn, several sessions at the same time."""
+    (folder / f"{script.name}.jsonl").write_text(script.text, encoding="ascii")
 
     def play_number(number):
         try:
-            return play(folder, [preload, f"REFUSED={number}"])
+            return play(folder, script, [preload, f"REFUSED={number}"])
         except Wrong as wrong:
             raise Wrong(f"with allocation {number} refused: {wrong}") from None
 
     played = []
     with ThreadPoolExecutor(4) as pool:
-        while all(one.refused for one in played):
-            played += pool.map(play_number, range(len(played) + 1, len(played) + 17))
-    threadless = play(folder, [preload, "THREADS=0"])
+        while not played or any(one.refused for one in played[-AT_A_TIME:]):
+            played += pool.map(play_number, range(len(played) + 1, len(played) + 1 + AT_A_TIME))
+    expect(f"{script.name}: whether the first allocation was refused", True, played[0].refused)
+    threadless = play(folder, script, [preload, "THREADS=0"])
     expect("with no thread: whether any was refused, and memory told of", Played(True, 0), threadless)
-    refused = sum(one.refused for one in played)
-    expect("the refused allocations are the first ones", True, all(one.refused for one in played[:refused]))
-    return refused, sum(one.told for one in played)
+    return played
+
+
+def play_all(folder):
+    """Plays all scripts, and says how many allocations were refused, and told."""
+    library = folder / "refused.so"
+    subprocess.run(
+        ["cc", "-O2", "-fPIC", "-shared", "-o", library, ROOT / "scripts/refused.c", "-ldl"], timeout=60, check=True
+    )
+    played = [one for script in SCRIPTS for one in play_script(folder, f"LD_PRELOAD={library}", script)]
+    return sum(one.refused for one in played), sum(one.told for one in played)
 
 
 def main():
     with tempfile.TemporaryDirectory() as name:
         folder = Path(name)
-        (folder / "parked.jsonl").write_text(PARKED, encoding="ascii")
         try:
             refused, told = play_all(folder)
         except (Wrong, OSError) as wrong:
