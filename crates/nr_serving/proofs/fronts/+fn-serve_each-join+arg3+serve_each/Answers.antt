@@ -15,8 +15,31 @@ fn::serve_each::join+arg3+FnOnce::call_once-join+arg3-requires g t c κs within 
     let r = c.requires.1.1.1.1.1.1.1.1 in
     let s = r.1 in (
       search rules,
-      (within.0, (within.1.0, (within.1.1.0, (within.1.1.1.0, (within.1.1.1.1.0, (within.1.1.1.1.1.0, (within.1.1.1.1.1.1.0, (within.1.1.1.1.1.1.1,
-      (s.0, (s.1, (s.2, (s.3, (s.4, (s.5, (s.6, (s.7, (s.8, r.0))))))))))))))))),
+      (
+        within.0,
+        (
+          within.1.0,
+          (
+            within.1.1.0,
+            (
+              within.1.1.1.0,
+              (
+                within.1.1.1.1.0,
+                (
+                  within.1.1.1.1.1.0,
+                  (
+                    within.1.1.1.1.1.1.0,
+                    (
+                      within.1.1.1.1.1.1.1,
+                      (s.0, (s.1, (s.2, (s.3, (s.4, (s.5, (s.6, (s.7, (s.8, r.0))))))))),
+                    ),
+                  ),
+                ),
+              ),
+            ),
+          ),
+        ),
+      ),
     )
 
 pub join-one-requires-after_bounds : goal.join-one-requires-after_bounds
