@@ -58,18 +58,20 @@ impl Write for Cup {
     }
 }
 
-pub(crate) fn make_cup(rt: &HostRuntime, room: usize) -> Cup {
-    Cup {
-        held: Vec::new(rt.alloc()),
-        room,
-    }
-}
-
 /// Is interrupted at each second call.
 #[derive(Drop)]
 pub(crate) struct Stutter<S> {
     pub(crate) stream: S,
     pub(crate) is_turn: bool,
+}
+
+impl<S> Stutter<S> {
+    pub(crate) fn new(stream: S) -> Stutter<S> {
+        Stutter {
+            stream,
+            is_turn: false,
+        }
+    }
 }
 
 impl<R: Read> Read for Stutter<R> {

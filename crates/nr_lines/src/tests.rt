@@ -3,7 +3,7 @@
 ghost use Rattle.std.specs.Prelude.{◌≡◌, ◌≤◌, [], false, IfOk};
 
 use crate::stingy::Stingy;
-use crate::streams::{Cup, Drip, Stutter, make_cup};
+use crate::streams::{Cup, Drip, Stutter};
 use crate::{End, LineEnd, Source, serve};
 use nr_command::Sink;
 use nr_front::Front;
@@ -13,7 +13,6 @@ use nr_rev::{Limits, Step};
 use nr_search::OneWorker;
 use nr_snaps::{Film, Snaps};
 use std::alloc::Global;
-use std::io::{Read, Write};
 use std::sync::Wait;
 use std::test::*;
 use std::thread::Threads;
@@ -78,107 +77,185 @@ fn share<'f, R: Threads + Sync>(
     Ok((journal, one, other))
 }
 
-/// Serves a script to a cup.
-fn serve_cup<R: Wait + Threads + Sync>(
+/// What a front is sent, and how far that goes.
+#[derive(Clone, Copy)]
+struct Script {
+    text: &'static str,
+    /// So many bytes of it can be read; then reads fail.
+    left: usize,
+    /// So many bytes of the replies can be written; then writes fail.
+    room: usize,
+    /// Of the copies of the film's world that it wants those are refused whose bits are set, from the lowest on.
+    refused: u32,
+}
+
+/// A script of which nothing fails.
+fn undisturbed(text: &'static str) -> Script {
+    Script {
+        text,
+        left: 300,
+        room: 300,
+        refused: 0,
+    }
+}
+
+/// How a script ended, and what was answered.
+#[derive(Drop)]
+struct Served {
+    end: Result<End, LineEnd>,
+    text: Vec<u8>,
+    read_failed: bool,
+    write_failed: bool,
+}
+
+/// Serves a script over streams that go byte by byte and are interrupted at each second call.
+fn serve_script<R: Wait + Threads + Sync>(
     rt: &R,
-    script: &str,
+    alloc: Global,
+    script: Script,
     front: &mut Ticking<'_, R>,
     journal: &Journal,
-    cup: Cup,
-) -> (Result<End, LineEnd>, Cup)
+) -> Served
     requires { front.old.table ≡ journal.now }
     ensures { front.new.table ≡ front.old.table }
 {
-    let mut source = Source::new(script.as_bytes());
-    let mut sink = Sink::new(cup);
+    let drip = Drip {
+        bytes: script.text.as_bytes(),
+        left: script.left,
+    };
+    let cup = Cup {
+        held: Vec::new(alloc),
+        room: script.room,
+    };
+    let mut source = Source::new(Stutter::new(drip));
+    let mut sink = Sink::new(Stutter::new(cup));
     let end = serve(rt, &mut source, &mut sink, front, journal);
-    (end, sink.into_inner())
+    Served {
+        end,
+        read_failed: source.has_failed(),
+        write_failed: sink.has_failed(),
+        text: sink.into_inner().stream.held,
+    }
+}
+
+/// Which front serves the second script.
+#[derive(Clone, Copy)]
+enum Second {
+    Same,
+    Other,
+}
+
+/// Two scripts, one after the other, with a journal of so many words; and how many of them were placed.
+fn play<R: Wait + Threads + Sync>(
+    rt: &R,
+    alloc: Global,
+    words: usize,
+    first: Script,
+    by: Second,
+    second: Script,
+) -> Result<(Served, Served, usize), &'static str>
+    requires { (1 ≤ words) × (words ≤ 1000000) }
+{
+    let film = make_film(alloc)?;
+    let (journal, mut one, mut other) = share(rt, alloc, words, &film)?;
+    film.snap_below(0).refuse(first.refused);
+    let before = serve_script(rt, alloc, first, &mut one, &journal);
+    film.snap_below(0).refuse(second.refused);
+    let behind = match by {
+        Second::Same => serve_script(rt, alloc, second, &mut one, &journal),
+        Second::Other => serve_script(rt, alloc, second, &mut other, &journal),
+    };
+    Ok((before, behind, one.end().seen().max(other.end().seen())))
 }
 
 #[test]
 fn a_script_is_answered(rt: HostRuntime) -> Result<(), Fail> {
-    let script =
-        "stepi 3\r\n\n  print clock\nfrob\np gor 0\nreverse-stepi 4\nsi 10\ndump rq 1\nresume\nrsi";
+    let first = undisturbed(
+        "stepi 3\r\n\n  print clock\nfrob\np gor 0\nreverse-stepi 4\nsi 10\ndump rq 1\nresume\nrsi",
+    );
     let text =
         "at 3\nclock = 3\nfault 201 unknown command\ngor 0 = idle\nat 0 start\nat 9 end\nrq 1 = absent\nnothing owed\nat 8\n";
-    let film = make_film(rt.alloc())?;
-    let (journal, mut one, mut other) = share(&rt, rt.alloc(), 8, &film)?;
-    let (end, cup) = serve_cup(&rt, script, &mut one, &journal, make_cup(&rt, 200));
-    assert_eq!(rt; end, Ok(End::Closed));
-    assert_eq!(rt; cup.held.as_slice(), text.as_bytes());
-    // the other front has seen the words too, and streams that are interrupted go on
-    let drip = Drip {
-        bytes: b"p clock\nsi".as_slice(),
-        left: 200,
-    };
-    let mut source = Source::new(Stutter {
-        stream: drip,
-        is_turn: false,
-    });
-    let mut sink = Sink::new(Stutter {
-        stream: make_cup(&rt, 200),
-        is_turn: false,
-    });
-    let end = serve(&rt, &mut source, &mut sink, &mut other, &journal);
-    assert_eq!(rt; end, Ok(End::Closed));
-    assert!(rt; !source.has_failed() && !sink.has_failed());
-    assert_eq!(rt;
-        sink.into_inner().stream.held.as_slice(),
-        b"clock = 8\nat 9\n".as_slice()
-    );
+    let (one, other, seen) = play(
+        &rt,
+        rt.alloc(),
+        8,
+        first,
+        Second::Other,
+        undisturbed("p clock\nsi"),
+    )?;
+    assert_eq!(rt; one.end, Ok(End::Closed));
+    assert_eq!(rt; one.text.as_slice(), text.as_bytes());
+    assert!(rt; !one.read_failed && !one.write_failed);
+    // the other front has seen the words too
+    assert_eq!(rt; other.end, Ok(End::Closed));
+    assert_eq!(rt; other.text.as_slice(), b"clock = 8\nat 9\n".as_slice());
+    assert_eq!(rt; seen, 5);
     Ok(())
 }
 
 #[test]
 fn a_reply_is_owed(rt: HostRuntime) -> Result<(), Fail> {
-    let film = make_film(rt.alloc())?;
-    let (journal, mut one, _) = share(&rt, rt.alloc(), 8, &film)?;
     // the first search is refused, and once more; the second search too
-    film.snap_below(0).refuse(0b10011);
-    let script = "b @3\nc\nsi\nprint clock\nresume\nresume\nresume\nc\n";
+    let first = Script {
+        text: "b @3\nc\nsi\nprint clock\nresume\nresume\nresume\nc\n",
+        left: 300,
+        room: 300,
+        refused: 0b10011,
+    };
     let text =
         "mark 1\nfault 302 memory, placed 2\nfault 302 memory, placed 2\nfault 302 memory, placed 2\nfault 302 memory, placed 2\nat 2 by 1\nnothing owed\nfault 302 memory, placed 3\n";
-    let (end, cup) = serve_cup(&rt, script, &mut one, &journal, make_cup(&rt, 300));
-    assert_eq!(rt; end, Ok(End::Closed));
-    assert_eq!(rt; cup.held.as_slice(), text.as_bytes());
+    let (before, _, seen) = play(&rt, rt.alloc(), 8, first, Second::Same, undisturbed(""))?;
+    assert_eq!(rt; before.end, Ok(End::Closed));
+    assert_eq!(rt; before.text.as_slice(), text.as_bytes());
     // the reply is given up, the word stays
-    assert_eq!(rt; one.end().seen(), 3);
+    assert_eq!(rt; seen, 3);
     Ok(())
 }
 
 #[test]
 fn anothers_command_comes_first(rt: HostRuntime) -> Result<(), Fail> {
-    let film = make_film(rt.alloc())?;
-    let (journal, mut one, mut other) = share(&rt, rt.alloc(), 8, &film)?;
-    let (_, cup) = serve_cup(&rt, "b @3\nc\n", &mut one, &journal, make_cup(&rt, 100));
-    assert_eq!(rt; cup.held.as_slice(), b"mark 1\nat 2 by 1\n".as_slice());
-    film.snap_below(0).refuse(0b11);
-    let script = "si\nprint clock\nresume\nsi\n";
+    let second = Script {
+        text: "si\nprint clock\nresume\nsi\n",
+        left: 300,
+        room: 300,
+        refused: 0b11,
+    };
     let text = "fault 301 memory\nfault 301 memory\nnothing owed\nat 3\n";
-    let (_, cup) = serve_cup(&rt, script, &mut other, &journal, make_cup(&rt, 100));
-    assert_eq!(rt; cup.held.as_slice(), text.as_bytes());
-    assert_eq!(rt; other.end().seen(), 3);
+    let (one, other, seen) = play(
+        &rt,
+        rt.alloc(),
+        8,
+        undisturbed("b @3\nc\n"),
+        Second::Other,
+        second,
+    )?;
+    assert_eq!(rt; one.text.as_slice(), b"mark 1\nat 2 by 1\n".as_slice());
+    assert_eq!(rt; other.text.as_slice(), text.as_bytes());
+    assert_eq!(rt; seen, 3);
     Ok(())
 }
 
 #[test]
 fn a_full_journal_is_told(rt: HostRuntime) -> Result<(), Fail> {
-    let film = make_film(rt.alloc())?;
-    let (journal, mut one, mut other) = share(&rt, rt.alloc(), 1, &film)?;
-    let (_, cup) = serve_cup(&rt, "si 3\n", &mut one, &journal, make_cup(&rt, 100));
-    assert_eq!(rt; cup.held.as_slice(), b"at 3\n".as_slice());
-    let script = "rsi\nprint clock\nq\nsi";
+    let second = undisturbed("rsi\nprint clock\nq\nsi");
     let text = "fault 303 journal full\nclock = 3\nbye\n";
-    let (end, cup) = serve_cup(&rt, script, &mut other, &journal, make_cup(&rt, 100));
-    assert_eq!(rt; end, Ok(End::Quit));
-    assert_eq!(rt; cup.held.as_slice(), text.as_bytes());
+    let (one, other, seen) = play(
+        &rt,
+        rt.alloc(),
+        1,
+        undisturbed("si 3\n"),
+        Second::Other,
+        second,
+    )?;
+    assert_eq!(rt; one.text.as_slice(), b"at 3\n".as_slice());
+    assert_eq!(rt; other.end, Ok(End::Quit));
+    assert_eq!(rt; other.text.as_slice(), text.as_bytes());
+    assert_eq!(rt; seen, 1);
     Ok(())
 }
 
 #[test]
 fn a_write_fails(rt: HostRuntime) -> Result<(), Fail> {
-    let film = make_film(rt.alloc())?;
-    let script = "si 3\n\nprint clock\nq\n";
     for (room, whole, part, text) in [
         (0, 0, 0, ""),
         (4, 0, 4, "at 3"),
@@ -187,30 +264,37 @@ fn a_write_fails(rt: HostRuntime) -> Result<(), Fail> {
         (15, 2, 0, "at 3\nclock = 3\n"),
         (18, 2, 3, "at 3\nclock = 3\nbye"),
     ] {
-        let (journal, mut one, _) = share(&rt, rt.alloc(), 8, &film)?;
-        let (end, cup) = serve_cup(&rt, script, &mut one, &journal, make_cup(&rt, room));
-        assert_eq!(rt; end, Err(LineEnd::Write { whole, part }));
-        assert_eq!(rt; cup.held.as_slice(), text.as_bytes());
+        let first = Script {
+            text: "si 3\n\nprint clock\nq\n",
+            left: 300,
+            room,
+            refused: 0,
+        };
+        let (before, behind, _) = play(&rt, rt.alloc(), 8, first, Second::Same, undisturbed("si"))?;
+        let end = Err(LineEnd::Write { whole, part });
+        assert_eq!(rt; before.end, end);
+        assert_eq!(rt; before.text.as_slice(), text.as_bytes());
+        assert!(rt; before.write_failed && !before.read_failed);
         // The line was run, and the front goes on from there.
-        let (end, cup) = serve_cup(&rt, "si", &mut one, &journal, make_cup(&rt, 100));
-        assert_eq!(rt; end, Ok(End::Closed));
-        assert_eq!(rt; cup.held.as_slice(), b"at 4\n".as_slice());
+        assert_eq!(rt; behind.end, Ok(End::Closed));
+        assert_eq!(rt; behind.text.as_slice(), b"at 4\n".as_slice());
     }
     Ok(())
 }
 
 #[test]
 fn a_read_fails(rt: HostRuntime) -> Result<(), Fail> {
-    let film = make_film(rt.alloc())?;
     for (left, text) in [(0, ""), (4, ""), (5, "at 3\n"), (12, "at 3\n")] {
-        let (journal, mut one, _) = share(&rt, rt.alloc(), 8, &film)?;
-        let bytes = b"si 3\nstepi 2".as_slice();
-        let mut source = Source::new(Drip { bytes, left });
-        let mut sink = Sink::new(make_cup(&rt, 100));
-        let end = serve(&rt, &mut source, &mut sink, &mut one, &journal);
-        assert_eq!(rt; end, Err(LineEnd::Read));
-        assert!(rt; source.has_failed() && !sink.has_failed());
-        assert_eq!(rt; sink.into_inner().held.as_slice(), text.as_bytes());
+        let first = Script {
+            text: "si 3\nstepi 2",
+            left,
+            room: 300,
+            refused: 0,
+        };
+        let (before, _, _) = play(&rt, rt.alloc(), 8, first, Second::Same, undisturbed(""))?;
+        assert_eq!(rt; before.end, Err(LineEnd::Read));
+        assert_eq!(rt; before.text.as_slice(), text.as_bytes());
+        assert!(rt; before.read_failed && !before.write_failed);
     }
     Ok(())
 }
