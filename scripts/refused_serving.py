@@ -2,7 +2,8 @@
 """Plays `serve` of the built program with each of its allocations refused in turn:  scripts/refused_serving.py
 
 Two callers, at a front each, send fixed lines one after the other, so the right replies are known: first over a short
-recording, which one worker searches, then over one of more than three thousand steps, which three do. The order of the
+recording, which one worker searches, then over one of more than three thousand steps, which three do; of that the
+allocations are refused behind which callers are served, since those that load a recording are alike. The order of the
 allocations is the same each time but for those of the threads that start; so each number is refused until there are as
 many as sessions at a time that no allocation has. A refused allocation is told once, and of nothing else:
 
@@ -18,6 +19,7 @@ placed twice. Last, no thread can be started: then each front is served in its t
 import subprocess
 import sys
 import tempfile
+from bisect import bisect_left
 from concurrent.futures import ThreadPoolExecutor
 from dataclasses import dataclass
 from pathlib import Path
@@ -29,20 +31,23 @@ from sharing import ROOT, Server, Wrong, expect
 
 
 class Played(NamedTuple):
-    """What came of a session: whether anything was refused, and how often that was told."""
+    """What came of a session: whether anything was refused, how often that was told, and whether callers were served."""
 
     refused: bool
     told: int
+    served: bool
 
 
 @dataclass
 class Script:
-    """A recording, the workers of a search, and the lines of two callers with the right replies."""
+    """A recording, the workers of a search, the lines of two callers with the right replies, and whether the allocations
+    that load the recording are refused too."""
 
     name: str
     text: str
     workers: int
     callers: tuple
+    loading: bool
 
     def commands(self):
         """How many of the lines are commands."""
@@ -93,7 +98,7 @@ LONG = (
     ),
 )
 TICKS = "".join(f'["tick",{time}]\n' for time in range(1, 3601))
-SCRIPTS = (Script("short", PARKED, 1, SHORT), Script("long", PARKED + TICKS, 3, LONG))
+SCRIPTS = (Script("short", PARKED, 1, SHORT, loading=True), Script("long", PARKED + TICKS, 3, LONG, loading=False))
 NO_MEMORY = "fault 108 memory"
 AT_A_TIME = 16
 
@@ -161,13 +166,21 @@ def play(folder, script, words):
         session.told = 1
         if not served:
             expect("commands that were placed by callers who weren't served", 0, session.placed)
-            return Played(refused, session.told)
+            return Played(refused, session.told, served)
     else:
         expect("the end of netrev serve: status, output and errors", right, ended)
     expect("whether each caller was served", True, served)
     expect("commands that were placed", script.commands(), session.placed)
     expect("how often memory was told of is at most once where it was refused", True, session.told <= refused)
-    return Played(refused, session.told)
+    return Played(refused, session.told, served)
+
+
+def first_served(play_number):
+    """The number of the first allocation behind which callers are served: netrev loads before."""
+    most = 1
+    while not play_number(most).served:
+        most *= 2
+    return bisect_left(range(most), True, lo=most // 2, key=lambda number: play_number(number).served)
 
 
 def play_script(folder, preload, script):
@@ -180,13 +193,15 @@ def play_script(folder, preload, script):
         except Wrong as wrong:
             raise Wrong(f"with allocation {number} refused: {wrong}") from None
 
+    first = 1 if script.loading else first_served(play_number)
     played = []
     with ThreadPoolExecutor(4) as pool:
         while not played or any(one.refused for one in played[-AT_A_TIME:]):
-            played += pool.map(play_number, range(len(played) + 1, len(played) + 1 + AT_A_TIME))
+            begin = first + len(played)
+            played += pool.map(play_number, range(begin, begin + AT_A_TIME))
     expect(f"{script.name}: whether the first allocation was refused", True, played[0].refused)
     threadless = play(folder, script, [preload, "THREADS=0"])
-    expect("with no thread: whether any was refused, and memory told of", Played(True, 0), threadless)
+    expect("with no thread: refused, told of memory, served", Played(True, 0, True), threadless)
     return played
 
 
