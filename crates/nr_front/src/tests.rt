@@ -14,7 +14,7 @@ use std::alloc::Global;
 use std::cmp::Ordering;
 use std::num::NonZeroU32;
 use std::test::*;
-use std::thread::{Threads, join};
+use std::thread::Threads;
 
 type Ticking<'f, R> = Front<'f, PlainWorld, OneWorker<R>>;
 
@@ -132,44 +132,5 @@ fn a_full_journal_takes_no_command(rt: HostRuntime) -> Result<(), Fail> {
     assert!(rt; is_at(3, 9, other.look(&journal, Query::Position)));
     assert!(rt; matches!(one.exec(&journal, one_back()), Err(FrontFault::Full)));
     assert_eq!(rt; other.end().seen(), 1);
-    Ok(())
-}
-
-/// Places a hundred commands, and looks until as many came of another front.
-fn step_and_wait<R: Threads + Sync>(journal: &Journal, mut front: Ticking<'_, R>) -> Pass
-    requires { front.table ≡ journal.now }
-    ensures { result.table ≡ journal.now }
-{
-    for _ in 0..100 {
-        let _reply = front.exec(journal, Command::Step(NonZeroU32::MIN));
-    }
-    for _ in 0..10_000_000 {
-        if is_at(200, 300, front.look(journal, Query::Position)) {
-            return front.end();
-        }
-    }
-    front.end()
-}
-
-#[test]
-fn two_threads_place_a_hundred_commands_each(rt: HostRuntime) -> Result<(), Fail> {
-    let film = film(rt.alloc(), 300)?;
-    let (journal, one, other, _) = share(&rt, rt.alloc(), 4096, &film)?;
-    let shared = &journal;
-    let (mut one, mut other) = join(
-        &rt,
-        move || -> Pass
-            requires { one.table ≡ shared.now }
-            ensures { result.table ≡ shared.entry.now }
-        { step_and_wait(shared, one) },
-        move || -> Pass
-            requires { other.table ≡ shared.now }
-            ensures { result.table ≡ shared.entry.now }
-        { step_and_wait(shared, other) },
-    );
-    assert_eq!(rt; journal.meet(&mut one, &mut other), Ordering::Equal);
-    let words = journal.finish(rt.alloc(), &mut one)?;
-    let first = words.iter().filter(|word| **word / 256 % 256 == 0).count();
-    assert_eq!(rt; (words.len(), first), (200, 100));
     Ok(())
 }
