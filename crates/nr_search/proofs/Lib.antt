@@ -1,4 +1,5 @@
 mod FinderLemmas
+mod KnownLemmas
 mod NearestLemmas
 mod SegmentLemmas
 mod WatchedLemmas

@@ -1,11 +1,12 @@
 -- What is known of the segments that a search goes through.
-use Rattle.std.specs.Prelude.{◌≡◌, ℕ, ◌+◌, Bool, List, slice_get, Some}
+use Rattle.std.specs.Prelude.{◌≡◌, ℕ, ◌+◌, ◌<◌, Bool, true, false, List, slice_get, Option, None, Some}
 use Rattle.nr_search.specs.Nearest.{IsFound}
-use Rattle.nr_search.specs.Segments.{from_of, to_of}
+use Rattle.nr_search.specs.Search.{is_hit}
+use Rattle.nr_search.specs.Segments.{from_of, nth_segment, to_of}
 use Rattle.nr_search.specs.declared.found.Found.{Found}
 use Rattle.nr_search.specs.declared.segments.Span.{Span}
 use Rattle.nr_search.specs.declared.slot.Slot.{Slot}
-use Rattle.nr_search.specs.declared.slot.Slot.TheVariants.{Searched}
+use Rattle.nr_search.specs.declared.slot.Slot.TheVariants.{Unknown, Refused, Searched}
 
 -- what is found is the nearest hit of the segment
 abbrev pub IsFoundIn : Span → (ℕ → Bool) → ℕ → Found → Type 0
@@ -18,3 +19,36 @@ pub record IsTrue (span : Span) (hit : ℕ → Bool) (s : ℕ) (slot : Slot) : T
 -- so is what is said of each, by its number
 pub record AreTrue (span : Span) (hit : ℕ → Bool) (slots : List Slot) : Type 0 where
   pub each : (s : ℕ) (slot : Slot) → slice_get slots s ≡ Some slot → IsTrue span hit s slot
+
+-- what is known of a segment, by its number: nothing where there is no such slot
+abbrev pub or_unknown : Option Slot → Slot
+or_unknown (Some slot) = slot
+or_unknown None = Unknown
+
+abbrev pub slot_of : List Slot → ℕ → Slot
+slot_of slots s = or_unknown (slice_get slots s)
+
+-- the segment is searched
+abbrev pub is_searched : Slot → Bool
+is_searched (Searched found) = true
+is_searched Refused = false
+is_searched Unknown = false
+
+-- it is searched, and has a hit
+abbrev pub has_hit : Slot → Bool
+has_hit (Searched found) = is_hit found
+has_hit Refused = false
+has_hit Unknown = false
+
+-- what is found is what is known, where the segment is searched
+abbrev pub Agrees : Slot → Found → Type 0
+Agrees (Searched known) found = found ≡ known
+Agrees Refused found = Unit {0}
+Agrees Unknown found = Unit {0}
+
+-- What is known leaves the search open: a segment on the way isn't searched, and no nearer one is known to have a hit.
+pub record IsLeftOpen (span : Span) (slots : List Slot) : Type 0 where
+  pub place : ℕ
+  pub within : place < span.count
+  pub unsearched : is_searched (slot_of slots (nth_segment span.direction span.first span.count place)) ≡ false
+  pub nearer : (k : ℕ) → k < place → has_hit (slot_of slots (nth_segment span.direction span.first span.count k)) ≡ false

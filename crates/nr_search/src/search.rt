@@ -1,15 +1,15 @@
 //! A search through a film, segment by segment.
 
-ghost use Rattle.std.specs.Prelude.{◌≡◌, ◌<◌, ◌≤◌, ◌+◌, length, IfOk, IfSome};
+ghost use Rattle.std.specs.Prelude.{◌≡◌, ◌<◌, ◌≤◌, ◌+◌, false, length, IfOk, IfSome, OnErr};
 ghost use Rattle.nr_marks.specs.Hit.{is_hit_at};
-ghost use Rattle.nr_search.specs.Known.{AreTrue, IsFoundIn};
+ghost use Rattle.nr_search.specs.Known.{Agrees, AreTrue, IsFoundIn, IsLeftOpen, is_searched, slot_of};
 ghost use Rattle.nr_search.specs.Nearest.{IsFound};
 ghost use Rattle.nr_snaps.specs.Film.{IsFrame};
 
 use crate::direction::Direction;
 use crate::found::Found;
 use crate::segments::Span;
-use crate::slot::Slot;
+use crate::slot::{Slot, slot_at};
 use crate::stretch::{Standing, search_stretch, world_at};
 use nr_marks::Marks;
 use nr_rev::Worlds;
@@ -96,24 +96,27 @@ impl<'a, W: Worlds + Drop> Search<'a, W> {
             IsFrame W.is_well_formed W.world W.steps self.now.film.now h.position h.world) }
         ensures found { IfOk result (IsFoundIn self.now.span
             (is_hit_at self.now.film.now.recording self.now.marks.now.standing) s) }
+        ensures agrees { IfOk result (Agrees (slot_of known.now s)) }
+        ensures searched { OnErr result (is_searched (slot_of known.now s) ≡ false) }
         ensures held { IfSome held.new (λ h.
             IsFrame W.is_well_formed W.world W.steps self.now.film.now h.position h.world) }
     {
-        match known.get(s) {
-            Some(Slot::Searched(found)) => Ok(*found),
-            Some(Slot::Refused) => Err(AllocError),
-            _ => self.search_segment(s, held),
+        match slot_at(known, s) {
+            Slot::Searched(found) => Ok(found),
+            Slot::Refused => Err(AllocError),
+            Slot::Unknown => self.search_segment(s, held),
         }
     }
 
     /// The nearest hit: segment by segment on the way, by what is known of each, or else by a search of it. The first
-    /// segment with a hit decides.
+    /// segment with a hit decides: memory that was refused for others changes nothing then.
     pub fn settle(&self, known: &[Slot]) -> Result<Found, AllocError>
         requires { AreTrue self.now.span
             (is_hit_at self.now.film.now.recording self.now.marks.now.standing) known.now }
-        ensures { IfOk result (IsFound self.now.span.direction
+        ensures found { IfOk result (IsFound self.now.span.direction
             (is_hit_at self.now.film.now.recording self.now.marks.now.standing)
             (self.now.span.after + 1) (self.now.span.last + 1)) }
+        ensures open { OnErr result (IsLeftOpen self.now.span known.now) }
     {
         let mut held = None;
         for k in 0..self.span.count {

@@ -1,7 +1,7 @@
 //! What is known of segments.
 
 ghost use Rattle.std.specs.Prelude.{◌≡◌, ℕ, Bool, All, replicate, IfOk};
-ghost use Rattle.nr_search.specs.Known.{AreTrue, IsTrue};
+ghost use Rattle.nr_search.specs.Known.{AreTrue, IsTrue, slot_of};
 ghost use Rattle.nr_search.specs.declared.segments.Span.{Span};
 ghost use Rattle.nr_search.specs.declared.slot.Slot.TheVariants.{Unknown};
 
@@ -35,6 +35,16 @@ pub(crate) fn unknown(alloc: Global, count: usize) -> Result<Vec<Slot>, AllocErr
         known.push_reserved(Slot::Unknown);
     }
     Ok(known)
+}
+
+/// What is known of a segment, by its number: nothing where there is no such slot.
+pub(crate) fn slot_at(known: &[Slot], s: usize) -> Slot
+    ensures { result ≡ slot_of known.now s }
+{
+    match known.get(s) {
+        Some(slot) => *slot,
+        None => Slot::Unknown,
+    }
 }
 
 // Notes a report by the number of its segment. One of a segment that isn't there, and a second one of a segment, is

@@ -1,11 +1,13 @@
 use Rattle.std.proofs.Common.{ℕ, sym, ◌∙◌, subst, arith}
 use Rattle.nr_marks.specs.Hit.{is_hit_at}
-use Rattle.nr_search.specs.Known.{IsFoundIn}
+use Rattle.nr_search.specs.Known.{Agrees, IsFoundIn, slot_of}
+use Rattle.nr_search.specs.Segments.{nth_segment}
+use Rattle.nr_search.proofs.KnownLemmas.{nearer-next}
 use Rattle.nr_search.proofs.SegmentLemmas.{passed-all, passed-hit, passed-next}
 use Rattle.nr_search.proofs.search.Search.settle.Goals as goal
 
-pub returns-then-is_hit : goal.returns-then-is_hit
-returns-then-is_hit g c =
+pub returns-then-is_hit-clause-found : goal.returns-then-is_hit-clause-found
+returns-then-is_hit-clause-found g c =
     let search = c.args.self.now in
     let hit = is_hit_at search.film.now.recording search.marks.now.standing in
     passed-hit hit search.span c.loop-k.k c.in_ok-found.found c.loop-k-test.true (sym c.is_hit.ensures ∙ c.if-is_hit.true) c.loop-k.invariant.passed
@@ -18,11 +20,13 @@ loop-k-preserved g c =
     record {
       passed = passed-next hit search.span c.loop-k.k c.in_ok-found.found c.loop-k-test.true (sym c.is_hit.ensures ∙ c.if-is_hit.false) c.loop-k.invariant.passed
           (subst (λ s. IsFoundIn search.span hit s c.in_ok-found.found) c.nth-s.ensures c.in_ok-found.ensures.found);
+      nearer = nearer-next c.args.known.now (nth_segment search.span.direction search.span.first search.span.count) c.loop-k.k c.in_ok-found.found c.loop-k.invariant.nearer
+          (subst (λ s. Agrees (slot_of c.args.known.now s) c.in_ok-found.found) c.nth-s.ensures c.in_ok-found.ensures.agrees) (sym c.is_hit.ensures ∙ c.if-is_hit.false);
       held = c.settle_segment.ensures.held;
     }
 
-pub returns : goal.returns
-returns g c =
+pub returns-clause-found : goal.returns-clause-found
+returns-clause-found g c =
     let search = c.args.self.now in
     let hit = is_hit_at search.film.now.recording search.marks.now.standing in
     passed-all hit search.span c.loop-k.k (omega arith) c.loop-k.invariant.passed
