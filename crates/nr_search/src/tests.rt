@@ -1,7 +1,6 @@
 //! Searches by one worker and by several.
 
 use crate::search::Search;
-use crate::slot::Slot;
 use crate::workers::{Claims, search_by};
 use crate::{Direction, Finder, Found, Gate, ManyWorkers, OneWorker, Open, nearest_hit};
 use nr_marks::{Break, Marks};
@@ -199,27 +198,6 @@ fn a_wrong_hint_changes_nothing(rt: HostRuntime) -> Result<(), Fail> {
             assert_eq!(rt; found, FOUR, "told {told:?}");
         }
     }
-    Ok(())
-}
-
-/// What a search backwards from the end comes to where a worker was refused memory for the second of three segments.
-fn settle_refused(film: &Film<PlainWorld>, step: u32) -> Result<Option<Found>, &'static str> {
-    if film.len() != 192 {
-        return Err("another film");
-    }
-    let marks = marks(step);
-    let search = Search::new(film, &marks, Direction::Backward, 0, 191);
-    let known = [Slot::Unknown, Slot::Refused, Slot::Unknown];
-    Ok(search.settle(&known).ok())
-}
-
-#[test]
-fn want_of_memory_is_told_only_where_no_nearer_segment_has_a_hit(
-    rt: HostRuntime,
-) -> Result<(), Fail> {
-    let film = ticking(rt.alloc())?;
-    assert_eq!(rt; settle_refused(&film, 180)?, Some(Found::Hit(179)));
-    assert_eq!(rt; settle_refused(&film, 100)?, None);
     Ok(())
 }
 
