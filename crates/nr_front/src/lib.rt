@@ -11,6 +11,3 @@ mod steps;
 pub use fault::FrontFault;
 pub use front::Front;
 pub use replica::Replica;
-
-#[cfg(test)]
-mod tests;

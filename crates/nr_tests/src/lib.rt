@@ -1,0 +1,9 @@
+//! Tests of the crates below by their public calls.
+#![tactic(auto)]
+
+#[cfg(test)]
+mod films;
+#[cfg(test)]
+mod front;
+#[cfg(test)]
+mod sharing;
