@@ -10,10 +10,3 @@ mod turn;
 pub use ending::{End, LineEnd};
 pub use engine::serve;
 pub use source::Source;
-
-#[cfg(test)]
-mod stingy;
-#[cfg(test)]
-mod streams;
-#[cfg(test)]
-mod tests;

@@ -6,4 +6,10 @@ mod films;
 #[cfg(test)]
 mod front;
 #[cfg(test)]
+mod lines;
+#[cfg(test)]
 mod sharing;
+#[cfg(test)]
+mod stingy;
+#[cfg(test)]
+mod streams;

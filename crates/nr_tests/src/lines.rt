@@ -1,81 +1,20 @@
 //! Lines from readers and to writers that stop, and of fronts that share a journal.
 
-ghost use Rattle.std.specs.Prelude.{◌≡◌, ◌≤◌, [], false, IfOk};
+ghost use Rattle.std.specs.Prelude.{◌≡◌, ◌≤◌};
 
+use crate::films::ticking;
+use crate::sharing::{Lone, share};
 use crate::stingy::Stingy;
 use crate::streams::{Cup, Drip, Stutter};
-use crate::{End, LineEnd, Source, serve};
 use nr_command::Sink;
-use nr_front::Front;
-use nr_journal::{Journal, Pass};
-use nr_recording::Recording;
-use nr_rev::{Limits, Step};
-use nr_search::OneWorker;
-use nr_snaps::{Film, Snaps};
+use nr_journal::Journal;
+use nr_lines::{End, LineEnd, Source, serve};
 use std::alloc::Global;
 use std::sync::Wait;
 use std::test::*;
 use std::thread::Threads;
 
-type Ticking<'f, R> = Front<'f, Stingy, OneWorker<R>>;
-
-const LIMITS: Limits = Limits {
-    goroutines: 1,
-    sockets: 1,
-    descriptors: 1,
-    buffer: 1,
-};
-
-/// Nine steps that set the clock to 1, 2 and so on.
-fn make_film(alloc: Global) -> Result<Film<Stingy>, &'static str> {
-    let mut steps = Vec::new(alloc);
-    for time in 1..10 {
-        steps
-            .push(Step::Tick { time })
-            .map_err(|_| "no memory for a step")?;
-    }
-    let recording = Recording::new(LIMITS, steps).map_err(|_| "no recording")?;
-    Snaps::load(alloc, recording, 64).map_err(|_| "no film")
-}
-
-fn front<'f, R: Threads + Sync>(
-    alloc: Global,
-    pass: Pass,
-    film: &'f Film<Stingy>,
-) -> Result<Ticking<'f, R>, &'static str>
-    requires { pass.stand.seen ≡ [] }
-    ensures { IfOk result (λ front. front.table ≡ pass.table) }
-{
-    match Front::new(alloc, pass, film, OneWorker::new(), 64) {
-        Ok(front) => Ok(front),
-        Err(_) => Err("no memory for a front"),
-    }
-}
-
-/// A journal of so many words, and two fronts.
-fn share<'f, R: Threads + Sync>(
-    _rt: &R,
-    alloc: Global,
-    words: usize,
-    film: &'f Film<Stingy>,
-) -> Result<(Journal, Ticking<'f, R>, Ticking<'f, R>), &'static str>
-    requires { (1 ≤ words) × (words ≤ 1000000) }
-    ensures { IfOk result (λ shared. (shared.1.table ≡ shared.0) × (shared.2.table ≡ shared.0)) }
-{
-    let Ok((journal, mut first)) = Journal::new(alloc, words) else {
-        return Err("no journal");
-    };
-    let second = journal.split(&mut first);
-    let Ok(one) = journal.enter(first) else {
-        return Err("no tag");
-    };
-    let Ok(other) = journal.enter(second) else {
-        return Err("no tag");
-    };
-    let one = front(alloc, one, film)?;
-    let other = front(alloc, other, film)?;
-    Ok((journal, one, other))
-}
+type Ticking<'f, R> = Lone<'f, Stingy, R>;
 
 /// What a front is sent, and how far that goes.
 #[derive(Clone, Copy)]
@@ -156,8 +95,8 @@ fn play<R: Wait + Threads + Sync>(
 ) -> Result<(Served, Served, usize), &'static str>
     requires { (1 ≤ words) × (words ≤ 1000000) }
 {
-    let film = make_film(alloc)?;
-    let (journal, mut one, mut other) = share(rt, alloc, words, &film)?;
+    let film = ticking::<Stingy>(alloc, 9)?;
+    let (journal, mut one, mut other, _) = share(rt, alloc, words, &film)?;
     film.snap_below(0).refuse(first.refused);
     let before = serve_script(rt, alloc, first, &mut one, &journal);
     film.snap_below(0).refuse(second.refused);
