@@ -310,17 +310,26 @@ mod tests {
         ],
     ];
 
-    #[test]
-    fn programs_are_told(rt: HostRuntime) {
-        let alloc = rt.alloc();
-        assert!(rt; read_arguments(alloc, RUN.as_slice()) == Ok(Program::Run { file: "a.jsonl" }));
-        assert!(rt; read_arguments(alloc, CHECK.as_slice()) == Ok(Program::Check { file: "" }));
-        assert!(rt; read_arguments(alloc, HYPHEN.as_slice()) == Ok(Program::Run { file: "-x" }));
+    /// The arguments ask for this program.
+    fn asks_for(alloc: Global, arguments: &[&str], program: Program<'_>) -> bool {
+        read_arguments(alloc, arguments) == Ok(program)
+    }
+
+    /// The arguments are bad usage.
+    fn is_bad_usage(alloc: Global, arguments: &[&str]) -> bool {
+        read_arguments(alloc, arguments) == Err(ArgumentsFault::Usage)
     }
 
     #[test]
-    fn sessions_are_shared_as_they_are_asked_for(rt: HostRuntime) {
+    fn programs_are_told(rt: HostRuntime) {
         let alloc = rt.alloc();
+        assert!(rt; asks_for(alloc, RUN.as_slice(), Program::Run { file: "a.jsonl" }));
+        assert!(rt; asks_for(alloc, CHECK.as_slice(), Program::Check { file: "" }));
+        assert!(rt; asks_for(alloc, HYPHEN.as_slice(), Program::Run { file: "-x" }));
+    }
+
+    #[test]
+    fn a_session_is_shared_as_usual(rt: HostRuntime) {
         let sharing = Sharing {
             port: 47200,
             fronts: 1,
@@ -330,8 +339,16 @@ mod tests {
         };
         let file = "a.jsonl";
         assert!(rt;
-            read_arguments(alloc, SERVE.as_slice()) == Ok(Program::Serve { file, sharing })
+            asks_for(
+                rt.alloc(),
+                SERVE.as_slice(),
+                Program::Serve { file, sharing }
+            )
         );
+    }
+
+    #[test]
+    fn a_session_is_shared_as_it_is_asked_for(rt: HostRuntime) {
         let sharing = Sharing {
             port: 65472,
             fronts: 64,
@@ -341,21 +358,29 @@ mod tests {
         };
         let file = "a";
         assert!(rt;
-            read_arguments(alloc, SERVE_ALL.as_slice()) == Ok(Program::Serve { file, sharing })
+            asks_for(
+                rt.alloc(),
+                SERVE_ALL.as_slice(),
+                Program::Serve { file, sharing }
+            )
         );
-        assert!(rt; read_arguments(alloc, NO_PORT.as_slice()) == Err(ArgumentsFault::Usage));
-        for arguments in OUT_OF_RANGE {
-            assert!(rt; read_arguments(alloc, arguments.as_slice()) == Err(ArgumentsFault::Usage));
+    }
+
+    #[test]
+    fn numbers_out_of_range_are_bad_usage(rt: HostRuntime) {
+        for arguments in &OUT_OF_RANGE {
+            assert!(rt; is_bad_usage(rt.alloc(), arguments.as_slice()));
         }
     }
 
     #[test]
     fn other_arguments_are_bad_usage(rt: HostRuntime) {
         let alloc = rt.alloc();
-        assert!(rt; read_arguments(alloc, NO_PROGRAM.as_slice()) == Err(ArgumentsFault::Usage));
-        assert!(rt; read_arguments(alloc, NO_FILE.as_slice()) == Err(ArgumentsFault::Usage));
-        assert!(rt; read_arguments(alloc, TWO_FILES.as_slice()) == Err(ArgumentsFault::Usage));
-        assert!(rt; read_arguments(alloc, OTHER.as_slice()) == Err(ArgumentsFault::Usage));
-        assert!(rt; read_arguments(alloc, HELP.as_slice()) == Err(ArgumentsFault::Usage));
+        assert!(rt; is_bad_usage(alloc, NO_PROGRAM.as_slice()));
+        assert!(rt; is_bad_usage(alloc, NO_FILE.as_slice()));
+        assert!(rt; is_bad_usage(alloc, TWO_FILES.as_slice()));
+        assert!(rt; is_bad_usage(alloc, OTHER.as_slice()));
+        assert!(rt; is_bad_usage(alloc, HELP.as_slice()));
+        assert!(rt; is_bad_usage(alloc, NO_PORT.as_slice()));
     }
 }

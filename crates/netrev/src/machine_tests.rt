@@ -1,16 +1,16 @@
 //! The programs over recordings of each kind of step.
-use crate::run::{ExitStatus, check_bytes};
-use crate::run_tests::{HEADER, assert_refused, run};
-use nr_command::Sink;
-use nr_plain::PlainWorld as World;
-use std::test::*;
+use crate::playing::{
+    HEADER, assert_accepted, assert_all_refused, assert_all_replies, assert_refused, run,
+};
+use crate::run::ExitStatus;
+use std::alloc::AllocError;
 
 const SMALL: &str = "{\"buf\":16,\"desc\":1,\"gor\":2,\"netrev\":1,\"sock\":1}\n";
 
 const NARROW: &str = "{\"buf\":1,\"desc\":1,\"gor\":1,\"netrev\":1,\"sock\":1}\n";
 
 /// Steps on the small machine, and where and why they are refused.
-const REASONS: [(&str, &str); 17] = [
+static REASONS: [(&str, &str); 17] = [
     (r#"["exit",1]"#, "step 1: fault 107 reason 1\n"),
     (
         r#"["sockopen",1,1]
@@ -85,7 +85,7 @@ const REASONS: [(&str, &str); 17] = [
 ];
 
 /// Steps, a script, and its replies.
-const WALKS: [(&str, &str, &str); 6] = [
+static WALKS: [(&str, &str, &str); 6] = [
     // Two goroutines take one read lock in turn, and the one that was let go finds it taken.
     (
         r#"["spawn"]
@@ -162,7 +162,7 @@ const WALKS: [(&str, &str, &str); 6] = [
 ];
 
 /// Recordings with their scripts and replies, as they stand in the examples.
-const EXAMPLES: [(&str, &str, &str); 3] = [
+static EXAMPLES: [(&str, &str, &str); 3] = [
     // A wake-up that is lost.
     (
         r#"{"netrev":1,"gor":1,"sock":1,"desc":1,"buf":16}
@@ -252,35 +252,39 @@ const EXAMPLES: [(&str, &str, &str); 3] = [
     ),
 ];
 
-#[test]
-fn each_reason_is_told_by_its_number(rt: HostRuntime) -> Result<(), Fail> {
-    for (steps, line) in REASONS {
-        let recording = format!(in rt.alloc(); "{SMALL}{steps}")?;
-        assert_refused(&rt, rt.alloc(), recording.as_str(), line);
-    }
-    Ok(())
-}
-
-#[test]
-fn a_read_that_is_cut_or_out_of_turn_is_refused(rt: HostRuntime) -> Result<(), Fail> {
-    let opened = r#"["sockopen",16,16]
+/// A read that is cut or out of turn, and why it is refused.
+static READS: [(&str, &str); 2] = [
+    (
+        r#"["sockopen",16,16]
 ["pollopen",0,0]
 ["rwlock",0,0,"r"]
 ["waitbegin",0,0,"r"]
-"#;
-    for (last, line) in [
-        (r#"["block"#, "line 6: fault 102 not JSON\n"),
-        (r#"["blockswap",0]"#, "step 5: fault 107 reason 2\n"),
-    ] {
-        let recording = format!(in rt.alloc(); "{HEADER}{opened}{last}")?;
-        assert_refused(&rt, rt.alloc(), recording.as_str(), line);
-    }
-    Ok(())
+["block"#,
+        "line 6: fault 102 not JSON\n",
+    ),
+    (
+        r#"["sockopen",16,16]
+["pollopen",0,0]
+["rwlock",0,0,"r"]
+["waitbegin",0,0,"r"]
+["blockswap",0]"#,
+        "step 5: fault 107 reason 2\n",
+    ),
+];
+
+#[test]
+fn each_reason_is_told_by_its_number(rt: HostRuntime) -> Result<(), AllocError> {
+    assert_all_refused(&rt, rt.alloc(), SMALL, REASONS.as_slice())
 }
 
 #[test]
-fn a_firing_too_many_is_refused(rt: HostRuntime) -> Result<(), Fail> {
-    let opened = r#"["sockopen",1,1]
+fn a_read_that_is_cut_or_out_of_turn_is_refused(rt: HostRuntime) -> Result<(), AllocError> {
+    assert_all_refused(&rt, rt.alloc(), HEADER, READS.as_slice())
+}
+
+#[test]
+fn a_firing_too_many_is_refused(rt: HostRuntime) -> Result<(), AllocError> {
+    let fired = r#"["sockopen",1,1]
 ["pollopen",0,0]
 ["setdeadline",0,0,"r",1]
 ["tick",1]
@@ -290,33 +294,37 @@ fn a_firing_too_many_is_refused(rt: HostRuntime) -> Result<(), Fail> {
 ["pop"]
 ["setdeadline",0,0,"r",1]
 ["tick",3]"#;
-    let recording = format!(in rt.alloc(); "{NARROW}{opened}")?;
-    let mut output = Sink::new(Vec::new(rt.alloc()));
-    let status = check_bytes::<World, _>(rt.alloc(), recording.as_bytes(), &mut output);
-    assert_eq!(rt; status, ExitStatus::Done);
-    assert_eq!(rt; output.into_inner().as_slice(), b"ok 10 steps\n".as_slice());
-    let recording = format!(in rt.alloc(); "{NARROW}{opened}\n[\"pop\"]\n")?;
-    let line = "step 11: fault 107 reason 14\n";
-    assert_refused(&rt, rt.alloc(), recording.as_str(), line);
-    Ok(())
+    let once_more = r#"["sockopen",1,1]
+["pollopen",0,0]
+["setdeadline",0,0,"r",1]
+["tick",1]
+["pop"]
+["setdeadline",0,0,"r",1]
+["tick",2]
+["pop"]
+["setdeadline",0,0,"r",1]
+["tick",3]
+["pop"]
+"#;
+    assert_accepted(&rt, rt.alloc(), NARROW, fired, "ok 10 steps\n")?;
+    assert_refused(
+        &rt,
+        rt.alloc(),
+        NARROW,
+        once_more,
+        "step 11: fault 107 reason 14\n",
+    )
 }
 
 #[test]
-fn each_kind_is_walked_both_ways(rt: HostRuntime) -> Result<(), Fail> {
-    for (steps, script, replies) in WALKS {
-        let recording = format!(in rt.alloc(); "{HEADER}{steps}")?;
-        let (status, output) = run(&rt, &rt, recording.as_str(), script);
-        assert_eq!(rt; status, ExitStatus::Done);
-        assert_eq!(rt; output.as_slice(), replies.as_bytes(), "{steps}");
-    }
-    Ok(())
+fn each_kind_is_walked_both_ways(rt: HostRuntime) -> Result<(), AllocError> {
+    assert_all_replies(&rt, rt.alloc(), WALKS.as_slice())
 }
 
 #[test]
 fn examples_are_answered_as_they_say(rt: HostRuntime) {
-    for (recording, script, replies) in EXAMPLES {
-        let (status, output) = run(&rt, &rt, recording, script);
-        assert_eq!(rt; status, ExitStatus::Done);
-        assert_eq!(rt; output.as_slice(), replies.as_bytes());
+    for (recording, script, replies) in EXAMPLES.as_slice() {
+        let played = run(&rt, rt.alloc(), recording, script);
+        played.assert(&rt, ExitStatus::Done, replies);
     }
 }

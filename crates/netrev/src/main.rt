@@ -14,6 +14,8 @@ mod machine_tests;
 #[cfg(test)]
 mod mark_tests;
 pub mod opening;
+#[cfg(test)]
+mod playing;
 pub mod run;
 #[cfg(test)]
 mod run_tests;

@@ -1,10 +1,13 @@
 //! Programs over stored recordings, and over streams that stop.
-use crate::run::{ExitStatus, check_bytes, run_bytes};
-use crate::streams::{Cup, Drip, make_cup};
+use crate::playing::{
+    HEADER, Played, SCRIPT, assert_accepted, assert_all_refused, assert_all_replies,
+    assert_refused, run, run_on,
+};
+use crate::run::{ExitStatus, check_bytes};
+use crate::streams::{Cup, Drip};
 use nr_command::Sink;
-use nr_lines::Source;
 use nr_plain::PlainWorld as World;
-use std::alloc::Global;
+use std::alloc::{AllocError, Global};
 use std::process::Abort;
 use std::sync::Wait;
 use std::test::*;
@@ -24,20 +27,6 @@ const LOCKS: &str = "{\"netrev\":1,\"gor\":4,\"sock\":2,\"desc\":2,\"buf\":16}
 [\"exit\",2]
 ";
 
-const SCRIPT: &str = "stepi 6
-print lock 0
-print gor 1
-stepi 4
-print lock 0
-print gor 2
-reverse-stepi 2
-print lock 0
-reverse-stepi 4
-print lock 0
-reverse-stepi 9
-print lock 0
-";
-
 const REPLIES: &str = "at 6
 lock 0 = 8388626
 gor 1 = acquiring 0 r
@@ -51,8 +40,6 @@ lock 0 = 8
 at 0 start
 lock 0 = absent
 ";
-
-pub(crate) const HEADER: &str = "{\"netrev\":1,\"gor\":4,\"sock\":2,\"desc\":2,\"buf\":16}\n";
 
 /// A reader waits for bytes that arrive while it is parked.
 pub(crate) const READ: &str = r#"["sockopen",16,16]
@@ -82,7 +69,7 @@ pub(crate) const EARLY: &str = r#"["sockopen",16,16]
 "#;
 
 /// Steps after the header, and the one line that they are refused with.
-const REFUSED: [(&str, &str); 7] = [
+static REFUSED: [(&str, &str); 7] = [
     (r#"["spawn""#, "line 2: fault 102 not JSON\n"),
     (
         "\n[\"spawn\"]\n[\"jump\"]\n",
@@ -102,196 +89,177 @@ const REFUSED: [(&str, &str); 7] = [
     ),
 ];
 
-/// Runs a script, and answers how it ended and what is written.
-pub(crate) fn run(
-    rt: &HostRuntime,
-    wait: &(impl Wait + Threads + Sync),
-    recording: &str,
-    script: &str,
-) -> (ExitStatus, Vec<u8>) {
-    let mut input = Source::new(script.as_bytes());
-    let mut output = Sink::new(Vec::new(rt.alloc()));
-    let bytes = recording.as_bytes();
-    let status = run_bytes::<World, _, _, _>(wait, rt.alloc(), bytes, &mut input, &mut output);
-    (status, output.into_inner())
-}
+/// Steps, a script and its replies.
+static LOOKS: [(&str, &str, &str); 3] = [
+    (
+        READ,
+        "stepi 3\nprint lock 0\nsi 5\ndump in 0\nsi 3\ndump in 0\nrsi\ndump in 0\nfrob\nquit",
+        "at 3\nlock 0 = 10\nat 8\nin 0 = 6869\nat 11\nin 0 = -\nat 10\nin 0 = 6869\nfault 201 unknown command\nbye\n",
+    ),
+    (
+        EARLY,
+        "p waiters\nsi 5\np rg 0\np waiters\nsi\np rg 0\np waiters\nsi\np rg 0\np waiters\nsi\np rg 0\np waiters\nsi\np rg 0\np waiters\n",
+        "waiters = 0\nat 5\nrg 0 = wait\nwaiters = 0\nat 6\nrg 0 = wait\nwaiters = 0\nat 7\nrg 0 = ready\nwaiters = 0\nat 8\nrg 0 = ready\nwaiters = 0\nat 9\nrg 0 = nil\nwaiters = 0\n",
+    ),
+    (
+        EARLY,
+        "si 9\nrsi\np rg 0\nrsi\np rg 0\nrsi\np rg 0\nrsi\np rg 0\nrsi\np rg 0\n",
+        "at 9\nat 8\nrg 0 = ready\nat 7\nrg 0 = ready\nat 6\nrg 0 = wait\nat 5\nrg 0 = wait\nat 4\nrg 0 = nil\n",
+    ),
+];
+
+/// Steps, and the line that says how many they are.
+static ACCEPTED: [(&str, &str); 4] = [
+    ("", "ok 0 steps\n"),
+    (r#"["spawn"]"#, "ok 1 steps\n"),
+    (EARLY, "ok 9 steps\n"),
+    (READ, "ok 12 steps\n"),
+];
 
 #[test]
 fn lock_words_are_shown_both_ways(rt: HostRuntime) {
-    let (status, output) = run(&rt, &rt, LOCKS, SCRIPT);
-    assert_eq!(rt; status, ExitStatus::Done);
-    assert_eq!(rt; output.as_slice(), REPLIES.as_bytes());
+    let played = run(&rt, rt.alloc(), LOCKS, SCRIPT);
+    played.assert(&rt, ExitStatus::Done, REPLIES);
 }
 
 #[test]
 fn a_header_alone_has_one_position(rt: HostRuntime) {
     let script = "stepi\nreverse-stepi\nprint gor 0\nprint gor 1\nquit\nstepi\n";
     let replies = "at 0 end\nat 0 start\ngor 0 = idle\ngor 1 = absent\nbye\n";
-    let (status, output) = run(&rt, &rt, HEADER, script);
-    assert_eq!(rt; status, ExitStatus::Done);
-    assert_eq!(rt; output.as_slice(), replies.as_bytes());
+    let played = run(&rt, rt.alloc(), HEADER, script);
+    played.assert(&rt, ExitStatus::Done, replies);
 }
 
 #[test]
-fn looks_show_the_position(rt: HostRuntime) -> Result<(), Fail> {
-    for (steps, script, replies) in [
-        (
-            READ,
-            "stepi 3\nprint lock 0\nsi 5\ndump in 0\nsi 3\ndump in 0\nrsi\ndump in 0\nfrob\nquit",
-            "at 3\nlock 0 = 10\nat 8\nin 0 = 6869\nat 11\nin 0 = -\nat 10\nin 0 = 6869\nfault 201 unknown command\nbye\n",
-        ),
-        (
-            EARLY,
-            "p waiters\nsi 5\np rg 0\np waiters\nsi\np rg 0\np waiters\nsi\np rg 0\np waiters\nsi\np rg 0\np waiters\nsi\np rg 0\np waiters\n",
-            "waiters = 0\nat 5\nrg 0 = wait\nwaiters = 0\nat 6\nrg 0 = wait\nwaiters = 0\nat 7\nrg 0 = ready\nwaiters = 0\nat 8\nrg 0 = ready\nwaiters = 0\nat 9\nrg 0 = nil\nwaiters = 0\n",
-        ),
-        (
-            EARLY,
-            "si 9\nrsi\np rg 0\nrsi\np rg 0\nrsi\np rg 0\nrsi\np rg 0\nrsi\np rg 0\n",
-            "at 9\nat 8\nrg 0 = ready\nat 7\nrg 0 = ready\nat 6\nrg 0 = wait\nat 5\nrg 0 = wait\nat 4\nrg 0 = nil\n",
-        ),
-    ] {
-        let recording = format!(in rt.alloc(); "{HEADER}{steps}")?;
-        let (status, output) = run(&rt, &rt, recording.as_str(), script);
-        assert_eq!(rt; status, ExitStatus::Done);
-        assert_eq!(rt; output.as_slice(), replies.as_bytes());
-    }
-    Ok(())
-}
-
-/// Runs and checks a recording that is refused with this line: no input is read for it.
-pub(crate) fn assert_refused(
-    rt: &(impl Wait + Threads + Sync + Abort),
-    alloc: Global,
-    recording: &str,
-    line: &str,
-) {
-    let bytes = recording.as_bytes();
-    let mut input = Source::new(SCRIPT.as_bytes());
-    let mut output = Sink::new(Vec::new(alloc));
-    let status = run_bytes::<World, _, _, _>(rt, alloc, bytes, &mut input, &mut output);
-    assert_eq!(rt; status, ExitStatus::Refused);
-    assert_eq!(rt; output.into_inner().as_slice(), line.as_bytes());
-    assert_eq!(rt; input.into_inner(), SCRIPT.as_bytes());
-    let mut output = Sink::new(Vec::new(alloc));
-    let status = check_bytes::<World, _>(alloc, bytes, &mut output);
-    assert_eq!(rt; status, ExitStatus::Refused);
-    assert_eq!(rt; output.into_inner().as_slice(), line.as_bytes());
+fn looks_show_the_position(rt: HostRuntime) -> Result<(), AllocError> {
+    assert_all_replies(&rt, rt.alloc(), LOOKS.as_slice())
 }
 
 #[test]
-fn refused_recordings_print_one_line(rt: HostRuntime) -> Result<(), Fail> {
-    let alloc = rt.alloc();
+fn refused_recordings_print_one_line(rt: HostRuntime) -> Result<(), AllocError> {
     let wide = "{\"netrev\":1,\"gor\":0,\"sock\":2,\"desc\":2,\"buf\":16}";
-    assert_refused(&rt, alloc, "", "line 1: fault 101 header\n");
-    assert_refused(&rt, alloc, wide, "line 1: fault 105 limit\n");
-    for (steps, line) in REFUSED {
-        let recording = format!(in alloc; "{HEADER}{steps}")?;
-        assert_refused(&rt, alloc, recording.as_str(), line);
-    }
-    Ok(())
+    assert_refused(&rt, rt.alloc(), "", "", "line 1: fault 101 header\n")?;
+    assert_refused(&rt, rt.alloc(), wide, "", "line 1: fault 105 limit\n")?;
+    assert_all_refused(&rt, rt.alloc(), HEADER, REFUSED.as_slice())
 }
 
 #[test]
-fn accepted_recordings_tell_their_length(rt: HostRuntime) -> Result<(), Fail> {
-    for (steps, line) in [
-        ("", "ok 0 steps\n"),
-        (r#"["spawn"]"#, "ok 1 steps\n"),
-        (EARLY, "ok 9 steps\n"),
-        (READ, "ok 12 steps\n"),
-    ] {
-        let recording = format!(in rt.alloc(); "{HEADER}{steps}")?;
-        let mut output = Sink::new(Vec::new(rt.alloc()));
-        let bytes = recording.as_bytes();
-        let status = check_bytes::<World, _>(rt.alloc(), bytes, &mut output);
-        assert_eq!(rt; status, ExitStatus::Done);
-        assert_eq!(rt; output.into_inner().as_slice(), line.as_bytes());
+fn accepted_recordings_tell_their_length(rt: HostRuntime) -> Result<(), AllocError> {
+    for (steps, line) in ACCEPTED.as_slice() {
+        assert_accepted(&rt, rt.alloc(), HEADER, steps, line)?;
     }
     Ok(())
 }
 
 #[test]
 fn one_byte_a_call_makes_no_difference(rt: HostRuntime) {
-    let mut input = Source::new(Drip {
+    let reader = Drip {
         bytes: SCRIPT.as_bytes(),
         left: SCRIPT.len() + 1,
-    });
-    let mut output = Sink::new(make_cup(&rt, REPLIES.len()));
-    let bytes = LOCKS.as_bytes();
-    let status = run_bytes::<World, _, _, _>(&rt, rt.alloc(), bytes, &mut input, &mut output);
-    assert_eq!(rt; status, ExitStatus::Done);
-    assert_eq!(rt; output.into_inner().held.as_slice(), REPLIES.as_bytes());
+    };
+    let writer = Cup {
+        held: Vec::new(rt.alloc()),
+        room: REPLIES.len(),
+    };
+    let ended = run_on(&rt, rt.alloc(), LOCKS, reader, writer);
+    let played = Played {
+        status: ended.status,
+        text: ended.writer.held,
+    };
+    played.assert(&rt, ExitStatus::Done, REPLIES);
+}
+
+/// Runs the script on a reader that fails after so many bytes: the read failed, and no write did.
+fn run_starved<R: Wait + Threads + Sync + Abort>(rt: &R, alloc: Global, left: usize) -> Played {
+    let reader = Drip {
+        bytes: SCRIPT.as_bytes(),
+        left,
+    };
+    let ended = run_on(rt, alloc, LOCKS, reader, Vec::new(alloc));
+    assert!(rt; ended.read_failed && !ended.write_failed);
+    Played {
+        status: ended.status,
+        text: ended.writer,
+    }
 }
 
 #[test]
 fn a_failed_read_leaves_whole_replies(rt: HostRuntime) {
-    let bytes = LOCKS.as_bytes();
     for (left, replies) in [
         (0, ""),
         (7, ""),
         (8, "at 6\n"),
         (21, "at 6\nlock 0 = 8388626\n"),
     ] {
-        let mut input = Source::new(Drip {
-            bytes: SCRIPT.as_bytes(),
-            left,
-        });
-        let mut output = Sink::new(Vec::new(rt.alloc()));
-        let status = run_bytes::<World, _, _, _>(&rt, rt.alloc(), bytes, &mut input, &mut output);
-        assert_eq!(rt; status, ExitStatus::StreamFailed);
-        assert!(rt; input.has_failed() && !output.has_failed());
-        assert_eq!(rt; output.into_inner().as_slice(), replies.as_bytes());
+        let played = run_starved(&rt, rt.alloc(), left);
+        played.assert(&rt, ExitStatus::StreamFailed, replies);
     }
 }
 
-/// Runs a recording on writers that fail after so many bytes of the text, for each number of them.
-fn assert_run_cut(
-    rt: &(impl Wait + Threads + Sync + Abort),
+/// Runs a recording on a writer that fails after so many bytes.
+fn run_cut<R: Wait + Threads + Sync + Abort>(
+    rt: &R,
     alloc: Global,
     recording: &str,
-    text: &str,
-) {
-    for room in 0..text.len() {
-        let mut input = Source::new(SCRIPT.as_bytes());
-        let mut output = Sink::new(Cup {
-            held: Vec::new(alloc),
-            room,
-        });
-        let bytes = recording.as_bytes();
-        let status = run_bytes::<World, _, _, _>(rt, alloc, bytes, &mut input, &mut output);
-        assert_eq!(rt; status, ExitStatus::StreamFailed);
-        assert!(rt; output.has_failed());
-        assert_eq!(rt;
-            Some(output.into_inner().held.as_slice()),
-            text.as_bytes().get(..room)
-        );
+    room: usize,
+) -> Played {
+    let writer = Cup {
+        held: Vec::new(alloc),
+        room,
+    };
+    let ended = run_on(rt, alloc, recording, SCRIPT.as_bytes(), writer);
+    assert!(rt; ended.write_failed);
+    Played {
+        status: ended.status,
+        text: ended.writer.held,
     }
 }
 
-/// Checks a recording on such writers.
-fn assert_check_cut(rt: &impl Abort, alloc: Global, recording: &str, text: &str) {
+/// Runs a recording on such writers, for each number of bytes of the text.
+fn assert_run_cut<R: Wait + Threads + Sync + Abort>(
+    rt: &R,
+    alloc: Global,
+    recording: &str,
+    text: &[u8],
+) {
     for room in 0..text.len() {
-        let mut output = Sink::new(Cup {
-            held: Vec::new(alloc),
-            room,
-        });
-        let status = check_bytes::<World, _>(alloc, recording.as_bytes(), &mut output);
-        assert_eq!(rt; status, ExitStatus::StreamFailed);
-        assert!(rt; output.has_failed());
-        assert_eq!(rt;
-            Some(output.into_inner().held.as_slice()),
-            text.as_bytes().get(..room)
-        );
+        let played = run_cut(rt, alloc, recording, room);
+        assert_eq!(rt; played.status, ExitStatus::StreamFailed);
+        assert_eq!(rt; Some(played.text.as_slice()), text.get(..room));
+    }
+}
+
+/// Checks a recording on a writer that fails after so many bytes.
+fn check_cut(rt: &impl Abort, alloc: Global, recording: &str, room: usize) -> Played {
+    let mut output = Sink::new(Cup {
+        held: Vec::new(alloc),
+        room,
+    });
+    let status = check_bytes::<World, _>(alloc, recording.as_bytes(), &mut output);
+    assert!(rt; output.has_failed());
+    Played {
+        status,
+        text: output.into_inner().held,
+    }
+}
+
+/// Checks a recording on such writers, for each number of bytes of the text.
+fn assert_check_cut(rt: &impl Abort, alloc: Global, recording: &str, text: &[u8]) {
+    for room in 0..text.len() {
+        let played = check_cut(rt, alloc, recording, room);
+        assert_eq!(rt; played.status, ExitStatus::StreamFailed);
+        assert_eq!(rt; Some(played.text.as_slice()), text.get(..room));
     }
 }
 
 #[test]
 fn a_failed_write_leaves_the_first_bytes(rt: HostRuntime) {
     let alloc = rt.alloc();
-    assert_run_cut(&rt, alloc, LOCKS, REPLIES);
-    assert_run_cut(&rt, alloc, "", "line 1: fault 101 header\n");
-    assert_check_cut(&rt, alloc, LOCKS, "ok 10 steps\n");
-    assert_check_cut(&rt, alloc, "", "line 1: fault 101 header\n");
+    let header = b"line 1: fault 101 header\n".as_slice();
+    assert_run_cut(&rt, alloc, LOCKS, REPLIES.as_bytes());
+    assert_run_cut(&rt, alloc, "", header);
+    assert_check_cut(&rt, alloc, LOCKS, b"ok 10 steps\n".as_slice());
+    assert_check_cut(&rt, alloc, "", header);
 }
 
 #[test]

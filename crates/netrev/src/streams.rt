@@ -57,10 +57,3 @@ impl Write for Cup {
         Ok(())
     }
 }
-
-pub(crate) fn make_cup(rt: &HostRuntime, room: usize) -> Cup {
-    Cup {
-        held: Vec::new(rt.alloc()),
-        room,
-    }
-}
