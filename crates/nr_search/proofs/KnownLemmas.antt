@@ -29,4 +29,5 @@ pub nearer-next : (slots : List Slot) (nth : ℕ → ℕ) (k : ℕ) (found : Fou
 nearer-next slots nth k found before is none j below =
     elim (split j k) [
       | inl less ↦ before j less
-      | inr more ↦ subst (λ i. has_hit (slot_of slots (nth i)) ≡ false) (omega (arith, more, below)) (agrees-no_hit (slot_of slots (nth k)) found is none) ]
+      | inr more ↦ subst (λ i. has_hit (slot_of slots (nth i)) ≡ false) (omega (arith, more, below)) (agrees-no_hit (slot_of slots (nth k)) found is none)
+    ]
