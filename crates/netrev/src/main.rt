@@ -6,8 +6,6 @@
 #![tactic(auto)]
 
 pub mod arguments;
-#[cfg(test)]
-mod film_tests;
 mod loopback;
 #[cfg(test)]
 mod machine_tests;

@@ -22,6 +22,3 @@ pub use parsing::{MAX_LINE, number};
 pub use reply::{Fault, Reply};
 pub use sender::{Part, Sent, Token, send, send_all};
 pub use sink::Sink;
-
-#[cfg(test)]
-mod tests;

@@ -9,6 +9,3 @@ mod numbered;
 pub use mark::{Break, Mark, NextStep};
 pub use marks::{MOST_MARKS, MarkFault, Marks, NumberedMark};
 pub use numbered::{MOST_NUMBERED, Numbered, NumberedList};
-
-#[cfg(test)]
-mod tests;

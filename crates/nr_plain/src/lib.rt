@@ -35,6 +35,3 @@ mod world;
 mod worlds;
 
 pub use world::PlainWorld;
-
-#[cfg(test)]
-mod tests;

@@ -16,6 +16,3 @@ pub use fault::{Fault, MakeFault, ReadFault, WriteFault};
 pub use reading::read;
 pub use recording::{MOST_STEPS, Recording};
 pub use writing::write;
-
-#[cfg(test)]
-mod tests;

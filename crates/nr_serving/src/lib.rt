@@ -10,6 +10,3 @@ pub use buffered::Buffered;
 pub use connection::{Connection, Connections, Next, Ports, Reader, Writer};
 pub use fronts::{Done, serve_each};
 pub use session::{Ended, Shape, Unshared, share};
-
-#[cfg(test)]
-mod tests;

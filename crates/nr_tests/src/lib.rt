@@ -2,14 +2,30 @@
 #![tactic(auto)]
 
 #[cfg(test)]
+mod command;
+#[cfg(test)]
+mod counting;
+#[cfg(test)]
 mod films;
 #[cfg(test)]
 mod front;
 #[cfg(test)]
 mod lines;
 #[cfg(test)]
+mod marks;
+#[cfg(test)]
+mod plain;
+#[cfg(test)]
+mod recording;
+#[cfg(test)]
+mod serving;
+#[cfg(test)]
 mod sharing;
+#[cfg(test)]
+mod snaps;
 #[cfg(test)]
 mod stingy;
 #[cfg(test)]
 mod streams;
+#[cfg(test)]
+mod walker;

@@ -10,8 +10,3 @@ mod walker;
 
 pub use moved::Moved;
 pub use walker::{LEAST_DEPTH, MOST_DEPTH, Walker};
-
-#[cfg(test)]
-mod counting;
-#[cfg(test)]
-mod tests;

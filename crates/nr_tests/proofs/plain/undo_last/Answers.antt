@@ -3,7 +3,7 @@ use Rattle.nr_rev.proofs.Chains.{LeadsBack-last, LeadsBack-undone}
 use Rattle.nr_rev.specs.Transaction.{LeadsBack}
 use Rattle.nr_plain.specs.Delta.{PlainBack}
 use Rattle.nr_plain.specs.ReversibleLaws.{PlainBack-unique}
-use Rattle.nr_plain.proofs.tests.undo_last.Goals as goal
+use Rattle.nr_tests.proofs.plain.undo_last.Goals as goal
 
 pub undo-requires : goal.undo-requires
 undo-requires c =

@@ -1,43 +1,11 @@
 //! What a walk takes, by what is told and by what a world counts.
 
 use crate::counting::Counting;
-use crate::{Moved, Walker};
-use nr_recording::Recording;
-use nr_rev::{Cell, CellValue, Limits, Step, Worlds};
-use nr_snaps::{Film, Snaps};
-use std::alloc::Global;
+use crate::films::ticking;
+use nr_rev::{Cell, CellValue, Worlds};
+use nr_snaps::Film;
+use nr_walker::{Moved, Walker};
 use std::test::Fail;
-
-const LIMITS: Limits = Limits {
-    goroutines: 1,
-    sockets: 1,
-    descriptors: 1,
-    buffer: 1,
-};
-
-const OPEN: Step = Step::SockOpen {
-    read_capacity: 1,
-    write_capacity: 1,
-};
-
-const POLL: Step = Step::PollOpen {
-    goroutine: 0,
-    socket: 0,
-};
-
-/// Two steps, and 190 that set the clock to 1, 2 and so on: three times 64 steps.
-fn film(alloc: Global) -> Result<Film<Counting>, &'static str> {
-    let mut steps = Vec::with_capacity(alloc, 192).map_err(|_| "no memory for the steps")?;
-    steps.push(OPEN).map_err(|_| "no memory for a step")?;
-    steps.push(POLL).map_err(|_| "no memory for a step")?;
-    for time in 1..191 {
-        steps
-            .push(Step::Tick { time })
-            .map_err(|_| "no memory for a step")?;
-    }
-    let recording = Recording::new(LIMITS, steps).map_err(|_| "no recording")?;
-    Snaps::load(alloc, recording, 64).map_err(|_| "no film")
-}
 
 /// How many copies were made of the film's worlds.
 fn copies(film: &Film<Counting>) -> u32 {
@@ -72,7 +40,7 @@ fn go(walker: &mut Walker<Counting>, n: usize) -> Result<(Moved, Moved, usize), 
 
 #[test]
 fn a_walk_takes_what_it_tells(rt: HostRuntime) -> Result<(), Fail> {
-    let film = film(rt.alloc())?;
+    let film = ticking(rt.alloc(), 192)?;
     let mut walker = Walker::new(rt.alloc(), &film, 32).map_err(|_| "no memory")?;
     for (n, applies, undos, copies, kept) in [
         (40, 40, 0, 0, 32),
@@ -92,6 +60,6 @@ fn a_walk_takes_what_it_tells(rt: HostRuntime) -> Result<(), Fail> {
         let (told, counted, left) = go(&mut walker, n)?;
         assert!(rt; told == moved && counted == moved && left == kept);
     }
-    assert_eq!(rt; walker.world().cell(Cell::Clock), CellValue::Time(189));
+    assert_eq!(rt; walker.world().cell(Cell::Clock), CellValue::Time(191));
     Ok(())
 }

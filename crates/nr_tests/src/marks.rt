@@ -1,6 +1,6 @@
 //! Marks made, deleted and read, by the numbers that they get.
 
-use crate::{Break, Mark, MarkFault, Marks, NumberedMark};
+use nr_marks::{Break, Mark, MarkFault, Marks, NumberedMark};
 use nr_rev::{Cell, Kind};
 use std::num::NonZeroU32;
 use std::test::Fail;

@@ -1,6 +1,6 @@
 //! Texts that are read, refused and written.
 
-use crate::{Fault, MakeFault, ReadFault, Recording, WriteFault, read, write};
+use nr_recording::{Fault, MakeFault, ReadFault, Recording, WriteFault, read, write};
 use nr_rev::{Limits, Step};
 use std::io;
 use std::io::{ErrorKind, Write};

@@ -1,10 +1,10 @@
 //! Two fronts in threads of their own, one of which waits until the other was answered.
 
-use crate::{Connection, Connections, Ended, Next, Ports, Shape, share};
+use crate::films::ticking;
 use nr_plain::PlainWorld;
-use nr_recording::read;
 use nr_search::OneWorker;
-use nr_snaps::{Film, Snaps};
+use nr_serving::{Connection, Connections, Ended, Next, Ports, Shape, share};
+use nr_snaps::Film;
 use std::alloc::Global;
 use std::io;
 use std::io::ErrorKind;
@@ -13,13 +13,6 @@ use std::sync::atomic::AtomicBool;
 use std::sync::atomic::Ordering::SeqCst;
 use std::test::*;
 use std::thread::Threads;
-
-const TICKS: &str = r#"{"netrev":1,"gor":1,"sock":1,"desc":1,"buf":1}
-["tick",1]
-["tick",2]
-["tick",3]
-["tick",4]
-"#;
 
 /// Gives its line once, and where it waits, only once the other was written to.
 #[derive(Drop)]
@@ -128,8 +121,7 @@ fn share_between<R: Threads + Wait + Sync>(
     alloc: Global,
     first_waits: bool,
 ) -> Result<Ended, Fail> {
-    let recording = read(alloc, TICKS.as_bytes()).map_err(|_| "not read")?;
-    let film: Film<PlainWorld> = Snaps::load(alloc, recording, 64).map_err(|_| "not loaded")?;
+    let film: Film<PlainWorld> = ticking(alloc, 4)?;
     let (given, answered) = (AtomicBool::new(false), AtomicBool::new(false));
     let (more, told) = (AtomicBool::new(false), AtomicBool::new(false));
     let mut wires = Wires {

@@ -1,9 +1,9 @@
 //! Lines, words and texts by worked examples.
 
-use crate::{
+use arrayvec::ArrayVec;
+use nr_command::{
     Checkpoint, CheckpointFault, Checkpoints, Command, Line, LineFault, Query, Reply, Sink,
 };
-use arrayvec::ArrayVec;
 use nr_marks::{Break, Mark, NumberedMark};
 use nr_rev::{Cell, Kind};
 use nr_search::Direction;
