@@ -226,6 +226,7 @@ fn referred(alloc: Global, count: u32) -> Result<(CellValue, Result<Answer, Refu
     Ok((world.cell(Cell::Lock(0)), world.advance(&INCREF)))
 }
 
+/// Takes a second where it is proved, and two minutes of `rt try --test`, which wants `--seconds 300` for it.
 #[test]
 fn a_lock_word_is_full_where_it_is_in_go(rt: HostRuntime) {
     assert_eq!(rt;
