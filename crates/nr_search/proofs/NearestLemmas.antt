@@ -1,6 +1,6 @@
 -- The nearest hit of more and more positions.
 use Rattle.std.proofs.Common.{◌≡◌, ◌⊎◌, inl, inr, ℕ, zero, suc, ◌+◌, ◌<◌, ◌≤◌, Bool, true, false, cond, refl, sym, ap, ◌∙◌, subst, arith}
-use Rattle.nr_search.specs.Nearest.{IsNearest, NoneHits, IsFound, first_of, last_below}
+use Rattle.nr_search.specs.Nearest.{NoneHits, IsFound, first_of, last_below}
 use Rattle.nr_search.specs.Search.{found_after, is_hit, is_settled}
 use Rattle.nr_search.specs.declared.direction.Direction.{Direction}
 use Rattle.nr_search.specs.declared.direction.Direction.TheVariants.{Forward, Backward}

@@ -52,8 +52,8 @@ impl<'a, W: Worlds + Drop> Search<'a, W> {
         }
     }
 
-    /// The nearest hit of a segment. The world at hand is led on to it, where that is less work than a copy; afterwards
-    /// the world at hand stands at its end, if the search came there.
+    /// The nearest hit of a segment. The world at hand is led through it, where it stands at its beginning, and else a
+    /// copy; afterwards the world at hand stands at its end, if the search came there.
     pub fn search_segment(
         &self,
         s: usize,

@@ -103,8 +103,7 @@ impl<W: Worlds + Drop> Standing<W> {
     }
 }
 
-/// The world at position n: the one at hand, where it stands no farther below than two copies of the film do; else a copy
-/// of the film's copy below, led on.
+/// The world at position n: the one at hand, where it stands there; else a copy of the film's copy below, led on.
 pub(crate) fn world_at<W: Worlds + Drop>(
     film: &Film<W>,
     held: Option<Standing<W>>,
@@ -115,9 +114,7 @@ pub(crate) fn world_at<W: Worlds + Drop>(
     ensures { IfOk result (λ world. IsFrame W.is_well_formed W.world W.steps film.now n world) }
 {
     match held {
-        Some(held) if held.position <= n && n - held.position <= film.every() => {
-            Ok(held.lead_to(film, n))
-        }
+        Some(held) if held.position == n => Ok(held.world),
         _ => copy_at(film, n),
     }
 }

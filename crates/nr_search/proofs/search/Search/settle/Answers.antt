@@ -1,4 +1,4 @@
-use Rattle.std.proofs.Common.{ℕ, sym, ◌∙◌, subst, arith}
+use Rattle.std.proofs.Common.{sym, ◌∙◌, subst, arith}
 use Rattle.nr_marks.specs.Hit.{is_hit_at}
 use Rattle.nr_search.specs.Known.{Agrees, IsFoundIn, slot_of}
 use Rattle.nr_search.specs.Segments.{nth_segment}

@@ -1,4 +1,4 @@
-use Rattle.std.proofs.Common.{◌<◌, max, min, ◌+◌, ◌*◌, sym, subst, arith}
+use Rattle.std.proofs.Common.{arith}
 use Rattle.nr_search.proofs.SegmentLemmas.{some-between}
 use Rattle.nr_search.proofs.segments.Span.stretch.Goals as goal
 
