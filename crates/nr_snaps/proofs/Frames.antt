@@ -1,6 +1,5 @@
 -- A replay has one state at each position, and its steps apply.
-use Rattle.std.proofs.Common.{◌≡◌, ℕ, zero, suc, ◌+◌, ◌<◌, ◌≤◌, List, length, Ok, Some, refl, sym, ap, ◌∙◌, subst, arith, add-one}
-use Rattle.std.specs.List.{slice_get}
+use Rattle.std.proofs.Common.{◌≡◌, ℕ, zero, suc, ◌+◌, Ok, Some, refl, sym, ap, ◌∙◌, subst, arith, add-one}
 use Rattle.std.specs.Prelude.{IsOk}
 use Rattle.nr_rev.specs.Run.{Recording, world_at, AppliesAt, Stands}
 use Rattle.nr_rev.specs.Step.{outcome}

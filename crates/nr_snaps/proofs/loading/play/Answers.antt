@@ -1,4 +1,4 @@
-use Rattle.std.proofs.Common.{◌≡◌, ℕ, ◌+◌, ◌-◌, sym, subst, arith}
+use Rattle.std.proofs.Common.{◌≡◌, ◌+◌, ◌-◌, sym, subst, arith}
 use Rattle.nr_rev.specs.Run.{IsRefusedAt, Stands}
 use Rattle.nr_rev.proofs.Runs.{IsGoodTo-prefix}
 use Rattle.nr_snaps.specs.Replay.{LeadsOn, Replays}

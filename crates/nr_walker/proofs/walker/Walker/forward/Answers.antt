@@ -1,4 +1,4 @@
-use Rattle.std.proofs.Common.{◌≡◌, ◌<◌, length, sym, subst}
+use Rattle.std.proofs.Common.{◌<◌, length, sym, subst}
 use Rattle.nr_walker.proofs.Ways.{IsWay-forward}
 use Rattle.nr_walker.proofs.walker.Walker.forward.Goals as goal
 
