@@ -4,8 +4,6 @@
 #[cfg(test)]
 mod command;
 #[cfg(test)]
-mod counting;
-#[cfg(test)]
 mod films;
 #[cfg(test)]
 mod front;
@@ -13,6 +11,8 @@ mod front;
 mod lines;
 #[cfg(test)]
 mod marks;
+#[cfg(test)]
+mod observed;
 #[cfg(test)]
 mod plain;
 #[cfg(test)]
@@ -23,8 +23,6 @@ mod serving;
 mod sharing;
 #[cfg(test)]
 mod snaps;
-#[cfg(test)]
-mod stingy;
 #[cfg(test)]
 mod streams;
 #[cfg(test)]

@@ -3,8 +3,8 @@
 ghost use Rattle.std.specs.Prelude.{◌≡◌, ◌≤◌};
 
 use crate::films::ticking;
+use crate::observed::Observed;
 use crate::sharing::{Lone, share};
-use crate::stingy::Stingy;
 use crate::streams::{Cup, Drip, Stutter};
 use nr_command::Sink;
 use nr_journal::Journal;
@@ -14,7 +14,7 @@ use std::sync::Wait;
 use std::test::*;
 use std::thread::Threads;
 
-type Ticking<'f, R> = Lone<'f, Stingy, R>;
+type Ticking<'f, R> = Lone<'f, Observed, R>;
 
 /// What a front is sent, and how far that goes.
 #[derive(Clone, Copy)]
@@ -95,7 +95,7 @@ fn play<R: Wait + Threads + Sync>(
 ) -> Result<(Served, Served, usize), &'static str>
     requires { (1 ≤ words) × (words ≤ 1000000) }
 {
-    let film = ticking::<Stingy>(alloc, 9)?;
+    let film = ticking::<Observed>(alloc, 9)?;
     let (journal, mut one, mut other, _) = share(rt, alloc, words, &film)?;
     film.snap_below(0).refuse(first.refused);
     let before = serve_script(rt, alloc, first, &mut one, &journal);

@@ -1,9 +1,8 @@
 //! Texts that are read, refused and written.
 
+use crate::streams::{Cup, Stutter};
 use nr_recording::{Fault, MakeFault, ReadFault, Recording, WriteFault, read, write};
 use nr_rev::{Limits, Step};
-use std::io;
-use std::io::{ErrorKind, Write};
 use std::test::Fail;
 
 const HEADER: &str = "{\"netrev\":1,\"gor\":4,\"sock\":2,\"desc\":2,\"buf\":16}\n";
@@ -61,37 +60,6 @@ fn written(rt: &HostRuntime, recording: &Recording) -> Result<Vec<u8>, Fail> {
     let mut out = Vec::new(rt.alloc());
     write(rt.alloc(), recording, &mut out)?;
     Ok(out)
-}
-
-/// Takes one byte at every second call, is interrupted at the others, and fails once it holds `room` bytes.
-#[derive(Drop)]
-struct Cup {
-    held: Vec<u8>,
-    room: usize,
-    interrupted: bool,
-}
-
-impl Write for Cup {
-    fn write(&mut self, buf: &[u8]) -> io::Result<usize> {
-        self.interrupted = !self.interrupted;
-        if self.interrupted {
-            return Err(ErrorKind::Interrupted.into());
-        }
-        if self.held.len() >= self.room {
-            return Err(ErrorKind::Other.into());
-        }
-        match buf.split_first() {
-            Some((first, _)) => {
-                self.held.push(*first)?;
-                Ok(1)
-            }
-            None => Ok(0),
-        }
-    }
-
-    fn flush(&mut self) -> io::Result<()> {
-        Ok(())
-    }
 }
 
 #[test]
@@ -300,18 +268,17 @@ fn tells_a_failed_write(rt: HostRuntime) -> Result<(), Fail> {
     let recording = read(rt.alloc(), text.as_bytes())?;
     for room in 0..text.len() + 1 {
         let beginning = text.as_bytes().get(..room).ok_or("a beginning")?;
-        let mut cup = Cup {
+        let mut cup = Stutter::new(Cup {
             held: Vec::new(rt.alloc()),
             room,
-            interrupted: false,
-        };
+        });
         let told = if room < text.len() {
             Err(WriteFault::Device)
         } else {
             Ok(())
         };
         assert_eq!(rt; write(rt.alloc(), &recording, &mut cup), told);
-        assert_eq!(rt; cup.held.as_slice(), beginning);
+        assert_eq!(rt; cup.stream.held.as_slice(), beginning);
     }
     Ok(())
 }

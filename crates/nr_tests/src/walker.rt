@@ -1,14 +1,14 @@
 //! What a walk takes, by what is told and by what a world counts.
 
-use crate::counting::Counting;
 use crate::films::ticking;
+use crate::observed::Observed;
 use nr_rev::{Cell, CellValue, Worlds};
 use nr_snaps::Film;
 use nr_walker::{Moved, Walker};
 use std::test::Fail;
 
 /// How many copies were made of the film's worlds.
-fn copies(film: &Film<Counting>) -> u32 {
+fn copies(film: &Film<Observed>) -> u32 {
     let mut copies: u32 = 0;
     for position in [0, 64, 128, 192] {
         if position <= film.len() {
@@ -20,7 +20,7 @@ fn copies(film: &Film<Counting>) -> u32 {
 
 /// Goes to a position that the film has: what it took, as it is told and as the worlds counted it, and how many deltas
 /// are kept.
-fn go(walker: &mut Walker<Counting>, n: usize) -> Result<(Moved, Moved, usize), &'static str> {
+fn go(walker: &mut Walker<Observed>, n: usize) -> Result<(Moved, Moved, usize), &'static str> {
     if n > walker.film().len() {
         return Err("no such position");
     }

@@ -1,4 +1,4 @@
-//! A world that counts what is done to it, for the tests.
+//! A world that counts what is done to it, and is refused memory as it is told, for the tests.
 
 ghost use Rattle.std.specs.Prelude.{◌≡◌};
 
@@ -10,34 +10,38 @@ use std::alloc::Global;
 use std::marker::Model;
 use std::sync::atomic::{AtomicU32, Ordering};
 
-/// A world over lists that counts the calls that it gets. The counts are no part of what it means.
+/// A world over lists that counts the calls that it gets, and whose copies may be refused memory. None of that is part of
+/// what it means.
 #[derive(Drop)]
-pub(crate) struct Counting {
+pub(crate) struct Observed {
     world: PlainWorld,
     // calls of `apply` and of `undo` since it was made
     applies: u32,
     undos: u32,
-    // calls of `try_copy`
+    // how often it was copied
     copies: AtomicU32,
+    // bit by bit from the lowest: whether the next copy is refused, and the one behind it, and so on
+    refusals: AtomicU32,
 }
 
-impl Model for Counting {
+impl Model for Observed {
     ghost use Rattle.nr_rev.specs.World.{World};
 
     ghost Value = { World };
 
-    ghost view = { λ c. c.world };
+    ghost view = { λ o. o.world };
 }
 
-impl Counting {
-    fn around(world: PlainWorld) -> Counting
+impl Observed {
+    fn around(world: PlainWorld) -> Observed
         ensures { result ≡ world }
     {
-        Counting {
+        Observed {
             world,
             applies: 0,
             undos: 0,
             copies: AtomicU32::new(0),
+            refusals: AtomicU32::new(0),
         }
     }
 
@@ -48,11 +52,16 @@ impl Counting {
 
     /// How often it was copied.
     pub(crate) fn copies(&self) -> u32 {
-        self.copies.load(Ordering::Relaxed)
+        self.copies.load(Ordering::SeqCst)
+    }
+
+    /// Of the copies to come those are refused whose bits are set, from the lowest on.
+    pub(crate) fn refuse(&self, refusals: u32) {
+        self.refusals.store(refusals, Ordering::SeqCst);
     }
 }
 
-impl Reversible for Counting {
+impl Reversible for Observed {
     ghost use Rattle.nr_rev.specs.Step.{StepTo};
     ghost use Rattle.nr_rev.specs.WellFormed.{WellFormed};
     ghost use Rattle.nr_rev.specs.Worlds.{LosesBytes, bytes_left};
@@ -107,18 +116,23 @@ impl Reversible for Counting {
     ghost allowance_is_within = { words_are_within };
 }
 
-impl Worlds for Counting {
+impl Worlds for Observed {
     ghost use Rattle.nr_plain.specs.Worlds.{meant, steps_are, reasons_are, memory_is_for_bytes, bytes_out_are, means_well_formed};
 
     ghost world = { meant };
 
     fn fresh(alloc: Global, limits: Limits) -> Result<Self, Refusal> {
-        Ok(Counting::around(PlainWorld::fresh(alloc, limits)?))
+        Ok(Observed::around(PlainWorld::fresh(alloc, limits)?))
     }
 
     fn try_copy(&self) -> Result<Self, Refusal> {
-        self.copies.fetch_add(1, Ordering::Relaxed);
-        Ok(Counting::around(self.world.try_copy()?))
+        let refusals = self.refusals.load(Ordering::SeqCst);
+        self.refusals.store(refusals / 2, Ordering::SeqCst);
+        if refusals % 2 == 1 {
+            return Err(Refusal::Memory);
+        }
+        self.copies.fetch_add(1, Ordering::SeqCst);
+        Ok(Observed::around(self.world.try_copy()?))
     }
 
     fn advance(&mut self, step: &Step) -> Result<Answer, Refusal> {
