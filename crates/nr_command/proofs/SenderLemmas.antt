@@ -4,7 +4,7 @@ use Rattle.std.proofs.lemmas.List.{take-append-le}
 use Rattle.std.proofs.lemmas.Grind.{flat_map-append}
 use Rattle.std.proofs.Math.Seq.{take-append-add}
 use Rattle.std.specs.Io.KnownBytes.{Appends}
-use Rattle.nr_command.specs.Sink.{Outgoing}
+use Rattle.nr_recording.specs.Sink.{Outgoing}
 use Rattle.nr_command.specs.declared.sender.Part.{Part}
 use Rattle.nr_command.specs.Sender.{saturating_count, text_of_parts, Goes, GoesOut}
 use Rattle.nr_command.proofs.StreamLemmas.{Appends-then}

@@ -4,7 +4,7 @@ pub mod Count
 pub mod Listing
 pub mod Reply
 pub mod Sender
-pub mod Sink
+pub use Rattle.nr_recording.specs.Sink
 pub mod Value
 pub mod Word
 pub mod Debugger

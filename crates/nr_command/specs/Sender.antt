@@ -2,7 +2,7 @@
 use Rattle.std.specs.Prelude.{◌≡◌, ℕ, ◌-◌, ◌/◌, ◌%◌, ◌^◌, ◌<◌, min, List, [], ◌∷◌, ◌++◌, length, take, flat_map, slice_index, true, Result, Ok, Err, codes, decimal}
 use Rattle.std.specs.Fmt.{signed_decimal}
 use Rattle.std.specs.Io.KnownBytes.{Appends}
-use Rattle.nr_command.specs.Sink.{Outgoing}
+use Rattle.nr_recording.specs.Sink.{Outgoing}
 use Rattle.nr_command.specs.declared.sender.Part.{Part}
 use Rattle.nr_command.specs.declared.sender.Token.{Token}
 use Rattle.nr_command.specs.declared.sender.Token.TheVariants as tokens

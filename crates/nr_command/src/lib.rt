@@ -11,14 +11,13 @@ mod looking;
 mod parsing;
 mod reply;
 mod sender;
-mod sink;
 mod value;
 mod word;
 
 pub use checkpoint::{Checkpoint, CheckpointFault, Checkpoints, MOST_CHECKPOINTS};
 pub use command::{Command, Line, LineFault, Query};
 pub use debugger::Debugger;
+pub use nr_recording::Sink;
 pub use parsing::{MAX_LINE, number};
 pub use reply::{Fault, Reply};
 pub use sender::{Part, Sent, Token, send, send_all};
-pub use sink::Sink;

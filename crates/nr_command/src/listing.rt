@@ -5,9 +5,9 @@ ghost use Rattle.nr_command.specs.Sender.{Goes};
 
 use crate::checkpoint::Checkpoint;
 use crate::sender::{Part, Sent, Token, send_all};
-use crate::sink::Sink;
 use crate::value::Piece;
 use nr_marks::{Break, Mark, NumberedMark};
+use nr_recording::Sink;
 use std::io::Write;
 
 /// A mark is a line: its number, and the command that makes such a mark.

@@ -3,8 +3,8 @@
 ghost use Rattle.std.specs.Prelude.{ℕ, List};
 ghost use Rattle.nr_command.specs.Sender.{Goes, hex_pair, next_number, text_of_parts, token_text};
 
-use crate::sink::Sink;
 use itoa::Buffer;
+use nr_recording::Sink;
 use std::io::Write;
 
 /// A write failed, or took nothing, when exactly so many bytes were out. The count stays at

@@ -6,7 +6,7 @@ ghost use Rattle.nr_command.specs.Sender.{Goes};
 ghost use Rattle.nr_command.specs.Value.{cell_text, piece_text, side_text, status_text, value_text, word_text};
 
 use crate::sender::{Part, Sent, Token, send, send_all};
-use crate::sink::Sink;
+use nr_recording::Sink;
 use nr_rev::{Cell, CellValue, Side, Status, Word};
 use std::io::Write;
 

@@ -8,4 +8,5 @@ pub mod Steps
 pub mod Header
 pub mod Reading
 pub mod Text
+pub mod Sink
 pub mod Writing

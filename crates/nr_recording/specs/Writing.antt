@@ -1,5 +1,5 @@
 -- The one text that is written of a recording.
-use Rattle.std.specs.Prelude.{ℕ, ◌<◌, List, [], ◌∷◌, ◌++◌, length, take, map, Option, codes}
+use Rattle.std.specs.Prelude.{ℕ, ◌<◌, List, [], ◌∷◌, ◌++◌, length, take, map, Option, Result, Err, Bool, true, false, codes}
 use Rattle.std.specs.List.{concat}
 use Rattle.std.specs.Io.KnownBytes.{Appends}
 use Rattle.serde_json.specs.Data.{Data, number, unsigned, object, no_members, member}
@@ -7,6 +7,8 @@ use Rattle.serde_json.specs.Written.{compact_text}
 use Rattle.nr_rev.specs.declared.limits.Limits.{Limits}
 use Rattle.nr_rev.specs.declared.step.Step.{Step}
 use Rattle.nr_rev.specs.Run.{Recording}
+use Rattle.nr_recording.specs.declared.fault.WriteFault.{WriteFault}
+use Rattle.nr_recording.specs.declared.fault.WriteFault.TheVariants as faults
 use Rattle.nr_recording.specs.declared.version.Version.TheVariants.{One}
 use Rattle.nr_recording.specs.Spelling.{AreInTypes, line_data}
 use Rattle.nr_recording.specs.Steps.{spelling_of}
@@ -47,3 +49,8 @@ AppendsPart old new bytes = (n : ℕ) × (n < length bytes) × Appends old new (
 -- just some first lines, whole, and not all
 abbrev pub AppendsLines : Option (List ℕ) → Option (List ℕ) → List (List ℕ) → Type 0
 AppendsLines old new texts = (n : ℕ) × (n < length texts) × Appends old new (concat (take n texts))
+
+-- a write is told to have failed
+abbrev pub tells_device : {A : Type 0} → Result A WriteFault → Bool
+tells_device (Err faults.Device) = true
+tells_device _ = false

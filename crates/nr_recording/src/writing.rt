@@ -1,21 +1,22 @@
 //! Writing a recording, a line for the header and one for each step.
 
-ghost use Rattle.std.specs.Prelude.{◌≡◌, IfOk, IfErr, OnOk, false};
+ghost use Rattle.std.specs.Prelude.{◌≡◌, ◌||◌, IfOk, IfErr, OnOk, false};
 ghost use Rattle.std.specs.Io.KnownBytes.{Appends};
 ghost use Rattle.serde_json.specs.View.{view};
 ghost use Rattle.serde_json.specs.Written.{has_float};
 ghost use Rattle.nr_recording.specs.Reading.{reading};
 ghost use Rattle.nr_recording.specs.Text.{IsTextOf};
-ghost use Rattle.nr_recording.specs.Writing.{limits_data, line_text, line_texts, text, AppendsPart, AppendsLines};
+ghost use Rattle.nr_recording.specs.Writing.{limits_data, line_text, line_texts, text, tells_device, AppendsPart, AppendsLines};
 
 use crate::fault::WriteFault;
 use crate::recording::Recording;
+use crate::sink::Sink;
 use crate::steps::step_value;
 use crate::version::Version;
 use nr_rev::Limits;
 use serde_json::{Value, json};
 use std::alloc::{AllocError, Global};
-use std::io::{ErrorKind, Write};
+use std::io::Write;
 
 fn limits_value(alloc: Global, limits: Limits) -> Result<Value, AllocError>
     ensures { IfOk result (λ v. view v ≡ limits_data limits) }
@@ -30,25 +31,18 @@ fn limits_value(alloc: Global, limits: Limits) -> Result<Value, AllocError>
 }
 
 /// Writes the bytes. Where that fails, just a first part of them went out, and not all.
-fn send<W: Write>(bytes: &[u8], out: &mut W) -> Result<(), WriteFault>
-    ensures ok { OnOk result (Appends (W.contents out.old) (W.contents out.new) bytes.now) }
+fn send<W: Write>(bytes: &[u8], out: &mut Sink<W>) -> Result<(), WriteFault>
+    ensures ok { OnOk result (Appends out.old.contents out.new.contents bytes.now) }
     ensures device { IfErr result (λ e. (e ≡ WriteFault.Device)
-        × AppendsPart (W.contents out.old) (W.contents out.new) bytes.now) }
+        × AppendsPart out.old.contents out.new.contents bytes.now) }
+    ensures failed { out.new.failed ≡ (out.old.failed || tells_device result) }
 {
     let mut sent = 0;
-    for _ in 0..u64::MAX {
-        if sent == bytes.len() {
-            break;
-        }
+    while sent < bytes.len() {
         match out.write(&bytes[sent..]) {
-            Ok(0) => return Err(WriteFault::Device),
-            Ok(count) => sent += count,
-            Err(e) if e.kind() == ErrorKind::Interrupted => {}
-            Err(_) => return Err(WriteFault::Device),
+            Ok(count) if count > 0 => sent += count,
+            _ => return Err(WriteFault::Device),
         }
-    }
-    if sent < bytes.len() {
-        return Err(WriteFault::Device);
     }
     Ok(())
 }
@@ -63,23 +57,29 @@ fn line_bytes(alloc: Global, value: &Value) -> Result<Vec<u8>, AllocError>
     Ok(line)
 }
 
-fn write_line<W: Write>(alloc: Global, value: &Value, out: &mut W) -> Result<(), WriteFault>
+fn write_line<W: Write>(alloc: Global, value: &Value, out: &mut Sink<W>) -> Result<(), WriteFault>
     requires { has_float (view value.now) ≡ false }
     ensures ok { OnOk result
-        (Appends (W.contents out.old) (W.contents out.new) (line_text (view value.now))) }
+        (Appends out.old.contents out.new.contents (line_text (view value.now))) }
     ensures memory { result ≡ Err WriteFault.Memory → out.new ≡ out.old }
     ensures device { result ≡ Err WriteFault.Device
-        → AppendsPart (W.contents out.old) (W.contents out.new) (line_text (view value.now)) }
+        → AppendsPart out.old.contents out.new.contents (line_text (view value.now)) }
+    ensures failed { out.new.failed ≡ (out.old.failed || tells_device result) }
 {
     send(&line_bytes(alloc, value)?, out)
 }
 
 /// Writes the recording's text, in version 1: each value in compact form, keys in alphabetical
 /// order, hexadecimal in lower case, and a line feed after each line. What an error leaves written
-/// is told in `WriteFault`. A write that was interrupted is tried again.
-pub fn write<W: Write>(alloc: Global, recording: &Recording, out: &mut W) -> Result<(), WriteFault>
+/// is told in `WriteFault`. A write that was interrupted is tried again. That a write failed is told
+/// just where one did, or took nothing.
+pub fn write<W: Write>(
+    alloc: Global,
+    recording: &Recording,
+    out: &mut Sink<W>,
+) -> Result<(), WriteFault>
     ensures ok { OnOk result
-        (Appends (W.contents out.old) (W.contents out.new) (text recording.now)) }
+        (Appends out.old.contents out.new.contents (text recording.now)) }
 
     // What was written is read again as the recording.
     ensures again { OnOk result (IsTextOf (text recording.now) recording.now) }
@@ -87,11 +87,14 @@ pub fn write<W: Write>(alloc: Global, recording: &Recording, out: &mut W) -> Res
 
     // Only whole lines went out, and not all of them.
     ensures memory { result ≡ Err WriteFault.Memory → AppendsLines
-        (W.contents out.old) (W.contents out.new) (line_texts recording.now) }
+        out.old.contents out.new.contents (line_texts recording.now) }
 
     // Just a first part of the text went out, and not all of it.
     ensures device { result ≡ Err WriteFault.Device
-        → AppendsPart (W.contents out.old) (W.contents out.new) (text recording.now) }
+        → AppendsPart out.old.contents out.new.contents (text recording.now) }
+
+    // A write failed exactly where that is told.
+    ensures failed { out.new.failed ≡ (out.old.failed || tells_device result) }
 {
     write_line(alloc, &limits_value(alloc, recording.limits())?, out)?;
     for step in recording.steps() {

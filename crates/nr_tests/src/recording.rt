@@ -1,7 +1,7 @@
 //! Texts that are read, refused and written.
 
 use crate::streams::{Cup, Stutter};
-use nr_recording::{Fault, MakeFault, ReadFault, Recording, WriteFault, read, write};
+use nr_recording::{Fault, MakeFault, ReadFault, Recording, Sink, WriteFault, read, write};
 use nr_rev::{Limits, Step};
 use std::test::Fail;
 
@@ -57,9 +57,9 @@ fn expected(beginning: &[u8], next: Option<&u8>) -> Result<usize, ReadFault> {
 }
 
 fn written(rt: &HostRuntime, recording: &Recording) -> Result<Vec<u8>, Fail> {
-    let mut out = Vec::new(rt.alloc());
+    let mut out = Sink::new(Vec::new(rt.alloc()));
     write(rt.alloc(), recording, &mut out)?;
-    Ok(out)
+    Ok(out.into_inner())
 }
 
 #[test]
@@ -268,17 +268,18 @@ fn tells_a_failed_write(rt: HostRuntime) -> Result<(), Fail> {
     let recording = read(rt.alloc(), text.as_bytes())?;
     for room in 0..text.len() + 1 {
         let beginning = text.as_bytes().get(..room).ok_or("a beginning")?;
-        let mut cup = Stutter::new(Cup {
+        let mut out = Sink::new(Stutter::new(Cup {
             held: Vec::new(rt.alloc()),
             room,
-        });
+        }));
         let told = if room < text.len() {
             Err(WriteFault::Device)
         } else {
             Ok(())
         };
-        assert_eq!(rt; write(rt.alloc(), &recording, &mut cup), told);
-        assert_eq!(rt; cup.stream.held.as_slice(), beginning);
+        assert_eq!(rt; write(rt.alloc(), &recording, &mut out), told);
+        assert_eq!(rt; out.has_failed(), told.is_err());
+        assert_eq!(rt; out.into_inner().stream.held.as_slice(), beginning);
     }
     Ok(())
 }
@@ -287,7 +288,7 @@ fn tells_a_failed_write(rt: HostRuntime) -> Result<(), Fail> {
 fn tells_a_writer_that_is_full(rt: HostRuntime) -> Result<(), Fail> {
     let recording = read(rt.alloc(), WRITTEN_HEADER.as_bytes())?;
     let mut room = [0u8; 7];
-    let mut out = room.as_mut_slice();
+    let mut out = Sink::new(room.as_mut_slice());
     assert_eq!(rt;
         write(rt.alloc(), &recording, &mut out),
         Err(WriteFault::Device)
@@ -304,7 +305,7 @@ fn tells_refused_memory(rt: HostRuntime) {
     let mut has_memory = false;
     for _ in 0..2 {
         let mut room = [0u8; 600];
-        let mut rest = room.as_mut_slice();
+        let mut rest = Sink::new(room.as_mut_slice());
         let result = match read(rt.alloc(), text.as_bytes()) {
             Ok(recording) => write(rt.alloc(), &recording, &mut rest),
             Err(fault) => {
@@ -312,7 +313,7 @@ fn tells_refused_memory(rt: HostRuntime) {
                 Err(WriteFault::Memory)
             }
         };
-        let left = rest.len();
+        let left = rest.into_inner().len();
         let count = room.len().saturating_sub(left);
         let out = room.get(..count).unwrap_or(&[]);
         match result {

@@ -1,10 +1,14 @@
--- what is out so far
-use Rattle.std.proofs.Common.{◌≤◌, length, take}
+-- what is out so far, with no failure
+use Rattle.std.proofs.Common.{◌≡◌, ◌≤◌, ◌-◌, length, take}
 use Rattle.std.specs.Io.KnownBytes.{Appends}
 use Rattle.nr_recording.proofs.writing.send.Given as goal
 
-abbrev pub invariant-loop : goal.invariant-loop
-invariant-loop g l = record {
+abbrev pub invariant-loop-sent : goal.invariant-loop-sent
+invariant-loop-sent g l = record {
   within : l.sent ≤ length l.bytes;
-  so_far : Appends (g.W.Write.contents l.initial.out) (g.W.Write.contents l.out) (take l.sent l.bytes);
+  so_far : Appends l.initial.out.contents l.out.contents (take l.sent l.bytes);
+  calm : l.out.failed ≡ l.initial.out.failed;
 }
+
+abbrev pub decreases-loop-sent : goal.decreases-loop-sent
+decreases-loop-sent g l = length l.bytes - l.sent

@@ -18,6 +18,7 @@ loop-step-preserved g c =
     let line = rw c.in_ok-step_value.ensures.is at c.in_ok-write_line-2.ensures in
     record {
       so_far = one_more_line c.args.recording.now step c.loop-step.step-index _ _ _ here is c.loop-step.invariant.so_far line.ok;
+      calm = search rules;
       typed = All-more IsTyped steps c.loop-step.step-index step here c.loop-step.invariant.typed (rw (← is) c.in_ok-step_value.ensures.typed);
     }
 

@@ -3,7 +3,7 @@
 ghost use Rattle.std.specs.Prelude.{◌≡◌, ◌||◌, false};
 ghost use Rattle.std.specs.Io.{WritesAtMost};
 ghost use Rattle.std.specs.Io.KnownBytes.{WriteAppends};
-ghost use Rattle.nr_command.specs.Sink.{is_failure};
+ghost use Rattle.nr_recording.specs.Sink.{is_failure};
 
 use std::io::{ErrorKind, Write};
 use std::marker::Model;
@@ -17,7 +17,7 @@ pub struct Sink<W: Write> {
 }
 
 impl<W: Write> Model for Sink<W> {
-    ghost use Rattle.nr_command.specs.Sink.{Outgoing};
+    ghost use Rattle.nr_recording.specs.Sink.{Outgoing};
 
     ghost Value = { Outgoing };
 
@@ -26,7 +26,7 @@ impl<W: Write> Model for Sink<W> {
 
 /// A write failed.
 #[derive(Clone, Copy, Debug, PartialEq, Eq)]
-pub(crate) struct WriteFailed;
+pub struct WriteFailed;
 
 impl<W: Write> Sink<W> {
     /// The writer, of which no write has failed.
@@ -55,7 +55,7 @@ impl<W: Write> Sink<W> {
     }
 
     /// Writes some of the bytes, and says how many. A write that is interrupted is tried again, up to `u64::MAX` times.
-    pub(crate) fn write(&mut self, bytes: &[u8]) -> Result<usize, WriteFailed>
+    pub fn write(&mut self, bytes: &[u8]) -> Result<usize, WriteFailed>
         ensures bound { WritesAtMost result bytes.now }
         ensures bytes { WriteAppends self.old.contents self.new.contents result bytes.now }
         ensures failed { self.new.failed ≡ (self.old.failed || is_failure result bytes.now) }

@@ -1,5 +1,5 @@
 use Rattle.std.proofs.Common.{rules}
-use Rattle.nr_command.proofs.sink.Sink.write.Goals as goal
+use Rattle.nr_recording.proofs.sink.Sink.write.Goals as goal
 
 pub returns-clause-failed : goal.returns-clause-failed
 returns-clause-failed g c = search rules
