@@ -1,4 +1,4 @@
-use Rattle.std.proofs.Common.{◌≤◌, sym, subst, arith}
+use Rattle.std.proofs.Common.{◌≤◌, sym, subst, arith, rules}
 use Rattle.std.specs.List.{All}
 use Rattle.std.proofs.lemmas.List.Elements.{All-push}
 use Rattle.nr_serving.specs.Session.{IsFresh}
@@ -16,3 +16,6 @@ loop-number-preserved g c =
       within = omega (arith, c.loop-number-test.true);
       room = subst (λ n. c.args.shape.fronts ≤ n) (sym c.push_reserved.ensures.capacity) i.room;
     }
+
+pub loop-number-init : goal.loop-number-init
+loop-number-init g c = search rules

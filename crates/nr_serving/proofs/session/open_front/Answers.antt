@@ -1,0 +1,5 @@
+use Rattle.std.proofs.Common.{rules}
+use Rattle.nr_serving.proofs.session.open_front.Goals as goal
+
+pub returns-in-Ok-new-clause-fresh : goal.returns-in-Ok-new-clause-fresh
+returns-in-Ok-new-clause-fresh g c = search rules
