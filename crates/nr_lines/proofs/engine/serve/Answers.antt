@@ -96,3 +96,6 @@ loop-byte-preserved g c =
             stands = rw (sym same) (line_more _ _ _ _ _ _ _ _ _ _ _ _ _ _ _ st (eq-eqb _ _ w.if-byte-ne10.false) (sym w.in_ok-quits.ensures.quits ∙ w.if-quits.false) w.in_ok-quits.ensures.ok w.clear.ensures);
           })
     ]
+
+pub returns-in_default-clause-serves : goal.returns-in_default-clause-serves
+returns-in_default-clause-serves g c = search rules
