@@ -1,5 +1,5 @@
 -- What the programs read and write, and how they end.
-use Rattle.std.specs.Prelude.{◌≡◌, ◌⊎◌, ℕ, true, List, ◌++◌, length, Result, Ok, Err, codes, decimal}
+use Rattle.std.specs.Prelude.{◌≡◌, ◌⊎◌, ℕ, List, ◌++◌, length, Result, Ok, Err, codes, decimal}
 use Rattle.atomic_table.specs.Seated.{TableId}
 use Rattle.nr_rev.specs.Run.{Recording}
 use Rattle.nr_command.specs.Sender.{GoesInPart, GoesOut}

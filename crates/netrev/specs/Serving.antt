@@ -1,5 +1,5 @@
 -- What a session does that several people share.
-use Rattle.std.specs.Prelude.{◌≡◌, ◌⊎◌, ℕ, Bool, true, false, List, ◌++◌, length, codes, decimal, if◌then◌else◌}
+use Rattle.std.specs.Prelude.{◌⊎◌, ℕ, Bool, List, ◌++◌, length, codes, decimal, if◌then◌else◌}
 use Rattle.nr_rev.specs.Run.{Recording}
 use Rattle.nr_command.specs.Sink.{Outgoing}
 use Rattle.nr_serving.specs.Session.{IsShared}

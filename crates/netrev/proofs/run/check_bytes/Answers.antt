@@ -1,4 +1,4 @@
-use Rattle.std.proofs.Common.{◌≡◌, inl, inr, subst}
+use Rattle.std.proofs.Common.{◌≡◌, inl, inr, subst, rules}
 use Rattle.netrev.specs.Opening.{fault_line}
 use Rattle.netrev.specs.Run.{Prints, ok_line}
 use Rattle.netrev.specs.declared.run.ExitStatus.TheVariants as statuses
@@ -14,3 +14,6 @@ pub returns-in-Err-clause-good : goal.returns-in-Err-clause-good
 returns-in-Err-clause-good g c = λ r text good.
     let memory = only_memory c.args.bytes.now c.in-Err.fault r c.in-Err.ensures.fault text good in
     inr (subst (λ fault. Prints (fault_line fault) statuses.Refused c.args.output.now c.refuse.new.output c.refuse.result) memory c.refuse.ensures)
+
+pub returns-in-Err-clause-checks : goal.returns-in-Err-clause-checks
+returns-in-Err-clause-checks g c = search rules
