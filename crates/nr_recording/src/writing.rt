@@ -71,8 +71,8 @@ fn write_line<W: Write>(alloc: Global, value: &Value, out: &mut Sink<W>) -> Resu
 
 /// Writes the recording's text, in version 1: each value in compact form, keys in alphabetical
 /// order, hexadecimal in lower case, and a line feed after each line. What an error leaves written
-/// is told in `WriteFault`. A write that was interrupted is tried again. That a write failed is told
-/// just where one did, or took nothing.
+/// is told in `WriteFault`. A write that was interrupted is tried again. On a sink on which no write
+/// had failed before, that one failed is told just where one did, or took nothing.
 pub fn write<W: Write>(
     alloc: Global,
     recording: &Recording,
@@ -93,7 +93,7 @@ pub fn write<W: Write>(
     ensures device { result ≡ Err WriteFault.Device
         → AppendsPart out.old.contents out.new.contents (text recording.now) }
 
-    // A write failed exactly where that is told.
+    // Where no write had failed before, one failed exactly where that is told.
     ensures failed { out.new.failed ≡ (out.old.failed || tells_device result) }
 {
     write_line(alloc, &limits_value(alloc, recording.limits())?, out)?;
