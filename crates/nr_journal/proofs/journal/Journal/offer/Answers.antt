@@ -1,4 +1,4 @@
-use Rattle.std.proofs.Common.{◌≡◌, sym, ap, ◌∙◌, arith}
+use Rattle.std.proofs.Common.{◌≡◌, sym, ap, ◌∙◌, arith, rules}
 use Rattle.nr_journal.specs.Pass.{Entered}
 use Rattle.nr_journal.proofs.OfferLemmas.{offers}
 use Rattle.nr_journal.proofs.journal.Journal.offer.Goals as goal
@@ -13,3 +13,9 @@ compare_exchange-found-requires c =
       offers _ _ _ _ _ _ _ p.0 (omega (arith, p.1)) (omega (arith, p.1, j.0, c.if-pass-self.false)) c.requires.word.0
           (c.requires.word.1 ∙ ap (λ (f : Entered). f.stand.tag) (sym c.pass.view_is)),
     )
+
+pub returns-clause-offered : goal.returns-clause-offered
+returns-clause-offered c = search rules
+
+pub returns-then-pass-self-clause-offered : goal.returns-then-pass-self-clause-offered
+returns-then-pass-self-clause-offered c = search rules

@@ -25,3 +25,6 @@ returns-clause-list g c =
     filter-from_retain _ _ _ (λ x b f' y called. search rules) _ _ c.retain.ensures.filtered in
     subst (λ (table : Table _). record { standing = c.retain.new.self.items; made = made } ≡ without_item c.args.number table) c.self.view_is
     (ap (λ items. record { standing = items; made = made }) others)
+
+pub returns-then-is_none-clause-stood : goal.returns-then-is_none-clause-stood
+returns-then-is_none-clause-stood g c = search rules
