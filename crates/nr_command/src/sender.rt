@@ -4,7 +4,7 @@ ghost use Rattle.std.specs.Prelude.{ℕ, List};
 ghost use Rattle.nr_command.specs.Sender.{Goes, hex_pair, next_number, text_of_parts, token_text};
 
 use itoa::Buffer;
-use nr_recording::Sink;
+use nr_recording::{CutShort, Sink};
 use std::io::Write;
 
 /// A write failed, or took nothing, when exactly so many bytes were out. The count stays at
@@ -99,12 +99,8 @@ pub fn send_all<P: Sent, W: Write>(parts: &[P], w: &mut Sink<W>) -> Result<u64, 
 pub fn send<W: Write>(bytes: &[u8], w: &mut Sink<W>) -> Result<u64, Part>
     ensures { Goes w.old w.new bytes.now result }
 {
-    let mut sent = 0;
-    while sent < bytes.len() {
-        match w.write(&bytes[sent..]) {
-            Ok(count) if count > 0 => sent += count,
-            _ => return Err(Part(sent as u64)),
-        }
+    match w.send(bytes) {
+        Ok(()) => Ok(bytes.len() as u64),
+        Err(CutShort(sent)) => Err(Part(sent as u64)),
     }
-    Ok(sent as u64)
 }

@@ -2,9 +2,10 @@
 
 ghost use Rattle.std.specs.Prelude.{◌≡◌, Some};
 ghost use Rattle.nr_recording.specs.declared.fault.LineError.TheVariants.{Memory, Fault as AFault};
-ghost use Rattle.nr_recording.specs.declared.fault.WriteFault.TheVariants.{Memory as NoMemory};
+ghost use Rattle.nr_recording.specs.declared.fault.WriteFault.TheVariants.{Memory as NoMemory, Device as DeviceFailed};
 ghost use Rattle.nr_recording.specs.Faults.{fault_text, read_fault_text, make_fault_text, write_fault_text, of_hex, of_json};
 
+use crate::sink::CutShort;
 use hex::FromHexError;
 use serde_json::Category;
 use std::alloc::{AllocError, AllocFailed};
@@ -189,5 +190,13 @@ impl From<AllocError> for WriteFault {
 
     fn from(_e: AllocError) -> WriteFault {
         WriteFault::Memory
+    }
+}
+
+impl From<CutShort> for WriteFault {
+    ghost from_gives = { λ _ e. e ≡ DeviceFailed };
+
+    fn from(_e: CutShort) -> WriteFault {
+        WriteFault::Device
     }
 }

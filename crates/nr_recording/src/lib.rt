@@ -16,5 +16,5 @@ mod writing;
 pub use fault::{Fault, MakeFault, ReadFault, WriteFault};
 pub use reading::read;
 pub use recording::{MOST_STEPS, Recording};
-pub use sink::{Sink, WriteFailed};
+pub use sink::{CutShort, Sink, WriteFailed};
 pub use writing::write;

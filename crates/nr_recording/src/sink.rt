@@ -1,8 +1,8 @@
 //! A writer that remembers whether a write failed.
 
-ghost use Rattle.std.specs.Prelude.{◌≡◌, ◌||◌, false};
+ghost use Rattle.std.specs.Prelude.{◌≡◌, ◌<◌, ◌||◌, OnOk, IfErr, is_err, false, length, take};
 ghost use Rattle.std.specs.Io.{WritesAtMost};
-ghost use Rattle.std.specs.Io.KnownBytes.{WriteAppends};
+ghost use Rattle.std.specs.Io.KnownBytes.{Appends, WriteAppends};
 ghost use Rattle.nr_recording.specs.Sink.{is_failure};
 
 use std::io::{ErrorKind, Write};
@@ -27,6 +27,10 @@ impl<W: Write> Model for Sink<W> {
 /// A write failed.
 #[derive(Clone, Copy, Debug, PartialEq, Eq)]
 pub struct WriteFailed;
+
+/// A write failed, or took nothing, when exactly so many of the bytes were out.
+#[derive(Clone, Copy, Debug, PartialEq, Eq)]
+pub struct CutShort(pub usize);
 
 impl<W: Write> Sink<W> {
     /// The writer, of which no write has failed.
@@ -77,5 +81,22 @@ impl<W: Write> Sink<W> {
         }
         self.failed = true;
         Err(WriteFailed)
+    }
+
+    /// Writes the bytes, in as many writes as that takes. Where one fails, or takes nothing, the bytes before it are out.
+    pub fn send(&mut self, bytes: &[u8]) -> Result<(), CutShort>
+        ensures ok { OnOk result (Appends self.old.contents self.new.contents bytes.now) }
+        ensures cut { IfErr result (λ cut. (cut.0 < length bytes.now)
+            × Appends self.old.contents self.new.contents (take cut.0 bytes.now)) }
+        ensures failed { self.new.failed ≡ (self.old.failed || is_err result) }
+    {
+        let mut sent = 0;
+        while sent < bytes.len() {
+            match self.write(&bytes[sent..]) {
+                Ok(count) if count > 0 => sent += count,
+                _ => return Err(CutShort(sent)),
+            }
+        }
+        Ok(())
     }
 }

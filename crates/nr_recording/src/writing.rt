@@ -1,6 +1,6 @@
 //! Writing a recording, a line for the header and one for each step.
 
-ghost use Rattle.std.specs.Prelude.{◌≡◌, ◌||◌, IfOk, IfErr, OnOk, false};
+ghost use Rattle.std.specs.Prelude.{◌≡◌, ◌||◌, IfOk, OnOk, false};
 ghost use Rattle.std.specs.Io.KnownBytes.{Appends};
 ghost use Rattle.serde_json.specs.View.{view};
 ghost use Rattle.serde_json.specs.Written.{has_float};
@@ -30,23 +30,6 @@ fn limits_value(alloc: Global, limits: Limits) -> Result<Value, AllocError>
     })
 }
 
-/// Writes the bytes. Where that fails, just a first part of them went out, and not all.
-fn send<W: Write>(bytes: &[u8], out: &mut Sink<W>) -> Result<(), WriteFault>
-    ensures ok { OnOk result (Appends out.old.contents out.new.contents bytes.now) }
-    ensures device { IfErr result (λ e. (e ≡ WriteFault.Device)
-        × AppendsPart out.old.contents out.new.contents bytes.now) }
-    ensures failed { out.new.failed ≡ (out.old.failed || tells_device result) }
-{
-    let mut sent = 0;
-    while sent < bytes.len() {
-        match out.write(&bytes[sent..]) {
-            Ok(count) if count > 0 => sent += count,
-            _ => return Err(WriteFault::Device),
-        }
-    }
-    Ok(())
-}
-
 #[tactic(auto, unfolding(crate::specs::Writing::line_text))]
 fn line_bytes(alloc: Global, value: &Value) -> Result<Vec<u8>, AllocError>
     requires { has_float (view value.now) ≡ false }
@@ -66,7 +49,9 @@ fn write_line<W: Write>(alloc: Global, value: &Value, out: &mut Sink<W>) -> Resu
         → AppendsPart out.old.contents out.new.contents (line_text (view value.now)) }
     ensures failed { out.new.failed ≡ (out.old.failed || tells_device result) }
 {
-    send(&line_bytes(alloc, value)?, out)
+    let line = line_bytes(alloc, value)?;
+    out.send(&line)?;
+    Ok(())
 }
 
 /// Writes the recording's text, in version 1: each value in compact form, keys in alphabetical

@@ -3,14 +3,14 @@ use Rattle.std.proofs.Math.Seq.{take-add}
 use Rattle.std.proofs.lemmas.List.{take_rest}
 use Rattle.std.proofs.KnownBytes.{Appends-trans}
 use Rattle.std.specs.Io.KnownBytes.{Appends}
-use Rattle.nr_recording.proofs.writing.send.Goals as goal
+use Rattle.nr_recording.proofs.sink.Sink.send.Goals as goal
 
 pub loop-sent-preserved : goal.loop-sent-preserved
 loop-sent-preserved g c =
     let sent = c.loop-sent.sent in
     let count = c.in-Ok.count in
     let bytes = c.args.bytes.now in
-    let more = subst (λ rest. Appends c.loop-sent.out.contents c.write.new.self.contents (take count rest)) (take_rest bytes sent) c.in-Ok.ensures.bytes in
+    let more = subst (λ rest. Appends c.loop-sent.self.contents c.write.new.self.contents (take count rest)) (take_rest bytes sent) c.in-Ok.ensures.bytes in
     record {
       within = search rules;
       so_far = subst (Appends _ _) (sym (take-add sent count bytes)) (Appends-trans _ _ _ _ _ c.loop-sent.invariant.so_far more);
