@@ -3,7 +3,6 @@ pub mod CountLemmas
 pub mod LawLemmas
 pub mod ReplyLemmas
 pub mod SenderLemmas
-pub mod StreamLemmas
 pub mod WordLemmas
 pub mod DebuggerLemmas
 pub mod WithinLemmas

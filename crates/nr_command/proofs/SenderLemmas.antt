@@ -7,7 +7,7 @@ use Rattle.std.specs.Io.KnownBytes.{Appends}
 use Rattle.nr_recording.specs.Sink.{Outgoing}
 use Rattle.nr_command.specs.declared.sender.Part.{Part}
 use Rattle.nr_command.specs.Sender.{saturating_count, text_of_parts, Goes, GoesOut}
-use Rattle.nr_command.proofs.StreamLemmas.{Appends-then}
+use Rattle.std.proofs.KnownBytes.{Appends-trans}
 
 pub text_of_parts_is : {X : Type 0} (f : X → List ℕ) (xs : List X) → text_of_parts f xs ≡ flat_map f xs
 text_of_parts_is f [] = refl
@@ -31,10 +31,6 @@ take_in_part f xs i k d h within =
 abbrev pub Out : {X : Type 0} → (X → List ℕ) → List X → Outgoing → Outgoing → ℕ → Type 0
 Out f xs u v out = (out ≡ saturating_count (length (flat_map f xs))) × GoesOut u v (flat_map f xs)
 
--- one text after another
-pub goes_then : (u v w : Outgoing) (a b : List ℕ) → GoesOut u v a → GoesOut v w b → GoesOut u w (a ++ b)
-goes_then u v w a b (x, p) (y, q) = (Appends-then u.contents v.contents w.contents a b x y, q ∙ p)
-
 -- a part that went out only in part
 pub part_cut : {X : Type 0} (f : X → List ℕ) (xs : List X) (i : ℕ) (d : X) (u v w : Outgoing) (out : ℕ) (part part' : Part)
     → i < length xs → Out f (take i xs) u v out → Goes v w (f (get_or xs i d)) (Err part) → part'.0 ≡ saturating_count (out + part.0) → Goes u w (text_of_parts f xs) (Err part')
@@ -48,6 +44,6 @@ part_cut f xs i d u v w out part part' h so_far cut e =
     let less : length front + n < length (flat_map f xs) = omega (arith, cut.within, lens) in
     let count : part'.0 ≡ saturating_count (length front + n) = omega (arith, e, so_far.0, cut.told) in
     let taken : take (length front + n) (flat_map f xs) ≡ front ++ take n text = take_in_part f xs i n d h (omega (arith, cut.within)) in
-    let out = subst (Appends u.contents w.contents) (sym taken) (Appends-then u.contents v.contents w.contents front (take n text) so_far.1.0 cut.out) in
+    let out = subst (Appends u.contents w.contents) (sym taken) (Appends-trans u.contents v.contents w.contents front (take n text) so_far.1.0 cut.out) in
     subst (λ t. Goes u w t (Err part')) (sym (text_of_parts_is f xs))
     (record { n = length front + n; within = less; told = count; out = out; failed = cut.failed })

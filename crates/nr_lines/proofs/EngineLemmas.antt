@@ -6,8 +6,7 @@ use Rattle.std.specs.List.{concat}
 use Rattle.std.specs.Io.KnownBytes.{Appends, Consumes, IsAtEnd}
 use Rattle.nr_command.specs.Command.{meaning_of}
 use Rattle.nr_front.specs.Desk.{Desk}
-use Rattle.nr_command.proofs.StreamLemmas.{Appends-nil, Appends-then}
-use Rattle.nr_lines.proofs.StreamLemmas.{Consumes-nil, Consumes-then}
+use Rattle.std.proofs.KnownBytes.{Appends-nil, Appends-trans, Consumes-nil, Consumes-trans}
 use Rattle.nr_lines.specs.declared.ending.End.TheVariants.{Closed, Quit}
 use Rattle.nr_lines.specs.declared.ending.LineEnd.{LineEnd}
 use Rattle.nr_lines.specs.declared.ending.LineEnd.TheVariants.{Read, Write}
@@ -53,7 +52,7 @@ byte_more r r' w w' p p' came read line line' whole b st goes e = record {
 
 -- what is written with a turn more
 written_more : (w w' w'' : Option (List ℕ)) (texts : List (List ℕ)) (text : List ℕ) → Appends w w' (concat texts) → Appends w' w'' text → Appends w w'' (concat (texts ++ text ∷ []))
-written_more w w' w'' texts text so_far more = subst (Appends w w'') (sym (concat_more texts text)) (Appends-then w w' w'' (concat texts) text so_far more)
+written_more w w' w'' texts text so_far more = subst (Appends w w'') (sym (concat_more texts text)) (Appends-trans w w' w'' (concat texts) text so_far more)
 
 abbrev has_one : Bool → Bool
 has_one t = t || false
@@ -141,7 +140,7 @@ cut r r' w w' w'' p p' p'' came read line back whole ended (Write n part) st lin
       out = concat st.texts ++ take failed.2.1.0 failed.0;
       ended = ended;
       reads = st.reads;
-      writes = Appends-then w w' w'' (concat st.texts) (take failed.2.1.0 failed.0) st.writes failed.2.1.3;
+      writes = Appends-trans w w' w'' (concat st.texts) (take failed.2.1.0 failed.0) st.writes failed.2.1.3;
       at_end = at_end;
       ends = record {
         front = whole_lines read;
@@ -236,7 +235,7 @@ standing_at_first r w p line e = record {
 came_more : (r r' r'' w w' : Option (List ℕ)) (p p' : Desk) (read line bytes : List ℕ) (whole : ℕ) → Standing r r' w w' p p' read read line whole → Consumes r' r'' bytes → Standing r r'' w w' p p' (read ++ bytes) read line whole
 came_more r r' r'' w w' p p' read line bytes whole st more = record {
   texts = st.texts;
-  reads = Consumes-then r r' r'' read bytes st.reads more;
+  reads = Consumes-trans r r' r'' read bytes st.reads more;
   writes = st.writes;
   turns = st.turns;
   no_quit = st.no_quit;

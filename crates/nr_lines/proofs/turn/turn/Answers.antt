@@ -3,7 +3,7 @@ use Rattle.nr_command.specs.Reply.{text_of}
 use Rattle.nr_command.specs.Sender.{saturating_count}
 use Rattle.nr_lines.specs.Turn.{MayReply}
 use Rattle.nr_command.proofs.ReplyLemmas.{has_text}
-use Rattle.nr_command.proofs.StreamLemmas.{Appends-nil}
+use Rattle.std.proofs.KnownBytes.{Appends-nil}
 use Rattle.nr_lines.proofs.turn.turn.Goals as goal
 
 pub returns-in-Ok-clause-ok : goal.returns-in-Ok-clause-ok
