@@ -1,0 +1,21 @@
+//! Tests of worlds, recordings, films, walks and marks by their public calls; and films, streams and a world of their own,
+//! which the tests of sessions use too.
+#![tactic(auto)]
+
+mod films;
+#[cfg(test)]
+mod marks;
+mod observed;
+#[cfg(test)]
+mod plain;
+#[cfg(test)]
+mod recording;
+#[cfg(test)]
+mod snaps;
+mod streams;
+#[cfg(test)]
+mod walker;
+
+pub use films::ticking;
+pub use observed::Observed;
+pub use streams::{Cup, Drip, Stutter};

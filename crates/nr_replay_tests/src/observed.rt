@@ -1,0 +1,163 @@
+//! A world that counts what is done to it, and is refused memory as it is told, for the tests.
+
+ghost use Rattle.std.specs.Prelude.{◌≡◌};
+
+use nr_plain::PlainWorld;
+use nr_rev::{
+    Answer, Bytes, Cell, CellValue, Limits, Queue, Refusal, Reversible, Side, Step, Worlds,
+};
+use std::alloc::Global;
+use std::marker::Model;
+use std::sync::atomic::{AtomicU32, Ordering};
+
+/// A world over lists that counts the calls that it gets, and whose copies may be refused memory. None of that is part of
+/// what it means.
+#[derive(Drop)]
+pub struct Observed {
+    world: PlainWorld,
+    // calls of `apply` and of `undo` since it was made
+    applies: u32,
+    undos: u32,
+    // how often it was copied
+    copies: AtomicU32,
+    // bit by bit from the lowest: whether the next copy is refused, and the one behind it, and so on
+    refusals: AtomicU32,
+}
+
+impl Model for Observed {
+    ghost use Rattle.nr_rev.specs.World.{World};
+
+    ghost Value = { World };
+
+    ghost view = { λ o. o.world };
+}
+
+impl Observed {
+    fn around(world: PlainWorld) -> Observed
+        ensures { result ≡ world }
+    {
+        Observed {
+            world,
+            applies: 0,
+            undos: 0,
+            copies: AtomicU32::new(0),
+            refusals: AtomicU32::new(0),
+        }
+    }
+
+    /// How often it was led forwards and back since it was made.
+    pub fn moves(&self) -> (u32, u32) {
+        (self.applies, self.undos)
+    }
+
+    /// How often it was copied.
+    pub fn copies(&self) -> u32 {
+        self.copies.load(Ordering::SeqCst)
+    }
+
+    /// Of the copies to come those are refused whose bits are set, from the lowest on.
+    pub fn refuse(&self, refusals: u32) {
+        self.refusals.store(refusals, Ordering::SeqCst);
+    }
+}
+
+impl Reversible for Observed {
+    ghost use Rattle.nr_rev.specs.Step.{StepTo};
+    ghost use Rattle.nr_rev.specs.WellFormed.{WellFormed};
+    ghost use Rattle.nr_rev.specs.Worlds.{LosesBytes, bytes_left};
+    ghost use Rattle.nr_plain.specs.Delta.{PlainBack, delta_words};
+    ghost use Rattle.nr_plain.specs.Plan.{world_reason};
+    ghost use Rattle.nr_plain.specs.ReversibleLaws.{PlainBack-unique, memory_is_no_reason, refused_has_no_step, words_are_within, steps_unique};
+
+    type Op = Step;
+
+    type Answer = Answer;
+
+    type Delta = <PlainWorld as Reversible>::Delta;
+
+    const WORDS: u32 = 64;
+
+    ghost WORDS = { 64 };
+
+    ghost is_well_formed = { WellFormed };
+
+    ghost steps = { StepTo };
+
+    ghost reason = { world_reason };
+
+    ghost takes_memory = { LosesBytes };
+
+    ghost back = { PlainBack };
+
+    ghost weight = { delta_words };
+
+    ghost allowance = { λ _. 64 };
+
+    ghost bytes_out = { bytes_left };
+
+    fn apply(&mut self, step: &Step) -> Result<(Answer, Self::Delta), Refusal> {
+        self.applies = self.applies.wrapping_add(1);
+        self.world.apply(step)
+    }
+
+    fn undo(&mut self, delta: Self::Delta) {
+        self.undos = self.undos.wrapping_add(1);
+        self.world.undo(delta);
+    }
+
+    ghost back_is_unique = { PlainBack-unique };
+
+    ghost refused_has_no_step = { refused_has_no_step };
+
+    ghost memory_is_no_reason = { memory_is_no_reason };
+
+    ghost steps_unique = { steps_unique };
+
+    ghost allowance_is_within = { words_are_within };
+}
+
+impl Worlds for Observed {
+    ghost use Rattle.nr_plain.specs.Worlds.{meant, steps_are, reasons_are, memory_is_for_bytes, bytes_out_are, means_well_formed};
+
+    ghost world = { meant };
+
+    fn fresh(alloc: Global, limits: Limits) -> Result<Self, Refusal> {
+        Ok(Observed::around(PlainWorld::fresh(alloc, limits)?))
+    }
+
+    fn try_copy(&self) -> Result<Self, Refusal> {
+        let refusals = self.refusals.load(Ordering::SeqCst);
+        self.refusals.store(refusals / 2, Ordering::SeqCst);
+        if refusals % 2 == 1 {
+            return Err(Refusal::Memory);
+        }
+        self.copies.fetch_add(1, Ordering::SeqCst);
+        Ok(Observed::around(self.world.try_copy()?))
+    }
+
+    fn advance(&mut self, step: &Step) -> Result<Answer, Refusal> {
+        self.world.advance(step)
+    }
+
+    fn cell(&self, what: Cell) -> CellValue {
+        self.world.cell(what)
+    }
+
+    fn bytes(&self, socket: u32, side: Side) -> Result<Option<Bytes>, Refusal> {
+        self.world.bytes(socket, side)
+    }
+
+    fn queue(&self, socket: u32, side: Side) -> Result<Option<Queue>, Refusal> {
+        self.world.queue(socket, side)
+    }
+
+    ghost steps_are = { steps_are };
+
+    ghost reasons_are = { reasons_are };
+
+    ghost memory_is_for_bytes = { memory_is_for_bytes };
+
+    ghost bytes_out_are = { bytes_out_are };
+
+    ghost means_well_formed = { means_well_formed };
+}

@@ -1,0 +1,13 @@
+//! Tests of commands, fronts, the line loop and shared sessions by their public calls.
+#![tactic(auto)]
+
+#[cfg(test)]
+mod command;
+#[cfg(test)]
+mod front;
+#[cfg(test)]
+mod lines;
+#[cfg(test)]
+mod serving;
+#[cfg(test)]
+mod sharing;

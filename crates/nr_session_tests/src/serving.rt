@@ -1,0 +1,154 @@
+//! Two fronts in threads of their own, one of which waits until the other was answered.
+
+use nr_plain::PlainWorld;
+use nr_replay_tests::ticking;
+use nr_search::OneWorker;
+use nr_serving::{Connection, Connections, Ended, Next, Ports, Shape, share};
+use nr_snaps::Film;
+use std::alloc::Global;
+use std::io;
+use std::io::ErrorKind;
+use std::sync::Wait;
+use std::sync::atomic::AtomicBool;
+use std::sync::atomic::Ordering::SeqCst;
+use std::test::*;
+use std::thread::Threads;
+
+/// Gives its line once, and where it waits, only once the other was written to.
+#[derive(Drop)]
+struct Wire<'a> {
+    line: &'a [u8],
+    given: &'a AtomicBool,
+    waits: Option<&'a AtomicBool>,
+    written: &'a AtomicBool,
+}
+
+impl Wire<'_> {
+    fn may_give(&self) -> bool {
+        let Some(written) = self.waits else {
+            return true;
+        };
+        for _ in 0..10_000_000u32 {
+            if written.load(SeqCst) {
+                return true;
+            }
+        }
+        false
+    }
+}
+
+impl Connection for Wire<'_> {
+    fn read(&self, buf: &mut [u8]) -> io::Result<usize> {
+        if self.given.load(SeqCst) || self.line.len() > buf.len() {
+            return Ok(0);
+        }
+        if !self.may_give() {
+            return Err(ErrorKind::Other.into());
+        }
+        self.given.store(true, SeqCst);
+        let count = self.line.len();
+        buf[..count].copy_from_slice(self.line);
+        Ok(count)
+    }
+
+    fn write(&self, bytes: &[u8]) -> io::Result<usize> {
+        self.written.store(true, SeqCst);
+        Ok(bytes.len())
+    }
+}
+
+/// One caller, or none any more.
+#[derive(Drop)]
+struct Caller<'a> {
+    wire: Option<Wire<'a>>,
+}
+
+impl<'a> Connections for Caller<'a> {
+    type Connection = Wire<'a>;
+
+    fn next(&mut self) -> Next<Wire<'a>> {
+        match self.wire.take() {
+            Some(wire) => Next::Serve(wire),
+            None => Next::Ended,
+        }
+    }
+}
+
+/// What the two wires share, and which of them waits for the other.
+#[derive(Drop)]
+struct Wires<'a> {
+    given: &'a AtomicBool,
+    more: &'a AtomicBool,
+    answered: &'a AtomicBool,
+    told: &'a AtomicBool,
+    first_waits: bool,
+}
+
+impl<'a> Ports for Wires<'a> {
+    type Callers = Caller<'a>;
+
+    fn open(&mut self, front: usize) -> Caller<'a> {
+        let wire = if front == 0 {
+            Wire {
+                line: b"stepi 3\n".as_slice(),
+                given: self.given,
+                waits: if self.first_waits {
+                    Some(self.told)
+                } else {
+                    None
+                },
+                written: self.answered,
+            }
+        } else {
+            Wire {
+                line: b"rsi\n".as_slice(),
+                given: self.more,
+                waits: if self.first_waits {
+                    None
+                } else {
+                    Some(self.answered)
+                },
+                written: self.told,
+            }
+        };
+        Caller { wire: Some(wire) }
+    }
+}
+
+/// The session in which the first front waits for the second, or the other way round.
+fn share_between<R: Threads + Wait + Sync>(
+    rt: &R,
+    alloc: Global,
+    first_waits: bool,
+) -> Result<Ended, Fail> {
+    let film: Film<PlainWorld> = ticking(alloc, 4)?;
+    let (given, answered) = (AtomicBool::new(false), AtomicBool::new(false));
+    let (more, told) = (AtomicBool::new(false), AtomicBool::new(false));
+    let mut wires = Wires {
+        given: &given,
+        more: &more,
+        answered: &answered,
+        told: &told,
+        first_waits,
+    };
+    let shape = Shape {
+        fronts: 2,
+        room: 4,
+        depth: 64,
+    };
+    let ended = share(rt, alloc, &film, OneWorker::<&R>::new(), shape, &mut wires).map_err(
+        |_| "not shared",
+    )?;
+    Ok(ended)
+}
+
+#[test]
+fn neither_front_waits_for_the_other_to_end(rt: HostRuntime) -> Result<(), Fail> {
+    let ended = share_between(&rt, rt.alloc(), true)?;
+    assert_eq!(rt; ended.history.as_slice(), [65794u64, 196609].as_slice());
+    assert!(rt; !ended.failed);
+    let ended = share_between(&rt, rt.alloc(), false)?;
+    assert_eq!(rt; ended.history.as_slice(), [196609u64, 65794].as_slice());
+    assert!(rt; !ended.failed);
+    Ok(())
+}
