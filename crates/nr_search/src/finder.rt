@@ -29,6 +29,9 @@ pub trait Finder {
 
     /// The workers; `None` where the caller's thread searches alone.
     fn workers(&self) -> Option<&ManyWorkers<Self::Runtime, Self::Gate>>;
+
+    /// What they are told as a search begins. Whatever it is, they find the same.
+    fn claims(&self) -> Claims;
 }
 
 /// Searches alone, in the caller's thread. The runtime that could start threads is a type alone.
@@ -54,6 +57,10 @@ impl<R: Threads + Sync> Finder for OneWorker<R> {
     fn workers(&self) -> Option<&ManyWorkers<R, Open>> {
         None
     }
+
+    fn claims(&self) -> Claims {
+        Claims::new()
+    }
 }
 
 impl<R: Threads + Sync, G: Gate + Sync> Finder for ManyWorkers<R, G> {
@@ -64,6 +71,10 @@ impl<R: Threads + Sync, G: Gate + Sync> Finder for ManyWorkers<R, G> {
     fn workers(&self) -> Option<&ManyWorkers<R, G>> {
         Some(self)
     }
+
+    fn claims(&self) -> Claims {
+        Claims::new()
+    }
 }
 
 impl<F: Finder> Finder for &F {
@@ -73,6 +84,10 @@ impl<F: Finder> Finder for &F {
 
     fn workers(&self) -> Option<&ManyWorkers<F::Runtime, F::Gate>> {
         (**self).workers()
+    }
+
+    fn claims(&self) -> Claims {
+        (**self).claims()
     }
 }
 
@@ -146,7 +161,7 @@ fn search_between<W: Worlds + Drop + Sync, F: Finder>(
     }
     let search = Search::new(film, marks, direction, after, last);
     match finder.workers() {
-        Some(many) => search_by(many, &search, &Claims::new()),
+        Some(many) => search_by(many, &search, &finder.claims()),
         None => search.settle(&[]),
     }
 }

@@ -19,7 +19,4 @@ pub use finder::{Finder, OneWorker, nearest_hit};
 pub use found::Found;
 pub use gate::{Gate, Open};
 pub use hits::hits_at;
-pub use workers::{LEAST_WORKERS, MOST_WORKERS, ManyWorkers};
-
-#[cfg(test)]
-mod tests;
+pub use workers::{Claims, LEAST_WORKERS, MOST_WORKERS, ManyWorkers};

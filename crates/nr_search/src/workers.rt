@@ -71,21 +71,27 @@ impl<R: Threads + Sync, G: Gate + Sync> ManyWorkers<R, G> {
     }
 }
 
-/// What the workers of a search share. No proof rests on what it holds.
+/// What the workers of a search tell each other. No proof rests on what it holds: told of claims that nobody made, or of a
+/// hit that there isn't, a search takes longer and finds the same.
 #[derive(Drop)]
-pub(crate) struct Claims {
-    /// How many segments on the way are claimed.
-    pub next: AtomicUsize,
-    /// The place on the way of the nearest segment where a hit is known: those behind it need no search.
-    pub hint: AtomicUsize,
+pub struct Claims {
+    // How many segments on the way are claimed.
+    next: AtomicUsize,
+    // The place on the way of the nearest segment where a hit is known: those behind it need no search.
+    hint: AtomicUsize,
 }
 
 impl Claims {
     /// Nothing is claimed, and no hit is known.
     pub fn new() -> Claims {
+        Claims::told(0, usize::MAX)
+    }
+
+    /// So many segments are claimed, and a hit is known in the segment at the place `hint` on the way, counted from 0.
+    pub fn told(claimed: usize, hint: usize) -> Claims {
         Claims {
-            next: AtomicUsize::new(0),
-            hint: AtomicUsize::new(usize::MAX),
+            next: AtomicUsize::new(claimed),
+            hint: AtomicUsize::new(hint),
         }
     }
 

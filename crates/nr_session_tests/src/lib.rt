@@ -1,4 +1,4 @@
-//! Tests of commands, fronts, the line loop and shared sessions by their public calls.
+//! Tests of searches, commands, fronts, the line loop and shared sessions by their public calls.
 #![tactic(auto)]
 
 #[cfg(test)]
@@ -7,6 +7,8 @@ mod command;
 mod front;
 #[cfg(test)]
 mod lines;
+#[cfg(test)]
+mod searching;
 #[cfg(test)]
 mod serving;
 #[cfg(test)]

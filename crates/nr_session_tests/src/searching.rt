@@ -1,26 +1,19 @@
 //! Searches by one worker and by several.
 
-use crate::search::Search;
-use crate::workers::{Claims, search_by};
-use crate::{Direction, Finder, Found, Gate, ManyWorkers, OneWorker, Open, nearest_hit};
 use nr_marks::{Break, Marks};
 use nr_plain::PlainWorld;
-use nr_recording::Recording;
-use nr_rev::{Cell, Kind, Limits, Mode, Side, Step};
-use nr_snaps::{Film, Snaps};
+use nr_replay_tests::film_of;
+use nr_rev::{Cell, Kind, Mode, Side, Step};
+use nr_search::{
+    Claims, Direction, Finder, Found, Gate, ManyWorkers, OneWorker, Open, nearest_hit,
+};
+use nr_snaps::Film;
 use std::alloc::Global;
 use std::num::NonZeroU32;
+use std::sync::atomic::AtomicBool;
 use std::sync::atomic::Ordering::SeqCst;
-use std::sync::atomic::{AtomicBool, AtomicUsize};
 use std::test::*;
 use std::thread::{Threads, yield_now};
-
-const LIMITS: Limits = Limits {
-    goroutines: 1,
-    sockets: 1,
-    descriptors: 1,
-    buffer: 1,
-};
 
 const OPEN: Step = Step::SockOpen {
     read_capacity: 1,
@@ -38,12 +31,6 @@ fn opening(alloc: Global) -> Result<Vec<Step>, &'static str> {
     steps.push(OPEN).map_err(|_| "no memory for a step")?;
     steps.push(POLL).map_err(|_| "no memory for a step")?;
     Ok(steps)
-}
-
-/// The film of these steps, with a copy each 64 of them.
-fn film_of(alloc: Global, steps: Vec<Step>) -> Result<Film<PlainWorld>, &'static str> {
-    let recording = Recording::new(LIMITS, steps).map_err(|_| "no recording")?;
-    Snaps::load(alloc, recording, 64).map_err(|_| "no film")
 }
 
 /// 192 steps: from the third on they set the clock to 1, 2 and so on.
@@ -162,40 +149,39 @@ fn any_number_of_workers_finds_the_same(rt: HostRuntime) -> Result<(), Fail> {
     Ok(())
 }
 
-/// What is found by workers who are told that segments are claimed and a hit is known.
-fn mislead<R: Threads + Sync>(
-    many: &ManyWorkers<R, Open>,
-    film: &Film<PlainWorld>,
-    direction: Direction,
-    after: usize,
-    last: usize,
-    told: (usize, usize),
-) -> Option<Found> {
-    if after >= last || last > film.len() {
-        return None;
+/// Workers who are told, as each search begins, of claims that nobody made and of a hit that there need not be.
+#[derive(Drop)]
+struct Misled<R: Threads + Sync> {
+    many: ManyWorkers<R, Open>,
+    claimed: usize,
+    hint: usize,
+}
+
+impl<R: Threads + Sync> Finder for Misled<R> {
+    type Runtime = R;
+
+    type Gate = Open;
+
+    fn workers(&self) -> Option<&ManyWorkers<R, Open>> {
+        Some(&self.many)
     }
-    let marks = marks(100);
-    let search = Search::new(film, &marks, direction, after, last);
-    let claims = Claims {
-        next: AtomicUsize::new(told.0),
-        hint: AtomicUsize::new(told.1),
-    };
-    search_by(many, &search, &claims).ok()
+
+    fn claims(&self) -> Claims {
+        Claims::told(self.claimed, self.hint)
+    }
 }
 
 #[test]
 fn a_wrong_hint_changes_nothing(rt: HostRuntime) -> Result<(), Fail> {
     let film = ticking(rt.alloc())?;
     for workers in [1, 2, 3, 16] {
-        let many = crew(&rt, rt.alloc(), workers);
-        for told in [(0, 0), (0, 1), (0, 2), (1, 9), (2, 9), (3, 9), (1, 0)] {
-            let found = [
-                mislead(&many, &film, Direction::Backward, 0, 191, told),
-                mislead(&many, &film, Direction::Backward, 0, 98, told),
-                mislead(&many, &film, Direction::Forward, 2, 192, told),
-                mislead(&many, &film, Direction::Forward, 99, 192, told),
-            ];
-            assert_eq!(rt; found, FOUR, "told {told:?}");
+        for (claimed, hint) in [(0, 0), (0, 1), (0, 2), (1, 9), (2, 9), (3, 9), (1, 0)] {
+            let misled = Misled {
+                many: crew(&rt, rt.alloc(), workers),
+                claimed,
+                hint,
+            };
+            assert_eq!(rt; four(&misled, &film), FOUR, "told {claimed} and {hint}");
         }
     }
     Ok(())
