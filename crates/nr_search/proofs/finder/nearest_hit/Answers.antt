@@ -1,4 +1,4 @@
-use Rattle.std.proofs.Common.{◌+◌, sym, ◌∙◌, subst}
+use Rattle.std.proofs.Common.{◌+◌, sym, ◌∙◌, subst, rules}
 use Rattle.std.specs.Prelude.{IfOk}
 use Rattle.nr_marks.specs.Hit.{is_hit_at}
 use Rattle.nr_search.specs.Nearest.{IsFound}
@@ -20,3 +20,6 @@ returns-in-Forward-clause-found g c =
 pub returns-in-Backward-clause-found : goal.returns-in-Backward-clause-found
 returns-in-Backward-clause-found g c =
     if-found-backward c.args.film.now.recording c.args.marks.now.standing c.args.n c.args.direction c.last_below.result c.in-Backward.is c.last_below.ensures.found
+
+pub returns-in-Forward-clause-marks : goal.returns-in-Forward-clause-marks
+returns-in-Forward-clause-marks g c = search rules

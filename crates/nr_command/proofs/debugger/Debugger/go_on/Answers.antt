@@ -19,3 +19,6 @@ returns-in_err-marks-in-Hit-clause-memory g c =
     let e : Hit c.in-Hit.position ≡ nearest_hit c.args.direction r d.marks.standing d.position = search rules in
     let is = found_that_way c.args.direction r d.marks.standing d.position c.in-Hit.position c.requires e in
     on_err (NeedsWorlds c.args.direction r d) c.from_residual-in_err-marks-in-Hit.result (is.marked, is.copies c.in_err-marks-in-Hit.ensures.copies)
+
+pub returns-in_err-marks-in-Hit-clause-unchanged : goal.returns-in_err-marks-in-Hit-clause-unchanged
+returns-in_err-marks-in-Hit-clause-unchanged g c = search rules

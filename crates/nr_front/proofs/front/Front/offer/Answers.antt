@@ -1,4 +1,4 @@
-use Rattle.std.proofs.Common.{◌∙◌, ap, refl}
+use Rattle.std.proofs.Common.{◌∙◌, ap, refl, rules}
 use Rattle.nr_front.specs.Desk.{Desk}
 use Rattle.nr_front.proofs.DeskLemmas.{seen_at}
 use Rattle.nr_front.proofs.StepsLemmas.{sees_word}
@@ -13,3 +13,6 @@ pub returns-in-Lost : goal.returns-in-Lost
 returns-in-Lost g c =
     let lost = c.in-Lost.ensures.offered in
     sees_word _ _ _ _ _ c.self.view_is c.requires.table (record { table = c.offer-offered.ensures.table; recording = refl }) lost.0 lost.3 lost.1 c.at-self-inside.ensures
+
+pub returns-in-Placed : goal.returns-in-Placed
+returns-in-Placed g c = search rules

@@ -1,4 +1,4 @@
-use Rattle.std.proofs.Common.{subst}
+use Rattle.std.proofs.Common.{subst, rules}
 use Rattle.nr_rev.proofs.Chains.{LeadsBack-last, LeadsBack-undone}
 use Rattle.nr_rev.specs.Transaction.{LeadsBack}
 use Rattle.nr_plain.specs.ReversibleLaws.{Undoes-unique}
@@ -18,3 +18,6 @@ loop-undo-preserved c old h =
     let can = (LeadsBack-last Undoes c.pop.new.self.items c.in-Some.undo c.loop-undo.self old whole).1.0 in
     LeadsBack-undone Undoes Undoes-unique c.loop-undo.undos.items c.pop.new.self.items c.in-Some.undo c.loop-undo.self c.revert.new.self old
     c.in-Some.ensures.items (can, c.revert.ensures) so_far
+
+pub loop-undo-init : goal.loop-undo-init
+loop-undo-init c = search rules

@@ -1,4 +1,4 @@
-use Rattle.std.proofs.Common.{◌≡◌, ◌∷◌, [], List, Some, sym, ap, subst, ◌∙◌, arith, length-append}
+use Rattle.std.proofs.Common.{◌≡◌, ◌∷◌, [], List, Some, sym, ap, subst, ◌∙◌, arith, length-append, rules}
 use Rattle.std.proofs.lemmas.List.Sums.{sum_by-cons, sum_by_push}
 use Rattle.std.specs.Prelude.{remove, slice_get}
 use Rattle.nr_rev.proofs.Chains.{LeadsBack-push}
@@ -30,3 +30,6 @@ loop-edit-preserved c =
       light = rw c.push.ensures.items (omega (arith, words, heavy, light, rw split at c.loop-edit.invariant.light));
       few = rw c.push.ensures.items (omega (arith, lengths, rw split at c.loop-edit.invariant.few));
     }
+
+pub loop-edit-init : goal.loop-edit-init
+loop-edit-init c = search rules

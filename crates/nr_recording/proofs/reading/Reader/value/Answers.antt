@@ -1,4 +1,4 @@
-use Rattle.std.proofs.Common.{◌≡◌, true, [], ◌∷◌, sym, refl, ◌∙◌, arith}
+use Rattle.std.proofs.Common.{◌≡◌, true, [], ◌∷◌, sym, refl, ◌∙◌, arith, rules}
 use Rattle.std.proofs.lemmas.List.Folds.{list_all-append}
 use Rattle.std.proofs.lemmas.List.{length-append}
 use Rattle.nr_recording.specs.Recording.{is_writable}
@@ -20,3 +20,6 @@ invariant_of-self-2 c =
       few = rw c.in_ok-push.ensures.items (omega (arith, length-append c.self.inside.steps.items (c.in_ok-step.step ∷ [])));
       writable = rw c.in_ok-push.ensures.items (list_all-append is_writable c.self.inside.steps.items (c.in_ok-step.step ∷ []) ∙ rw (c.self.invariant.writable, writable) refl);
     }
+
+pub returns-then-len-eq-MOST_STEPS-clause-memory : goal.returns-then-len-eq-MOST_STEPS-clause-memory
+returns-then-len-eq-MOST_STEPS-clause-memory c = search rules
