@@ -1,7 +1,7 @@
 -- How the line loop stands, and how it ends.
-use Rattle.std.proofs.Common.{◌≡◌, ℕ, suc, ◌+◌, ◌<◌, min, Bool, ◌||◌, true, false, cond, Option, Ok, Err, List, [], ◌∷◌, ◌++◌, arith, length, take, drop, refl, sym, ap, ◌∙◌, subst, nat_eq, append_assoc, append-nil, get_or, take-append-drop, drop-cons}
+use Rattle.std.proofs.Common.{◌≡◌, ℕ, suc, ◌+◌, ◌<◌, ◌≤◌, min, Bool, ◌||◌, true, false, cond, Option, Ok, Err, List, [], ◌∷◌, ◌++◌, arith, length, take, drop, refl, sym, ap, ◌∙◌, subst, nat_eq, append_assoc, append-nil, get_or, take-append-drop, take_all, drop-cons}
 use Rattle.std.proofs.lemmas.List.{length-take, take_more}
-use Rattle.std.proofs.lemmas.Bool.{lt-ltb, le-ltb, eqb-false}
+use Rattle.std.proofs.lemmas.Bool.{lt-ltb, le-ltb, eqb-false, false≢true}
 use Rattle.std.specs.List.{concat}
 use Rattle.std.specs.Io.KnownBytes.{Appends, Consumes, IsAtEnd}
 use Rattle.nr_command.specs.Command.{meaning_of}
@@ -10,21 +10,11 @@ use Rattle.std.proofs.KnownBytes.{Appends-nil, Appends-trans, Consumes-nil, Cons
 use Rattle.nr_lines.specs.declared.ending.End.TheVariants.{Closed, Quit}
 use Rattle.nr_lines.specs.declared.ending.LineEnd.{LineEnd}
 use Rattle.nr_lines.specs.declared.ending.LineEnd.TheVariants.{Read, Write}
-use Rattle.nr_command.specs.Sender.{saturating_count}
-use Rattle.nr_lines.specs.Engine.{lines_of, Turns, has_quit, some_count, Answered, Serves}
+use Rattle.nr_lines.specs.Engine.{lines_of, Turns, has_quit, Answered, Serves}
 use Rattle.nr_lines.specs.Turn.{Turn, is_quit, count_with, IsCut}
-use Rattle.nr_lines.proofs.LineLemmas.{whole_lines, rest_of, whole_lines-byte, rest_of-byte, whole_lines-feed, rest_of-feed, lines_at_end, meaning_of-take, kept_more}
+use Rattle.nr_lines.specs.Standing.{GoesOn, Standing, rest_of, whole_lines}
+use Rattle.nr_lines.proofs.LineLemmas.{whole_lines-byte, rest_of-byte, whole_lines-feed, rest_of-feed, lines_at_end, meaning_of-take, kept_more}
 use Rattle.nr_lines.proofs.TurnLemmas.{counted_more, has_quit-append, concat_more, turns_more, turn_asks}
-
--- Of the bytes that came from the reader, the first `read` are done with: their lines are answered, and the line holds what follows the last of them.
-pub record Standing (r r' w w' : Option (List ℕ)) (p p' : Desk) (came read line : List ℕ) (whole : ℕ) : Type 0 where
-  pub texts : List (List ℕ)
-  pub reads : Consumes r r' came
-  pub writes : Appends w w' (concat texts)
-  pub turns : Turns p (whole_lines read) texts p'
-  pub no_quit : has_quit (whole_lines read) ≡ false
-  pub kept : line ≡ take 257 (rest_of read)
-  pub count : whole ≡ saturating_count (some_count texts)
 
 -- what a turn gave
 abbrev Turned : Desk → List ℕ → Desk → Option (List ℕ) → Option (List ℕ) → ℕ → ℕ → Type 0
@@ -232,7 +222,7 @@ standing_at_first r w p line e = record {
 }
 
 -- a read that gave some bytes
-came_more : (r r' r'' w w' : Option (List ℕ)) (p p' : Desk) (read line bytes : List ℕ) (whole : ℕ) → Standing r r' w w' p p' read read line whole → Consumes r' r'' bytes → Standing r r'' w w' p p' (read ++ bytes) read line whole
+pub came_more : (r r' r'' w w' : Option (List ℕ)) (p p' : Desk) (read line bytes : List ℕ) (whole : ℕ) → Standing r r' w w' p p' read read line whole → Consumes r' r'' bytes → Standing r r'' w w' p p' (read ++ bytes) read line whole
 came_more r r' r'' w w' p p' read line bytes whole st more = record {
   texts = st.texts;
   reads = Consumes-trans r r' r'' read bytes st.reads more;
@@ -243,11 +233,14 @@ came_more r r' r'' w w' p p' read line bytes whole st more = record {
   count = st.count;
 }
 
--- of what it gave nothing is done with yet
-pub came_first : (r r' r'' w w' : Option (List ℕ)) (p p' : Desk) (read line bytes : List ℕ) (whole : ℕ) → Standing r r' w w' p p' read read line whole → Consumes r' r'' bytes → Standing r r'' w w' p p' (read ++ bytes) (read ++ []) line whole
-came_first r r' r'' w w' p p' read line bytes whole st more =
-    subst (λ done. Standing r r'' w w' p p' (read ++ bytes) done line whole) (sym (append-nil read))
-    (came_more r r' r'' w w' p p' read line bytes whole st more)
+-- none of the bytes are done with
+pub none_done : (r r' w w' : Option (List ℕ)) (p p' : Desk) (came before line : List ℕ) (whole : ℕ) → Standing r r' w w' p p' came before line whole → Standing r r' w w' p p' came (before ++ []) line whole
+none_done r r' w w' p p' came before line whole st = subst (λ read. Standing r r' w w' p p' came read line whole) (sym (append-nil before)) st
+
+-- all of them are
+pub all_done : (r r' w w' : Option (List ℕ)) (p p' : Desk) (before bytes came line : List ℕ) (whole i : ℕ) → Standing r r' w w' p p' came (before ++ take i bytes) line whole → length bytes ≤ i
+    → Standing r r' w w' p p' came (before ++ bytes) line whole
+all_done r r' w w' p p' before bytes came line whole i st h = subst (λ done. Standing r r' w w' p p' came (before ++ done) line whole) (take_all i bytes h) st
 
 -- the line by another name
 pub relined : (r r' w w' : Option (List ℕ)) (p p' : Desk) (came read line slice : List ℕ) (whole : ℕ) → Standing r r' w w' p p' came read line whole → slice ≡ line → Standing r r' w w' p p' came read slice whole
@@ -275,3 +268,15 @@ some_left items slice r tested false_r same =
     let differs = eqb-false (length items) 0 (sym tested ∙ false_r) in
     let len : length slice ≡ length items = ap length same in
     omega (arith, differs, len)
+
+-- more was gone over, and one of its lines was quit
+pub goes_quit : (from left old new : Option (List ℕ)) (d d' : Desk) (came line : List ℕ) (whole : ℕ) (quits : Bool) → GoesOn from left old new d d' came line whole quits → quits ≡ true
+    → Serves from left old new d d' (Ok Quit)
+goes_quit from left old new d d' came line whole true goes e = goes
+goes_quit from left old new d d' came line whole false goes e = absurd (false≢true e)
+
+-- or none was
+pub goes_further : (from left old new : Option (List ℕ)) (d d' : Desk) (came line : List ℕ) (whole : ℕ) (quits : Bool) → GoesOn from left old new d d' came line whole quits → quits ≡ false
+    → Standing from left old new d d' came came line whole
+goes_further from left old new d d' came line whole true goes e = absurd (false≢true (sym e))
+goes_further from left old new d d' came line whole false goes e = goes

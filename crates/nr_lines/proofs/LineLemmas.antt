@@ -7,24 +7,11 @@ use Rattle.std.specs.List.{slice_split, onto_first}
 use Rattle.nr_command.specs.declared.command.LineFault.TheVariants.{TooLong}
 use Rattle.nr_command.specs.Command.{meaning_of, meaning_of_words, words, without_return}
 use Rattle.nr_lines.specs.Engine.{lines_in, lines_of}
+use Rattle.nr_lines.specs.Standing.{last_of, rest_of, whole_lines}
 
 -- the parts of a text between its line feeds
 abbrev parts : List ℕ → List (List ℕ)
 parts text = slice_split (λ b. nat_eq b 10) text
-
--- the last part
-abbrev last_of : List (List ℕ) → List ℕ
-last_of [] = []
-last_of (part ∷ []) = part
-last_of (part ∷ next ∷ more) = last_of (next ∷ more)
-
--- the lines that end by a line feed
-abbrev pub whole_lines : List ℕ → List (List ℕ)
-whole_lines text = lines_of false text
-
--- what follows the last line feed
-abbrev pub rest_of : List ℕ → List ℕ
-rest_of text = last_of (parts text)
 
 some_parts : (text : List ℕ) → 0 < length (parts text)
 some_parts text = omega (arith, length-slice_split (λ b. nat_eq b 10) text)

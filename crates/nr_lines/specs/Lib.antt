@@ -1,3 +1,4 @@
 pub mod Engine
+pub mod Standing
 pub mod Streams
 pub mod Turn

@@ -1,7 +1,9 @@
 //! The line loop.
 
-ghost use Rattle.std.specs.Prelude.{◌≡◌, [], ◌∷◌, ◌++◌, false, take, true};
+ghost use Rattle.std.specs.Prelude.{◌≡◌, ℕ, List, [], ◌∷◌, ◌++◌, Option, IfErr, IfOk, OnOk, false, take, true};
+ghost use Rattle.nr_front.specs.Desk.{Desk};
 ghost use Rattle.nr_lines.specs.Engine.{Serves, tells_read, tells_write};
+ghost use Rattle.nr_lines.specs.Standing.{GoesOn, IsFailedWrite, Standing};
 
 use crate::ending::{End, LineEnd};
 use crate::source::Source;
@@ -58,19 +60,51 @@ where
             return Ok(End::Closed);
         }
         let bytes = &chunk[..count];
-        for byte in bytes {
-            if *byte != b'\n' {
-                keep(&mut line, *byte);
-            } else {
-                let quits = turn(line.as_slice(), w, front, journal, &mut whole)?;
-                line.clear();
-                if quits {
-                    return Ok(End::Quit);
-                }
-            }
+        if answer_lines(bytes, &mut line, w, front, journal, &mut whole)? {
+            return Ok(End::Quit);
         }
     }
     unreachable!()
+}
+
+/// Answers the lines that end among these bytes, the first of them begun by what the line holds, up to a `quit`, and says
+/// whether there was one. Where there was none, the line holds what follows the last line feed.
+fn answer_lines<W: Write, S: Worlds + Drop + Sync, F: Finder>(
+    bytes: &[u8],
+    line: &mut ArrayVec<u8, LINE_ROOM>,
+    w: &mut Sink<W>,
+    front: &mut Front<'_, S, F>,
+    journal: &Journal,
+    whole: &mut u64,
+) -> Result<bool, LineEnd>
+where
+    S::Delta: Drop,
+    requires { front.old.table ≡ journal.now }
+    ensures table { front.new.table ≡ front.old.table }
+    ensures ok { IfOk result (λ quits. (from left old : Option (List ℕ)) (d : Desk) (before : List ℕ)
+        → Standing from left old w.old.contents d front.old
+        (before ++ bytes.now) before line.old.items whole.old
+        → GoesOn from left old w.new.contents d front.new
+        (before ++ bytes.now) line.new.items whole.new quits) }
+    ensures cut { IfErr result (λ e. (from left old : Option (List ℕ)) (d : Desk) (before : List ℕ)
+        → Standing from left old w.old.contents d front.old
+        (before ++ bytes.now) before line.old.items whole.old
+        → Serves from left old w.new.contents d front.new (Err e)) }
+    ensures calm { OnOk result (w.new.failed ≡ w.old.failed) }
+    ensures failed { IfErr result (λ e. (w.new.failed ≡ true) × IsFailedWrite e) }
+{
+    for byte in bytes {
+        if *byte != b'\n' {
+            keep(line, *byte);
+        } else {
+            let quits = turn(line.as_slice(), w, front, journal, whole)?;
+            line.clear();
+            if quits {
+                return Ok(true);
+            }
+        }
+    }
+    Ok(false)
 }
 
 /// Adds a byte to the line, where there is room.

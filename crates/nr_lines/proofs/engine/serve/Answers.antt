@@ -1,13 +1,8 @@
-use Rattle.std.proofs.Common.{refl, rules, ◌≡◌, ◌≢◌, [], take, ℕ, sym, ◌∙◌, eq-eqb, false, nat_eq}
-use Rattle.std.proofs.Common.{inl, inr}
-use Rattle.std.proofs.lemmas.Bool.Decides.{eqb_tells}
+use Rattle.std.proofs.Common.{refl, rules, [], ◌++◌, take, sym, ◌∙◌}
 use Rattle.std.proofs.lemmas.Result.{err_from_is_err_and}
-use Rattle.nr_lines.proofs.EngineLemmas.{standing_at_first, came_first, last_stands, relined, came_at, read_at, byte_more, line_more, closed, closed_after, last_quits, last_cut, line_quits, line_cut, some_left}
-use Rattle.nr_lines.proofs.engine.serve.Goals.{then-byte-ne10, else-byte-ne10+in_ok-quits+else-quits, else-not-is_empty-via-then-not-is_empty+in_ok-turn+else-branch, else-not-is_empty-via-else-not-is_empty}
+use Rattle.nr_lines.proofs.EngineLemmas.{standing_at_first, came_more, goes_quit, goes_further, last_stands, closed, closed_after, last_quits, last_cut, some_left}
+use Rattle.nr_lines.proofs.engine.serve.Goals.{else-not-is_empty-via-then-not-is_empty+in_ok-turn+else-branch, else-not-is_empty-via-else-not-is_empty}
 use Rattle.nr_lines.proofs.engine.serve.Goals as goal
-
-differs : (a b : ℕ) → a ≢ b → nat_eq a b ≡ false
-differs a b h = elim (eqb_tells a b) as (λ _. nat_eq a b ≡ false) [ inl same ↦ absurd (h same.1) | inr other ↦ other.0 ]
 
 pub loop-init : goal.loop-init
 loop-init g c = record {
@@ -50,52 +45,30 @@ returns-then-count-eq0-clause-serves g c =
           rw (w.w-is, w.front-is) (closed _ _ _ _ _ _ _ _ _ (last_stands _ _ _ _ _ _ _ _ _ _ _ _ _ c.loop.invariant.stands c.in-Ok.ensures.bytes.0 none refl) ended (search rules))
     ]
 
-pub returns-in_err-quits-clause-serves : goal.returns-in_err-quits-clause-serves
-returns-in_err-quits-clause-serves g c =
-    let st = relined _ _ _ _ _ _ _ _ _ _ _ c.loop-byte.invariant.stands c.as_slice-else-byte-ne10.ensures.value in
-    let there = came_at c.loop-byte.invariant.before (take c.in-Ok.count c.read.new.buf) c.loop-byte.byte-index c.loop-byte-test.true in
-    let p = err_from_is_err_and c.from_residual-in_err-quits.result c.from_residual-in_err-quits.ensures.1 in
-    rw (p.1, p.2) (line_cut _ _ _ _ _ _ _ _ _ _ _ _ _ _ _ st there (eq-eqb _ _ c.if-byte-ne10.false) c.in_err-quits.ensures.err)
+pub returns-in_err-answer_lines-clause-serves : goal.returns-in_err-answer_lines-clause-serves
+returns-in_err-answer_lines-clause-serves g c =
+    let st = came_more _ _ _ _ _ _ _ _ _ (take c.in-Ok.count c.read.new.buf) _ c.loop.invariant.stands c.in-Ok.ensures.bytes.0 in
+    let p = err_from_is_err_and c.from_residual-in_err-answer_lines.result c.from_residual-in_err-answer_lines.ensures.1 in
+    rw (p.1, p.2) (c.in_err-answer_lines.ensures.cut _ _ _ _ _ st)
 
-pub returns-then-quits-clause-serves : goal.returns-then-quits-clause-serves
-returns-then-quits-clause-serves g c =
-    let st = relined _ _ _ _ _ _ _ _ _ _ _ c.loop-byte.invariant.stands c.as_slice-else-byte-ne10.ensures.value in
-    let there = came_at c.loop-byte.invariant.before (take c.in-Ok.count c.read.new.buf) c.loop-byte.byte-index c.loop-byte-test.true in
-    line_quits _ _ _ _ _ _ _ _ _ _ _ _ _ _ _ st there (eq-eqb _ _ c.if-byte-ne10.false) (sym c.in_ok-quits.ensures.quits ∙ c.if-quits.true) c.in_ok-quits.ensures.ok
+pub returns-then-branch-2-clause-serves : goal.returns-then-branch-2-clause-serves
+returns-then-branch-2-clause-serves g c =
+    let st = came_more _ _ _ _ _ _ _ _ _ (take c.in-Ok.count c.read.new.buf) _ c.loop.invariant.stands c.in-Ok.ensures.bytes.0 in
+    goes_quit _ _ _ _ _ _ _ _ _ _ (c.in_ok-answer_lines.ensures.ok _ _ _ _ _ st) c.if-branch-2.true
 
-pub loop-byte-init : goal.loop-byte-init
-loop-byte-init g c = record {
-  table = c.loop.invariant.table;
-  reader = c.in-Ok.ensures.ok ∙ c.loop.invariant.reader;
-  writer = c.loop.invariant.writer;
-  before = c.loop.invariant.read;
-  stands = came_first _ _ _ _ _ _ _ _ _ (take c.in-Ok.count c.read.new.buf) _ c.loop.invariant.stands c.in-Ok.ensures.bytes.0;
-}
-
-pub loop-byte-preserved : goal.loop-byte-preserved
-loop-byte-preserved g c =
-    let before = c.loop-byte.invariant.before in
+pub loop-preserved : goal.loop-preserved
+loop-preserved g c =
     let bytes = take c.in-Ok.count c.read.new.buf in
-    let same = read_at before bytes c.loop-byte.byte-index c.loop-byte-test.true in
-    elim c.if-byte-ne10.branch [
-      | then-byte-ne10 w ↦
-          rw (w.w-is, w.front-is, w.line-is, w.whole-is) (record {
-            table = c.loop-byte.invariant.table;
-            reader = c.loop-byte.invariant.reader;
-            writer = c.loop-byte.invariant.writer;
-            before = before;
-            stands = rw (sym same) (byte_more _ _ _ _ _ _ _ _ _ _ _ _ c.loop-byte.invariant.stands (differs _ _ w.if-byte-ne10.true) w.keep.ensures);
-          })
-      | else-byte-ne10+in_ok-quits+else-quits w ↦
-          let st = relined _ _ _ _ _ _ _ _ _ _ _ c.loop-byte.invariant.stands w.as_slice-else-byte-ne10.ensures.value in
-          rw (w.w-is, w.front-is, w.line-is, w.whole-is) (record {
-            table = w.in_ok-quits.ensures.table ∙ c.loop-byte.invariant.table;
-            reader = c.loop-byte.invariant.reader;
-            writer = w.in_ok-quits.ensures.calm ∙ c.loop-byte.invariant.writer;
-            before = before;
-            stands = rw (sym same) (line_more _ _ _ _ _ _ _ _ _ _ _ _ _ _ _ st (eq-eqb _ _ w.if-byte-ne10.false) (sym w.in_ok-quits.ensures.quits ∙ w.if-quits.false) w.in_ok-quits.ensures.ok w.clear.ensures);
-          })
-    ]
+    let st = came_more _ _ _ _ _ _ _ _ _ bytes _ c.loop.invariant.stands c.in-Ok.ensures.bytes.0 in
+    record {
+      can_next = tt;
+      is_finite = tt;
+      table = c.in_ok-answer_lines.ensures.table ∙ c.loop.invariant.table;
+      reader = c.in-Ok.ensures.ok ∙ c.loop.invariant.reader;
+      writer = c.in_ok-answer_lines.ensures.calm ∙ c.loop.invariant.writer;
+      read = c.loop.invariant.read ++ bytes;
+      stands = goes_further _ _ _ _ _ _ _ _ _ _ (c.in_ok-answer_lines.ensures.ok _ _ _ _ _ st) c.if-branch-2.false;
+    }
 
 pub returns-in_default-clause-serves : goal.returns-in_default-clause-serves
 returns-in_default-clause-serves g c = search rules

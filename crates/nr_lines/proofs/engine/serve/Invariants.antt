@@ -1,17 +1,7 @@
 -- What came from the source is answered, up to the line that is kept, and neither a read nor a write failed.
-use Rattle.std.proofs.Common.{◌≡◌, ℕ, List, ◌++◌, false, take}
-use Rattle.nr_lines.proofs.EngineLemmas.{Standing}
+use Rattle.std.proofs.Common.{◌≡◌, ℕ, List, false}
+use Rattle.nr_lines.specs.Standing.{Standing}
 use Rattle.nr_lines.proofs.engine.serve.Given as goal
-
-abbrev pub invariant-loop-byte : goal.invariant-loop-byte
-invariant-loop-byte g l = record {
-  table : l.front.table ≡ l.journal;
-  reader : l.r.failed ≡ false;
-  writer : l.w.failed ≡ false;
-  before : List ℕ;
-  stands : Standing l.fn.r.remaining l.r.remaining l.fn.w.contents l.w.contents l.fn.front l.front
-      (before ++ l.bytes) (before ++ take l.byte-index l.bytes) l.line.items l.whole;
-}
 
 abbrev pub invariant-loop : goal.invariant-loop
 invariant-loop g l = record {

@@ -1,0 +1,44 @@
+-- How the line loop stands between two lines.
+use Rattle.std.specs.Prelude.{◌≡◌, ℕ, ◌==◌, Bool, true, false, List, [], ◌∷◌, take, Option, Ok}
+use Rattle.std.specs.List.{concat, slice_split}
+use Rattle.std.specs.Io.KnownBytes.{Appends, Consumes}
+use Rattle.nr_command.specs.Sender.{saturating_count}
+use Rattle.nr_front.specs.Desk.{Desk}
+use Rattle.nr_lines.specs.Engine.{Serves, Turns, has_quit, lines_of, some_count}
+use Rattle.nr_lines.specs.declared.ending.End.TheVariants.{Quit}
+use Rattle.nr_lines.specs.declared.ending.LineEnd.{LineEnd}
+use Rattle.nr_lines.specs.declared.ending.LineEnd.TheVariants.{Read, Write}
+
+-- the lines of a text that end by a line feed
+abbrev pub whole_lines : List ℕ → List (List ℕ)
+whole_lines text = lines_of false text
+
+abbrev pub last_of : List (List ℕ) → List ℕ
+last_of [] = []
+last_of (part ∷ []) = part
+last_of (part ∷ next ∷ more) = last_of (next ∷ more)
+
+-- what follows its last line feed
+abbrev pub rest_of : List ℕ → List ℕ
+rest_of text = last_of (slice_split (λ b. b == 10) text)
+
+-- Of the bytes that came from a source, these were read: their whole lines are answered, none of them quit, and the line
+-- that is kept is what follows them, up to 257 bytes of it.
+pub record Standing (from left old new : Option (List ℕ)) (d d' : Desk) (came read line : List ℕ) (whole : ℕ) : Type 0 where
+  pub texts : List (List ℕ)
+  pub reads : Consumes from left came
+  pub writes : Appends old new (concat texts)
+  pub turns : Turns d (whole_lines read) texts d'
+  pub no_quit : has_quit (whole_lines read) ≡ false
+  pub kept : line ≡ take 257 (rest_of read)
+  pub count : whole ≡ saturating_count (some_count texts)
+
+-- How it goes on when all that came was gone over: it was quit, or it stands behind all of it.
+abbrev pub GoesOn : Option (List ℕ) → Option (List ℕ) → Option (List ℕ) → Option (List ℕ) → Desk → Desk → List ℕ → List ℕ → ℕ → Bool → Type 0
+GoesOn from left old new d d' came line whole true = Serves from left old new d d' (Ok Quit)
+GoesOn from left old new d d' came line whole false = Standing from left old new d d' came came line whole
+
+-- it tells that a write failed
+abbrev pub IsFailedWrite : LineEnd → Type 0
+IsFailedWrite Read = ⊥
+IsFailedWrite (Write whole part) = Unit {0}
