@@ -1,3 +1,2 @@
 pub mod ArgumentsLemmas
-pub mod OpeningLemmas
 pub mod StartingLemmas

@@ -1,5 +1,5 @@
 -- What the program's arguments ask for.
-use Rattle.std.specs.Prelude.{◌≡◌, ℕ, ◌+◌, ◌-◌, ◌==◌, ◌&&◌, not, nat_lt, Bool, List, [], ◌∷◌, Option, Some, None, codes, option_map, option_and_then, true, false, if◌then◌else◌}
+use Rattle.std.specs.Prelude.{◌≡◌, ℕ, ◌==◌, List, [], ◌∷◌, Option, Some, None, codes, option_map, option_and_then, true, false, if◌then◌else◌}
 use Rattle.std.specs.Result.{result_ok}
 use Rattle.std.specs.Str.{bytes_eq}
 use Rattle.clap.specs.Words.{App, Row, Rule, Text, fault_of, first_of, new_app, new_rule, subcommand_of, with_rule, with_subcommand}
@@ -7,8 +7,9 @@ use Rattle.clap.specs.Simple.{on_top}
 use Rattle.clap.specs.declared.error.kind.ErrorKind.{ErrorKind}
 use Rattle.clap.specs.declared.error.kind.ErrorKind.TheVariants as kind
 use Rattle.nr_command.specs.Command.{number_of}
-use Rattle.netrev.specs.declared.arguments.TheConstants.{MOST_FRONTS, MOST_JOURNAL, MOST_PORT, MOST_WORKERS, USUAL_JOURNAL}
-use Rattle.netrev.specs.declared.arguments.Sharing.{Sharing}
+use Rattle.nr_programs.specs.Sharing.{is_in_range}
+use Rattle.nr_programs.specs.declared.sharing.Sharing.{Sharing}
+use Rattle.netrev.specs.declared.arguments.TheConstants.{USUAL_JOURNAL}
 use Rattle.netrev.specs.declared.arguments.Program.{Program}
 use Rattle.netrev.specs.declared.arguments.Program.TheVariants as program
 use Rattle.netrev.specs.declared.arguments.ArgumentsFault.{ArgumentsFault}
@@ -48,14 +49,6 @@ number_or usual (Some text) = result_ok (number_of text)
 
 abbrev pub number_in : Text → Option ℕ → List Row → Option ℕ
 number_in name usual rows = number_or usual (first_of name rows)
-
--- each number is in its range, and so are the ports of all fronts
-abbrev pub is_in_range : Sharing → Bool
-is_in_range s =
-    not (nat_lt s.port 1) && not (nat_lt s.fronts 1) && not (nat_lt MOST_FRONTS s.fronts)
-    && not (nat_lt MOST_PORT s.port) && not (nat_lt MOST_PORT (s.port + s.fronts - 1))
-    && not (nat_lt s.workers 1) && not (nat_lt MOST_WORKERS s.workers)
-    && not (nat_lt s.journal 1) && not (nat_lt MOST_JOURNAL s.journal)
 
 abbrev pub if_in_range : Sharing → Option Sharing
 if_in_range s = if is_in_range s then Some s else None

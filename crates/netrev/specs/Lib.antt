@@ -1,5 +1,2 @@
 pub mod Arguments
-pub mod Opening
-pub mod Run
-pub mod Serving
 pub mod Starting

@@ -3,15 +3,15 @@ use Rattle.std.specs.Prelude.{◌≡◌, ℕ, true, List, take, codes}
 use Rattle.std.specs.Io.KnownBytes.{Appends}
 use Rattle.std.specs.declared.io.ErrorKind.{ErrorKind}
 use Rattle.std.specs.declared.io.ErrorKind.TheVariants as kind
-use Rattle.netrev.specs.Opening.{fault_line}
 use Rattle.nr_command.specs.Sink.{Outgoing}
 use Rattle.nr_lines.specs.Streams.{Incoming}
-use Rattle.netrev.specs.Arguments.{is_in_range}
-use Rattle.netrev.specs.Run.{Checks, Prints, Runs}
-use Rattle.netrev.specs.Serving.{ServesAll}
-use Rattle.netrev.specs.declared.opening.OpenFault.TheVariants as faults
-use Rattle.netrev.specs.declared.run.ExitStatus.{ExitStatus}
-use Rattle.netrev.specs.declared.run.ExitStatus.TheVariants as statuses
+use Rattle.nr_programs.specs.Opening.{fault_line}
+use Rattle.nr_programs.specs.Run.{Checks, Prints, Runs}
+use Rattle.nr_programs.specs.Serving.{ServesAll}
+use Rattle.nr_programs.specs.Sharing.{is_in_range}
+use Rattle.nr_programs.specs.declared.opening.OpenFault.TheVariants as faults
+use Rattle.nr_programs.specs.declared.run.ExitStatus.{ExitStatus}
+use Rattle.nr_programs.specs.declared.run.ExitStatus.TheVariants as statuses
 use Rattle.netrev.specs.declared.starting.Unstarted.{Unstarted}
 use Rattle.netrev.specs.declared.starting.Unstarted.TheVariants as unstarted
 use Rattle.netrev.specs.declared.arguments.Program.{Program}

@@ -4,64 +4,23 @@ ghost use Rattle.std.specs.Prelude.{◌≡◌, ℕ, List, [], ◌∷◌, None, I
 ghost use Rattle.clap.specs.Values.{kind_of};
 ghost use Rattle.clap.specs.Words.{app_of, found_of, rows_of, subcommand_rows_of, with_rule};
 ghost use Rattle.clap.specs.declared.builder.command.Command.TheViews.{out-Command};
-ghost use Rattle.netrev.specs.Arguments.{Ask, Asks, IsNamed, IsPlain, IsArgumentsFault, fault_of_kind, file_of, file_program, is_in_range, netrev, number_in, option_rule, serve_program, sharing_in};
+ghost use Rattle.nr_programs.specs.Sharing.{is_in_range};
+ghost use Rattle.netrev.specs.Arguments.{Ask, Asks, IsNamed, IsPlain, IsArgumentsFault, fault_of_kind, file_of, file_program, netrev, number_in, option_rule, serve_program, sharing_in};
 ghost use Rattle.netrev.specs.Starting.{IsInRange};
 ghost use Rattle.netrev.specs.declared.arguments.ArgumentsFault.TheVariants as faults;
 
 use clap::error::ErrorKind;
 use clap::{Arg, ArgMatches, Command, Error};
 use nr_command::number;
+use nr_programs::Sharing;
 use std::alloc::{AllocError, Global};
 
 /// How the program is called.
 pub const USAGE: &str =
     "usage: netrev run FILE\n       netrev check FILE\n       netrev serve FILE --port P [--fronts N] [--workers W] [--journal H] [--connections C]\n";
 
-/// The greatest port.
-pub const MOST_PORT: u32 = 65_535;
-
-/// The most fronts that share a session.
-pub const MOST_FRONTS: u32 = 64;
-
-/// The most threads that search for one front.
-pub const MOST_WORKERS: u32 = 16;
-
-/// How many words a session's journal has room for at most, and where the number isn't given.
-pub const MOST_JOURNAL: u32 = 1_000_000;
-
+/// How many words a session's journal has room for, where the number isn't given.
 pub const USUAL_JOURNAL: u32 = 4_096;
-
-/// What a session that is shared is to be like.
-#[derive(Clone, Copy, Debug, PartialEq, Eq)]
-pub struct Sharing {
-    /// The port of the first front, from 1. The others' are the next ones, up to `MOST_PORT`.
-    pub port: u32,
-    /// How many fronts there are, from 1 to `MOST_FRONTS`.
-    pub fronts: u32,
-    /// How many threads search for each front, from 1 to `MOST_WORKERS`.
-    pub workers: u32,
-    /// How many commands the session has room for, from 1 to `MOST_JOURNAL`.
-    pub journal: u32,
-    /// After how many connections each front ends; 0 where it never does.
-    pub connections: u32,
-}
-
-impl Sharing {
-    /// Whether each number is in its range.
-    pub fn is_in_range(&self) -> bool
-        ensures { result ≡ is_in_range self.now }
-    {
-        1 <= self.port
-            && 1 <= self.fronts
-            && self.fronts <= MOST_FRONTS
-            && self.port <= MOST_PORT
-            && self.port + self.fronts - 1 <= MOST_PORT
-            && 1 <= self.workers
-            && self.workers <= MOST_WORKERS
-            && 1 <= self.journal
-            && self.journal <= MOST_JOURNAL
-    }
-}
 
 /// Which program is asked for, and on which file.
 #[derive(Clone, Copy, Debug, PartialEq, Eq)]

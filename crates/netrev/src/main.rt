@@ -7,30 +7,15 @@
 
 pub mod arguments;
 mod loopback;
-#[cfg(test)]
-mod machine_tests;
-#[cfg(test)]
-mod mark_tests;
-pub mod opening;
-#[cfg(test)]
-mod playing;
-pub mod run;
-#[cfg(test)]
-mod run_tests;
-pub mod serving;
-#[cfg(test)]
-mod size_tests;
 pub mod starting;
-#[cfg(test)]
-mod streams;
 
 use crate::arguments::read_arguments;
 use crate::loopback::Loopback;
-use crate::run::ExitStatus;
 use crate::starting::{Unstarted, start};
 use nr_command::Sink;
 use nr_lines::Source;
 use nr_plain::PlainWorld as World;
+use nr_programs::ExitStatus;
 use std::process::ExitCode;
 use std::sync::Wait;
 use std::thread::Threads;

@@ -3,15 +3,13 @@
 ghost use Rattle.std.specs.Prelude.{◌≡◌, false, IfOk, IfErr};
 ghost use Rattle.std.specs.IoError.{error_kind};
 ghost use Rattle.netrev.specs.Starting.{IsInRange, Plays, Tells, unstarted_of_arguments, unstarted_by};
-ghost use Rattle.netrev.specs.declared.run.ExitStatus.{ExitStatus as Status};
+ghost use Rattle.nr_programs.specs.declared.run.ExitStatus.{ExitStatus as Status};
 ghost use Rattle.netrev.specs.declared.starting.Unstarted.TheVariants as reasons;
 
 use crate::arguments::{ArgumentsFault, Program, USAGE};
-use crate::opening::OpenFault;
-use crate::run::{ExitStatus, check_bytes, refuse, run_bytes};
-use crate::serving::serve_bytes;
 use nr_command::{Sink, send};
 use nr_lines::Source;
+use nr_programs::{ExitStatus, OpenFault, check_bytes, refuse, run_bytes, serve_bytes};
 use nr_rev::Worlds;
 use nr_serving::Ports;
 use std::alloc::{AllocError, Global};

@@ -13,6 +13,3 @@ pub use crate::journal::Journal;
 pub use crate::pass::{Offered, Pass};
 pub use crate::rule::{BYTE_VALUES, GREATEST_OPCODE, InOneOrder, MOST_PASSES, MOST_WORDS};
 pub use crate::seat::{NoTag, Seat};
-
-#[cfg(test)]
-mod tests;

@@ -3,7 +3,7 @@
 use nr_recording::Recording;
 use nr_rev::{Limits, Step, Worlds};
 use nr_snaps::{Film, Snaps};
-use std::alloc::Global;
+use std::alloc::{AllocError, Global};
 
 pub(crate) const LIMITS: Limits = Limits {
     goroutines: 1,
@@ -12,19 +12,29 @@ pub(crate) const LIMITS: Limits = Limits {
     buffer: 1,
 };
 
-/// The film of these steps, with a copy each 64 of them.
-pub fn film_of<W: Worlds + Drop>(alloc: Global, steps: Vec<Step>) -> Result<Film<W>, &'static str> {
-    let recording = Recording::new(LIMITS, steps).map_err(|_| "no recording")?;
-    Snaps::load(alloc, recording, 64).map_err(|_| "no film")
+/// A socket with room for a byte a side is opened.
+pub const OPEN: Step = Step::SockOpen {
+    read_capacity: 1,
+    write_capacity: 1,
+};
+
+/// The film of these steps, with a copy each 64 of them, where they all apply.
+pub fn film_of<W: Worlds + Drop>(alloc: Global, steps: Vec<Step>) -> Option<Film<W>> {
+    let recording = Recording::new(LIMITS, steps).ok()?;
+    Snaps::load(alloc, recording, 64).ok()
+}
+
+/// Adds so many steps that set the clock to 1, 2 and so on.
+pub fn add_ticks(steps: &mut Vec<Step>, count: u32) -> Result<(), AllocError> {
+    for time in 1..=i64::from(count) {
+        steps.push(Step::Tick { time })?;
+    }
+    Ok(())
 }
 
 /// A film of so many steps that set the clock to 1, 2 and so on, with a copy each 64 steps.
-pub fn ticking<W: Worlds + Drop>(alloc: Global, count: u32) -> Result<Film<W>, &'static str> {
+pub fn ticking<W: Worlds + Drop>(alloc: Global, count: u32) -> Option<Film<W>> {
     let mut steps = Vec::new(alloc);
-    for time in 1..=i64::from(count) {
-        steps
-            .push(Step::Tick { time })
-            .map_err(|_| "no memory for a step")?;
-    }
+    add_ticks(&mut steps, count).ok()?;
     film_of(alloc, steps)
 }

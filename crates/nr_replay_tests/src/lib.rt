@@ -16,6 +16,6 @@ mod streams;
 #[cfg(test)]
 mod walker;
 
-pub use films::{film_of, ticking};
+pub use films::{OPEN, add_ticks, film_of, ticking};
 pub use observed::Observed;
 pub use streams::{Cup, Drip, Stutter};

@@ -1,11 +1,12 @@
 //! Worlds over lists on real numbers, and with memory refused.
 
-ghost use Rattle.std.specs.Prelude.{◌≡◌, ◌≤◌, length};
+ghost use Rattle.std.specs.Prelude.{◌≡◌, ◌≤◌, IfOk, length};
 ghost use Rattle.nr_rev.specs.Transaction.{LeadsBack};
 ghost use Rattle.nr_rev.specs.WellFormed.{WellFormed};
 ghost use Rattle.nr_rev.specs.World.{World};
 ghost use Rattle.nr_plain.specs.Delta.{PlainBack};
 
+use crate::films::OPEN;
 use arrayvec::ArrayVec;
 use nr_plain::PlainWorld;
 use nr_rev::{
@@ -13,6 +14,7 @@ use nr_rev::{
     transact, undo_all,
 };
 use std::alloc::{AllocError, Global};
+use std::process::Abort;
 use std::test::Fail;
 
 type Delta = <PlainWorld as Reversible>::Delta;
@@ -24,11 +26,6 @@ const LIMITS: Limits = Limits {
     buffer: 16,
 };
 
-const OPEN: Step = Step::SockOpen {
-    read_capacity: 1,
-    write_capacity: 1,
-};
-
 const INCREF: Step = Step::Incref {
     goroutine: 0,
     socket: 0,
@@ -38,6 +35,21 @@ const DECREF: Step = Step::Decref {
     goroutine: 0,
     socket: 0,
 };
+
+/// A world before its first step, with room for little.
+fn little_world(alloc: Global) -> Result<PlainWorld, Refusal>
+    ensures { IfOk result WellFormed }
+{
+    PlainWorld::fresh(alloc, LIMITS)
+}
+
+/// Takes a step, and keeps no way back.
+fn advance(world: &mut PlainWorld, step: &Step) -> Result<Answer, Refusal>
+    requires { WellFormed world.old }
+    ensures { WellFormed world.new }
+{
+    world.advance(step)
+}
 
 /// Applies all the steps or none: whether they apply, how many deltas there are, and the lock word of socket 0 then.
 fn transacted(world: &mut PlainWorld, steps: &[Step]) -> (Result<(), Refusal>, usize, CellValue)
@@ -52,7 +64,7 @@ fn transacted(world: &mut PlainWorld, steps: &[Step]) -> (Result<(), Refusal>, u
 
 #[test]
 fn applies_all_or_none(rt: HostRuntime) -> Result<(), Fail> {
-    let mut world = PlainWorld::fresh(rt.alloc(), LIMITS).map_err(|_| "memory")?;
+    let mut world = little_world(rt.alloc())?;
     assert_eq!(rt;
         transacted(&mut world, &[OPEN, INCREF, DECREF, DECREF]),
         (Err(Refusal::InconsistentLock), 0, CellValue::Absent)
@@ -86,17 +98,17 @@ fn there_and_back(
 
 #[test]
 fn undoes_all(rt: HostRuntime) -> Result<(), Fail> {
-    let mut world = PlainWorld::fresh(rt.alloc(), LIMITS).map_err(|_| "memory")?;
+    let mut world = little_world(rt.alloc())?;
     assert_eq!(rt;
         there_and_back(&mut world, &[OPEN, INCREF, DECREF]),
         Ok((3, CellValue::Number(0), CellValue::Absent))
     );
-    assert_eq!(rt; world.advance(&OPEN), Ok(Answer::Number(0)));
+    assert_eq!(rt; advance(&mut world, &OPEN), Ok(Answer::Number(0)));
     assert_eq!(rt;
         there_and_back(&mut world, &[INCREF]),
         Ok((1, CellValue::Number(8), CellValue::Number(0)))
     );
-    assert_eq!(rt; world.advance(&INCREF), Ok(Answer::Yes));
+    assert_eq!(rt; advance(&mut world, &INCREF), Ok(Answer::Yes));
     assert_eq!(rt;
         there_and_back(&mut world, &[DECREF]),
         Ok((1, CellValue::Number(0), CellValue::Number(8)))
@@ -135,22 +147,29 @@ fn lead(world: &mut PlainWorld, steps: &[Step]) -> Result<(), Refusal>
     ensures { WellFormed world.new }
 {
     for step in steps {
-        world.advance(step)?;
+        advance(world, step)?;
     }
     Ok(())
 }
 
 /// Takes the steps, and one more of goroutine 0.
-fn last_of(alloc: Global, steps: &[Step], last: &Step) -> Result<Locking, Refusal> {
-    let mut world = PlainWorld::fresh(alloc, LIMITS)?;
-    lead(&mut world, steps)?;
+fn lead_and_lock(world: &mut PlainWorld, steps: &[Step], last: &Step) -> Result<Locking, Refusal>
+    requires { WellFormed world.old }
+{
+    lead(world, steps)?;
     let before = world.cell(Cell::Lock(0));
     Ok(Locking {
         before,
-        answer: world.advance(last)?,
+        answer: advance(world, last)?,
         after: world.cell(Cell::Lock(0)),
         left: world.cell(Cell::Goroutine(0)),
     })
+}
+
+/// Takes them from the beginning.
+fn last_of(alloc: Global, steps: &[Step], last: &Step) -> Result<Locking, Refusal> {
+    let mut world = little_world(alloc)?;
+    lead_and_lock(&mut world, steps, last)
 }
 
 #[test]
@@ -207,23 +226,33 @@ fn unlocking_changes_a_lock_word_as_in_go(rt: HostRuntime) {
     );
 }
 
-/// Takes so many references to socket 0.
+/// Opens socket 0, and takes so many references to it.
 fn refer(world: &mut PlainWorld, count: u32) -> Result<(), Refusal>
     requires { WellFormed world.old }
     ensures { WellFormed world.new }
 {
+    advance(world, &OPEN)?;
     for _ in 0..count {
-        world.advance(&INCREF)?;
+        advance(world, &INCREF)?;
     }
     Ok(())
 }
 
 /// The lock word of a socket with so many references, and what one more answers.
+fn refer_once_more(
+    world: &mut PlainWorld,
+    count: u32,
+) -> Result<(CellValue, Result<Answer, Refusal>), Refusal>
+    requires { WellFormed world.old }
+{
+    refer(world, count)?;
+    Ok((world.cell(Cell::Lock(0)), advance(world, &INCREF)))
+}
+
+/// That, from the beginning.
 fn referred(alloc: Global, count: u32) -> Result<(CellValue, Result<Answer, Refusal>), Refusal> {
-    let mut world = PlainWorld::fresh(alloc, LIMITS)?;
-    world.advance(&OPEN)?;
-    refer(&mut world, count)?;
-    Ok((world.cell(Cell::Lock(0)), world.advance(&INCREF)))
+    let mut world = little_world(alloc)?;
+    refer_once_more(&mut world, count)
 }
 
 /// Takes a second where it is proved, and two minutes of `rt try --test`, which wants `--seconds 300` for it.
@@ -268,24 +297,47 @@ fn writing(alloc: Global) -> Result<Step, AllocError> {
     })
 }
 
-/// What the step answers, where a copy that keeps no way back answers the same.
-fn answer_of(world: &mut PlainWorld, step: &Step) -> Result<Answer, &'static str>
+/// Bytes come and go.
+fn traffic(alloc: Global) -> Result<[Step; 5], AllocError> {
+    Ok([
+        OPEN_FOR_FOUR,
+        arriving(alloc)?,
+        writing(alloc)?,
+        READ,
+        DRAIN,
+    ])
+}
+
+/// Takes a step, and lets its way back go.
+fn apply(world: &mut PlainWorld, step: &Step) -> Result<Answer, Refusal>
     requires { WellFormed world.old }
     ensures { WellFormed world.new }
 {
-    let mut copy = world.try_copy().map_err(|_| "no memory for a copy")?;
-    let advanced = copy.advance(step);
-    let applied = world.apply(step).map(|left| left.0);
-    if advanced != applied {
-        return Err("the copy answers otherwise");
-    }
-    applied.map_err(|_| "refused")
+    let (answer, _) = world.apply(step)?;
+    Ok(answer)
 }
 
-/// What a buffer of socket 0 holds.
-fn held(world: &PlainWorld, side: Side) -> Result<Bytes, &'static str> {
-    let held = world.bytes(0, side).map_err(|_| "no memory for bytes")?;
-    held.ok_or("no such socket")
+/// What a copy that keeps no way back answers.
+fn answer_of_a_copy(world: &PlainWorld, step: &Step) -> Result<Answer, Refusal>
+    requires { WellFormed world.now }
+{
+    let mut copy = world.try_copy()?;
+    advance(&mut copy, step)
+}
+
+/// What the step answers, where a copy answers the same.
+fn answer_of(world: &mut PlainWorld, step: &Step) -> Option<Answer>
+    requires { WellFormed world.old }
+    ensures { WellFormed world.new }
+{
+    let told = answer_of_a_copy(world, step).ok()?;
+    let answer = apply(world, step).ok()?;
+    if answer == told { Some(answer) } else { None }
+}
+
+/// What a buffer of socket 0 holds, where there is one, and memory to show it.
+fn held(world: &PlainWorld, side: Side) -> Option<Bytes> {
+    world.bytes(0, side).ok()?
 }
 
 /// Undoes the last of the deltas that lead back from the world.
@@ -298,51 +350,79 @@ fn undo_last(world: &mut PlainWorld, deltas: &mut ArrayVec<Delta, 8>)
     }
 }
 
-/// The input of socket 0 after three steps, the last ones of which were undone, so many.
-fn undone(alloc: Global, steps: &[Step; 3], count: u32) -> Result<Bytes, &'static str> {
-    let mut world = PlainWorld::fresh(alloc, LIMITS).map_err(|_| "no memory for a world")?;
+/// Takes three steps and undoes the last ones of them, so many.
+fn lead_and_return(world: &mut PlainWorld, steps: &[Step; 3], count: u32) -> Result<(), Refusal>
+    requires { WellFormed world.old }
+{
     let mut deltas = ArrayVec::new();
-    transact(&mut world, steps, &mut deltas).map_err(|_| "refused")?;
+    transact(world, steps, &mut deltas)?;
     for _ in 0..count {
-        undo_last(&mut world, &mut deltas);
+        undo_last(world, &mut deltas);
     }
-    held(&world, Side::Read)
+    Ok(())
+}
+
+/// The input of socket 0 then, where there is one.
+fn input_behind(
+    world: &mut PlainWorld,
+    steps: &[Step; 3],
+    count: u32,
+) -> Result<Option<Bytes>, Refusal>
+    requires { WellFormed world.old }
+{
+    lead_and_return(world, steps, count)?;
+    world.bytes(0, Side::Read)
+}
+
+/// That, from the beginning.
+fn undone(alloc: Global, steps: &[Step; 3], count: u32) -> Result<Option<Bytes>, Refusal> {
+    let mut world = little_world(alloc)?;
+    input_behind(&mut world, steps, count)
 }
 
 #[test]
 fn undoes_one_by_one(rt: HostRuntime) -> Result<(), Fail> {
     let steps = [OPEN_FOR_FOUR, arriving(rt.alloc())?, READ];
     for (count, input) in [(0, b"i".as_slice()), (1, b"hi"), (2, b"")] {
-        let held = undone(rt.alloc(), &steps, count)?;
+        let held = undone(rt.alloc(), &steps, count)?.ok_or("no such socket")?;
         assert_eq!(rt; held.as_slice(), input);
     }
-    assert_eq!(rt; undone(rt.alloc(), &steps, 3).err(), Some("no such socket"));
+    assert!(rt; undone(rt.alloc(), &steps, 3)?.is_none());
     Ok(())
 }
 
-/// Takes the steps: what the last answers, and what the buffers of socket 0 hold then, input first.
-fn moved(alloc: Global, steps: &[Step]) -> Result<(Answer, Bytes, Bytes), &'static str> {
-    let mut world = PlainWorld::fresh(alloc, LIMITS).map_err(|_| "no memory for a world")?;
+/// Takes the steps: what the last answers, where copies answer the same as they.
+fn last_answer_of(world: &mut PlainWorld, steps: &[Step]) -> Option<Answer>
+    requires { WellFormed world.old }
+{
     let mut answer = Answer::Done;
     for step in steps {
-        answer = answer_of(&mut world, step)?;
+        answer = answer_of(world, step)?;
     }
-    Ok((
-        answer,
-        held(&world, Side::Read)?,
-        held(&world, Side::Write)?,
-    ))
+    Some(answer)
+}
+
+/// What the last of some steps answers, and what the buffers of socket 0 hold then.
+#[derive(Drop)]
+struct Buffers {
+    answer: Option<Answer>,
+    input: Option<Bytes>,
+    output: Option<Bytes>,
+}
+
+/// Takes the steps from the beginning.
+fn moved(alloc: Global, steps: &[Step]) -> Result<Buffers, Refusal> {
+    let mut world = little_world(alloc)?;
+    Ok(Buffers {
+        answer: last_answer_of(&mut world, steps),
+        input: held(&world, Side::Read),
+        output: held(&world, Side::Write),
+    })
 }
 
 #[test]
 fn moves_bytes(rt: HostRuntime) -> Result<(), Fail> {
-    let steps = [
-        OPEN_FOR_FOUR,
-        arriving(rt.alloc())?,
-        writing(rt.alloc())?,
-        READ,
-        DRAIN,
-    ];
+    let steps = traffic(rt.alloc())?;
     for (count, answer, input, output) in [
         (1, Answer::Number(0), b"".as_slice(), b"".as_slice()),
         (2, Answer::Done, b"hi", b""),
@@ -350,22 +430,28 @@ fn moves_bytes(rt: HostRuntime) -> Result<(), Fail> {
         (4, Answer::Got(1), b"i", b"yo"),
         (5, Answer::Done, b"i", b""),
     ] {
-        let (last, read, written) = moved(rt.alloc(), steps.get(..count).ok_or("no such step")?)?;
-        assert_eq!(rt; last, answer);
-        assert_eq!(rt; read.as_slice(), input);
-        assert_eq!(rt; written.as_slice(), output);
+        let steps = steps.get(..count).ok_or("no such step")?;
+        let moved = moved(rt.alloc(), steps)?;
+        assert_eq!(rt; moved.answer, Some(answer));
+        assert_eq!(rt; moved.input.ok_or("no socket")?.as_slice(), input);
+        assert_eq!(rt; moved.output.ok_or("no socket")?.as_slice(), output);
     }
     Ok(())
 }
 
+/// Whether there is no socket 1, by its bytes, and whether nobody is queued at socket 0.
+fn missing_and_empty(world: &PlainWorld) -> Result<(bool, bool), Refusal> {
+    let bytes = world.bytes(1, Side::Read)?;
+    let queue = world.queue(0, Side::Read)?;
+    let is_empty = matches!(&queue, Some(queue) if queue.as_slice().is_empty());
+    Ok((bytes.is_none(), is_empty))
+}
+
 #[test]
 fn shows_what_is_missing_or_empty(rt: HostRuntime) -> Result<(), Fail> {
-    let mut world = PlainWorld::fresh(rt.alloc(), LIMITS).map_err(|_| "memory")?;
-    assert_eq!(rt; world.advance(&OPEN), Ok(Answer::Number(0)));
-    let bytes = world.bytes(1, Side::Read).map_err(|_| "memory")?;
-    assert!(rt; bytes.is_none());
-    let queue = world.queue(0, Side::Read).map_err(|_| "memory")?;
-    assert!(rt; queue.ok_or("absent")?.as_slice().is_empty());
+    let mut world = little_world(rt.alloc())?;
+    assert_eq!(rt; advance(&mut world, &OPEN), Ok(Answer::Number(0)));
+    assert_eq!(rt; missing_and_empty(&world), Ok((true, true)));
     Ok(())
 }
 
@@ -377,40 +463,42 @@ fn lengths(world: &PlainWorld) -> (CellValue, CellValue)
 }
 
 /// What the step answers, at once or, where it was refused memory, which changed nothing, the next time.
-fn answer_in_two_tries(world: &mut PlainWorld, step: &Step) -> Result<Answer, &'static str>
+fn answer_in_two_tries(world: &mut PlainWorld, step: &Step) -> Result<Answer, Refusal>
     requires { WellFormed world.old }
     ensures { WellFormed world.new }
 {
     let before = lengths(world);
-    match world.apply(step) {
-        Ok((answer, _)) => return Ok(answer),
-        Err(Refusal::Memory) => {}
-        Err(_) => return Err("refused"),
+    match apply(world, step) {
+        Err(Refusal::Memory) if lengths(world) == before => apply(world, step),
+        answered => answered,
     }
-    if lengths(world) != before {
-        return Err("changed where memory was refused");
+}
+
+/// Takes the steps of the traffic, each in two tries.
+fn take_in_two_tries(rt: &impl Abort, world: &mut PlainWorld, traffic: &[Step; 5])
+    requires { WellFormed world.old }
+{
+    let [open, arrive, write, read, drain] = traffic;
+    for (step, answer) in [
+        (open, Answer::Number(0)),
+        (arrive, Answer::Done),
+        (write, Answer::Put(2)),
+        (read, Answer::Got(1)),
+        (drain, Answer::Done),
+    ] {
+        assert_eq!(rt; answer_in_two_tries(world, step), Ok(answer));
     }
-    let (answer, _) = world.apply(step).map_err(|_| "refused twice")?;
-    Ok(answer)
 }
 
 /// Says something of a refusal only with an allocation refused: `rt try --test --fail-alloc N`.
 #[test]
 fn goes_on_where_memory_was_refused(rt: HostRuntime) -> Result<(), Fail> {
-    let Ok(mut world) = PlainWorld::fresh(rt.alloc(), LIMITS) else {
+    let Ok(steps) = traffic(rt.alloc()) else {
         return Ok(());
     };
-    let (Ok(arriving), Ok(writing)) = (arriving(rt.alloc()), writing(rt.alloc())) else {
+    let Ok(mut world) = little_world(rt.alloc()) else {
         return Ok(());
     };
-    for (step, answer) in [
-        (OPEN_FOR_FOUR, Answer::Number(0)),
-        (arriving, Answer::Done),
-        (writing, Answer::Put(2)),
-        (READ, Answer::Got(1)),
-        (DRAIN, Answer::Done),
-    ] {
-        assert_eq!(rt; answer_in_two_tries(&mut world, &step), Ok(answer));
-    }
+    take_in_two_tries(&rt, &mut world, &steps);
     Ok(())
 }

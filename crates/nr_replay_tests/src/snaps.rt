@@ -1,6 +1,6 @@
 //! Films over `PlainWorld`.
 
-use crate::films::{LIMITS, ticking};
+use crate::films::{LIMITS, add_ticks, ticking};
 use nr_plain::PlainWorld;
 use nr_recording::Recording;
 use nr_rev::{Cell, CellValue, Refusal, Step, Worlds};
@@ -9,21 +9,12 @@ use std::alloc::Global;
 use std::test::Fail;
 
 /// Why there is no film of 70 steps that set the clock to 1, 2 and so on, and one that sets it back to 69.
-fn fault_of_the_last(alloc: Global) -> Result<LoadFault, &'static str> {
+fn fault_of_the_last(alloc: Global) -> Option<LoadFault> {
     let mut steps = Vec::new(alloc);
-    for time in 1..71 {
-        steps
-            .push(Step::Tick { time })
-            .map_err(|_| "no memory for a step")?;
-    }
-    steps
-        .push(Step::Tick { time: 69 })
-        .map_err(|_| "no memory for a step")?;
-    let recording = Recording::new(LIMITS, steps).map_err(|_| "no recording")?;
-    match Snaps::load::<PlainWorld>(alloc, recording, 64) {
-        Ok(_) => Err("loaded"),
-        Err(fault) => Ok(fault),
-    }
+    add_ticks(&mut steps, 70).ok()?;
+    steps.push(Step::Tick { time: 69 }).ok()?;
+    let recording = Recording::new(LIMITS, steps).ok()?;
+    Snaps::load::<PlainWorld>(alloc, recording, 64).err()
 }
 
 /// The clock of the film's copy at a position, or of the nearest one below it.
@@ -36,7 +27,7 @@ fn clock_below(film: &Film<PlainWorld>, n: usize) -> Option<CellValue> {
 
 #[test]
 fn a_film_has_a_copy_at_its_end(rt: HostRuntime) -> Result<(), Fail> {
-    let film = ticking::<PlainWorld>(rt.alloc(), 128)?;
+    let film = ticking::<PlainWorld>(rt.alloc(), 128).ok_or("no film")?;
     assert_eq!(rt; (film.len(), film.every()), (128, 64));
     assert!(rt; film.step(127).is_some() && film.step(128).is_none());
     for (n, time) in [(0, 0), (63, 0), (64, 64), (127, 64), (128, 128)] {
@@ -51,7 +42,7 @@ fn a_film_has_a_copy_at_its_end(rt: HostRuntime) -> Result<(), Fail> {
 
 #[test]
 fn a_refused_step_is_told_with_its_reason(rt: HostRuntime) -> Result<(), Fail> {
-    let fault = fault_of_the_last(rt.alloc())?;
+    let fault = fault_of_the_last(rt.alloc()).ok_or("no fault")?;
     assert_eq!(rt;
         fault,
         LoadFault::Refused {

@@ -62,7 +62,7 @@ impl Write for Cup {
 #[derive(Drop)]
 pub struct Stutter<S> {
     pub stream: S,
-    pub is_turn: bool,
+    is_turn: bool,
 }
 
 impl<S> Stutter<S> {

@@ -20,12 +20,12 @@ fn copies(film: &Film<Observed>) -> u32 {
 
 /// Goes to a position that the film has: what it took, as it is told and as the worlds counted it, and how many deltas
 /// are kept.
-fn go(walker: &mut Walker<Observed>, n: usize) -> Result<(Moved, Moved, usize), &'static str> {
+fn go(walker: &mut Walker<Observed>, n: usize) -> Option<(Moved, Moved, usize)> {
     if n > walker.film().len() {
-        return Err("no such position");
+        return None;
     }
     let (before, copied) = (walker.world().moves(), copies(walker.film()));
-    let told = walker.goto(n).map_err(|_| "no memory to go")?;
+    let told = walker.goto(n).ok()?;
     let made = copies(walker.film()).wrapping_sub(copied);
     let (applies, undos) = walker.world().moves();
     // a copy begins to count anew
@@ -35,13 +35,13 @@ fn go(walker: &mut Walker<Observed>, n: usize) -> Result<(Moved, Moved, usize), 
         undos: undos.wrapping_sub(since.1) as usize,
         copies: made as usize,
     };
-    Ok((told, counted, walker.kept()))
+    Some((told, counted, walker.kept()))
 }
 
 #[test]
 fn a_walk_takes_what_it_tells(rt: HostRuntime) -> Result<(), Fail> {
-    let film = ticking(rt.alloc(), 192)?;
-    let mut walker = Walker::new(rt.alloc(), &film, 32).map_err(|_| "no memory")?;
+    let film = ticking(rt.alloc(), 192).ok_or("no film")?;
+    let mut walker = Walker::new(rt.alloc(), &film, 32)?;
     for (n, applies, undos, copies, kept) in [
         (40, 40, 0, 0, 32),
         (20, 0, 20, 0, 12),
@@ -57,7 +57,7 @@ fn a_walk_takes_what_it_tells(rt: HostRuntime) -> Result<(), Fail> {
             undos,
             copies,
         };
-        let (told, counted, left) = go(&mut walker, n)?;
+        let (told, counted, left) = go(&mut walker, n).ok_or("it can't go there")?;
         assert!(rt; told == moved && counted == moved && left == kept);
     }
     assert_eq!(rt; walker.world().cell(Cell::Clock), CellValue::Time(191));

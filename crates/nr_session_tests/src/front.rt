@@ -9,7 +9,7 @@ use nr_journal::{Journal, Pass};
 use nr_plain::PlainWorld;
 use nr_replay_tests::ticking;
 use nr_snaps::Film;
-use std::alloc::Global;
+use std::alloc::{AllocError, Global};
 use std::cmp::Ordering;
 use std::num::NonZeroU32;
 use std::test::*;
@@ -83,7 +83,7 @@ fn ask_all<R: Threads + Sync>(
     one: &mut Ticking<'_, R>,
     other: &mut Ticking<'_, R>,
     calls: &[(User, Call)],
-) -> Result<Vec<Answered>, &'static str>
+) -> Result<Vec<Answered>, AllocError>
     requires { (one.old.table ≡ journal.now) × (other.old.table ≡ journal.now) }
     ensures { (one.new.table ≡ journal.now) × (other.new.table ≡ journal.now) }
 {
@@ -93,7 +93,7 @@ fn ask_all<R: Threads + Sync>(
             User::One => ask(one, journal, *call),
             User::Other => ask(other, journal, *call),
         };
-        answers.push(answer).map_err(|_| "no memory for an answer")?;
+        answers.push(answer)?;
     }
     Ok(answers)
 }
@@ -115,14 +115,12 @@ fn end(
     mut one: Pass,
     mut other: Pass,
     mut third: Pass,
-) -> Result<Ended, &'static str>
+) -> Result<Ended, AllocError>
     requires { (one.table ≡ journal.now) × (other.table ≡ journal.now) × (third.table ≡ journal.now) }
 {
     let behind = journal.meet(&mut third, &mut one);
     let met = (behind, journal.meet(&mut one, &mut other));
-    let words = journal
-        .finish(alloc, &mut third)
-        .map_err(|_| "no memory for the words")?;
+    let words = journal.finish(alloc, &mut third)?;
     Ok(Ended {
         seen: (one.seen(), other.seen()),
         met,
@@ -130,20 +128,33 @@ fn end(
     })
 }
 
-/// Two fronts that share a journal of so many words, over nine steps: what they answer, and how it ends.
+/// Two fronts that share a journal of so many words: what they answer, and how it ends.
+fn play_over<R: Threads + Sync>(
+    rt: &R,
+    alloc: Global,
+    film: &Film<PlainWorld>,
+    words: usize,
+    calls: &[(User, Call)],
+) -> Option<(Vec<Answered>, Ended)>
+    requires { (1 ≤ words) × (words ≤ 1000000) }
+{
+    let (journal, mut one, mut other, third) = share(rt, alloc, words, film).ok()?;
+    let answers = ask_all(alloc, &journal, &mut one, &mut other, calls);
+    let ended = end(alloc, &journal, one.end(), other.end(), third);
+    Some((answers.ok()?, ended.ok()?))
+}
+
+/// That, over nine steps.
 fn play<R: Threads + Sync>(
     rt: &R,
     alloc: Global,
     words: usize,
     calls: &[(User, Call)],
-) -> Result<(Vec<Answered>, Ended), &'static str>
+) -> Option<(Vec<Answered>, Ended)>
     requires { (1 ≤ words) × (words ≤ 1000000) }
 {
     let film = ticking(alloc, 9)?;
-    let (journal, mut one, mut other, third) = share(rt, alloc, words, &film)?;
-    let answers = ask_all(alloc, &journal, &mut one, &mut other, calls)?;
-    let ended = end(alloc, &journal, one.end(), other.end(), third)?;
-    Ok((answers, ended))
+    play_over(rt, alloc, &film, words, calls)
 }
 
 fn three_steps() -> Call {
@@ -168,7 +179,7 @@ fn a_command_counts_at_its_place(rt: HostRuntime) -> Result<(), Fail> {
         (User::Other, Call::Look),
         (User::One, Call::Resume),
     ];
-    let (answers, ended) = play(&rt, rt.alloc(), 4, calls.as_slice())?;
+    let (answers, ended) = play(&rt, rt.alloc(), 4, calls.as_slice()).ok_or("not played")?;
     let wanted = [
         Answered::At(3),
         Answered::At(2),
@@ -190,7 +201,7 @@ fn the_other_order_has_other_replies(rt: HostRuntime) -> Result<(), Fail> {
         (User::One, three_steps()),
         (User::Other, Call::Look),
     ];
-    let (answers, ended) = play(&rt, rt.alloc(), 4, calls.as_slice())?;
+    let (answers, ended) = play(&rt, rt.alloc(), 4, calls.as_slice()).ok_or("not played")?;
     let wanted = [Answered::AtStart, Answered::At(3), stands_at(3)];
     assert_eq!(rt; answers.as_slice(), wanted.as_slice());
     assert_eq!(rt; ended.seen, (2, 2));
@@ -206,7 +217,7 @@ fn a_full_journal_takes_no_command(rt: HostRuntime) -> Result<(), Fail> {
         (User::Other, Call::Look),
         (User::One, one_back()),
     ];
-    let (answers, ended) = play(&rt, rt.alloc(), 1, calls.as_slice())?;
+    let (answers, ended) = play(&rt, rt.alloc(), 1, calls.as_slice()).ok_or("not played")?;
     let wanted = [
         Answered::At(3),
         Answered::Full,
@@ -255,12 +266,12 @@ fn step_and_wait<R: Threads + Sync>(journal: &Journal, mut front: Ticking<'_, R>
 }
 
 /// Two fronts place a hundred commands each, at the same time: how their counts of words compare, and the words.
-fn two_at_once<R: Threads + Send + Sync>(
+fn step_at_once<R: Threads + Send + Sync>(
     rt: &R,
     alloc: Global,
     film: &Film<PlainWorld>,
-) -> Result<(Ordering, Vec<u64>), &'static str> {
-    let (journal, one, other, _) = share(rt, alloc, 4096, film)?;
+) -> Option<(Ordering, Vec<u64>)> {
+    let (journal, one, other, _) = share(rt, alloc, 4096, film).ok()?;
     let shared = &journal;
     let (mut one, mut other) = join(
         rt,
@@ -274,16 +285,19 @@ fn two_at_once<R: Threads + Send + Sync>(
         { step_and_wait(shared, other) },
     );
     let met = journal.meet(&mut one, &mut other);
-    let words = journal
-        .finish(alloc, &mut one)
-        .map_err(|_| "no memory for the words")?;
-    Ok((met, words))
+    let words = journal.finish(alloc, &mut one).ok()?;
+    Some((met, words))
+}
+
+/// That, over three hundred steps.
+fn two_at_once<R: Threads + Send + Sync>(rt: &R, alloc: Global) -> Option<(Ordering, Vec<u64>)> {
+    let film = ticking(alloc, 300)?;
+    step_at_once(rt, alloc, &film)
 }
 
 #[test]
 fn two_threads_place_a_hundred_commands_each(rt: HostRuntime) -> Result<(), Fail> {
-    let film = ticking(rt.alloc(), 300)?;
-    let (met, words) = two_at_once(&rt, rt.alloc(), &film)?;
+    let (met, words) = two_at_once(&rt, rt.alloc()).ok_or("not played")?;
     let first = words.iter().filter(|word| **word / 256 % 256 == 0).count();
     assert_eq!(rt; (met, words.len(), first), (Ordering::Equal, 200, 100));
     Ok(())

@@ -1,10 +1,12 @@
-//! Tests of searches, commands, fronts, the line loop and shared sessions by their public calls.
+//! Tests of the journal, searches, commands, fronts, the line loop and shared sessions by their public calls.
 #![tactic(auto)]
 
 #[cfg(test)]
 mod command;
 #[cfg(test)]
 mod front;
+#[cfg(test)]
+mod journal;
 #[cfg(test)]
 mod lines;
 #[cfg(test)]

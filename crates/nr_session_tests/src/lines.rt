@@ -93,7 +93,7 @@ fn play<R: Wait + Threads + Sync>(
 ) -> Result<(Served, Served, usize), &'static str>
     requires { (1 ≤ words) × (words ≤ 1000000) }
 {
-    let film = ticking::<Observed>(alloc, 9)?;
+    let film = ticking::<Observed>(alloc, 9).ok_or("no film")?;
     let (journal, mut one, mut other, _) = share(rt, alloc, words, &film)?;
     film.snap_below(0).refuse(first.refused);
     let before = serve_script(rt, alloc, first, &mut one, &journal);

@@ -2,23 +2,18 @@
 
 use nr_marks::{Break, Marks};
 use nr_plain::PlainWorld;
-use nr_replay_tests::film_of;
+use nr_replay_tests::{OPEN, add_ticks, film_of};
 use nr_rev::{Cell, Kind, Mode, Side, Step};
 use nr_search::{
     Claims, Direction, Finder, Found, Gate, ManyWorkers, OneWorker, Open, nearest_hit,
 };
 use nr_snaps::Film;
-use std::alloc::Global;
+use std::alloc::{AllocError, Global};
 use std::num::NonZeroU32;
 use std::sync::atomic::AtomicBool;
 use std::sync::atomic::Ordering::SeqCst;
 use std::test::*;
 use std::thread::{Threads, yield_now};
-
-const OPEN: Step = Step::SockOpen {
-    read_capacity: 1,
-    write_capacity: 1,
-};
 
 const POLL: Step = Step::PollOpen {
     goroutine: 0,
@@ -26,21 +21,17 @@ const POLL: Step = Step::PollOpen {
 };
 
 /// A socket and its descriptor are opened.
-fn opening(alloc: Global) -> Result<Vec<Step>, &'static str> {
+fn opening(alloc: Global) -> Result<Vec<Step>, AllocError> {
     let mut steps = Vec::new(alloc);
-    steps.push(OPEN).map_err(|_| "no memory for a step")?;
-    steps.push(POLL).map_err(|_| "no memory for a step")?;
+    steps.push(OPEN)?;
+    steps.push(POLL)?;
     Ok(steps)
 }
 
 /// 192 steps: from the third on they set the clock to 1, 2 and so on.
-fn ticking(alloc: Global) -> Result<Film<PlainWorld>, &'static str> {
-    let mut steps = opening(alloc)?;
-    for time in 1..191 {
-        steps
-            .push(Step::Tick { time })
-            .map_err(|_| "no memory for a step")?;
-    }
+fn ticking(alloc: Global) -> Option<Film<PlainWorld>> {
+    let mut steps = opening(alloc).ok()?;
+    add_ticks(&mut steps, 190).ok()?;
     film_of(alloc, steps)
 }
 
@@ -104,7 +95,7 @@ impl Gate for Turnstile {
 
 #[test]
 fn two_workers_search_at_once(rt: HostRuntime) -> Result<(), Fail> {
-    let film = ticking(rt.alloc())?;
+    let film = ticking(rt.alloc()).ok_or("no film")?;
     for held in [1, 2] {
         let gate = Turnstile {
             held,
@@ -139,7 +130,7 @@ const FOUR: [Option<Found>; 4] = [
 
 #[test]
 fn any_number_of_workers_finds_the_same(rt: HostRuntime) -> Result<(), Fail> {
-    let film = ticking(rt.alloc())?;
+    let film = ticking(rt.alloc()).ok_or("no film")?;
     assert_eq!(rt; four(&OneWorker::<&HostRuntime>::new(), &film), FOUR);
     for workers in [1, 2, 3, 16] {
         let many = crew(&rt, rt.alloc(), workers);
@@ -173,7 +164,7 @@ impl<R: Threads + Sync> Finder for Misled<R> {
 
 #[test]
 fn a_wrong_hint_changes_nothing(rt: HostRuntime) -> Result<(), Fail> {
-    let film = ticking(rt.alloc())?;
+    let film = ticking(rt.alloc()).ok_or("no film")?;
     for workers in [1, 2, 3, 16] {
         for (claimed, hint) in [(0, 0), (0, 1), (0, 2), (1, 9), (2, 9), (3, 9), (1, 0)] {
             let misled = Misled {
@@ -234,11 +225,10 @@ impl Numbers {
 }
 
 /// The film of steps that numbers choose.
-fn chosen(alloc: Global, numbers: &mut Numbers) -> Result<Film<PlainWorld>, &'static str> {
-    let mut steps = opening(alloc)?;
+fn chosen(alloc: Global, numbers: &mut Numbers) -> Option<Film<PlainWorld>> {
+    let mut steps = opening(alloc).ok()?;
     for time in 0..298 {
-        let step = numbers.step(time);
-        steps.push(step).map_err(|_| "no memory for a step")?;
+        steps.push(numbers.step(time)).ok()?;
     }
     film_of(alloc, steps)
 }
@@ -267,7 +257,7 @@ fn several_workers_agree_with_one_at_each_position(rt: HostRuntime) -> Result<()
     let one = OneWorker::<&HostRuntime>::new();
     let mut numbers = Numbers(2026);
     for _ in 0..3 {
-        let film = chosen(rt.alloc(), &mut numbers)?;
+        let film = chosen(rt.alloc(), &mut numbers).ok_or("no film")?;
         let marks = chosen_marks(&mut numbers);
         for workers in [2, 3, 16] {
             let many = crew(&rt, rt.alloc(), workers);
@@ -304,7 +294,7 @@ fn find_at_last<F: Finder>(
 fn refused_memory_once_a_search_can_be_done_again(rt: HostRuntime) -> Result<(), Fail> {
     let mut refusals: u32 = 0;
     for _ in 0..2 {
-        let Ok(film) = ticking(rt.alloc()) else {
+        let Some(film) = ticking(rt.alloc()) else {
             refusals = refusals.wrapping_add(1);
             continue;
         };

@@ -115,13 +115,27 @@ impl<'a> Ports for Wires<'a> {
     }
 }
 
+/// A session of two fronts over these wires.
+fn share_over<R: Threads + Wait + Sync>(
+    rt: &R,
+    alloc: Global,
+    wires: &mut Wires<'_>,
+) -> Option<Ended> {
+    let film: Film<PlainWorld> = ticking(alloc, 4)?;
+    let shape = Shape {
+        fronts: 2,
+        room: 4,
+        depth: 64,
+    };
+    share(rt, alloc, &film, OneWorker::<&R>::new(), shape, wires).ok()
+}
+
 /// The session in which the first front waits for the second, or the other way round.
 fn share_between<R: Threads + Wait + Sync>(
     rt: &R,
     alloc: Global,
     first_waits: bool,
-) -> Result<Ended, Fail> {
-    let film: Film<PlainWorld> = ticking(alloc, 4)?;
+) -> Option<Ended> {
     let (given, answered) = (AtomicBool::new(false), AtomicBool::new(false));
     let (more, told) = (AtomicBool::new(false), AtomicBool::new(false));
     let mut wires = Wires {
@@ -131,23 +145,15 @@ fn share_between<R: Threads + Wait + Sync>(
         told: &told,
         first_waits,
     };
-    let shape = Shape {
-        fronts: 2,
-        room: 4,
-        depth: 64,
-    };
-    let ended = share(rt, alloc, &film, OneWorker::<&R>::new(), shape, &mut wires).map_err(
-        |_| "not shared",
-    )?;
-    Ok(ended)
+    share_over(rt, alloc, &mut wires)
 }
 
 #[test]
 fn neither_front_waits_for_the_other_to_end(rt: HostRuntime) -> Result<(), Fail> {
-    let ended = share_between(&rt, rt.alloc(), true)?;
+    let ended = share_between(&rt, rt.alloc(), true).ok_or("not shared")?;
     assert_eq!(rt; ended.history.as_slice(), [65794u64, 196609].as_slice());
     assert!(rt; !ended.failed);
-    let ended = share_between(&rt, rt.alloc(), false)?;
+    let ended = share_between(&rt, rt.alloc(), false).ok_or("not shared")?;
     assert_eq!(rt; ended.history.as_slice(), [196609u64, 65794].as_slice());
     assert!(rt; !ended.failed);
     Ok(())

@@ -1,5 +1,0 @@
-use Rattle.std.proofs.Common.{rules}
-use Rattle.netrev.proofs.run.walk.Goals as goal
-
-pub returns-in-Ok-serve : goal.returns-in-Ok-serve
-returns-in-Ok-serve g c = search rules

@@ -1,5 +1,0 @@
-use Rattle.std.proofs.Common.{◌≡◌}
-use Rattle.nr_journal.proofs.tests.place.Given as goal
-
-abbrev pub invariant-loop : goal.invariant-loop
-invariant-loop l = l.pass.table ≡ l.journal

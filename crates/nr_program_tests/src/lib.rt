@@ -1,0 +1,13 @@
+//! Tests of the programs by their public calls.
+#![tactic(auto)]
+
+#[cfg(test)]
+mod machine;
+#[cfg(test)]
+mod marks;
+#[cfg(test)]
+mod playing;
+#[cfg(test)]
+mod programs;
+#[cfg(test)]
+mod sizes;

@@ -1,0 +1,4 @@
+pub mod Opening
+pub mod Run
+pub mod Serving
+pub mod Sharing

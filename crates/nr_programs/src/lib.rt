@@ -1,0 +1,12 @@
+//! The programs over the bytes of the file and the streams, from a recording's text to the exit status.
+#![tactic(auto)]
+
+mod opening;
+mod run;
+mod serving;
+mod sharing;
+
+pub use opening::OpenFault;
+pub use run::{ExitStatus, JOURNAL_ROOM, check_bytes, refuse, run_bytes};
+pub use serving::serve_bytes;
+pub use sharing::{MOST_FRONTS, MOST_JOURNAL, MOST_PORT, MOST_WORKERS, Sharing};

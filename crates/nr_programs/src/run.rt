@@ -1,0 +1,188 @@
+//! The programs `run` and `check`, over the bytes of the file and the streams.
+
+ghost use Rattle.std.specs.Prelude.{◌≡◌, ◌⊎◌, false};
+ghost use Rattle.std.specs.Process.{exit_status};
+ghost use Rattle.nr_rev.specs.Run.{Recording, IsGood};
+ghost use Rattle.nr_recording.specs.Text.{IsTextOf};
+ghost use Rattle.nr_programs.specs.Opening.{fault_line};
+ghost use Rattle.nr_programs.specs.Run.{Runs, Walks, TellsFault, Checks, Prints, code_of, ok_line};
+ghost use Rattle.nr_programs.specs.declared.opening.OpenFault.TheVariants as faults;
+ghost use Rattle.nr_programs.specs.declared.run.ExitStatus.TheVariants as statuses;
+
+use crate::opening::{OpenFault, open};
+use nr_command::{Sink, Token, send_all};
+use nr_front::Front;
+use nr_journal::Journal;
+use nr_lines::{Source, serve};
+use nr_rev::Worlds;
+use nr_search::OneWorker;
+use nr_snaps::Film;
+use std::alloc::Global;
+use std::io::{Read, Write};
+use std::process::ExitCode;
+use std::sync::Wait;
+use std::thread::Threads;
+
+/// How many commands the one front of `run` can place.
+pub const JOURNAL_ROOM: usize = 65_536;
+
+/// How many steps a walker can undo at most before it goes from a copy.
+pub(crate) const DELTAS_KEPT: usize = 4_096;
+
+/// How a program ended.
+#[derive(Clone, Copy, Debug, PartialEq, Eq)]
+pub enum ExitStatus {
+    /// It did all that it was asked for.
+    Done,
+    /// The recording was refused, or there was no memory for it.
+    Refused,
+    /// The program's arguments ask for nothing.
+    Usage,
+    /// A read or a write failed.
+    StreamFailed,
+}
+
+impl ExitStatus {
+    /// The process's exit status: 0, 1, 2 or 3, in the order above.
+    pub fn code(self) -> u8
+        ensures { result ≡ code_of self }
+    {
+        match self {
+            ExitStatus::Done => 0,
+            ExitStatus::Refused => 1,
+            ExitStatus::Usage => 2,
+            ExitStatus::StreamFailed => 3,
+        }
+    }
+}
+
+impl From<ExitStatus> for ExitCode {
+    ghost from_gives = { λ status code. exit_status code ≡ code_of status };
+
+    fn from(status: ExitStatus) -> ExitCode {
+        ExitCode::from(status.code())
+    }
+}
+
+/// Opens the recording, and answers the lines of the input on the output, one after the other, as
+/// a debugger does that stands at position 0 first: each reply is about the world after so many of
+/// the recording's first steps as the position says. A look, and a command that searches for a hit,
+/// may be refused memory, which is said; the command's reply can be asked for again.
+///
+/// `Done`: a line was `quit`, or the input's end was reached. `Refused`: the recording's first
+/// fault was printed, or `fault 108 memory`, as one line, and nothing was read. `StreamFailed`: a
+/// read or a write failed; then a first part of these texts is written, and nothing else.
+pub fn run_bytes<W, R, I, O>(
+    rt: &R,
+    alloc: Global,
+    bytes: &[u8],
+    input: &mut Source<I>,
+    output: &mut Sink<O>,
+) -> ExitStatus
+where
+    W: Worlds + Drop + Sync,
+    W::Delta: Drop,
+    R: Threads + Wait + Sync,
+    I: Read,
+    O: Write,
+    requires input { input.old.failed ≡ false }
+    requires output { output.old.failed ≡ false }
+
+    // What was read and written, whatever the bytes are.
+    ensures runs { Runs bytes.now input.old input.new output.old output.new result }
+
+    // A recording whose steps all apply is walked, unless memory runs out before the first line.
+    ensures good { (r : Recording) → IsTextOf bytes.now r → IsGood r
+        → Walks input.old input.new output.old output.new r result
+        ⊎ TellsFault faults.Memory input.old input.new output.old output.new result }
+{
+    match open::<W>(alloc, bytes) {
+        Ok(film) => walk(rt, alloc, &film, input, output),
+        Err(fault) => refuse(fault, output),
+    }
+}
+
+// Walks a film by the lines of the input.
+fn walk<W, R, I, O>(
+    rt: &R,
+    alloc: Global,
+    film: &Film<W>,
+    input: &mut Source<I>,
+    output: &mut Sink<O>,
+) -> ExitStatus
+where
+    W: Worlds + Drop + Sync,
+    W::Delta: Drop,
+    R: Threads + Wait + Sync,
+    I: Read,
+    O: Write,
+    requires input { input.old.failed ≡ false }
+    requires output { output.old.failed ≡ false }
+    ensures { Walks input.old input.new output.old output.new film.now.recording result
+        ⊎ TellsFault faults.Memory input.old input.new output.old output.new result }
+{
+    let Ok((journal, seat)) = Journal::new(alloc, JOURNAL_ROOM) else {
+        return refuse(OpenFault::Memory, output);
+    };
+    // there is a tag, since nobody else has a seat
+    let Ok(pass) = journal.enter(seat) else {
+        return refuse(OpenFault::Memory, output);
+    };
+    let Ok(mut front) = Front::new(alloc, pass, film, OneWorker::<R>::new(), DELTAS_KEPT) else {
+        return refuse(OpenFault::Memory, output);
+    };
+    match serve(rt, input, output, &mut front, &journal) {
+        Ok(_) => ExitStatus::Done,
+        Err(_) => ExitStatus::StreamFailed,
+    }
+}
+
+/// Prints the fault, as one line: `Refused`, or `StreamFailed` where a write failed; then a first part of it is written.
+pub fn refuse<O: Write>(fault: OpenFault, output: &mut Sink<O>) -> ExitStatus
+    ensures { Prints (fault_line fault) statuses.Refused output.old output.new result }
+{
+    match fault.print(output) {
+        Ok(()) => ExitStatus::Refused,
+        Err(_) => ExitStatus::StreamFailed,
+    }
+}
+
+/// Opens the recording, and prints `ok L steps`, where L is how many steps it has, as one line.
+///
+/// `Refused`: the recording's first fault was printed, or `fault 108 memory`, as one line.
+/// `StreamFailed`: a write failed; then a first part of that line is written.
+pub fn check_bytes<W: Worlds + Drop, O: Write>(
+    alloc: Global,
+    bytes: &[u8],
+    output: &mut Sink<O>,
+) -> ExitStatus
+    // What was written, whatever the bytes are.
+    ensures checks { Checks bytes.now output.old output.new result }
+
+    // A recording whose steps all apply is accepted, unless memory runs out.
+    ensures good { (r : Recording) → IsTextOf bytes.now r → IsGood r
+        → Prints (ok_line r) statuses.Done
+        output.old output.new result
+        ⊎ Prints (fault_line faults.Memory) statuses.Refused
+        output.old output.new result }
+{
+    match open::<W>(alloc, bytes) {
+        Ok(film) => accept(&film, output),
+        Err(fault) => refuse(fault, output),
+    }
+}
+
+// Prints that the film has so many steps.
+fn accept<W: Worlds + Drop, O: Write>(film: &Film<W>, output: &mut Sink<O>) -> ExitStatus
+    ensures { Prints (ok_line film.now.recording) statuses.Done
+        output.old output.new result }
+{
+    let steps = Token::Number(film.len() as u64);
+    match send_all(
+        &[Token::Text(b"ok "), steps, Token::Text(b" steps\n")],
+        output,
+    ) {
+        Ok(_) => ExitStatus::Done,
+        Err(_) => ExitStatus::StreamFailed,
+    }
+}
