@@ -15,7 +15,7 @@ run: netrev
 	@echo
 	@sh examples/play.sh first
 
-# The gate: every proof from nothing, the edits that must fail, the tests, the program, the program refused memory, and
+# The gate: every proof, the edits that must fail, the tests, the program, the program refused memory, and
 # sessions over the loopback.
 test:
 	@sh scripts/gate.sh

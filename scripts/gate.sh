@@ -1,9 +1,11 @@
 #!/bin/sh
-# The gate:  scripts/gate.sh
+# The gate:  scripts/gate.sh [--anew]
 #
-# First `rt ci`, whose log is kept in out/gate.log. Where it passes, no edit that must fail may have been refused only
-# because a proof file names what the edit takes away, which says nothing of the contract; and the program that was
-# built has to stand scripts/refused.sh, scripts/refused_serving.py and scripts/loopback.py, and play examples/shared.sh.
+# First `rt ci`, whose log is kept in out/gate.log. What an earlier run on this machine passed, and has not changed since,
+# it neither proves nor tries again, unless it is told --anew. Where it passes, each edit that must fail has to have been
+# refused for what it means: not one that can't be tried, or that the prover gave up on, or that is refused only because a
+# proof file names what the edit takes away. And the program that was built has to stand scripts/refused.sh,
+# scripts/refused_serving.py and scripts/loopback.py, and play examples/shared.sh.
 # The last line is that of `rt ci`, with one more failed for each of these that fails.
 set -eu
 cd "$(dirname "$0")/.."
@@ -11,13 +13,13 @@ mkdir -p out
 log=out/gate.log
 
 # (sh has no status of a pipe's first command but what that leaves behind)
-{ rt ci 2>&1 && echo 0 > out/gate.status || echo $? > out/gate.status; } | tee "$log"
+{ rt ci "$@" 2>&1 && echo 0 > out/gate.status || echo $? > out/gate.status; } | tee "$log"
 read -r status < out/gate.status
 [ "$status" = 0 ] || exit "$status"
 
 more=0
-if grep "only because a proof file names" "$log" >&2; then
-	echo "These edits are refused for a name alone: change a value and keep the names." >&2
+if grep -E "BAD EDIT|only by a limit of the prover|only because a proof file names" "$log" >&2; then
+	echo "These edits say nothing of a contract: change a value and keep the names." >&2
 	more=$((more + 1))
 fi
 sh scripts/refused.sh || more=$((more + 1))
