@@ -126,7 +126,7 @@ class Server:
                 caller.setsockopt(socket.IPPROTO_TCP, socket.TCP_NODELAY, 1)
                 caller.settimeout(PATIENCE)
                 return caller
-            except ConnectionRefusedError:
+            except ConnectionError:  # refused before it listens; reset where it ends while this connects
                 caller.close()
             if self.has_ended():
                 return None
