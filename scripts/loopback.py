@@ -10,7 +10,8 @@
               lines (history.py), and `placed K` has to tell their number. Where all sorts of lines are sent, eight of
               the fronts talk at the same time and the others' callers wait, since of more the search takes too long;
               where steps forwards and looks are, all 64 do. Of two fronts, some fill the journal
-    altered   the search for that order can fail: each reply of two sessions is altered in turn, and none is believed
+    altered   the search for that order can fail: each reply of one session, and each of a command in another, is altered
+              in turn, and none is believed
 
 Ends with status 1 at the first that isn't as it has to be, and says what was expected, what came, and the seed.
 """
@@ -345,18 +346,21 @@ def other_reply(reply):
 
 
 def play_altered(parked, lives, dice):
-    """Of two who talk one after the other there is one history alone, and so there is of positions that rise, whoever
-    comes first. So there is none where a reply is altered."""
+    """Of two who talk one after the other there is one history alone: so there is none where a reply is altered. Of
+    commands whose positions rise there is one order alone, whoever comes first: so there is none where a command's reply
+    is altered. A look that was shown something else may have come earlier or later."""
     two = [[Lines(dice, parked).some(20)] for _ in range(2)]
-    expect_no_other(parked, share_lines(parked, two, at_once=1))
-    expect_no_other(lives, race_forwards(lives, dice, fronts=8, connections=1))
+    expect_no_other(parked, share_lines(parked, two, at_once=1), lambda one: True)
+    expect_no_other(lives, race_forwards(lives, dice, fronts=8, connections=1), lambda one: is_command(one.asked))
 
 
-def expect_no_other(recording, exchanged):
-    """Sees that there is a history, and none with any one reply altered."""
+def expect_no_other(recording, exchanged, has_one_place):
+    """Sees that there is a history, and none with the reply of any one line altered that has one place alone."""
     history_of(recording, exchanged)
     for front, exchanges in enumerate(exchanged):
         for at, one in enumerate(exchanges):
+            if not has_one_place(one):
+                continue
             altered = [list(each) for each in exchanged]
             altered[front][at] = replace(one, reply=other_reply(one.reply))
             if Search(recording, altered, 4096).find():
