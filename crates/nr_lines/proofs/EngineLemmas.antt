@@ -270,13 +270,13 @@ some_left items slice r tested false_r same =
     omega (arith, differs, len)
 
 -- more was gone over, and one of its lines was quit
-pub goes_quit : (from left old new : Option (List ℕ)) (d d' : Desk) (came line : List ℕ) (whole : ℕ) (quits : Bool) → GoesOn from left old new d d' came line whole quits → quits ≡ true
+pub goes_quit : (from left old new : Option (List ℕ)) (d d' : Desk) (came line : List ℕ) (whole : ℕ) (quits : Bool) → GoesOn from left old new d d' came line whole (Ok quits) → quits ≡ true
     → Serves from left old new d d' (Ok Quit)
 goes_quit from left old new d d' came line whole true goes e = goes
 goes_quit from left old new d d' came line whole false goes e = absurd (false≢true e)
 
 -- or none was
-pub goes_further : (from left old new : Option (List ℕ)) (d d' : Desk) (came line : List ℕ) (whole : ℕ) (quits : Bool) → GoesOn from left old new d d' came line whole quits → quits ≡ false
+pub goes_further : (from left old new : Option (List ℕ)) (d d' : Desk) (came line : List ℕ) (whole : ℕ) (quits : Bool) → GoesOn from left old new d d' came line whole (Ok quits) → quits ≡ false
     → Standing from left old new d d' came came line whole
 goes_further from left old new d d' came line whole true goes e = absurd (false≢true (sym e))
 goes_further from left old new d d' came line whole false goes e = goes

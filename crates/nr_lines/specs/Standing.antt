@@ -1,5 +1,5 @@
 -- How the line loop stands between two lines.
-use Rattle.std.specs.Prelude.{◌≡◌, ℕ, ◌==◌, Bool, true, false, List, [], ◌∷◌, take, Option, Ok}
+use Rattle.std.specs.Prelude.{◌≡◌, ℕ, ◌==◌, Bool, true, false, List, [], ◌∷◌, take, Option, Result, Ok, Err}
 use Rattle.std.specs.List.{concat, slice_split}
 use Rattle.std.specs.Io.KnownBytes.{Appends, Consumes}
 use Rattle.nr_command.specs.Sender.{saturating_count}
@@ -7,7 +7,6 @@ use Rattle.nr_front.specs.Desk.{Desk}
 use Rattle.nr_lines.specs.Engine.{Serves, Turns, has_quit, lines_of, some_count}
 use Rattle.nr_lines.specs.declared.ending.End.TheVariants.{Quit}
 use Rattle.nr_lines.specs.declared.ending.LineEnd.{LineEnd}
-use Rattle.nr_lines.specs.declared.ending.LineEnd.TheVariants.{Read, Write}
 
 -- the lines of a text that end by a line feed
 abbrev pub whole_lines : List ℕ → List (List ℕ)
@@ -33,12 +32,8 @@ pub record Standing (from left old new : Option (List ℕ)) (d d' : Desk) (came 
   pub kept : line ≡ take 257 (rest_of read)
   pub count : whole ≡ saturating_count (some_count texts)
 
--- How it goes on when all that came was gone over: it was quit, or it stands behind all of it.
-abbrev pub GoesOn : Option (List ℕ) → Option (List ℕ) → Option (List ℕ) → Option (List ℕ) → Desk → Desk → List ℕ → List ℕ → ℕ → Bool → Type 0
-GoesOn from left old new d d' came line whole true = Serves from left old new d d' (Ok Quit)
-GoesOn from left old new d d' came line whole false = Standing from left old new d d' came came line whole
-
--- it tells that a write failed
-abbrev pub IsFailedWrite : LineEnd → Type 0
-IsFailedWrite Read = ⊥
-IsFailedWrite (Write whole part) = Unit {0}
+-- How it goes on when all that came was gone over: it stands behind all of it, or it was quit, or a write failed.
+abbrev pub GoesOn : Option (List ℕ) → Option (List ℕ) → Option (List ℕ) → Option (List ℕ) → Desk → Desk → List ℕ → List ℕ → ℕ → Result Bool LineEnd → Type 0
+GoesOn from left old new d d' came line whole (Ok false) = Standing from left old new d d' came came line whole
+GoesOn from left old new d d' came line whole (Ok true) = Serves from left old new d d' (Ok Quit)
+GoesOn from left old new d d' came line whole (Err e) = Serves from left old new d d' (Err e)

@@ -1,9 +1,9 @@
 //! The line loop.
 
-ghost use Rattle.std.specs.Prelude.{◌≡◌, ℕ, List, [], ◌∷◌, ◌++◌, Option, IfErr, IfOk, OnOk, false, take, true};
+ghost use Rattle.std.specs.Prelude.{◌≡◌, ℕ, List, [], ◌∷◌, ◌++◌, Option, Err, IfErr, OnOk, false, take, true};
 ghost use Rattle.nr_front.specs.Desk.{Desk};
 ghost use Rattle.nr_lines.specs.Engine.{Serves, tells_read, tells_write};
-ghost use Rattle.nr_lines.specs.Standing.{GoesOn, IsFailedWrite, Standing};
+ghost use Rattle.nr_lines.specs.Standing.{GoesOn, Standing};
 
 use crate::ending::{End, LineEnd};
 use crate::source::Source;
@@ -81,17 +81,13 @@ where
     S::Delta: Drop,
     requires { front.old.table ≡ journal.now }
     ensures table { front.new.table ≡ front.old.table }
-    ensures ok { IfOk result (λ quits. (from left old : Option (List ℕ)) (d : Desk) (before : List ℕ)
+    ensures answers { (from left old : Option (List ℕ)) (d : Desk) (before : List ℕ)
         → Standing from left old w.old.contents d front.old
         (before ++ bytes.now) before line.old.items whole.old
         → GoesOn from left old w.new.contents d front.new
-        (before ++ bytes.now) line.new.items whole.new quits) }
-    ensures cut { IfErr result (λ e. (from left old : Option (List ℕ)) (d : Desk) (before : List ℕ)
-        → Standing from left old w.old.contents d front.old
-        (before ++ bytes.now) before line.old.items whole.old
-        → Serves from left old w.new.contents d front.new (Err e)) }
+        (before ++ bytes.now) line.new.items whole.new result }
     ensures calm { OnOk result (w.new.failed ≡ w.old.failed) }
-    ensures failed { IfErr result (λ e. (w.new.failed ≡ true) × IsFailedWrite e) }
+    ensures failed { IfErr result (λ e. (w.new.failed ≡ true) × (tells_write (Err e) ≡ true)) }
 {
     for byte in bytes {
         if *byte != b'\n' {

@@ -39,20 +39,20 @@ loop-byte-preserved g c =
           })
     ]
 
-pub returns-in_err-quits-clause-cut : goal.returns-in_err-quits-clause-cut
-returns-in_err-quits-clause-cut g c =
+pub returns-in_err-quits-clause-answers : goal.returns-in_err-quits-clause-answers
+returns-in_err-quits-clause-answers g c =
     let p = err_from_is_err_and c.from_residual.result c.from_residual.ensures.1 in
     rw (p.1, p.2) (λ from left old d before st.
     let stood = relined _ _ _ _ _ _ _ _ _ _ _ (c.loop-byte.invariant.stands from left old d before st) c.as_slice.ensures.value in
     let there = came_at before c.args.bytes.now c.loop-byte.byte-index c.loop-byte-test.true in
     line_cut _ _ _ _ _ _ _ _ _ _ _ _ _ _ _ stood there (eq-eqb _ _ c.if-byte-ne10.false) c.in_err-quits.ensures.err)
 
-pub returns-then-quits-clause-ok : goal.returns-then-quits-clause-ok
-returns-then-quits-clause-ok g c = λ from left old d before st.
+pub returns-then-quits-clause-answers : goal.returns-then-quits-clause-answers
+returns-then-quits-clause-answers g c = λ from left old d before st.
     let stood = relined _ _ _ _ _ _ _ _ _ _ _ (c.loop-byte.invariant.stands from left old d before st) c.as_slice.ensures.value in
     let there = came_at before c.args.bytes.now c.loop-byte.byte-index c.loop-byte-test.true in
     line_quits _ _ _ _ _ _ _ _ _ _ _ _ _ _ _ stood there (eq-eqb _ _ c.if-byte-ne10.false) (sym c.in_ok-quits.ensures.quits ∙ c.if-quits.true) c.in_ok-quits.ensures.ok
 
-pub returns-clause-ok : goal.returns-clause-ok
-returns-clause-ok g c = λ from left old d before st.
+pub returns-clause-answers : goal.returns-clause-answers
+returns-clause-answers g c = λ from left old d before st.
     all_done _ _ _ _ _ _ before c.args.bytes.now _ _ _ _ (c.loop-byte.invariant.stands from left old d before st) (search rules)

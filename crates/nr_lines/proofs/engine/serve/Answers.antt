@@ -49,12 +49,12 @@ pub returns-in_err-answer_lines-clause-serves : goal.returns-in_err-answer_lines
 returns-in_err-answer_lines-clause-serves g c =
     let st = came_more _ _ _ _ _ _ _ _ _ (take c.in-Ok.count c.read.new.buf) _ c.loop.invariant.stands c.in-Ok.ensures.bytes.0 in
     let p = err_from_is_err_and c.from_residual-in_err-answer_lines.result c.from_residual-in_err-answer_lines.ensures.1 in
-    rw (p.1, p.2) (c.in_err-answer_lines.ensures.cut _ _ _ _ _ st)
+    rw (p.1, p.2) (c.in_err-answer_lines.ensures.answers _ _ _ _ _ st)
 
 pub returns-then-branch-2-clause-serves : goal.returns-then-branch-2-clause-serves
 returns-then-branch-2-clause-serves g c =
     let st = came_more _ _ _ _ _ _ _ _ _ (take c.in-Ok.count c.read.new.buf) _ c.loop.invariant.stands c.in-Ok.ensures.bytes.0 in
-    goes_quit _ _ _ _ _ _ _ _ _ _ (c.in_ok-answer_lines.ensures.ok _ _ _ _ _ st) c.if-branch-2.true
+    goes_quit _ _ _ _ _ _ _ _ _ _ (c.in_ok-answer_lines.ensures.answers _ _ _ _ _ st) c.if-branch-2.true
 
 pub loop-preserved : goal.loop-preserved
 loop-preserved g c =
@@ -67,7 +67,7 @@ loop-preserved g c =
       reader = c.in-Ok.ensures.ok ∙ c.loop.invariant.reader;
       writer = c.in_ok-answer_lines.ensures.calm ∙ c.loop.invariant.writer;
       read = c.loop.invariant.read ++ bytes;
-      stands = goes_further _ _ _ _ _ _ _ _ _ _ (c.in_ok-answer_lines.ensures.ok _ _ _ _ _ st) c.if-branch-2.false;
+      stands = goes_further _ _ _ _ _ _ _ _ _ _ (c.in_ok-answer_lines.ensures.answers _ _ _ _ _ st) c.if-branch-2.false;
     }
 
 pub returns-in_default-clause-serves : goal.returns-in_default-clause-serves
