@@ -1,8 +1,5 @@
-use Rattle.std.proofs.Common.{◌≡◌, inr, subst}
-use Rattle.nr_programs.specs.Opening.{fault_line}
-use Rattle.nr_programs.specs.Run.{Prints}
-use Rattle.nr_programs.specs.declared.run.ExitStatus.TheVariants as statuses
-use Rattle.nr_programs.proofs.OpeningLemmas.{one_recording, only_memory}
+use Rattle.std.proofs.Common.{◌≡◌, inr}
+use Rattle.nr_programs.proofs.OpeningLemmas.{one_recording, tells_memory}
 use Rattle.nr_programs.proofs.serving.serve_bytes.Goals as goal
 
 pub returns-in-Ok-clause-good : goal.returns-in-Ok-clause-good
@@ -12,5 +9,4 @@ returns-in-Ok-clause-good g c = λ r text good.
 
 pub returns-in-Err-clause-good : goal.returns-in-Err-clause-good
 returns-in-Err-clause-good g c = λ r text good.
-    let memory = only_memory c.args.bytes.now c.in-Err.fault r c.in-Err.ensures.fault text good in
-    inr (subst (λ fault. Prints (fault_line fault) statuses.Refused c.args.output.now c.refuse.new.output c.refuse.result) memory c.refuse.ensures)
+    inr (tells_memory _ _ _ _ _ _ c.in-Err.ensures.fault text good c.refuse.ensures)
