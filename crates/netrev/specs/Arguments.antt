@@ -7,6 +7,7 @@ use Rattle.clap.specs.Simple.{on_top}
 use Rattle.clap.specs.declared.error.kind.ErrorKind.{ErrorKind}
 use Rattle.clap.specs.declared.error.kind.ErrorKind.TheVariants as kind
 use Rattle.nr_command.specs.Command.{number_of}
+use Rattle.nr_command.specs.Count.{from_one}
 use Rattle.nr_programs.specs.Sharing.{is_in_range}
 use Rattle.nr_programs.specs.declared.sharing.Sharing.{Sharing}
 use Rattle.netrev.specs.declared.arguments.TheConstants.{USUAL_JOURNAL}
@@ -65,7 +66,7 @@ sharing_in rows =
       fronts = fronts;
       workers = workers;
       journal = journal;
-      connections = connections;
+      connections = from_one connections;
     }))
     (number_in (codes "connections") (Some 0) rows))
     (number_in (codes "journal") (Some USUAL_JOURNAL) rows))

@@ -11,7 +11,7 @@ ghost use Rattle.netrev.specs.declared.arguments.ArgumentsFault.TheVariants as f
 
 use clap::error::ErrorKind;
 use clap::{Arg, ArgMatches, Command, Error};
-use nr_command::number;
+use nr_command::{from_one, number};
 use nr_programs::Sharing;
 use std::alloc::{AllocError, Global};
 
@@ -144,7 +144,7 @@ fn sharing_in(matches: &ArgMatches<'_>) -> Option<Sharing>
         fronts: number_in(matches, "fronts", Some(1))?,
         workers: number_in(matches, "workers", Some(1))?,
         journal: number_in(matches, "journal", Some(USUAL_JOURNAL))?,
-        connections: number_in(matches, "connections", Some(0))?,
+        connections: from_one(number_in(matches, "connections", Some(0))?),
     };
     if sharing.is_in_range() {
         Some(sharing)
@@ -205,6 +205,7 @@ pub fn plain_arguments_ask()
 #[cfg(test)]
 mod tests {
     use super::*;
+    use std::num::NonZeroU32;
 
     static RUN: [&str; 3] = ["netrev", "run", "a.jsonl"];
 
@@ -294,7 +295,7 @@ mod tests {
             fronts: 1,
             workers: 1,
             journal: 4096,
-            connections: 0,
+            connections: None,
         };
         let file = "a.jsonl";
         assert!(rt;
@@ -313,7 +314,7 @@ mod tests {
             fronts: 64,
             workers: 16,
             journal: 1_000_000,
-            connections: u32::MAX,
+            connections: Some(NonZeroU32::MAX),
         };
         let file = "a";
         assert!(rt;

@@ -5,6 +5,7 @@ use nr_serving::{Connection, Connections, Next, Ports};
 use std::io;
 use std::io::{Read, Write};
 use std::net::{Ipv4Addr, SocketAddr, TcpListener, TcpStream};
+use std::num::NonZeroU32;
 
 /// A caller on a port of the loopback.
 #[derive(Drop)]
@@ -58,7 +59,7 @@ pub(crate) struct Loopback<'a> {
     /// That of the first front.
     port: u32,
     /// After how many callers each ends, if it ever does.
-    connections: Option<u32>,
+    connections: Option<NonZeroU32>,
 }
 
 impl<'a> Loopback<'a> {
@@ -66,16 +67,12 @@ impl<'a> Loopback<'a> {
     pub(crate) fn new(rt: &'a HostRuntime, program: Program<'_>) -> Loopback<'a> {
         let (port, connections) = match program {
             Program::Serve { sharing, .. } => (sharing.port, sharing.connections),
-            Program::Run { .. } | Program::Check { .. } => (0, 0),
+            Program::Run { .. } | Program::Check { .. } => (0, None),
         };
         Loopback {
             rt,
             port,
-            connections: if connections == 0 {
-                None
-            } else {
-                Some(connections)
-            },
+            connections,
         }
     }
 
@@ -93,7 +90,7 @@ impl Ports for Loopback<'_> {
     fn open(&mut self, front: usize) -> Callers {
         Callers {
             listener: self.listen(front),
-            left: self.connections,
+            left: self.connections.map(NonZeroU32::get),
         }
     }
 }

@@ -5,8 +5,8 @@ ghost use Rattle.nr_command.specs.Count.{from_one};
 
 use std::num::NonZeroU32;
 
-/// A number as one from 1 on, which 0 is not.
-pub(crate) fn from_one(number: u32) -> Option<NonZeroU32>
+/// A number as one from 1 on; none for 0.
+pub fn from_one(number: u32) -> Option<NonZeroU32>
     ensures { result ≡ from_one number }
 {
     NonZeroU32::new(number)

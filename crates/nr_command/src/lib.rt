@@ -16,6 +16,7 @@ mod word;
 
 pub use checkpoint::{Checkpoint, CheckpointFault, Checkpoints, MOST_CHECKPOINTS};
 pub use command::{Command, Line, LineFault, Query};
+pub use count::from_one;
 pub use debugger::Debugger;
 pub use nr_recording::Sink;
 pub use parsing::{MAX_LINE, number};

@@ -3,6 +3,8 @@
 ghost use Rattle.std.specs.Prelude.{◌≡◌};
 ghost use Rattle.nr_programs.specs.Sharing.{is_in_range};
 
+use std::num::NonZeroU32;
+
 /// The greatest port.
 pub const MOST_PORT: u32 = 65_535;
 
@@ -26,8 +28,8 @@ pub struct Sharing {
     pub workers: u32,
     /// How many commands the session has room for, from 1 to `MOST_JOURNAL`.
     pub journal: u32,
-    /// After how many connections each front ends; 0 where it never does.
-    pub connections: u32,
+    /// After how many connections each front ends, if it ever does.
+    pub connections: Option<NonZeroU32>,
 }
 
 impl Sharing {
