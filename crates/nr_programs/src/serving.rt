@@ -1,9 +1,8 @@
 //! The program `serve`, over the bytes of the file and the callers of each front.
 
-ghost use Rattle.std.specs.Prelude.{◌≡◌, ◌⊎◌, true};
+ghost use Rattle.std.specs.Prelude.{◌≡◌, true};
 ghost use Rattle.nr_rev.specs.Run.{Recording, IsGood};
 ghost use Rattle.nr_recording.specs.Text.{IsTextOf};
-ghost use Rattle.nr_programs.specs.Opening.{fault_line};
 ghost use Rattle.nr_programs.specs.Run.{Prints};
 ghost use Rattle.nr_programs.specs.Serving.{ServesAll, Shares, placed_line, status_of};
 ghost use Rattle.nr_programs.specs.Sharing.{is_in_range};
