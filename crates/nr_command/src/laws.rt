@@ -9,6 +9,8 @@ ghost use Rattle.nr_command.specs.Debugger.{IsWithin, after_words, opening};
 ghost use Rattle.nr_command.specs.Value.{cell_text};
 ghost use Rattle.nr_command.specs.Word.{IsTyped, command_of, word_of};
 ghost use Rattle.nr_command.specs.declared.command.Command.{Command};
+ghost use Rattle.nr_command.specs.declared.checkpoint.TheConstants.{MOST_CHECKPOINTS};
+ghost use Rattle.nr_command.specs.declared.parsing.TheConstants.{MAX_LINE};
 
 /// Each command with each tag is read from its word; and whatever is read from a number, the number is its word.
 pub fn commands_are_read_from_their_words()
@@ -29,4 +31,10 @@ pub fn printed_cells_are_read()
 pub fn histories_stay_in_the_recording()
     ensures { (r : Recording) (words : List ℕ)
         → IsWithin (length r.steps) (after_words r opening words) }
+{}
+
+/// A line of commands has at most 256 bytes, and at most 64 checkpoints stand at once.
+pub fn the_numbers()
+    ensures line { MAX_LINE ≡ 256 }
+    ensures checkpoints { MOST_CHECKPOINTS ≡ 64 }
 {}

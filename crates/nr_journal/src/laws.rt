@@ -1,6 +1,8 @@
 //! What the rule comes to: laws that hold at every moment.
 
+ghost use Rattle.std.specs.Prelude.{◌≡◌};
 ghost use Rattle.nr_journal.specs.Laws.{BeginsEmpty, EachWordHasItsPass, EmptyLookSeesAll, NothingIsHidden};
+ghost use Rattle.nr_journal.specs.declared.rule.TheConstants.{GREATEST_OPCODE, MOST_PASSES, MOST_WORDS};
 
 /// A journal begins with no word, as long as there is only its first seat, which has tried no tag.
 pub fn begins_empty()
@@ -21,4 +23,11 @@ pub fn each_word_has_its_pass()
 /// A pass, a seat and a journal have nothing at run time that contracts don't see of them, so no call can go by it.
 pub fn nothing_is_hidden()
     ensures { NothingIsHidden }
+{}
+
+/// A word of the journal has an opcode from 1 to 11; at most 64 passes enter a journal, which has at most 1,000,000 words.
+pub fn the_numbers()
+    ensures opcode { GREATEST_OPCODE ≡ 11 }
+    ensures passes { MOST_PASSES ≡ 64 }
+    ensures words { MOST_WORDS ≡ 1000000 }
 {}

@@ -7,6 +7,7 @@ ghost use Rattle.nr_rev.specs.declared.cell_value.CellValue.{CellValue};
 ghost use Rattle.nr_rev.specs.declared.kind.Kind.{Kind};
 ghost use Rattle.nr_marks.specs.Hit.{hits_at, same_kind, same_value};
 ghost use Rattle.nr_marks.specs.declared.mark.Mark.TheVariants.{Watch};
+ghost use Rattle.nr_marks.specs.declared.numbered.TheConstants.{MOST_NUMBERED};
 
 /// By `==`, by which watches and breaks hit, just equal values and kinds are the same.
 pub fn just_equals_are_the_same()
@@ -18,4 +19,9 @@ pub fn just_equals_are_the_same()
 pub fn no_watch_hits_at_the_start()
     ensures { (r : Recording) (number : ℕ) (c : Cell)
         → hits_at r (record { number = number; item = Watch c } ∷ []) 0 ≡ [] }
+{}
+
+/// At most 64 marks stand at once.
+pub fn the_numbers()
+    ensures numbered { MOST_NUMBERED ≡ 64 }
 {}

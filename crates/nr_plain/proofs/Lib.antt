@@ -6,7 +6,6 @@ pub mod ItemLemmas
 pub mod RoomLemmas
 pub mod BufferLemmas
 pub mod WaitLemmas
-pub mod ChangeLemmas
 pub mod ContinueLemmas
 pub mod OpenLemmas
 pub mod PlanLemmas

@@ -19,7 +19,7 @@ use Rattle.nr_plain.specs.Edit.{with_changed}
 use Rattle.nr_plain.specs.Socket.{socket_with, with_state}
 use Rattle.nr_plain.specs.SocketEdit.{CanUndoSocket, UndoesSocket, after_socket_edit, after_socket_undo, on_bytes, on_queue, on_semaphore, socket_edit_words, socket_undo_words}
 use Rattle.nr_plain.specs.Sockets.{EditsSocket}
-use Rattle.nr_plain.specs.Table.{SocketTable}
+use Rattle.nr_plain.specs.SocketTable.{SocketTable}
 use Rattle.nr_plain.proofs.ItemLemmas.{changed-here, changed_alike, changed_back, mapped_known}
 use Rattle.nr_plain.proofs.ListLemmas.{appended_cut, front_and_rest, front_and_rest_len, front_restored, last_pushed}
 

@@ -1,4 +1,4 @@
-pub mod Table
+pub mod SocketTable
 pub mod Rows
 pub mod RowEdit
 pub mod Semaphore

@@ -8,7 +8,7 @@ use Rattle.nr_plain.specs.declared.sockets.Sockets.TheInside.{Inside}
 use Rattle.nr_plain.specs.Edit.{with_changed}
 use Rattle.nr_plain.specs.Socket.{sides_of, socket_with}
 use Rattle.nr_plain.specs.SocketEdit.{CanUndoSocket, after_socket_edit, after_socket_undo, socket_edit_words, socket_undo_words}
-use Rattle.nr_plain.specs.Table.{SocketTable}
+use Rattle.nr_plain.specs.SocketTable.{SocketTable}
 
 -- the sockets from number s on
 abbrev pub sockets_from : ℕ → List SocketState → List (List ℕ) → List (List ℕ) → List Socket

@@ -7,13 +7,14 @@ ghost use Rattle.nr_rev.specs.Descriptor as spec;
 ghost use Rattle.nr_rev.specs.Lock as lock;
 ghost use Rattle.nr_rev.specs.Sides as sides;
 ghost use Rattle.nr_rev.specs.declared.sides.Side.TheVariants.{Read, Write};
-ghost use Rattle.nr_plain.specs.Change.{Gives, both_followed, change_shown, followed_shown, unblocked_shown};
+ghost use Rattle.nr_plain.specs.Change.{change_shown, followed_shown, unblocked_shown};
+ghost use Rattle.nr_rev.specs.Refusing.{Gives};
 
-use crate::descriptor::{
-    both_raised, covers_side, deadline_from, is_combo, is_expired, names_side, raised_sequence,
-    side_of_function, with_deadlines, with_word,
+use crate::descriptor::{is_combo, is_expired, with_deadlines, with_word};
+use nr_rev::{
+    Descriptor, Mode, Refusal, Side, Sides, TimerFunction, TimerOrder, Word, both_raised,
+    deadline_from, raised_sequence,
 };
-use nr_rev::{Descriptor, Mode, Refusal, Side, Sides, TimerFunction, TimerOrder, Word};
 
 /// What an operation leaves.
 #[derive(Clone, Copy)]
@@ -186,7 +187,7 @@ impl PlainChange {
 
 /// Both timers after the deadlines of `old` became those of the descriptor, reading first.
 fn both_follow(old: Descriptor, descriptor: Descriptor) -> Result<PlainChange, Refusal>
-    ensures shown { Gives change_shown result (both_followed old descriptor) }
+    ensures shown { Gives change_shown result (spec.both_follow old descriptor) }
     ensures woken { IfOk result (λ change. change.woken ≡ sides.twice None) }
 {
     let read = timer_follows(Side::Read, old, descriptor)?;
@@ -287,11 +288,11 @@ impl PlainChange {
             (spec.and_if (sides.covers_side function Read) (spec.expire Read) (change_shown self)) }
     {
         let mut change = self;
-        if covers_side(function, Side::Read) {
+        if function.covers(Side::Read) {
             change.descriptor = with_past(Side::Read, change.descriptor);
             change = change.unblock(Side::Read, false);
         }
-        if covers_side(function, Side::Write) {
+        if function.covers(Side::Write) {
             change.descriptor = with_past(Side::Write, change.descriptor);
             change = change.unblock(Side::Write, false);
         }
@@ -319,7 +320,7 @@ pub(crate) fn change_by_firing(
 ) -> Result<Option<PlainChange>, Refusal>
     ensures { Gives (option_map change_shown) result (spec.change_by_firing function sequence descriptor) }
 {
-    if sequence != descriptor.sequences.of(side_of_function(function)) {
+    if sequence != descriptor.sequences.of(function.side()) {
         return Ok(None);
     }
     if !is_timed(function, descriptor) {
@@ -337,10 +338,10 @@ pub(crate) fn change_by_event(mode: Mode, error: bool, descriptor: Descriptor) -
         event_error: error,
         ..descriptor
     });
-    if names_side(mode, Side::Read) {
+    if mode.names(Side::Read) {
         change = change.unblock(Side::Read, true);
     }
-    if names_side(mode, Side::Write) {
+    if mode.names(Side::Write) {
         change = change.unblock(Side::Write, true);
     }
     change

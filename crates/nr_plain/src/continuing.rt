@@ -8,11 +8,10 @@ ghost use Rattle.nr_plain.specs.Continuing.{ContinuesOr};
 ghost use Rattle.nr_plain.specs.Plan.{CanEditAll, after_edits};
 
 use crate::change::PlainChange;
-use crate::descriptor::raised_sequence;
 use crate::edit::Edit;
 use crate::plan::Plan;
 use crate::world::PlainWorld;
-use nr_rev::{DescriptorRow, Refusal, Sides, Timer, TimerOrder};
+use nr_rev::{DescriptorRow, Refusal, Sides, Timer, TimerOrder, raised_sequence};
 
 impl PlainWorld {
     /// The plan goes on by the change of a descriptor: the orders to its timers are obeyed, and those that

@@ -1,5 +1,4 @@
-//! The model machine over lists: the first representation of a world, short enough to be read beside the
-//! definitions.
+//! The model machine over lists: the first representation of a world.
 #![tactic(auto)]
 
 mod apply;
@@ -27,7 +26,6 @@ mod socket;
 mod socket_edit;
 mod socket_editing;
 mod sockets;
-mod table;
 mod timers;
 mod transfers;
 mod waits;

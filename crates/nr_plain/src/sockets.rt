@@ -11,8 +11,7 @@ ghost use Rattle.nr_plain.specs.SocketEdit.{on_bytes, on_queue};
 use crate::row_edit::RowEdit;
 use crate::rows::Rows;
 use crate::socket::{PlainSocket, SocketState, place};
-use crate::table::Table;
-use nr_rev::Side;
+use nr_rev::{RoomedList, Side};
 use std::alloc::{AllocError, Global};
 use std::marker::Model;
 
@@ -20,13 +19,13 @@ use std::marker::Model;
 /// what stands behind a queue or a buffer moves when it grows or shrinks.
 #[derive(Drop)]
 pub(crate) struct Sockets {
-    states: Table<SocketState>,
+    states: RoomedList<SocketState>,
     queues: Rows<u32>,
     buffers: Rows<u8>,
 }
 
 impl Model for Sockets {
-    ghost use Rattle.nr_plain.specs.Table.{SocketTable};
+    ghost use Rattle.nr_plain.specs.SocketTable.{SocketTable};
 
     ghost Value = { SocketTable };
 
@@ -54,7 +53,7 @@ impl Sockets {
     {
         let room = room as usize;
         Ok(Sockets {
-            states: Table::with_room(alloc, room)?,
+            states: RoomedList::with_room(alloc, room)?,
             queues: Rows::with_room(alloc, 2 * room, queue_room)?,
             buffers: Rows::with_room(alloc, 2 * room, byte_room)?,
         })

@@ -3,7 +3,7 @@
 ghost use Rattle.std.specs.Prelude.{◌≡◌, ◌^◌, ◌<◌, ◌++◌, List, length};
 ghost use Rattle.nr_rev.specs.declared.step.Step.TheVariants as steps;
 ghost use Rattle.nr_rev.specs.declared.timer.Entry.{Entry};
-ghost use Rattle.nr_rev.specs.Timer.{entry_of, is_before, least_of};
+ghost use Rattle.nr_rev.specs.Timer.{entry_of, least_of};
 ghost use Rattle.nr_rev.specs.World as world;
 ghost use Rattle.nr_plain.specs.Plan.{Plans};
 
@@ -103,18 +103,11 @@ fn earlier(descriptor: u32, side: Side, timer: Option<Timer>, least: Option<Entr
         return least;
     };
     match least {
-        Some(other) if is_before(other.timer, timer) => Some(other),
+        Some(other) if other.timer.is_before(&timer) => Some(other),
         _ => Some(Entry {
             descriptor,
             side,
             timer,
         }),
     }
-}
-
-/// Whether a timer comes before another: by when they are due, then by arming number.
-fn is_before(timer: Timer, other: Timer) -> bool
-    ensures { result ≡ is_before timer other }
-{
-    timer.due < other.due || (timer.due == other.due && timer.number < other.number)
 }

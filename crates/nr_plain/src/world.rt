@@ -1,8 +1,7 @@
 //! The world over lists.
 
 use crate::sockets::Sockets;
-use crate::table::Table;
-use nr_rev::{DescriptorRow, Entry, Limits, Status};
+use nr_rev::{DescriptorRow, Entry, Limits, RoomedList, Status};
 use std::alloc::Global;
 use std::marker::Model;
 
@@ -11,11 +10,11 @@ use std::marker::Model;
 pub struct PlainWorld {
     pub(crate) alloc: Global,
     pub(crate) limits: Limits,
-    pub(crate) goroutines: Table<Status>,
+    pub(crate) goroutines: RoomedList<Status>,
     pub(crate) sockets: Sockets,
-    pub(crate) descriptors: Table<DescriptorRow>,
-    pub(crate) firings: Table<Entry>,
-    pub(crate) free: Table<u32>,
+    pub(crate) descriptors: RoomedList<DescriptorRow>,
+    pub(crate) firings: RoomedList<Entry>,
+    pub(crate) free: RoomedList<u32>,
     pub(crate) clock: i64,
     pub(crate) waiters: u64,
     pub(crate) next_arming: u64,

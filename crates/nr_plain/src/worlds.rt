@@ -6,10 +6,10 @@ ghost use Rattle.nr_rev.specs.World.{empty_world};
 ghost use Rattle.nr_rev.specs.Worlds.{HasItems};
 
 use crate::sockets::Sockets;
-use crate::table::Table;
 use crate::world::PlainWorld;
 use nr_rev::{
-    Answer, Bytes, Cell, CellValue, Limits, Queue, Refusal, Reversible, Side, Status, Step, Worlds,
+    Answer, Bytes, Cell, CellValue, Limits, Queue, Refusal, Reversible, RoomedList, Side, Status,
+    Step, Worlds,
 };
 use std::alloc::{AllocError, Global};
 
@@ -20,7 +20,7 @@ impl PlainWorld {
         ensures { IfOk result (λ w. w ≡ empty_world limits) }
     {
         let descriptors = limits.descriptors as usize;
-        let mut goroutines = Table::with_room(alloc, limits.goroutines as usize)?;
+        let mut goroutines = RoomedList::with_room(alloc, limits.goroutines as usize)?;
         goroutines.push(Status::Idle);
         Ok(PlainWorld {
             alloc,
@@ -32,9 +32,9 @@ impl PlainWorld {
                 limits.goroutines as usize,
                 limits.buffer as usize,
             )?,
-            descriptors: Table::with_room(alloc, descriptors)?,
-            firings: Table::with_room(alloc, 2 * descriptors)?,
-            free: Table::with_room(alloc, descriptors)?,
+            descriptors: RoomedList::with_room(alloc, descriptors)?,
+            firings: RoomedList::with_room(alloc, 2 * descriptors)?,
+            free: RoomedList::with_room(alloc, descriptors)?,
             clock: 0,
             waiters: 0,
             next_arming: 1,

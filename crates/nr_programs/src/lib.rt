@@ -1,6 +1,7 @@
 //! The programs over the bytes of the file and the streams, from a recording's text to the exit status.
 #![tactic(auto)]
 
+pub mod laws;
 mod opening;
 mod run;
 mod serving;

@@ -6,6 +6,8 @@ ghost use Rattle.nr_recording.specs.Recording.{IsRecording};
 ghost use Rattle.nr_recording.specs.Reading.{reading};
 ghost use Rattle.nr_recording.specs.Text.{IsTextOf};
 ghost use Rattle.nr_recording.specs.Writing.{IsTyped, text};
+ghost use Rattle.nr_recording.specs.declared.recording.TheConstants.{MOST_BYTES, MOST_STEPS};
+ghost use Rattle.nr_recording.specs.declared.reading.TheConstants.{MOST_LINE_BYTES};
 
 /// What is written of a recording is a text of it, and is read as that recording. `IsTyped` says of
 /// a step just what its type says: each number is in the range of its type.
@@ -21,4 +23,11 @@ pub fn what_is_written_is_read_again()
 pub fn a_text_is_of_what_it_is_read_as()
     ensures found { (bytes : List ℕ) (r : Recording) → reading bytes ≡ Ok r → IsTextOf bytes r }
     ensures only { (bytes : List ℕ) (r : Recording) → IsTextOf bytes r → reading bytes ≡ Ok r }
+{}
+
+/// A recording has at most 1,000,000 steps, a line of it at most 200,000 bytes, and a step at most 65,536 bytes of data.
+pub fn the_numbers()
+    ensures steps { MOST_STEPS ≡ 1000000 }
+    ensures line { MOST_LINE_BYTES ≡ 200000 }
+    ensures bytes { MOST_BYTES ≡ 65536 }
 {}

@@ -1,14 +1,18 @@
 -- What a side's timer does after a deadline was set, and what of the descriptor it leaves as it was.
-use Rattle.std.proofs.Common.{◌≡◌, ◌≢◌, ℕ, ◌+◌, ◌^◌, ◌<◌, Bool, true, false, not, ◌&&◌, List, [], ◌⊎◌, inl, inr, refl, sym, ap, subst, ◌∙◌, true≢false, int_eq}
+use Rattle.std.proofs.Common.{◌≡◌, ◌≢◌, ℕ, ℤ, cond, Result, Ok, Err, ◌+◌, ◌^◌, ◌<◌, Bool, true, false, not, ◌&&◌, List, [], ◌⊎◌, inl, inr, refl, sym, ap, subst, ◌∙◌, true≢false, int_eq}
 use Rattle.std.proofs.lemmas.Bool.Decides.{Decides-int_eq}
 use Rattle.std.specs.Prelude.{◌==◌, if◌then◌else◌}
+use Rattle.nr_rev.specs.declared.refusal.Refusal.{Refusal}
+use Rattle.nr_rev.specs.declared.sides.Mode.{Mode}
 use Rattle.nr_rev.specs.declared.sides.Side.{Side}
+use Rattle.nr_rev.specs.declared.sides.Side.TheVariants.{Read, Write}
+use Rattle.nr_rev.specs.Refusing.{◌>>=◌}
 use Rattle.nr_rev.specs.declared.sides.Sides.{Sides}
 use Rattle.nr_rev.specs.Sides.{of_side, with_side}
 use Rattle.nr_rev.specs.Lock.{bit}
 use Rattle.nr_rev.specs.declared.timer.TimerOrder.{TimerOrder}
 use Rattle.nr_rev.specs.declared.descriptor.Descriptor.{Descriptor}
-use Rattle.nr_rev.specs.Descriptor.{Change, quiet, is_combo, timer_function, wants_timer, timer_reset, timer_follows}
+use Rattle.nr_rev.specs.Descriptor.{Change, and_then, both_follow, change_by_deadline, deadline_from, expired_unblocked, quiet, is_combo, timer_function, wants_timer, timer_reset, timer_follows, with_deadlines}
 use Rattle.nr_rev.proofs.Outcomes.{Ends, Ends-ok, Ends-bind, Ends-either, Ends-raised_sequence}
 use Rattle.nr_rev.proofs.Tests.{both_true, not_true}
 use Rattle.nr_rev.proofs.Fate.{Fate, Kept, Armed, Stopped, Begun, orders_of}
@@ -100,3 +104,29 @@ Ends-timer_follows side old d same_sequence same_running =
     at_rest : (wants : Bool) → wants_timer side d ≡ wants → of_side side d.running ≡ false → Followed side old (if wants then timer_reset side d else quiet d).descriptor (if wants then timer_reset side d else quiet d).orders × Frame side d (if wants then timer_reset side d else quiet d)
     at_rest true e stopped = (reset_followed side old d (inl (sym same_running ∙ stopped, same_sequence, e)), frame_reset side d d.sequences (λ s apart. refl) (λ b. b))
     at_rest false e stopped = ((Kept same_sequence same_running (λ runs. absurd (true≢false (sym runs ∙ sym same_running ∙ stopped))), refl), frame_quiet side d)
+
+-- a deadline is set by letting both timers follow
+following : (clock : ℤ) (mode : Mode) (t : ℤ) (old : Descriptor) → old.closing ≡ false
+    → change_by_deadline clock mode t old ≡ (both_follow old (with_deadlines mode (deadline_from clock t) old) >>= λ change. Ok (expired_unblocked change))
+following clock mode t old not_closing =
+    let d : Descriptor = with_deadlines mode (deadline_from clock t) old in
+    let rest : Result Change Refusal = timer_follows Read old d >>= λ read. (timer_follows Write old read.descriptor >>= λ write. Ok (expired_unblocked (and_then read (λ _. write)))) in
+    ap (λ (b : Bool). cond b (Ok (quiet old)) rest) not_closing
+    ∙ (elim (timer_follows Read old d) as (λ (r : Result Change Refusal).
+    (r >>= λ read. (timer_follows Write old read.descriptor >>= λ write. Ok (expired_unblocked (and_then read (λ _. write)))))
+    ≡ ((r >>= λ read. (timer_follows Write old read.descriptor >>= λ write. Ok (and_then read (λ _. write)))) >>= λ change. Ok (expired_unblocked change))) [
+      | Ok read ↦ elim (timer_follows Write old read.descriptor) as (λ (r : Result Change Refusal).
+          (r >>= λ write. Ok (expired_unblocked (and_then read (λ _. write))))
+          ≡ ((r >>= λ write. Ok (and_then read (λ _. write))) >>= λ change. Ok (expired_unblocked change))) [ Ok write ↦ refl | Err e ↦ refl ]
+      | Err e ↦ refl
+    ])
+
+pub set_by_following : (clock : ℤ) (mode : Mode) (t : ℤ) (old : Descriptor) (change : Change) → old.closing ≡ false
+    → both_follow old (with_deadlines mode (deadline_from clock t) old) ≡ Ok change → change_by_deadline clock mode t old ≡ Ok (expired_unblocked change)
+set_by_following clock mode t old change not_closing is =
+    following clock mode t old not_closing ∙ ap (λ (r : Result Change Refusal). r >>= λ c. Ok (expired_unblocked c)) is
+
+pub refused_by_following : (clock : ℤ) (mode : Mode) (t : ℤ) (old : Descriptor) (reason : Refusal) → old.closing ≡ false
+    → both_follow old (with_deadlines mode (deadline_from clock t) old) ≡ Err reason → change_by_deadline clock mode t old ≡ Err reason
+refused_by_following clock mode t old reason not_closing is =
+    following clock mode t old not_closing ∙ ap (λ (r : Result Change Refusal). r >>= λ c. Ok (expired_unblocked c)) is

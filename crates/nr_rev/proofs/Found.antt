@@ -17,7 +17,8 @@ use Rattle.nr_rev.proofs.Tests.{both_true, neither_of}
 use Rattle.nr_rev.proofs.Numbers.{below_of, most_of}
 use Rattle.nr_rev.proofs.Outcomes.{Ends, Ends-ok, Ends-refused, Ends-map, Ends-bind, Ends-then, Ends-refused_if, Ends-refused_unless, Ends-found_or}
 
-Ends-alive : (o : Option Status) → Ends (λ status. o ≡ Some status) (alive o)
+-- a goroutine that isn't gone
+pub Ends-alive : (o : Option Status) → Ends (λ status. o ≡ Some status) (alive o)
 Ends-alive None = Ends-refused refl
 Ends-alive (Some Gone) = Ends-refused refl
 Ends-alive (Some status) = Ends-ok refl

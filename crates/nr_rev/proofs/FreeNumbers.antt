@@ -1,8 +1,16 @@
--- The free numbers, as a test and as a count.
-use Rattle.std.proofs.Common.{◌≡◌, ℕ, Bool, true, ◌||◌, refl, false, [], inr, sym, ap, ◌∙◌, arith, true≢false, ◌≢◌, List, ◌∷◌, ◌⊎◌, inl, ap₂}
-use Rattle.std.specs.Prelude.{◌==◌, count_by}
-use Rattle.nr_rev.specs.World.{is_free_number}
+-- The free numbers, as a test and as a count, and the room of their list.
+use Rattle.std.proofs.Common.{◌≡◌, ℕ, Bool, true, ◌||◌, refl, false, [], inr, sym, ap, ◌∙◌, arith, true≢false, ◌≢◌, List, ◌∷◌, ◌⊎◌, inl, ap₂, ◌<◌, length, Option, Some, None, Result, Ok, Err}
+use Rattle.std.proofs.lemmas.Option.{slice_get_within}
+use Rattle.std.specs.Prelude.{◌==◌, OnOk, count_by, slice_get}
+use Rattle.nr_rev.specs.declared.descriptor.DescriptorRow.{DescriptorRow}
+use Rattle.nr_rev.specs.declared.refusal.Refusal.{Refusal}
+use Rattle.nr_rev.specs.declared.refusal.Refusal.TheVariants.{NoSuchDescriptor}
+use Rattle.nr_rev.specs.Refusing.{◌>>◌, found_or, refused_if}
+use Rattle.nr_rev.specs.Step.{open_row_of}
+use Rattle.nr_rev.specs.WellFormed.{WellFormed}
+use Rattle.nr_rev.specs.World.{World, is_free_number}
 use Rattle.nr_rev.specs.Lock.{bit}
+use Rattle.nr_rev.proofs.Counting.{below_each_time, nowhere_in, room_for}
 use Rattle.nr_rev.proofs.Tests.{neither_of}
 use Rattle.nr_rev.proofs.Numbers.{count_front, number_same, same_number}
 
@@ -44,3 +52,24 @@ free_more k d free e = go (k == d) e
     go : (b : Bool) → is_free_number k free ≡ true → (b || is_free_number k free) ≡ true
     go true e = refl
     go false e = e
+
+-- a descriptor that is open has room in the free list
+free_room : (w : World) (d : ℕ) (row : DescriptorRow) → WellFormed w → is_free_number d w.free ≡ false → slice_get w.descriptors d ≡ Some row → length w.free < w.limits.descriptors
+free_room w d row h not_free at =
+    let room : length w.free < length w.descriptors =
+    room_for w.free (length w.descriptors) d h.free.once
+    (λ k some. below_each_time w.free (length w.descriptors) k h.free.made some)
+    (nowhere_in d w.free not_free)
+    (slice_get_within w.descriptors d row at) in
+    let most = h.descriptors_limited in
+    omega (arith, room, most)
+
+by_row : (w : World) (d : ℕ) (row : DescriptorRow) (b : Bool) (o : Option DescriptorRow) → WellFormed w → is_free_number d w.free ≡ b → slice_get w.descriptors d ≡ o
+    → (refused_if b NoSuchDescriptor >> found_or o NoSuchDescriptor) ≡ Ok row → length w.free < w.limits.descriptors
+by_row w d row true o h free at e = absurd cc
+by_row w d row false None h free at e = absurd cc
+by_row w d row false (Some found) h free at e = free_room w d found h free at
+
+pub closable_has_room : (w : World) (d : ℕ) → WellFormed w → (r : Result DescriptorRow Refusal) → r ≡ open_row_of d w → OnOk r (length w.free < w.limits.descriptors)
+closable_has_room w d h (Ok row) e = by_row w d row (is_free_number d w.free) (slice_get w.descriptors d) h refl refl (sym e)
+closable_has_room w d h (Err reason) e = tt

@@ -1,9 +1,12 @@
+pub mod Bits
 pub mod BothSides
 pub mod Chains
 pub mod Changes
+pub mod Counting
 pub mod Deadlines
 pub mod Descriptors
 pub mod EmptyWorld
+pub mod Entries
 pub mod Fate
 pub mod Follows
 pub mod Found

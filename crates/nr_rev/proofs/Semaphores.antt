@@ -65,7 +65,7 @@ queue_popped Write Read f k count q socket e = omega arith
 queue_popped Write Write f k count q socket e = let a = ap (count_by (λ h. h == k)) e in let b = count_front f k q in omega arith
 
 -- a view's bit at k, after g moved
-bits_moved : (view : Option Status → Bool) (gs : List Status) (g k : ℕ) (from to : Status) → slice_get gs g ≡ Some from → bit (view (slice_get (set gs g to) k)) + bit (view (Some from) && (g == k)) ≡ bit (view (slice_get gs k)) + bit (view (Some to) && (g == k))
+pub bits_moved : (view : Option Status → Bool) (gs : List Status) (g k : ℕ) (from to : Status) → slice_get gs g ≡ Some from → bit (view (slice_get (set gs g to) k)) + bit (view (Some from) && (g == k)) ≡ bit (view (slice_get gs k)) + bit (view (Some to) && (g == k))
 bits_moved view gs g k from to at =
     elim (slice_get-set_cases gs g from to k at) [
       | inl here ↦
@@ -119,9 +119,9 @@ acquires : (w : World) (g s : ℕ) (side : Side) (socket : Socket) (free : Bool)
 acquires w g s side socket true h at there = Ends-ok (goes_on w g s side socket h at there)
 acquires w g s side socket false h at there = Ends-ok (queues w g s side socket h at there)
 
--- the front of a queue is queued
-front_queued : (w : World) (s f : ℕ) (side : Side) (socket : Socket) (q : List ℕ) → WellFormed w → slice_get w.sockets s ≡ Some socket → (of_side side socket.semaphores).queue ≡ f ∷ q → slice_get w.goroutines f ≡ Some (Queued s side)
-front_queued w s f side socket q h there is = go (slice_get w.goroutines f) refl
+-- the front of a queue that holds just the queued is queued
+pub front_queued : (gs : List Status) (s f : ℕ) (side : Side) (q : List ℕ) → ((g : ℕ) → count_by (λ h. h == g) (f ∷ q) ≡ bit (is_queued s side (slice_get gs g))) → slice_get gs f ≡ Some (Queued s side)
+front_queued gs s f side q queued = go (slice_get gs f) refl
   where
     same_sides : (a b : Side) → same_side a b ≡ true → b ≡ a
     same_sides Read Read e = refl
@@ -129,10 +129,9 @@ front_queued w s f side socket q h there is = go (slice_get w.goroutines f) refl
     same_sides Write Read e = cc
     same_sides Write Write e = refl
 
-    shows : bit (is_queued s side (slice_get w.goroutines f)) ≡ 1 + count_by (λ h. h == f) q
+    shows : bit (is_queued s side (slice_get gs f)) ≡ 1 + count_by (λ h. h == f) q
     shows =
-        let a : count_by (λ h. h == f) (of_side side socket.semaphores).queue ≡ bit (is_queued s side (slice_get w.goroutines f)) = h.queues.queued f s side socket there in
-        let b = ap (count_by (λ h. h == f)) is in
+        let a : count_by (λ h. h == f) (f ∷ q) ≡ bit (is_queued s side (slice_get gs f)) = queued f in
         let c = count_front f f q in
         let d : bit (f == f) ≡ 1 = ap bit (number_same f) in
         omega arith
@@ -145,8 +144,8 @@ front_queued w s f side socket q h there is = go (slice_get w.goroutines f) refl
         both false t n = absurd (omega arith)
     is_it _ e = absurd (omega arith)
 
-    go : (o : Option Status) → slice_get w.goroutines f ≡ o → slice_get w.goroutines f ≡ Some (Queued s side)
-    go None at = let a : bit (is_queued s side (slice_get w.goroutines f)) ≡ 0 = ap (λ o. bit (is_queued s side o)) at in let b = shows in absurd (omega arith)
+    go : (o : Option Status) → slice_get gs f ≡ o → slice_get gs f ≡ Some (Queued s side)
+    go None at = let a : bit (is_queued s side (slice_get gs f)) ≡ 0 = ap (λ o. bit (is_queued s side o)) at in let b = shows in absurd (omega arith)
     go (Some status) at = at ∙ ap Some (is_it status (sym (ap (λ o. bit (is_queued s side o)) at) ∙ shows))
 
 -- the world after a semaphore was released, and what it leaves of a goroutine that owed
@@ -170,7 +169,7 @@ releases w s side socket h there =
           owes = λ g k reads writes at. at;
         })
     go (f ∷ q) is small =
-        let at : slice_get w.goroutines f ≡ Some (Queued s side) = front_queued w s f side socket q h there is in
+        let at : slice_get w.goroutines f ≡ Some (Queued s side) = front_queued w.goroutines s f side q (λ g. sym (ap (count_by (λ h. h == g)) is) ∙ h.queues.queued g s side socket there) in
         subst (λ (q : List ℕ). Released w (tries_again s side (slice_get q 0) (with_semaphore s side socket (record { count = (of_side side socket.semaphores).count + 1; queue = drop 1 q }) w))) (sym is)
         (record {
           fits =

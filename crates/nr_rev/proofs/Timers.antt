@@ -1,12 +1,13 @@
 -- The clock goes on, timers go off, and firings are run.
-use Rattle.std.proofs.Common.{◌≡◌, ℕ, ℤ, pos, negsuc, ◌≤ℤ◌, int_lt, Bool, true, false, Some, None, refl, sym, ap, subst, ◌∙◌, length-set, arith, suc, ◌+◌, ◌*◌, ◌<◌, List, [], ◌∷◌, ◌++◌, Option, ◌⊎◌, inl, inr, length, length-append, true≢false, lit<, ◌≢◌, ◌≤◌, int_eq, not, ◌&&◌, ap₂}
+use Rattle.std.proofs.Common.{◌≡◌, ℕ, ℤ, pos, negsuc, ◌≤ℤ◌, int_lt, true, false, Some, None, refl, sym, ap, subst, ◌∙◌, length-set, arith, suc, ◌+◌, ◌*◌, ◌<◌, List, [], ◌∷◌, ◌++◌, Option, inl, inr, length, length-append, true≢false, lit<, ◌≢◌, ◌≤◌, int_eq, not, ◌&&◌, ap₂}
 use Rattle.std.proofs.lemmas.Option.{none-some, same_Some, slice_get_within}
 use Rattle.std.specs.Prelude.{slice_get, if◌then◌else◌, map, ◌==◌, option_map, remove, int_le, nat_lt}
 use Rattle.std.specs.Option.{option_and_then}
 use Rattle.nr_rev.specs.declared.sides.Side.{Side}
 use Rattle.nr_rev.specs.declared.sides.Sides.{Sides}
 use Rattle.nr_rev.specs.World.{World, with_row, is_free_number, least_entry}
-use Rattle.nr_rev.specs.Timer.{IsTime, least_of, earlier_of, is_before, entries_from, entries_at, entry_of}
+use Rattle.nr_rev.specs.Timer.{IsTime, entries_from, entries_at, entry_of}
+use Rattle.nr_rev.proofs.Entries.{In, entry_in, in_append, least_in}
 use Rattle.nr_rev.specs.WellFormed.{WellFormed, RowFits, EntryFits, FiringFits, IsDueFor, ArmedAt, FiringAt, armed_at, IsCurrent}
 use Rattle.nr_rev.proofs.BothSides.{each_side, other_side, of_side-twice, with_side_all}
 use Rattle.nr_rev.proofs.Numbers.{below_of, same_number}
@@ -34,33 +35,6 @@ not_negative : (t c : ℤ) → int_lt t c ≡ false → pos 0 ≤ℤ c → pos 0
 not_negative (pos n) c e h = omega (arith, ints)
 not_negative (negsuc n) (pos m) e h = cc
 not_negative (negsuc n) (negsuc m) e h = absurd h.le
-
--- an entry is among others
-abbrev In : Entry → List Entry → Type 0
-In e [] = ⊥
-In e (x ∷ xs) = (x ≡ e) ⊎ In e xs
-
-in_append : (e : Entry) (xs ys : List Entry) → In e (xs ++ ys) → In e xs ⊎ In e ys
-in_append e [] ys p = inr p
-in_append e (x ∷ xs) ys (inl p) = inl (inl p)
-in_append e (x ∷ xs) ys (inr p) = elim (in_append e xs ys p) [ inl q ↦ inl (inr q) | inr q ↦ inr q ]
-
-least_in : (es : List Entry) (e : Entry) → least_of es ≡ Some e → In e es
-least_in [] e is = cc
-least_in (x ∷ es) e is = go (least_of es) refl (same_Some _ _ is) (λ at. least_in es e at)
-  where
-    go : (o : Option Entry) → least_of es ≡ o → earlier_of x o ≡ e → (least_of es ≡ Some e → In e es) → In e (x ∷ es)
-    go None at p among = inl p
-    go (Some other) at p among = by (is_before other.timer x.timer) p
-      where
-        by : (b : Bool) → (if b then other else x) ≡ e → In e (x ∷ es)
-        by true p = inr (among (at ∙ ap Some p))
-        by false p = inl p
-
-entry_in : (d : ℕ) (side : Side) (o : Option Timer) (e : Entry) → In e (entry_of d side o) → (o ≡ Some e.timer) × (e.descriptor ≡ d) × (e.side ≡ side)
-entry_in d side None e p = absurd p
-entry_in d side (Some timer) e (inl p) = (ap (λ (x : Entry). Some x.timer) p, sym (ap (λ (x : Entry). x.descriptor) p), sym (ap (λ (x : Entry). x.side) p))
-entry_in d side (Some timer) e (inr p) = absurd p
 
 entries_in : (rows : List DescriptorRow) (d : ℕ) (e : Entry) → In e (entries_from d (map (λ row. row.timers) rows)) → (k : ℕ) × (e.descriptor ≡ d + k) × ((row : DescriptorRow) × (slice_get rows k ≡ Some row) × (of_side e.side row.timers ≡ Some e.timer))
 entries_in [] d e p = absurd p

@@ -164,6 +164,13 @@ expired_unblocked change =
     and_if (is_expired Write change.descriptor) (unblocked false Write)
     (and_if (is_expired Read change.descriptor) (unblocked false Read) change)
 
+-- both timers after the deadlines of `old` became those of d, reading first
+abbrev pub both_follow : Descriptor → Descriptor → Result Change Refusal
+both_follow old d = do
+  read ← timer_follows Read old d
+  write ← timer_follows Write old read.descriptor
+  Ok (and_then read (λ _. write))
+
 abbrev pub change_by_deadline : ℤ → Mode → ℤ → Descriptor → Result Change Refusal
 change_by_deadline clock mode t old =
     if old.closing then Ok (quiet old) else (do

@@ -1,6 +1,7 @@
 pub mod Kind
 pub mod Limits
 pub mod Sides
+pub mod RoomedList
 pub mod Refusing
 pub mod Lock
 pub mod Semaphore

@@ -1,5 +1,10 @@
 //! Poll descriptors, after `runtime/netpoll.go`.
 
+ghost use Rattle.std.specs.Prelude.{◌≡◌};
+ghost use Rattle.nr_rev.specs.Descriptor as spec;
+ghost use Rattle.nr_rev.specs.Refusing as refusing;
+
+use crate::refusal::Refusal;
 use crate::sides::Sides;
 use crate::timer::Timer;
 
@@ -55,4 +60,35 @@ pub struct DescriptorRow {
     pub descriptor: Descriptor,
     /// The timer armed for each side, if one is.
     pub timers: Sides<Option<Timer>>,
+}
+
+/// A sequence, a tag or an arming number raised by one. `LastNumber` where it is the last one of 64 bits.
+pub fn raised_sequence(sequence: u64) -> Result<u64, Refusal>
+    ensures { result ≡ refusing.raised_sequence sequence }
+{
+    if sequence == u64::MAX {
+        return Err(Refusal::LastNumber);
+    }
+    Ok(sequence + 1)
+}
+
+/// Both sides' sequences raised by one, reading first. `LastNumber` where one is the last.
+pub fn both_raised(sequences: Sides<u64>) -> Result<Sides<u64>, Refusal>
+    ensures { result ≡ spec.both_raised sequences }
+{
+    let read = raised_sequence(sequences.read)?;
+    let write = raised_sequence(sequences.write)?;
+    Ok(Sides { read, write })
+}
+
+/// A deadline told from now, in nanoseconds, made a time; the greatest time stands for a later one. One that is past, or
+/// none, stays.
+pub fn deadline_from(clock: i64, time: i64) -> i64
+    ensures { result ≡ spec.deadline_from clock time }
+{
+    if time > 0 {
+        clock.saturating_add(time)
+    } else {
+        time
+    }
 }

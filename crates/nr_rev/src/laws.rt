@@ -25,6 +25,7 @@ ghost use Rattle.nr_rev.specs.CellName.{cell_index, cell_name, cell_named, cell_
 ghost use Rattle.nr_rev.specs.declared.kind.Kind.{Kind};
 ghost use Rattle.nr_rev.specs.Kind.{kind_name, kind_named, kind_number, kind_numbered, kinds};
 ghost use Rattle.nr_rev.specs.WellFormed.{WellFormed, HasWord, IsInside, Shows, socket_named, Stand, standing};
+ghost use Rattle.nr_rev.specs.declared.limits.TheConstants.{MOST_GOROUTINES, MOST_SOCKETS, MOST_DESCRIPTORS, MOST_BUFFER};
 
 /// The world that a recording begins with.
 pub fn empty_world_fits()
@@ -127,4 +128,12 @@ pub fn weights_count_every_part()
       timers = row.timers;
     } }
     ensures kept { (bytes : Kept) → bytes ≡ record { items = bytes.items } }
+{}
+
+/// The greatest limits that a recording may set: 4,096 goroutines, 256 sockets, 256 descriptors, buffers of 65,536 bytes.
+pub fn the_numbers()
+    ensures goroutines { MOST_GOROUTINES ≡ 4096 }
+    ensures sockets { MOST_SOCKETS ≡ 256 }
+    ensures descriptors { MOST_DESCRIPTORS ≡ 256 }
+    ensures buffer { MOST_BUFFER ≡ 65536 }
 {}

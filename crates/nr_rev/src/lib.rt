@@ -20,6 +20,7 @@ mod lock;
 mod queue;
 mod refusal;
 mod reversible;
+mod roomed_list;
 mod sides;
 mod status;
 mod step;
@@ -32,7 +33,9 @@ pub use answer::Answer;
 pub use bytes::Bytes;
 pub use cell::Cell;
 pub use cell_value::CellValue;
-pub use descriptor::{Descriptor, DescriptorRow, Word};
+pub use descriptor::{
+    Descriptor, DescriptorRow, Word, both_raised, deadline_from, raised_sequence,
+};
 pub use kept::KeptBytes;
 pub use kind::Kind;
 pub use limits::{Limits, MOST_BUFFER, MOST_DESCRIPTORS, MOST_GOROUTINES, MOST_SOCKETS, is_limit};
@@ -40,6 +43,7 @@ pub use lock::{Lock, LockOutcome};
 pub use queue::Queue;
 pub use refusal::Refusal;
 pub use reversible::Reversible;
+pub use roomed_list::RoomedList;
 pub use sides::{Mode, Side, Sides};
 pub use status::Status;
 pub use step::Step;

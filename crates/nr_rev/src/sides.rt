@@ -20,6 +20,22 @@ pub enum Mode {
     Both,
 }
 
+impl Mode {
+    ghost use Rattle.std.specs.Prelude.{◌≡◌};
+    ghost use Rattle.nr_rev.specs.Sides.{names_side};
+
+    /// Whether it names a side.
+    pub fn names(self, side: Side) -> bool
+        ensures { result ≡ names_side self side }
+    {
+        match self {
+            Mode::Read => side == Side::Read,
+            Mode::Write => side == Side::Write,
+            Mode::Both => true,
+        }
+    }
+}
+
 /// What a thing with a reading and a writing side has twice: one for each side.
 #[derive(Clone, Copy, Debug, PartialEq, Eq)]
 pub struct Sides<T> {

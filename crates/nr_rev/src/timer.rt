@@ -13,6 +13,32 @@ pub enum TimerFunction {
     Both,
 }
 
+impl TimerFunction {
+    ghost use Rattle.std.specs.Prelude.{◌≡◌};
+    ghost use Rattle.nr_rev.specs.Sides.{covers_side, side_of_function};
+
+    /// Whether it makes a side's deadline expire.
+    pub fn covers(self, side: Side) -> bool
+        ensures { result ≡ covers_side self side }
+    {
+        match self {
+            TimerFunction::Read => side == Side::Read,
+            TimerFunction::Write => side == Side::Write,
+            TimerFunction::Both => true,
+        }
+    }
+
+    /// The side whose sequence and running mark go with it.
+    pub fn side(self) -> Side
+        ensures { result ≡ side_of_function self }
+    {
+        match self {
+            TimerFunction::Write => Side::Write,
+            _ => Side::Read,
+        }
+    }
+}
+
 /// An armed timer. Timers go off in the order of when they are due, and of those due at once in that of their arming.
 #[derive(Clone, Copy, Debug, PartialEq, Eq)]
 pub struct Timer {
@@ -24,6 +50,18 @@ pub struct Timer {
     pub function: TimerFunction,
     /// The sequence that its side had when it was armed. Where the side has another one, the firing is stale.
     pub sequence: u64,
+}
+
+impl Timer {
+    ghost use Rattle.std.specs.Prelude.{◌≡◌};
+    ghost use Rattle.nr_rev.specs.Timer.{is_before};
+
+    /// Whether it goes off before another one: by when they are due, and of those due at once by arming number.
+    pub fn is_before(&self, other: &Timer) -> bool
+        ensures { result ≡ is_before self.now other.now }
+    {
+        self.due < other.due || (self.due == other.due && self.number < other.number)
+    }
 }
 
 /// A timer with the descriptor and the side that it is armed for: one that is armed, or one that went off and waits to

@@ -2,6 +2,7 @@
 
 ghost use Rattle.std.specs.Prelude.{◌≡◌, ℕ};
 ghost use Rattle.nr_snaps.specs.Film.{IsFrame, Reel};
+ghost use Rattle.nr_snaps.specs.declared.film.TheConstants.{LEAST_EVERY, MOST_EVERY};
 
 use nr_rev::Worlds;
 
@@ -10,4 +11,10 @@ pub fn a_position_has_one_frame<W: Worlds>()
     ensures { (film : Reel W) (n : ℕ) (a b : W)
         → IsFrame W.is_well_formed W.world W.steps film n a
         → IsFrame W.is_well_formed W.world W.steps film n b → a ≡ b }
+{}
+
+/// The copies of a film are 64 to 65,536 steps apart.
+pub fn the_numbers()
+    ensures least { LEAST_EVERY ≡ 64 }
+    ensures most { MOST_EVERY ≡ 65536 }
 {}

@@ -4,6 +4,7 @@
 //! three ways: back over deltas that it keeps, forward by steps, or from the film's copy at or below the position.
 #![tactic(auto)]
 
+pub mod laws;
 mod moved;
 mod route;
 mod walker;

@@ -4,7 +4,7 @@ use Rattle.nr_rev.specs.Socket.{Socket}
 use Rattle.nr_plain.specs.RowEdit.{CanEditRow, after_row_edit}
 use Rattle.nr_plain.specs.Rows.{row_of}
 use Rattle.nr_plain.specs.Socket.{place_of}
-use Rattle.nr_plain.specs.Table.{SocketTable}
+use Rattle.nr_plain.specs.SocketTable.{SocketTable}
 use Rattle.nr_plain.proofs.SocketsLemmas.{bytes_changed, bytes_row, part_has, part_known}
 use Rattle.nr_plain.proofs.sockets.Sockets.edit_bytes.Goals as goal
 

@@ -4,7 +4,7 @@ use Rattle.nr_rev.specs.Socket.{Socket}
 use Rattle.nr_plain.specs.RowEdit.{CanEditRow, after_row_edit}
 use Rattle.nr_plain.specs.Rows.{row_of}
 use Rattle.nr_plain.specs.Socket.{place_of}
-use Rattle.nr_plain.specs.Table.{SocketTable}
+use Rattle.nr_plain.specs.SocketTable.{SocketTable}
 use Rattle.nr_plain.proofs.SocketsLemmas.{part_has, part_known, queue_changed, queue_row}
 use Rattle.nr_plain.proofs.sockets.Sockets.edit_queue.Goals as goal
 

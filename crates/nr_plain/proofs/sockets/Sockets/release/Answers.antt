@@ -8,7 +8,7 @@ use Rattle.nr_plain.specs.declared.socket_edit.SocketUndo.TheVariants as undo
 use Rattle.nr_plain.specs.Edit.{with_changed}
 use Rattle.nr_plain.specs.Socket.{socket_shown}
 use Rattle.nr_plain.specs.SocketEdit.{after_socket_edit, on_queue}
-use Rattle.nr_plain.specs.Table.{SocketTable}
+use Rattle.nr_plain.specs.SocketTable.{SocketTable}
 use Rattle.nr_plain.proofs.ItemLemmas.{changed_twice}
 use Rattle.nr_plain.proofs.SocketEditLemmas.{edited_there, front_returns, released_by, requeue_light}
 use Rattle.nr_plain.proofs.sockets.Sockets.release.Goals as goal

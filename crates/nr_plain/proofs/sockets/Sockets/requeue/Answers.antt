@@ -9,7 +9,7 @@ use Rattle.nr_plain.specs.declared.socket_edit.SocketUndo.TheVariants as undo
 use Rattle.nr_plain.specs.Edit.{with_changed}
 use Rattle.nr_plain.specs.Socket.{socket_shown}
 use Rattle.nr_plain.specs.SocketEdit.{after_socket_edit, after_socket_undo, on_queue}
-use Rattle.nr_plain.specs.Table.{SocketTable}
+use Rattle.nr_plain.specs.SocketTable.{SocketTable}
 use Rattle.nr_plain.proofs.ItemLemmas.{changed-here, changed_alike, changed_twice, mapped_known}
 use Rattle.nr_plain.proofs.SocketEditLemmas.{if_there, queue_kept, requeued_by}
 use Rattle.nr_plain.proofs.sockets.Sockets.requeue.Goals as goal

@@ -1,6 +1,6 @@
 use Rattle.std.proofs.Common.{List, ap}
 use Rattle.nr_rev.specs.Socket.{Socket}
-use Rattle.nr_plain.specs.Table.{SocketTable}
+use Rattle.nr_plain.specs.SocketTable.{SocketTable}
 use Rattle.nr_plain.proofs.SocketsLemmas.{state_changed}
 use Rattle.nr_plain.proofs.sockets.Sockets.set_state.Goals as goal
 

@@ -1,0 +1,10 @@
+-- What contracts see of a world's sockets.
+use Rattle.std.specs.Prelude.{ℕ, List}
+use Rattle.nr_rev.specs.Socket.{Socket}
+
+-- the sockets opened, how many there is room for, and the room of each one's queues and buffers
+pub record SocketTable : Type 0 where
+  pub sockets : List Socket
+  pub room : ℕ
+  pub queue_room : ℕ
+  pub byte_room : ℕ

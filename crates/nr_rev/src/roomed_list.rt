@@ -1,0 +1,147 @@
+//! A list in room that was made at once, so that it grows without taking memory.
+
+ghost use Rattle.std.specs.Prelude.{◌≡◌, ◌+◌, ◌-◌, ◌<◌, ◌≤◌, ◌∷◌, ◌++◌, [], length, take, drop, insert, remove, slice_get, slice_set, Some, IfOk, IfSome};
+
+use std::alloc::{AllocError, Global};
+use std::marker::Model;
+
+/// At most `room` items, seen in contracts as the list of them with its room. The constructor takes all the memory that
+/// it ever has: no other method takes any, so that undoing a step can't run out of memory.
+#[derive(Drop)]
+pub struct RoomedList<T> {
+    items: Vec<T>,
+    room: usize,
+}
+
+impl<T> Model for RoomedList<T> {
+    ghost use Rattle.std.specs.Prelude.{◌≤◌, vec_len, vec_capacity};
+    ghost use Rattle.nr_rev.specs.RoomedList.{Roomed};
+
+    ghost Value = { Roomed T };
+
+    ghost view = { λ t. record { items = t.items.items; room = t.room } };
+
+    ghost invariant = { λ t. (vec_len t.items ≤ t.room) × (t.room ≤ vec_capacity t.items) };
+}
+
+impl<T: Drop> RoomedList<T> {
+    /// An empty list with room for so many items. An error is that there is no memory for them.
+    pub fn with_room(alloc: Global, room: usize) -> Result<RoomedList<T>, AllocError>
+        ensures { IfOk result (λ t. t ≡ record { items = []; room = room }) }
+    {
+        let items = Vec::with_capacity(alloc, room)?;
+        Ok(RoomedList { items, room })
+    }
+
+    /// How many items there are.
+    pub fn len(&self) -> usize
+        ensures len { result ≡ length self.now.items }
+        ensures within { result ≤ self.now.room }
+    {
+        self.items.len()
+    }
+
+    /// The items.
+    pub fn as_slice(&self) -> &[T]
+        ensures items { result.now ≡ self.now.items }
+        ensures within { length result.now ≤ self.now.room }
+    {
+        self.items.as_slice()
+    }
+
+    /// Puts an item at the end.
+    pub fn push(&mut self, item: T)
+        requires { length self.old.items < self.old.room }
+        ensures { self.new ≡ record self.old { items = self.old.items ++ item ∷ [] } }
+    {
+        self.items.push_reserved(item);
+    }
+
+    /// Puts an item at a place.
+    pub fn insert(&mut self, place: usize, item: T)
+        requires room { length self.old.items < self.old.room }
+        requires place { place ≤ length self.old.items }
+        ensures { self.new ≡ record self.old { items = insert self.old.items place item } }
+    {
+        let Ok(()) = self.items.insert(place, item) else {
+            unreachable!()
+        };
+    }
+
+    /// Takes the item at a place out.
+    pub fn remove(&mut self, place: usize) -> T
+        requires { place < length self.old.items }
+        ensures item { slice_get self.old.items place ≡ Some result }
+        ensures rest { self.new ≡ record self.old { items = remove self.old.items place } }
+        ensures within { length self.old.items ≤ self.old.room }
+    {
+        self.items.remove(place)
+    }
+
+    /// Takes the first item out, if there is one.
+    pub fn take_first(&mut self) -> Option<T>
+        ensures item { result ≡ slice_get self.old.items 0 }
+        ensures rest { self.new ≡ record self.old { items = drop 1 self.old.items } }
+        ensures within { length self.old.items ≤ self.old.room }
+    {
+        if self.items.is_empty() {
+            return None;
+        }
+        Some(self.items.remove(0))
+    }
+
+    /// Takes the last item away, if there is one.
+    pub fn drop_last(&mut self)
+        ensures { self.new ≡ record self.old {
+          items = take (length self.old.items - 1) self.old.items;
+        } }
+    {
+        let _ = self.items.pop();
+    }
+}
+
+impl<T: Copy + Drop> RoomedList<T> {
+    /// An equal one, in room of its own. An error is that there is no memory for it.
+    pub fn try_copy(&self, alloc: Global) -> Result<RoomedList<T>, AllocError>
+        ensures { IfOk result (λ t. t ≡ self.now) }
+    {
+        let mut copy = RoomedList::with_room(alloc, self.room)?;
+        copy.extend(self.items.as_slice());
+        Ok(copy)
+    }
+}
+
+impl<T: Copy> RoomedList<T> {
+    /// The item at a place.
+    pub fn get(&self, place: usize) -> Option<T>
+        ensures { result ≡ slice_get self.now.items place }
+    {
+        self.items.get(place).copied()
+    }
+
+    /// Puts the item in the place of the one that stands there, which it gives back. Where there is no such
+    /// place it gives back the item itself.
+    #[tactic(auto, using(crate::proofs::Lists::set_read_back, crate::proofs::Lists::read_is_there))]
+    pub fn replace(&mut self, place: usize, item: T) -> T
+        ensures items { self.new ≡ record self.old { items = slice_set self.old.items place item } }
+        ensures back { slice_set self.new.items place result ≡ self.old.items }
+        ensures old { IfSome (slice_get self.old.items place) (λ x. x ≡ result) }
+    {
+        if place >= self.items.len() {
+            return item;
+        }
+        let old = self.items[place];
+        self.items[place] = item;
+        old
+    }
+
+    /// Puts items at the end.
+    pub fn extend(&mut self, items: &[T])
+        requires { length self.old.items + length items.now ≤ self.old.room }
+        ensures { self.new ≡ record self.old { items = self.old.items ++ items.now } }
+    {
+        let Ok(()) = self.items.extend_from_slice(items) else {
+            unreachable!()
+        };
+    }
+}

@@ -1,0 +1,10 @@
+//! The numbers of the crate, as a law: a public function with an empty body, whose contract is the law.
+
+ghost use Rattle.std.specs.Prelude.{◌≡◌};
+ghost use Rattle.nr_walker.specs.declared.walker.TheConstants.{LEAST_DEPTH, MOST_DEPTH};
+
+/// A walker is made to keep its last 1 to 65,536 deltas.
+pub fn the_numbers()
+    ensures least { LEAST_DEPTH ≡ 1 }
+    ensures most { MOST_DEPTH ≡ 65536 }
+{}
