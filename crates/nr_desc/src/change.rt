@@ -1,0 +1,87 @@
+//! What an operation leaves: a descriptor, orders to its timers, and who is woken. At most one order and one goroutine a
+//! side, reading first.
+
+ghost use Rattle.std.specs.Prelude.{◌≡◌, IsTrue, None};
+ghost use Rattle.nr_rev.specs.Descriptor as spec;
+ghost use Rattle.nr_rev.specs.Sides as sides;
+ghost use Rattle.nr_desc.specs.Change.{both_let_go, change_shown, let_go};
+
+use crate::desc::Desc;
+use nr_rev::{Mode, Side, Sides, TimerOrder};
+
+/// What an operation leaves.
+#[derive(Clone, Copy)]
+pub(crate) struct DescChange {
+    pub(crate) desc: Desc,
+    pub(crate) orders: Sides<Option<TimerOrder>>,
+    pub(crate) woken: Sides<Option<u32>>,
+}
+
+/// A descriptor, and the order to the timer of one side.
+#[derive(Clone, Copy)]
+pub(crate) struct Followed {
+    pub(crate) desc: Desc,
+    pub(crate) order: Option<TimerOrder>,
+}
+
+/// A descriptor with no order and nobody woken.
+#[inline(always)]
+pub(crate) fn quiet(desc: Desc) -> DescChange
+    ensures shown { change_shown result ≡ spec.quiet desc }
+    ensures orders { result.orders ≡ sides.twice None }
+    ensures woken { result.woken ≡ sides.twice None }
+{
+    DescChange {
+        desc,
+        orders: Sides {
+            read: None,
+            write: None,
+        },
+        woken: Sides {
+            read: None,
+            write: None,
+        },
+    }
+}
+
+impl DescChange {
+    /// A side unblocked. Reading comes before writing, so that those woken stand in that order.
+    #[inline(always)]
+    pub(crate) fn unblock(self, side: Side, ioready: bool) -> DescChange
+        requires none { sides.of_side side self.woken ≡ None }
+        requires first { self.woken.write ≡ None }
+        ensures shown { change_shown result
+            ≡ spec.and_then (change_shown self) (spec.unblocked ioready side) }
+        ensures rest { IsTrue (sides.is_read side) → result.woken.write ≡ None }
+        ensures woken { result.woken ≡ sides.with_side side
+            (let_go (sides.of_side side self.desc.words) (sides.of_side side result.desc.words)) self.woken }
+    {
+        let desc = self.desc;
+        let left = desc.words.of(side).unblocked(ioready);
+        DescChange {
+            desc: desc.with_word(side, left.word),
+            orders: self.orders,
+            woken: self.woken.with(side, left.woken),
+        }
+    }
+}
+
+/// An event of the poller (Go's `netpollready`): the event error is the event's, and the sides that it names
+/// are ready.
+#[inline(always)]
+pub(crate) fn change_by_event(mode: Mode, error: bool, desc: Desc) -> DescChange
+    ensures shown { change_shown result ≡ spec.change_by_event mode error desc }
+    ensures woken { result.woken ≡ both_let_go desc.words result.desc.words }
+{
+    let mut change = quiet(Desc {
+        marks: desc.marks.with_event_error(error),
+        ..desc
+    });
+    if mode.names(Side::Read) {
+        change = change.unblock(Side::Read, true);
+    }
+    if mode.names(Side::Write) {
+        change = change.unblock(Side::Write, true);
+    }
+    change
+}

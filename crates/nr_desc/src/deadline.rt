@@ -1,0 +1,203 @@
+//! Deadlines, and the timers that follow them.
+
+ghost use Rattle.std.specs.Prelude.{◌≡◌, ◌==◌, ◌&&◌, IfOk, None};
+ghost use Rattle.std.specs.Ordering.{int_eq};
+ghost use Rattle.nr_rev.specs.Descriptor as spec;
+ghost use Rattle.nr_rev.specs.Lock as lock;
+ghost use Rattle.nr_rev.specs.Sides as sides;
+ghost use Rattle.nr_rev.specs.Refusing.{Gives};
+ghost use Rattle.nr_desc.specs.Change.{both_let_go, change_shown, followed_shown};
+
+use crate::change::{DescChange, Followed, quiet};
+use crate::desc::Desc;
+use nr_rev::{
+    Mode, Refusal, Side, Sides, TimerFunction, TimerOrder, deadline_from, raised_sequence,
+};
+
+/// The descriptor with a deadline at the sides that a mode names.
+#[inline(always)]
+fn with_deadlines(mode: Mode, deadline: i64, desc: Desc) -> Desc
+    ensures { result ≡ spec.with_deadlines mode deadline desc }
+{
+    let read = if mode.names(Side::Read) {
+        deadline
+    } else {
+        desc.deadlines.read
+    };
+    let write = if mode.names(Side::Write) {
+        deadline
+    } else {
+        desc.deadlines.write
+    };
+    Desc {
+        deadlines: Sides { read, write },
+        ..desc
+    }
+}
+
+/// The descriptor with a deadline, told from now, at the sides that a mode names.
+#[inline(always)]
+fn with_deadlines_from(clock: i64, mode: Mode, time: i64, desc: Desc) -> Desc
+    ensures { result ≡ spec.with_deadlines mode (spec.deadline_from clock time) desc }
+{
+    with_deadlines(mode, deadline_from(clock, time), desc)
+}
+
+/// Whether a side's deadline wants a timer of its own: one for writing isn't armed under combo.
+#[inline(always)]
+fn wants_timer(side: Side, desc: Desc) -> bool
+    ensures { result ≡ spec.wants_timer side desc }
+{
+    match side {
+        Side::Read => desc.deadlines.read > 0,
+        Side::Write => desc.deadlines.write > 0 && !desc.is_combo(),
+    }
+}
+
+/// What a side's timer runs: under combo the one for reading serves both.
+#[inline(always)]
+fn timer_function(side: Side, desc: Desc) -> TimerFunction
+    ensures { result ≡ spec.timer_function side desc }
+{
+    match side {
+        Side::Read if desc.is_combo() => TimerFunction::Both,
+        Side::Read => TimerFunction::Read,
+        Side::Write => TimerFunction::Write,
+    }
+}
+
+/// The descriptor with a side's timer armed at its deadline, or stopped.
+#[inline(always)]
+fn timer_reset(side: Side, desc: Desc) -> Followed
+    ensures { followed_shown result ≡ spec.timer_reset side desc }
+{
+    let wanted = wants_timer(side, desc);
+    let order = if wanted {
+        TimerOrder::Arm {
+            side,
+            due: desc.deadlines.of(side),
+            function: timer_function(side, desc),
+            sequence: desc.sequences.of(side),
+        }
+    } else {
+        TimerOrder::Stop { side }
+    };
+    Followed {
+        desc: desc.with_running(side, wanted),
+        order: Some(order),
+    }
+}
+
+/// Whether two times are the same.
+#[inline(always)]
+fn is_same_time(time: i64, other: i64) -> bool
+    ensures { result ≡ int_eq time other }
+{
+    time == other
+}
+
+/// Whether two marks are the same.
+#[inline(always)]
+fn is_same_mark(mark: bool, other: bool) -> bool
+    ensures { result ≡ (lock.bit mark == lock.bit other) }
+{
+    mark == other
+}
+
+/// Whether a side's deadline and combo are as they were.
+#[inline(always)]
+fn is_unmoved(side: Side, old: Desc, desc: Desc) -> bool
+    ensures { result
+        ≡ (int_eq (sides.of_side side old.deadlines) (sides.of_side side desc.deadlines)
+        && (lock.bit (spec.is_combo old) == lock.bit (spec.is_combo desc))) }
+{
+    is_same_time(old.deadline(side), desc.deadline(side))
+        && is_same_mark(old.is_combo(), desc.is_combo())
+}
+
+/// A side's timer after the deadlines of `old` became those of the descriptor.
+#[inline(always)]
+fn timer_follows(side: Side, old: Desc, desc: Desc) -> Result<Followed, Refusal>
+    ensures shown { Gives followed_shown result (spec.timer_follows side old desc) }
+    ensures words { IfOk result (λ followed. followed.desc.words ≡ desc.words) }
+{
+    let stays = Followed { desc, order: None };
+    if !desc.marks.is_running(side) {
+        if wants_timer(side, desc) {
+            return Ok(timer_reset(side, desc));
+        }
+        return Ok(stays);
+    }
+    if is_unmoved(side, old, desc) {
+        return Ok(stays);
+    }
+    let sequence = raised_sequence(desc.sequences.of(side))?;
+    Ok(timer_reset(
+        side,
+        Desc {
+            sequences: desc.sequences.with(side, sequence),
+            ..desc
+        },
+    ))
+}
+
+impl DescChange {
+    /// The sides whose deadline is past unblocked, reading first.
+    #[inline(always)]
+    fn unblock_expired(self) -> DescChange
+        requires { self.woken ≡ sides.twice None }
+        ensures shown { change_shown result ≡ spec.expired_unblocked (change_shown self) }
+        ensures woken { result.woken ≡ both_let_go self.desc.words result.desc.words }
+    {
+        let mut change = self;
+        if self.desc.is_expired(Side::Read) {
+            change = change.unblock(Side::Read, false);
+        }
+        if change.desc.is_expired(Side::Write) {
+            change = change.unblock(Side::Write, false);
+        }
+        change
+    }
+}
+
+/// Both timers after the deadlines of `old` became those of the descriptor, reading first.
+#[inline(always)]
+fn both_follow(old: Desc, desc: Desc) -> Result<DescChange, Refusal>
+    ensures shown { Gives change_shown result (spec.both_follow old desc) }
+    ensures woken { IfOk result (λ change. change.woken ≡ sides.twice None) }
+    ensures words { IfOk result (λ change. change.desc.words ≡ desc.words) }
+{
+    let read = timer_follows(Side::Read, old, desc)?;
+    let write = timer_follows(Side::Write, old, read.desc)?;
+    Ok(DescChange {
+        desc: write.desc,
+        orders: Sides {
+            read: read.order,
+            write: write.order,
+        },
+        woken: Sides {
+            read: None,
+            write: None,
+        },
+    })
+}
+
+/// A deadline set (Go's `poll_runtime_pollSetDeadline`): the timers follow, reading first, and the sides
+/// whose deadline is past are unblocked.
+#[inline(always)]
+pub(crate) fn change_by_deadline(
+    clock: i64,
+    mode: Mode,
+    time: i64,
+    old: Desc,
+) -> Result<DescChange, Refusal>
+    ensures shown { Gives change_shown result (spec.change_by_deadline clock mode time old) }
+    ensures woken { IfOk result (λ change. change.woken ≡ both_let_go old.words change.desc.words) }
+{
+    if old.marks.closing() {
+        return Ok(quiet(old));
+    }
+    let desc = with_deadlines_from(clock, mode, time, old);
+    let change = both_follow(old, desc)?;
+    Ok(change.unblock_expired())
+}

@@ -1,0 +1,238 @@
+//! A descriptor, what it tells, and its fields changed.
+
+ghost use Rattle.std.specs.Prelude.{◌≡◌, ◌==◌, ◌<◌, ◌^◌, pos};
+ghost use Rattle.nr_rev.specs.Descriptor as spec;
+ghost use Rattle.nr_rev.specs.Sides as sides;
+ghost use Rattle.nr_desc.specs.Code.{code_of};
+ghost use Rattle.nr_desc.specs.Desc.{DescFits, marks_number_of};
+
+use crate::code::WordCode;
+use crate::marks::Marks;
+use nr_rev::{Descriptor, Side, Sides, Word};
+use std::marker::Model;
+
+/// A poll descriptor, seen in contracts as the record of its fields.
+#[derive(Clone, Copy, Debug, PartialEq, Eq)]
+pub struct Desc {
+    pub(crate) words: Sides<WordCode>,
+    pub(crate) socket: u32,
+    pub(crate) marks: Marks,
+    pub(crate) deadlines: Sides<i64>,
+    pub(crate) sequences: Sides<u64>,
+    pub(crate) fdseq: u64,
+}
+
+impl Model for Desc {
+    ghost use Rattle.nr_rev.specs.declared.descriptor.Descriptor.{Descriptor};
+
+    ghost Value = { Descriptor };
+
+    ghost view = { λ d. record {
+      words = d.words;
+      closing = d.marks.closing;
+      event_error = d.marks.event_error;
+      deadlines = d.deadlines;
+      running = d.marks.running;
+      sequences = d.sequences;
+      fdseq = d.fdseq;
+      socket = d.socket;
+    } };
+
+    ghost inverse = { λ d. record {
+      words = d.words;
+      socket = d.socket;
+      marks = record { closing = d.closing; event_error = d.event_error; running = d.running };
+      deadlines = d.deadlines;
+      sequences = d.sequences;
+      fdseq = d.fdseq;
+    } };
+}
+
+impl Desc {
+    /// A descriptor that was never opened: all its numbers are 0.
+    #[inline(always)]
+    pub fn never_opened() -> Desc
+        ensures descriptor { result ≡ spec.never_opened }
+        ensures well_formed { DescFits result }
+    {
+        Desc {
+            words: Sides {
+                read: WordCode::nil(),
+                write: WordCode::nil(),
+            },
+            socket: 0,
+            marks: Marks::none(),
+            deadlines: Sides { read: 0, write: 0 },
+            sequences: Sides { read: 0, write: 0 },
+            fdseq: 0,
+        }
+    }
+
+    /// The record of the fields.
+    #[inline(always)]
+    pub fn descriptor(&self) -> Descriptor
+        ensures { result ≡ self.now }
+    {
+        Descriptor {
+            words: Sides {
+                read: self.words.read.word(),
+                write: self.words.write.word(),
+            },
+            closing: self.marks.closing(),
+            event_error: self.marks.event_error(),
+            deadlines: self.deadlines,
+            running: Sides {
+                read: self.marks.is_running(Side::Read),
+                write: self.marks.is_running(Side::Write),
+            },
+            sequences: self.sequences,
+            fdseq: self.fdseq,
+            socket: self.socket,
+        }
+    }
+
+    /// A side's word.
+    #[inline(always)]
+    pub fn word(&self, side: Side) -> Word
+        ensures { result ≡ sides.of_side side self.now.words }
+    {
+        self.words.of(side).word()
+    }
+
+    /// A side's word as it is kept: 0 nil, 1 ready, 2 wait, and 3 more than its number for a goroutine.
+    #[inline(always)]
+    pub fn code(&self, side: Side) -> u32
+        ensures { result ≡ code_of (sides.of_side side self.now.words) }
+    {
+        self.words.of(side).number()
+    }
+
+    /// The marks as they are kept: 1 closing, 2 an event error, 4 and 8 the timers of reading and writing run.
+    #[inline(always)]
+    pub fn marks(&self) -> u8
+        ensures { result ≡ marks_number_of self.now }
+    {
+        self.marks.number()
+    }
+
+    /// Whether it is closing.
+    #[inline(always)]
+    pub fn closing(&self) -> bool
+        ensures { result ≡ self.now.closing }
+    {
+        self.marks.closing()
+    }
+
+    /// Whether the last event told of an error.
+    #[inline(always)]
+    pub fn event_error(&self) -> bool
+        ensures { result ≡ self.now.event_error }
+    {
+        self.marks.event_error()
+    }
+
+    /// A side's deadline.
+    #[inline(always)]
+    pub fn deadline(&self, side: Side) -> i64
+        ensures { result ≡ sides.of_side side self.now.deadlines }
+    {
+        self.deadlines.of(side)
+    }
+
+    /// Whether a side's timer was armed and not stopped.
+    #[inline(always)]
+    pub fn is_running(&self, side: Side) -> bool
+        ensures { result ≡ sides.of_side side self.now.running }
+    {
+        self.marks.is_running(side)
+    }
+
+    /// A side's sequence.
+    #[inline(always)]
+    pub fn sequence(&self, side: Side) -> u64
+        ensures { result ≡ sides.of_side side self.now.sequences }
+    {
+        self.sequences.of(side)
+    }
+
+    /// The tag by which a stale event is known.
+    #[inline(always)]
+    pub fn fdseq(&self) -> u64
+        ensures { result ≡ self.now.fdseq }
+    {
+        self.fdseq
+    }
+
+    /// The number of the socket that it was opened for.
+    #[inline(always)]
+    pub fn socket(&self) -> u32
+        ensures { result ≡ self.now.socket }
+    {
+        self.socket
+    }
+
+    /// The summary: 1 closing, 2 an event error, 4 and 8 the deadlines of reading and writing past.
+    #[inline(always)]
+    pub fn summary(&self) -> u64
+        ensures { result ≡ spec.summary self.now }
+    {
+        u64::from(self.marks.closing())
+            + 2 * u64::from(self.marks.event_error())
+            + 4 * u64::from(self.is_expired(Side::Read))
+            + 8 * u64::from(self.is_expired(Side::Write))
+    }
+
+    /// What stands against waiting: 1 closing, 2 the deadline is past, 3 an event error, for reading; else 0.
+    #[inline(always)]
+    pub fn check(&self, side: Side) -> u32
+        ensures { result ≡ spec.check side self.now }
+    {
+        if self.marks.closing() {
+            1
+        } else if self.is_expired(side) {
+            2
+        } else if side == Side::Read && self.marks.event_error() {
+            3
+        } else {
+            0
+        }
+    }
+
+    /// Whether a side's deadline is past.
+    #[inline(always)]
+    pub(crate) fn is_expired(&self, side: Side) -> bool
+        ensures { result ≡ spec.is_expired side self.now }
+    {
+        self.deadlines.of(side) < 0
+    }
+
+    /// Whether one deadline is for both sides, and to come.
+    #[inline(always)]
+    pub(crate) fn is_combo(&self) -> bool
+        ensures { result ≡ spec.is_combo self.now }
+    {
+        self.deadlines.read > 0 && self.deadlines.read == self.deadlines.write
+    }
+
+    /// With another word at a side.
+    #[inline(always)]
+    pub(crate) fn with_word(self, side: Side, word: WordCode) -> Desc
+        ensures { result ≡ spec.with_word side word self }
+    {
+        Desc {
+            words: self.words.with(side, word),
+            ..self
+        }
+    }
+
+    /// With a side's timer running or not.
+    #[inline(always)]
+    pub(crate) fn with_running(self, side: Side, running: bool) -> Desc
+        ensures { result ≡ record self { running = sides.with_side side running self.running } }
+    {
+        Desc {
+            marks: self.marks.with_running(side, running),
+            ..self
+        }
+    }
+}

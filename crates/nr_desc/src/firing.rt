@@ -1,0 +1,82 @@
+//! Firings run.
+
+ghost use Rattle.std.specs.Prelude.{◌≡◌, IfOk, IfSome, None, negsuc, option_map};
+ghost use Rattle.nr_rev.specs.Descriptor as spec;
+ghost use Rattle.nr_rev.specs.Sides as sides;
+ghost use Rattle.nr_rev.specs.declared.sides.Side.TheVariants.{Read, Write};
+ghost use Rattle.nr_rev.specs.Refusing.{Gives};
+ghost use Rattle.nr_desc.specs.Change.{both_let_go, change_shown};
+
+use crate::change::{DescChange, quiet};
+use crate::desc::Desc;
+use nr_rev::{Refusal, Side, TimerFunction};
+
+/// The descriptor with a side's deadline past.
+#[inline(always)]
+fn with_past(side: Side, desc: Desc) -> Desc
+    ensures { result ≡ record desc {
+      deadlines = sides.with_side side (negsuc 0) desc.deadlines;
+    } }
+{
+    Desc {
+        deadlines: desc.deadlines.with(side, -1),
+        ..desc
+    }
+}
+
+impl DescChange {
+    /// The sides that a function covers expired, reading first.
+    #[inline(always)]
+    fn expire(self, function: TimerFunction) -> DescChange
+        requires { self.woken ≡ sides.twice None }
+        ensures woken { result.woken ≡ both_let_go self.desc.words result.desc.words }
+        ensures shown { change_shown result
+            ≡ spec.and_if (sides.covers_side function Write) (spec.expire Write)
+            (spec.and_if (sides.covers_side function Read) (spec.expire Read) (change_shown self)) }
+    {
+        let mut change = self;
+        if function.covers(Side::Read) {
+            change.desc = with_past(Side::Read, change.desc);
+            change = change.unblock(Side::Read, false);
+        }
+        if function.covers(Side::Write) {
+            change.desc = with_past(Side::Write, change.desc);
+            change = change.unblock(Side::Write, false);
+        }
+        change
+    }
+}
+
+/// Whether a side that a function covers waits for its timer.
+#[inline(always)]
+fn is_timed(function: TimerFunction, desc: Desc) -> bool
+    ensures { result ≡ spec.is_timed function desc }
+{
+    let read = desc.deadlines.read > 0 && desc.marks.is_running(Side::Read);
+    match function {
+        TimerFunction::Read => read,
+        TimerFunction::Write => desc.deadlines.write > 0 && desc.marks.is_running(Side::Write),
+        TimerFunction::Both => read && desc.deadlines.write > 0,
+    }
+}
+
+/// A firing run (Go's `netpolldeadlineimpl`), or `None` where its sequence is no longer the descriptor's.
+#[inline(always)]
+pub(crate) fn change_by_firing(
+    function: TimerFunction,
+    sequence: u64,
+    desc: Desc,
+) -> Result<Option<DescChange>, Refusal>
+    ensures shown { Gives (option_map change_shown) result
+        (spec.change_by_firing function sequence desc) }
+    ensures woken { IfOk result (λ firing. IfSome firing (λ change.
+        change.woken ≡ both_let_go desc.words change.desc.words)) }
+{
+    if sequence != desc.sequences.of(function.side()) {
+        return Ok(None);
+    }
+    if !is_timed(function, desc) {
+        return Err(Refusal::CorruptedDescriptor);
+    }
+    Ok(Some(quiet(desc).expire(function)))
+}

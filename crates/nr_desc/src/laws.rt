@@ -1,0 +1,37 @@
+//! Laws over who is woken, the numbers that a descriptor is kept in, and the way back.
+
+ghost use Rattle.std.specs.Prelude.{◌≡◌, ◌<◌, ℕ, Some};
+ghost use Rattle.nr_rev.specs.Sides.{of_side};
+ghost use Rattle.nr_rev.specs.declared.descriptor.Descriptor.{Descriptor};
+ghost use Rattle.nr_rev.specs.declared.descriptor.Word.{Word};
+ghost use Rattle.nr_rev.specs.declared.descriptor.Word.TheVariants.{Held};
+ghost use Rattle.nr_rev.specs.declared.sides.Side.{Side};
+ghost use Rattle.nr_desc.specs.Code.{code_of, word_of};
+ghost use Rattle.nr_desc.specs.Marks.{DescMarks, marks_of, marks_number};
+ghost use Rattle.nr_desc.specs.Op.{StepTo};
+ghost use Rattle.nr_desc.specs.declared.op.DescAnswer.{DescAnswer};
+ghost use Rattle.nr_desc.specs.declared.op.DescOp.{DescOp};
+ghost use Rattle.nr_desc.specs.declared.reversible.DescDelta.{DescDelta};
+ghost use Rattle.nr_desc.specs.declared.reversible.TheConstants.{MOST_WORDS};
+
+/// Whoever is woken of a side was held by that side's word.
+pub fn the_woken_were_held()
+    ensures { (old new : Descriptor) (op : DescOp) (answer : DescAnswer) (side : Side) (g : ℕ)
+        → StepTo old op answer new → of_side side answer.woken ≡ Some g
+        → of_side side old.words ≡ Held g }
+{}
+
+/// Each number is the code of one word, and each word has one code. Bytes below 16 and marks are as much one to one.
+pub fn numbers_are_words_and_marks()
+    ensures code { (n : ℕ) → code_of (word_of n) ≡ n }
+    ensures word { (word : Word) → word_of (code_of word) ≡ word }
+    ensures byte { (n : ℕ) → n < 16 → marks_number (marks_of n) ≡ n }
+    ensures marks { (marks : DescMarks) → marks_of (marks_number marks) ≡ marks }
+    ensures small { (marks : DescMarks) → marks_number marks < 16 }
+{}
+
+/// A delta is the descriptor before and nothing beside it, nine words.
+pub fn delta_is_its_descriptor()
+    ensures descriptor { (delta : DescDelta) → delta ≡ record { before = delta.before } }
+    ensures words { MOST_WORDS ≡ 9 }
+{}

@@ -1,0 +1,206 @@
+//! Buffers of a socket whose rings have room for four bytes, so that their bytes wrap round the end; and memory refused.
+//! The tests pass, too, where any one allocation is refused: of two tries one has memory.
+
+ghost use Rattle.std.specs.Prelude.{◌≡◌, ◌≤◌, OnOk, [], length};
+ghost use Rattle.nr_rev.specs.Transaction.{LeadsBack};
+ghost use Rattle.nr_sockbuf.specs.Delta as back;
+
+use arrayvec::ArrayVec;
+use nr_rev::{Answer, Bytes, Refusal, Reversible, Side, Step, transact, undo_all};
+use nr_sockbuf::{Sock, SockDelta};
+use std::alloc::{AllocError, Global};
+use std::test::Fail;
+
+const OPEN: Step = Step::SockOpen {
+    read_capacity: 4,
+    write_capacity: 3,
+};
+
+fn read(count: u32) -> Step {
+    Step::SysRead {
+        goroutine: 0,
+        socket: 0,
+        count,
+    }
+}
+
+fn arrive(alloc: Global, bytes: &[u8]) -> Result<Step, AllocError> {
+    let bytes = Bytes::new(Vec::from_slice(alloc, bytes)?);
+    Ok(Step::Arrive { socket: 0, bytes })
+}
+
+fn write(alloc: Global, bytes: &[u8]) -> Result<Step, AllocError> {
+    let bytes = Bytes::new(Vec::from_slice(alloc, bytes)?);
+    Ok(Step::SysWrite {
+        goroutine: 0,
+        socket: 0,
+        bytes,
+    })
+}
+
+/// Buffers with room for four bytes, at once or, where memory was refused, the next time.
+fn made(alloc: Global) -> Result<Sock, AllocError> {
+    match Sock::with_limits(alloc, 4) {
+        Err(AllocError) => Sock::with_limits(alloc, 4),
+        made => made,
+    }
+}
+
+/// An equal one, at once or the next time.
+fn copied(sock: &Sock) -> Result<Sock, AllocError> {
+    match sock.try_copy() {
+        Err(AllocError) => sock.try_copy(),
+        copy => copy,
+    }
+}
+
+/// Applies all the steps or none, at once or, where memory was refused, the next time.
+fn play(sock: &mut Sock, steps: &[Step], deltas: &mut ArrayVec<SockDelta, 8>) -> Result<(), Refusal>
+    requires few { length steps.now ≤ 8 }
+    requires empty { deltas.old.items ≡ [] }
+    ensures { OnOk result (LeadsBack back.LeadsBack deltas.new.items sock.new sock.old) }
+{
+    match transact(sock, steps, deltas) {
+        Err(Refusal::Memory) => transact(sock, steps, deltas),
+        played => played,
+    }
+}
+
+/// The bytes of a side, from the front.
+fn held(sock: &Sock, side: Side) -> [Option<u8>; 4] {
+    [
+        sock.byte(side, 0),
+        sock.byte(side, 1),
+        sock.byte(side, 2),
+        sock.byte(side, 3),
+    ]
+}
+
+/// Plays two rounds in new buffers and undoes the second: the input before it, after it and then, and that of a copy.
+fn there_and_back(
+    alloc: Global,
+    first: &[Step],
+    second: &[Step],
+) -> Result<[[Option<u8>; 4]; 4], Refusal>
+    requires first { length first.now ≤ 8 }
+    requires second { length second.now ≤ 8 }
+{
+    let Ok(mut sock) = made(alloc) else {
+        return Err(Refusal::Memory);
+    };
+    let mut deltas = ArrayVec::new();
+    play(&mut sock, first, &mut deltas)?;
+    let before = held(&sock, Side::Read);
+    let mut deltas = ArrayVec::new();
+    play(&mut sock, second, &mut deltas)?;
+    let after = held(&sock, Side::Read);
+    undo_all(&mut sock, &mut deltas);
+    let Ok(copy) = copied(&sock) else {
+        return Err(Refusal::Memory);
+    };
+    Ok([
+        before,
+        after,
+        held(&sock, Side::Read),
+        held(&copy, Side::Read),
+    ])
+}
+
+/// A round that leaves bytes round the end.
+fn first_round(alloc: Global) -> Result<[Step; 4], AllocError> {
+    Ok([
+        OPEN,
+        arrive(alloc, b"abc")?,
+        read(2),
+        arrive(alloc, b"def")?,
+    ])
+}
+
+/// A round that reads them.
+fn second_round(alloc: Global) -> Result<[Step; 2], AllocError> {
+    Ok([read(3), arrive(alloc, b"xyz")?])
+}
+
+#[test]
+fn what_wraps_round_the_end_is_read_and_put_back(rt: HostRuntime) -> Result<(), Fail> {
+    let Ok(first) = first_round(rt.alloc()) else {
+        return Ok(());
+    };
+    let Ok(second) = second_round(rt.alloc()) else {
+        return Ok(());
+    };
+    let before = [Some(b'c'), Some(b'd'), Some(b'e'), Some(b'f')];
+    let after = [Some(b'f'), Some(b'x'), Some(b'y'), Some(b'z')];
+    assert_eq!(rt;
+        there_and_back(rt.alloc(), &first, &second),
+        Ok([before, after, before, before])
+    );
+    Ok(())
+}
+
+/// What five steps answer in new buffers, and what the output holds then.
+fn answers(
+    alloc: Global,
+    steps: &[Step; 5],
+) -> Result<([Result<Answer, Refusal>; 5], [Option<u8>; 4]), AllocError> {
+    let mut sock = made(alloc)?;
+    let [first, second, third, fourth, fifth] = steps;
+    let answers = [
+        sock.advance(first),
+        sock.advance(second),
+        sock.advance(third),
+        sock.advance(fourth),
+        sock.advance(fifth),
+    ];
+    Ok((answers, held(&sock, Side::Write)))
+}
+
+/// A write before the opening, two openings, and two writes.
+fn writes(alloc: Global) -> Result<[Step; 5], AllocError> {
+    Ok([
+        write(alloc, b"hello")?,
+        OPEN,
+        OPEN,
+        write(alloc, b"hello")?,
+        write(alloc, b"hello")?,
+    ])
+}
+
+#[test]
+fn a_write_takes_what_there_is_room_for(rt: HostRuntime) -> Result<(), Fail> {
+    let Ok(writes) = writes(rt.alloc()) else {
+        return Ok(());
+    };
+    assert_eq!(rt;
+        answers(rt.alloc(), &writes),
+        Ok((
+            [
+                Err(Refusal::NoSuchSocket),
+                Ok(Answer::Done),
+                Err(Refusal::TableFull),
+                Ok(Answer::Put(3)),
+                Ok(Answer::Again),
+            ],
+            [Some(b'h'), Some(b'e'), Some(b'l'), None],
+        ))
+    );
+    Ok(())
+}
+
+#[test]
+fn other_kinds_and_sizes_are_refused(rt: HostRuntime) -> Result<(), Fail> {
+    assert_eq!(rt;
+        answers(rt.alloc(), &[Step::Spawn, read(1), OPEN, read(5), read(1)]),
+        Ok((
+            [
+                Err(Refusal::SizeOutOfRange),
+                Err(Refusal::NoSuchSocket),
+                Ok(Answer::Done),
+                Err(Refusal::SizeOutOfRange),
+                Ok(Answer::Again),
+            ],
+            [None; 4],
+        ))
+    );
+    Ok(())
+}
