@@ -1,0 +1,40 @@
+// The log of netrev's points, in package internal/poll of a patched copy of Go 1.19.8.
+
+package poll
+
+import (
+	"sync/atomic"
+	"unsafe"
+)
+
+func runtime_netrev(kind, a, b, c, d int64)
+
+func netrevBit(b bool) int64 {
+	if b {
+		return 1
+	}
+	return 0
+}
+
+func netrevKey(mu *fdMutex) int64 { return int64(uintptr(unsafe.Pointer(mu))) }
+
+// A lock word that was swapped, or found closed.
+func netrevLock(kind int64, mu *fdMutex, old, new uint64, read bool) {
+	runtime_netrev(kind, netrevKey(mu), int64(old), int64(new), netrevBit(read))
+}
+
+// A semaphore that is about to be acquired, with its count; and that was.
+func netrevAcquire(kind int64, mu *fdMutex, count *uint32, read bool) {
+	runtime_netrev(kind, netrevKey(mu), int64(atomic.LoadUint32(count)), 0, netrevBit(read))
+}
+
+// A semaphore that was released.
+func netrevRelease(mu *fdMutex) { runtime_netrev(15, netrevKey(mu), 0, 0, 0) }
+
+// A descriptor that is about to be opened in the poller.
+func netrevInit(fd *FD) { runtime_netrev(3, netrevKey(&fd.fdmu), int64(fd.Sysfd), 0, 0) }
+
+// A read or a write that returned.
+func netrevBytes(kind int64, fd *FD, asked, got int, again bool) {
+	runtime_netrev(kind, netrevKey(&fd.fdmu), int64(asked), int64(got), netrevBit(again))
+}
