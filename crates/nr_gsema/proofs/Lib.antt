@@ -1,0 +1,11 @@
+pub mod ListLemmas
+pub mod NodeLemmas
+pub mod LinkLemmas
+pub mod PlaceLemmas
+pub mod StatusLemmas
+pub mod QueueLemmas
+pub mod RequeueLemmas
+pub mod UnqueuedLemmas
+pub mod TableLemmas
+pub mod ReadLemmas
+pub mod OperationLemmas

@@ -1,0 +1,98 @@
+-- The way back over an operation: what undoing it leaves, where it leads back, and what it weighs.
+use Rattle.std.specs.Prelude.{◌≡◌, ℕ, ◌+◌, ◌-◌, ◌^◌, ◌<◌, false, length, take, slice_get, Option, Some, None, option_map}
+use Rattle.nr_rev.specs.declared.sides.Side.{Side}
+use Rattle.nr_rev.specs.declared.sides.Sides.{Sides}
+use Rattle.nr_rev.specs.declared.status.Status.TheVariants.{Idle, Acquiring, Queued, Owing}
+use Rattle.nr_rev.specs.Semaphore.{Semaphore}
+use Rattle.nr_rev.specs.Sides.{of_side}
+use Rattle.nr_rev.specs.Weight.{variant_words, number_words, side_words, status_words, option_words}
+use Rattle.nr_gsema.specs.declared.delta.GDelta.{GDelta}
+use Rattle.nr_gsema.specs.declared.delta.GUndo.{GUndo}
+use Rattle.nr_gsema.specs.declared.delta.GUndo.TheVariants as undo
+use Rattle.nr_gsema.specs.declared.operation.GOperation.{GOperation}
+use Rattle.nr_gsema.specs.declared.operation.GOperation.TheVariants as operation
+use Rattle.nr_gsema.specs.Links.{is_waiting}
+use Rattle.nr_gsema.specs.SemaphoreChange.{unacquired, unreleased, without_last}
+use Rattle.nr_gsema.specs.Step.{side_owed}
+use Rattle.nr_gsema.specs.Table.{GoroutineTable, with_status, on_semaphore}
+
+-- who left the queue is queued again
+abbrev pub queued_again : ℕ → Side → Option ℕ → GoroutineTable → GoroutineTable
+queued_again s side None t = t
+queued_again s side (Some g) t = with_status g (Queued s side) t
+
+-- a release of a side of socket s, undone
+abbrev pub released_back : ℕ → Side → Option ℕ → GoroutineTable → GoroutineTable
+released_back s side front t = queued_again s side front (on_semaphore s side (unreleased front) t)
+
+-- releases of both sides
+abbrev pub owed : ℕ → ℕ → Sides ℕ
+owed reads writes = record { read = reads; write = writes }
+
+-- what undoing leaves
+abbrev pub undone : GUndo → GoroutineTable → GoroutineTable
+undone undo.Spawned t = record t { goroutines = take (length t.goroutines - 1) t.goroutines }
+undone (undo.Moved g status) t = with_status g status t
+undone (undo.Acquired g s side) t =
+    with_status g (Acquiring s side) (on_semaphore s side unacquired t)
+undone (undo.Queued g s side) t =
+    with_status g (Acquiring s side) (on_semaphore s side without_last t)
+undone (undo.Released g s reads writes front) t =
+    with_status g (Owing s reads writes) (released_back s (side_owed (owed reads writes)) front t)
+
+-- g's status is that of none that is queued
+abbrev pub IsOutside : ℕ → GoroutineTable → Type 0
+IsOutside g t = option_map is_waiting (slice_get t.goroutines g) ≡ Some false
+
+-- socket s is below the limit, and its semaphore of a side has this
+abbrev pub HasSemaphore : ℕ → Side → (Semaphore → Type 0) → GoroutineTable → Type 0
+HasSemaphore s side P t =
+    (both : Sides Semaphore) × (slice_get t.semaphores s ≡ Some both) × P (of_side side both)
+
+-- who left the queue is in none
+abbrev pub CanRequeue : Option ℕ → GoroutineTable → Type 0
+CanRequeue None t = Unit {0}
+CanRequeue (Some g) t = IsOutside g t
+
+-- what it takes away is there, and what it puts back has a place
+abbrev pub CanUndo : GUndo → GoroutineTable → Type 0
+CanUndo undo.Spawned t = slice_get t.goroutines (length t.goroutines - 1) ≡ Some Idle
+CanUndo (undo.Moved g status) t = (is_waiting status ≡ false) × IsOutside g t
+CanUndo (undo.Acquired g s side) t =
+    IsOutside g t × HasSemaphore s side (λ semaphore. semaphore.count + 1 < 2 ^ 32) t
+CanUndo (undo.Queued g s side) t =
+    HasSemaphore s side (λ semaphore. slice_get semaphore.queue (length semaphore.queue - 1) ≡ Some g) t
+CanUndo (undo.Released g s reads writes front) t =
+    IsOutside g (released_back s (side_owed (owed reads writes)) front t) × CanRequeue front t
+    × HasSemaphore s (side_owed (owed reads writes)) (λ semaphore. 0 < semaphore.count) t
+
+-- undoing leads from the new table back to the old one
+abbrev pub Reverses : GUndo → GoroutineTable → GoroutineTable → Type 0
+Reverses undo new old = CanUndo undo new × (old ≡ undone undo new)
+
+-- so does a delta
+abbrev pub LeadsBack : GDelta → GoroutineTable → GoroutineTable → Type 0
+LeadsBack delta new old = Reverses delta.undo new old
+
+-- how many words are held
+abbrev pub undo_words : GUndo → ℕ
+undo_words undo.Spawned = variant_words
+undo_words (undo.Moved g status) = variant_words + number_words g + status_words status
+undo_words (undo.Acquired g s side) =
+    variant_words + number_words g + number_words s + side_words side
+undo_words (undo.Queued g s side) =
+    variant_words + number_words g + number_words s + side_words side
+undo_words (undo.Released g s reads writes front) =
+    variant_words + number_words g + number_words s + number_words reads + number_words writes + option_words number_words front
+
+-- so many are in a delta
+abbrev pub delta_words : GDelta → ℕ
+delta_words delta = undo_words delta.undo
+
+-- how many an operation's may
+abbrev pub words_allowed : GOperation → ℕ
+words_allowed operation.Spawn = 1
+words_allowed (operation.Exit g) = 3
+words_allowed (operation.Move g from to) = 2 + status_words from
+words_allowed (operation.Acquire g) = 4
+words_allowed (operation.Release g) = 7

@@ -1,0 +1,102 @@
+-- How the nodes of goroutines and semaphores show the table: each queue is a list linked both ways.
+use Rattle.std.specs.Prelude.{◌≡◌, ℕ, zero, suc, ◌<◌, ◌≤◌, ◌==◌, Bool, true, false, List, [], ◌∷◌, length, map, count_by, slice_get, Option, Some, None, vec_len, vec_capacity}
+use Rattle.nr_rev.specs.declared.sides.Side.{Side}
+use Rattle.nr_rev.specs.declared.sides.Sides.{Sides}
+use Rattle.nr_rev.specs.declared.status.Status.{Status}
+use Rattle.nr_rev.specs.declared.status.Status.TheVariants.{Queued}
+use Rattle.nr_rev.specs.Lock.{bit}
+use Rattle.nr_rev.specs.Semaphore.{Semaphore}
+use Rattle.nr_rev.specs.Sides.{of_side}
+use Rattle.nr_rev.specs.WellFormed.{is_queued}
+use Rattle.nr_gsema.specs.declared.node.GoroutineNode.{GoroutineNode}
+use Rattle.nr_gsema.specs.declared.node.SemaphoreHead.{SemaphoreHead}
+use Rattle.nr_gsema.specs.declared.table.GTable.TheInside.{Inside}
+use Rattle.nr_gsema.specs.Table.{GoroutineTable}
+
+-- the statuses of nodes
+abbrev pub statuses : List GoroutineNode → List Status
+statuses nodes = map (λ (node : GoroutineNode). node.status) nodes
+
+-- who is behind a goroutine, if it has a node
+abbrev pub next_in : Option GoroutineNode → Option ℕ
+next_in None = None
+next_in (Some node) = node.next
+
+-- at most n goroutines, from the first on, each followed by its next
+unfoldable pub chain : ℕ → List GoroutineNode → Option ℕ → List ℕ
+chain zero nodes first = []
+chain (suc n) nodes None = []
+chain (suc n) nodes (Some g) = g ∷ chain n nodes (next_in (slice_get nodes g))
+
+-- the queue that a head begins
+abbrev pub queue_from : List GoroutineNode → SemaphoreHead → List ℕ
+queue_from nodes head = chain (length nodes) nodes head.front
+
+-- the semaphore of a head
+abbrev pub semaphore_from : List GoroutineNode → SemaphoreHead → Semaphore
+semaphore_from nodes head = record { count = head.count; queue = queue_from nodes head }
+
+-- the semaphores of both sides
+abbrev pub semaphores_from : List GoroutineNode → Sides SemaphoreHead → Sides Semaphore
+semaphores_from nodes both =
+    record { read = semaphore_from nodes both.read; write = semaphore_from nodes both.write }
+
+-- the table that contracts see
+abbrev pub table_from : Inside → GoroutineTable
+table_from t =
+    record {
+      goroutines = statuses t.nodes.items;
+      semaphores = map (semaphores_from t.nodes.items) t.semaphores.items;
+      limit = t.limit;
+    }
+
+-- a goroutine at its place in a queue
+abbrev pub node_with : Status → Option ℕ → Option ℕ → GoroutineNode
+node_with status next previous = record { status = status; next = next; previous = previous }
+
+-- those of a queue from a place on: each node has the status, the one before it and the one
+-- behind it, none at the end
+abbrev pub IsLinked : List GoroutineNode → Status → Option ℕ → List ℕ → Option ℕ → Option ℕ → Type 0
+IsLinked nodes status previous [] first last = (first ≡ None) × (last ≡ previous)
+IsLinked nodes status previous (g ∷ queue) first last =
+    (first ≡ Some g)
+    × ((next : Option ℕ) × (slice_get nodes g ≡ Some (node_with status next previous)) × IsLinked nodes status (Some g) queue next last)
+
+-- the status of one that is queued, wherever
+abbrev pub is_waiting : Status → Bool
+is_waiting (Queued s side) = true
+is_waiting _ = false
+
+-- the nodes are linked so that these are the queues
+pub record AreQueues (nodes : List GoroutineNode) (semaphores : List (Sides SemaphoreHead))
+    (queues : ℕ → Side → List ℕ) : Type 0 where
+  -- each from its front to its back
+  pub linked : (s : ℕ) (side : Side) (both : Sides SemaphoreHead)
+      → slice_get semaphores s ≡ Some both
+      → IsLinked nodes (Queued s side) None (queues s side) (of_side side both).front (of_side side both).back
+  -- each goroutine with that queued status is there once, and no other
+  pub queued : (s : ℕ) (side : Side) → s < length semaphores → (g : ℕ)
+      → count_by (λ h. h == g) (queues s side) ≡ bit (is_queued s side (slice_get (statuses nodes) g))
+  -- outside every queue there are no neighbours
+  pub alone : (g : ℕ) (node : GoroutineNode) → slice_get nodes g ≡ Some node
+      → is_waiting node.status ≡ false
+      → (node.next ≡ None) × (node.previous ≡ None)
+  -- they queue at semaphores that there are
+  pub named : (g s : ℕ) (side : Side) → slice_get (statuses nodes) g ≡ Some (Queued s side)
+      → s < length semaphores
+
+-- the front of the queue of a side, none where there is no such socket
+abbrev pub front_in : Side → Option (Sides SemaphoreHead) → Option ℕ
+front_in side None = None
+front_in side (Some both) = (of_side side both).front
+
+-- the queue of a side of socket s
+abbrev pub queues_from : List GoroutineNode → List (Sides SemaphoreHead) → ℕ → Side → List ℕ
+queues_from nodes semaphores s side =
+    chain (length nodes) nodes (front_in side (slice_get semaphores s))
+
+-- the queues are linked, and there is room for all goroutines that there may be
+pub record IsTable (t : Inside) : Type 0 where
+  pub queues : AreQueues t.nodes.items t.semaphores.items (queues_from t.nodes.items t.semaphores.items)
+  pub few : vec_len t.nodes ≤ t.limit
+  pub room : t.limit ≤ vec_capacity t.nodes

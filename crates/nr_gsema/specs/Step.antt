@@ -1,0 +1,135 @@
+-- What operations do: each tests its reasons in order, and then says the answer and the next table.
+use Rattle.std.specs.Prelude.{◌≡◌, ℕ, ◌-◌, Bool, true, false, ◌&&◌, ◌==◌, nat_lt, if◌then◌else◌, [], ◌∷◌, ◌++◌, length, slice_get, Option, Some, None, Result, Ok, Err}
+use Rattle.nr_rev.specs.declared.sides.Side.{Side}
+use Rattle.nr_rev.specs.declared.sides.Side.TheVariants.{Read, Write}
+use Rattle.nr_rev.specs.declared.sides.Sides.{Sides}
+use Rattle.nr_rev.specs.declared.status.Status.{Status}
+use Rattle.nr_rev.specs.declared.status.Status.TheVariants.{Idle, Acquiring, Queued, Relock, Owing, Entering, Armed, Parking, Parked, Swapping, Checking, Gone}
+use Rattle.nr_rev.specs.declared.answer.Answer.{Answer}
+use Rattle.nr_rev.specs.declared.answer.Answer.TheVariants.{Number, Done, Yes, Wait}
+use Rattle.nr_rev.specs.declared.refusal.Refusal.{Refusal}
+use Rattle.nr_rev.specs.declared.refusal.Refusal.TheVariants.{NotThere, TableFull, NoSuchSocket}
+use Rattle.nr_rev.specs.Refusing.{◌>>=◌, ◌>>◌, refused_unless, found_or}
+use Rattle.nr_rev.specs.Semaphore.{Semaphore, is_free, acquired, front_of, released}
+use Rattle.nr_rev.specs.Sides.{of_side, with_side, same_side}
+use Rattle.nr_rev.specs.Step.{alive, is_idle, owing, acquiring_of, owing_of}
+use Rattle.nr_rev.specs.WellFormed.{socket_named}
+use Rattle.nr_gsema.specs.declared.operation.GOperation.{GOperation}
+use Rattle.nr_gsema.specs.declared.operation.GOperation.TheVariants as operation
+use Rattle.nr_gsema.specs.Table.{GoroutineTable, with_status, with_semaphore}
+
+-- the answer and the next table, or the reason why it doesn't apply
+abbrev pub Outcome : Type 0
+Outcome = Result (Answer × GoroutineTable) Refusal
+
+-- reason 1: no such goroutine, or gone
+abbrev pub status_of : ℕ → GoroutineTable → Result Status Refusal
+status_of g t = alive (slice_get t.goroutines g)
+
+-- reason 4: not below the limit
+abbrev pub semaphores_of : ℕ → GoroutineTable → Result (Sides Semaphore) Refusal
+semaphores_of s t = found_or (slice_get t.semaphores s) NoSuchSocket
+
+-- spawn: one goroutine more
+abbrev pub spawn : GoroutineTable → Outcome
+spawn t = do
+  refused_unless (nat_lt (length t.goroutines) t.limit) TableFull
+  Ok (Number (length t.goroutines), record t { goroutines = t.goroutines ++ Idle ∷ [] })
+
+-- exit: an idle one ends
+abbrev pub exit : ℕ → GoroutineTable → Outcome
+exit g t = do
+  status ← status_of g t
+  refused_unless (is_idle status) NotThere
+  Ok (Done, with_status g Gone t)
+
+-- whether two statuses of one kind name the same side of the same number
+abbrev pub same_place : ℕ → Side → ℕ → Side → Bool
+same_place n side m other = (n == m) && same_side side other
+
+-- whether two statuses are the same
+abbrev pub same_status : Status → Status → Bool
+same_status Idle Idle = true
+same_status (Acquiring s side) (Acquiring k other) = same_place s side k other
+same_status (Queued s side) (Queued k other) = same_place s side k other
+same_status (Relock s side) (Relock k other) = same_place s side k other
+same_status (Owing s reads writes) (Owing k r w) = (s == k) && ((reads == r) && (writes == w))
+same_status (Entering d side) (Entering e other) = same_place d side e other
+same_status (Armed d side) (Armed e other) = same_place d side e other
+same_status (Parking d side) (Parking e other) = same_place d side e other
+same_status (Parked d side) (Parked e other) = same_place d side e other
+same_status (Swapping d side) (Swapping e other) = same_place d side e other
+same_status (Checking d side) (Checking e other) = same_place d side e other
+same_status Gone Gone = true
+same_status _ _ = false
+
+-- a goroutine may be moved from and to a status but that of one that is queued or gone
+abbrev pub is_movable : Status → Bool
+is_movable (Queued s side) = false
+is_movable Gone = false
+is_movable _ = true
+
+-- the socket that a status names, if it names one, is below the limit
+abbrev pub names_within : ℕ → Option ℕ → Bool
+names_within sockets None = true
+names_within sockets (Some s) = nat_lt s sockets
+
+-- move: from one status to another
+abbrev pub move : ℕ → Status → Status → GoroutineTable → Outcome
+move g from to t = do
+  status ← status_of g t
+  refused_unless (same_status status from && (is_movable from && is_movable to)) NotThere
+  refused_unless (names_within (length t.semaphores) (socket_named to)) NoSuchSocket
+  Ok (Done, with_status g to t)
+
+-- acquire: the semaphore is had, or the goroutine is queued
+abbrev pub acquire : ℕ → GoroutineTable → Outcome
+acquire g t = do
+  status ← status_of g t
+  (s, side) ← acquiring_of status
+  semaphores ← semaphores_of s t
+  let semaphore : Semaphore = of_side side semaphores
+  let next : GoroutineTable = with_semaphore s side semaphores (acquired g semaphore) t
+  Ok (if is_free semaphore then (Yes, with_status g (Relock s side) next) else (Wait, with_status g (Queued s side) next))
+
+-- the front of a queue that leaves it must try again
+abbrev pub tries_again : ℕ → Side → Option ℕ → GoroutineTable → GoroutineTable
+tries_again s side None t = t
+tries_again s side (Some g) t = with_status g (Acquiring s side) t
+
+-- the side of which one that owes these makes a release: reading first
+abbrev pub side_owed : Sides ℕ → Side
+side_owed owed = if nat_lt 0 owed.read then Read else Write
+
+-- release: one release
+abbrev pub release : ℕ → GoroutineTable → Outcome
+release g t = do
+  status ← status_of g t
+  (s, owed) ← owing_of status
+  semaphores ← semaphores_of s t
+  let side : Side = side_owed owed
+  let semaphore : Semaphore = of_side side semaphores
+  left ← released semaphore
+  let next : GoroutineTable = tries_again s side (front_of semaphore) (with_semaphore s side semaphores left t)
+  Ok (Done, with_status g (owing s (with_side side (of_side side owed - 1) owed)) next)
+
+-- the answer of an operation and the table after it, or the first reason that holds
+abbrev pub outcome : GoroutineTable → GOperation → Outcome
+outcome t operation.Spawn = spawn t
+outcome t (operation.Exit g) = exit g t
+outcome t (operation.Move g from to) = move g from to t
+outcome t (operation.Acquire g) = acquire g t
+outcome t (operation.Release g) = release g t
+
+-- an operation that applies, by its answer and the next table
+abbrev pub StepTo : GoroutineTable → GOperation → Answer → GoroutineTable → Type 0
+StepTo t op answer next = outcome t op ≡ Ok (answer, next)
+
+-- the reason of an outcome, if there is one
+abbrev pub refusal_of : Outcome → Option Refusal
+refusal_of (Ok left) = None
+refusal_of (Err reason) = Some reason
+
+-- why an operation does not apply
+abbrev pub table_reason : GoroutineTable → GOperation → Option Refusal
+table_reason t op = refusal_of (outcome t op)

@@ -1,0 +1,38 @@
+//! Laws over the definitions: which statuses are the same, what a delta is, and the numbers.
+
+ghost use Rattle.std.specs.Prelude.{◌≡◌, ◌↔◌, ℕ, true, Some, Ok, Err};
+ghost use Rattle.nr_rev.specs.declared.answer.Answer.TheVariants.{Done};
+ghost use Rattle.nr_rev.specs.declared.refusal.Refusal.TheVariants.{FieldOverflow};
+ghost use Rattle.nr_rev.specs.declared.status.Status.{Status};
+ghost use Rattle.nr_rev.specs.declared.status.Status.TheVariants.{Idle, Owing};
+ghost use Rattle.nr_gsema.specs.declared.apply.TheConstants.{MOST_WORDS};
+ghost use Rattle.nr_gsema.specs.declared.delta.GDelta.{GDelta};
+ghost use Rattle.nr_gsema.specs.declared.delta.GUndo.TheVariants.{Released};
+ghost use Rattle.nr_gsema.specs.declared.operation.GOperation.TheVariants.{Release};
+ghost use Rattle.nr_gsema.specs.Delta.{undo_words};
+ghost use Rattle.nr_gsema.specs.Step.{outcome, same_status};
+ghost use Rattle.nr_gsema.specs.Worked.{one_at};
+
+/// Just equal statuses are the same, by which a goroutine is moved from one.
+pub fn just_equals_are_the_same()
+    ensures { (a b : Status) → (same_status a b ≡ true) ↔ (a ≡ b) }
+{}
+
+/// A delta is the record of its undo and has nothing beside it.
+pub fn delta_is_its_undo()
+    ensures { (delta : GDelta) → delta ≡ record { undo = delta.undo } }
+{}
+
+/// A delta holds at most seven words, and that of a release after which one left the queue holds as many.
+pub fn the_numbers()
+    ensures words { MOST_WORDS ≡ 7 }
+    ensures reached { (g s reads writes front : ℕ)
+        → undo_words (Released g s reads writes (Some front)) ≡ 7 }
+{}
+
+/// The count of a semaphore is at most 4,294,967,295: a release there is refused, and one below it is made.
+pub fn the_greatest_count()
+    ensures refused { outcome (one_at 4294967295 (Owing 0 1 0)) (Release 0) ≡ Err FieldOverflow }
+    ensures made { outcome (one_at 4294967294 (Owing 0 1 0)) (Release 0)
+        ≡ Ok (Done, one_at 4294967295 Idle) }
+{}

@@ -1,0 +1,273 @@
+//! The operations one by one.
+
+ghost use Rattle.std.specs.Prelude.{◌≡◌, ◌+◌, ◌^◌, ◌<◌, ◌&&◌, slice_get, true};
+ghost use Rattle.std.specs.Bool.{OnTrue};
+ghost use Rattle.nr_rev.specs.Step as step;
+ghost use Rattle.nr_rev.specs.WellFormed.{socket_named};
+ghost use Rattle.nr_gsema.specs.Applying.{Applies};
+ghost use Rattle.nr_gsema.specs.Delta.{HasSemaphore};
+ghost use Rattle.nr_gsema.specs.SemaphoreChange.{released_once};
+ghost use Rattle.nr_gsema.specs.Step.{is_movable, names_within, same_status, side_owed, tries_again};
+ghost use Rattle.nr_gsema.specs.Table.{on_semaphore, queue_at};
+ghost use Rattle.nr_gsema.specs.declared.operation.GOperation.TheVariants as operation;
+
+use crate::delta::GUndo;
+use crate::table::GTable;
+use nr_rev::{Answer, Refusal, Side, Sides, Status};
+
+/// One that was made and is not gone.
+#[inline(always)]
+fn alive(status: Option<Status>) -> Result<Status, Refusal>
+    ensures { result ≡ step.alive status }
+{
+    match status {
+        None | Some(Status::Gone) => Err(Refusal::NoSuchGoroutine),
+        Some(status) => Ok(status),
+    }
+}
+
+/// The socket and side of one that acquires.
+#[inline(always)]
+fn acquiring_of(status: Status) -> Result<(u32, Side), Refusal>
+    ensures { result ≡ step.acquiring_of status }
+{
+    match status {
+        Status::Acquiring { socket, side } => Ok((socket, side)),
+        _ => Err(Refusal::NotThere),
+    }
+}
+
+/// The socket and the releases that one owes.
+#[inline(always)]
+fn owing_of(status: Status) -> Result<(u32, Sides<u32>), Refusal>
+    ensures { result ≡ step.owing_of status }
+{
+    match status {
+        Status::Owing {
+            socket,
+            reads,
+            writes,
+        } => Ok((
+            socket,
+            Sides {
+                read: reads,
+                write: writes,
+            },
+        )),
+        _ => Err(Refusal::NotThere),
+    }
+}
+
+/// The status of one that owes these releases, or nothing.
+#[inline(always)]
+fn owing(socket: u32, owed: Sides<u32>) -> Status
+    ensures { result ≡ step.owing socket owed }
+{
+    if owed.read == 0 && owed.write == 0 {
+        return Status::Idle;
+    }
+    Status::Owing {
+        socket,
+        reads: owed.read,
+        writes: owed.write,
+    }
+}
+
+/// Whether it is idle.
+#[inline(always)]
+fn is_idle(status: Status) -> bool
+    ensures { result ≡ step.is_idle status }
+{
+    matches!(status, Status::Idle)
+}
+
+/// Whether two are the same.
+#[inline(always)]
+fn same_status(status: Status, other: Status) -> bool
+    ensures value { result ≡ same_status status other }
+    ensures same { OnTrue result (status ≡ other) }
+{
+    status.is(other)
+}
+
+/// Whether one with this status may be moved so.
+#[inline(always)]
+fn may_move(status: Status, from: Status, to: Status) -> bool
+    ensures value { result ≡ (same_status status from && (is_movable from && is_movable to)) }
+    ensures same { OnTrue result (status ≡ from) }
+    ensures movable { OnTrue result ((is_movable from ≡ true) × (is_movable to ≡ true)) }
+{
+    same_status(status, from) && (is_movable(from) && is_movable(to))
+}
+
+/// Whether one may be moved from and to it.
+#[inline(always)]
+fn is_movable(status: Status) -> bool
+    ensures { result ≡ is_movable status }
+{
+    !matches!(status, Status::Queued { .. } | Status::Gone)
+}
+
+/// The socket that a status names.
+#[inline(always)]
+fn socket_named(status: Status) -> Option<u32>
+    ensures { result ≡ socket_named status }
+{
+    match status {
+        Status::Acquiring { socket, .. }
+        | Status::Queued { socket, .. }
+        | Status::Relock { socket, .. }
+        | Status::Owing { socket, .. } => Some(socket),
+        _ => None,
+    }
+}
+
+/// Whether the socket, if one is named, is below the limit.
+#[inline(always)]
+fn names_within(sockets: usize, socket: Option<u32>) -> bool
+    ensures { result ≡ names_within sockets socket }
+{
+    match socket {
+        None => true,
+        Some(socket) => (socket as usize) < sockets,
+    }
+}
+
+/// The side of which a release is made.
+#[inline(always)]
+pub(crate) fn side_owed(owed: Sides<u32>) -> Side
+    ensures { result ≡ side_owed owed }
+{
+    if owed.read > 0 {
+        Side::Read
+    } else {
+        Side::Write
+    }
+}
+
+impl GTable {
+    /// Another goroutine, idle.
+    #[inline(always)]
+    pub(crate) fn spawn(&mut self) -> Result<(Answer, GUndo), Refusal>
+        ensures { Applies operation.Spawn self.old result self.new }
+    {
+        let made = self.made();
+        if made >= self.limit() {
+            return Err(Refusal::TableFull);
+        }
+        self.push();
+        Ok((Answer::Number(made), GUndo::Spawned))
+    }
+
+    /// An idle goroutine ends.
+    #[inline(always)]
+    pub(crate) fn exit(&mut self, goroutine: u32) -> Result<(Answer, GUndo), Refusal>
+        ensures { Applies (operation.Exit goroutine) self.old result self.new }
+    {
+        let status = alive(self.status(goroutine))?;
+        if !is_idle(status) {
+            return Err(Refusal::NotThere);
+        }
+        self.set_status(goroutine, Status::Gone);
+        Ok((Answer::Done, GUndo::Moved { goroutine, status }))
+    }
+
+    /// A goroutine gets another status.
+    #[inline(always)]
+    pub(crate) fn move_to(
+        &mut self,
+        goroutine: u32,
+        from: Status,
+        to: Status,
+    ) -> Result<(Answer, GUndo), Refusal>
+        ensures { Applies (operation.Move goroutine from to) self.old result self.new }
+    {
+        let status = alive(self.status(goroutine))?;
+        if !may_move(status, from, to) {
+            return Err(Refusal::NotThere);
+        }
+        if !names_within(self.sockets(), socket_named(to)) {
+            return Err(Refusal::NoSuchSocket);
+        }
+        self.set_status(goroutine, to);
+        Ok((Answer::Done, GUndo::Moved { goroutine, status }))
+    }
+
+    /// A goroutine lowers a count, or queues.
+    #[inline(always)]
+    pub(crate) fn acquire(&mut self, goroutine: u32) -> Result<(Answer, GUndo), Refusal>
+        ensures { Applies (operation.Acquire goroutine) self.old result self.new }
+    {
+        let status = alive(self.status(goroutine))?;
+        let (socket, side) = acquiring_of(status)?;
+        let Some(count) = self.count(socket, side) else {
+            return Err(Refusal::NoSuchSocket);
+        };
+        let Some(left) = count.checked_sub(1) else {
+            self.join_back(goroutine, socket, side);
+            let undo = GUndo::Queued {
+                goroutine,
+                socket,
+                side,
+            };
+            return Ok((Answer::Wait, undo));
+        };
+        self.set_count(socket, side, left);
+        self.set_status(goroutine, Status::Relock { socket, side });
+        let undo = GUndo::Acquired {
+            goroutine,
+            socket,
+            side,
+        };
+        Ok((Answer::Yes, undo))
+    }
+
+    /// A goroutine makes a release that it owes.
+    #[inline(always)]
+    pub(crate) fn release(&mut self, goroutine: u32) -> Result<(Answer, GUndo), Refusal>
+        ensures { Applies (operation.Release goroutine) self.old result self.new }
+    {
+        let status = alive(self.status(goroutine))?;
+        let (socket, owed) = owing_of(status)?;
+        let side = side_owed(owed);
+        let Some(count) = self.count(socket, side) else {
+            return Err(Refusal::NoSuchSocket);
+        };
+        if count == u32::MAX {
+            return Err(Refusal::FieldOverflow);
+        }
+        self.tell_queued();
+        let front = self.release_semaphore(socket, side, count);
+        let left = owed.with(side, owed.of(side).saturating_sub(1));
+        self.set_status(goroutine, owing(socket, left));
+        let undo = GUndo::Released {
+            goroutine,
+            socket,
+            reads: owed.read,
+            writes: owed.write,
+            front,
+        };
+        Ok((Answer::Done, undo))
+    }
+
+    /// A semaphore with this count is released once. Gives the goroutine that leaves the queue.
+    #[inline(always)]
+    fn release_semaphore(&mut self, socket: u32, side: Side, count: u32) -> Option<u32>
+        requires { HasSemaphore socket side (λ semaphore. (semaphore.count ≡ count) × (semaphore.count + 1 < 2 ^ 32)) self.old }
+        ensures front { result ≡ slice_get (queue_at socket side self.old) 0 }
+        ensures after { self.new
+            ≡ tries_again socket side result (on_semaphore socket side released_once self.old) }
+    {
+        let front = self.front_of(socket, side);
+        match front {
+            None => {
+                self.set_count(socket, side, count + 1);
+                None
+            }
+            Some(goroutine) => {
+                self.leave_front(goroutine, socket, side);
+                front
+            }
+        }
+    }
+}

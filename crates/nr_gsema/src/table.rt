@@ -1,0 +1,79 @@
+//! The table of goroutines and semaphores.
+
+ghost use Rattle.std.specs.Prelude.{◌≡◌, [], replicate, IfOk, length, ◌≤◌, vec_capacity};
+ghost use Rattle.nr_rev.specs.Semaphore.{new_semaphore};
+ghost use Rattle.nr_rev.specs.Sides.{twice};
+ghost use Rattle.nr_gsema.specs.Applying.{IsQueuedUp};
+
+use crate::node::{GoroutineNode, SemaphoreHead};
+use nr_rev::Sides;
+use std::alloc::{AllocError, Global};
+use std::marker::Model;
+
+/// The goroutines made so far and the semaphores of all sockets below the limit, in room that was made at once. Contracts
+/// see the statuses, and for each semaphore its count and the list of those who queue. Who is beside whom is kept in
+/// the goroutines' nodes, so that joining a queue and leaving it at either end touch two nodes, however long it is.
+#[derive(Drop)]
+pub struct GTable {
+    pub(crate) alloc: Global,
+    pub(crate) nodes: Vec<GoroutineNode>,
+    pub(crate) semaphores: Vec<Sides<SemaphoreHead>>,
+    pub(crate) limit: u32,
+}
+
+impl Model for GTable {
+    ghost use Rattle.nr_gsema.specs.Table.{GoroutineTable};
+
+    ghost Value = { GoroutineTable };
+
+    ghost use Rattle.nr_gsema.specs.Links.{table_from, IsTable};
+
+    ghost view = { table_from };
+
+    ghost invariant = { IsTable };
+}
+
+impl GTable {
+    /// No goroutine, with room for so many, and the semaphores of so many sockets, whose counts are 0 and whose queues are
+    /// empty. An error is that there is no memory for them.
+    pub fn with_limits(alloc: Global, goroutines: u32, sockets: u32) -> Result<GTable, AllocError>
+        ensures well_formed { IfOk result (λ t. IsQueuedUp t) }
+        ensures empty { IfOk result (λ t. t ≡ record {
+          goroutines = [];
+          semaphores = replicate sockets (twice new_semaphore);
+          limit = goroutines;
+        }) }
+    {
+        let none = SemaphoreHead {
+            count: 0,
+            front: None,
+            back: None,
+        };
+        let nodes = Vec::with_capacity(alloc, goroutines as usize)?;
+        let semaphores = Vec::from_elem(alloc, Sides::twice(none), sockets as usize)?;
+        let table = GTable {
+            alloc,
+            nodes,
+            semaphores,
+            limit: goroutines,
+        };
+        table.tell_queued();
+        Ok(table)
+    }
+
+    /// An equal one, links included, in room of its own. An error is that there is no memory for it.
+    pub fn try_copy(&self) -> Result<GTable, AllocError>
+        ensures well_formed { IfOk result (λ t. IsQueuedUp t) }
+        ensures equal { IfOk result (λ t. t ≡ self.now) }
+    {
+        self.tell_queued();
+        let mut nodes = Vec::with_capacity(self.alloc, self.limit as usize)?;
+        nodes.extend_from_slice(&self.nodes)?;
+        Ok(GTable {
+            alloc: self.alloc,
+            nodes,
+            semaphores: Vec::from_slice(self.alloc, &self.semaphores)?,
+            limit: self.limit,
+        })
+    }
+}
