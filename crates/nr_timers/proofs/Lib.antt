@@ -1,0 +1,13 @@
+pub mod OrderLemmas
+pub mod LineLemmas
+pub mod ExchangeLemmas
+pub mod SiftLemmas
+pub mod IndexLemmas
+pub mod ChangeLemmas
+pub mod BackLemmas
+pub mod DrawnLemmas
+pub mod UndoLemmas
+pub mod LookupLemmas
+pub mod DescriptorLemmas
+pub mod StepLemmas
+pub mod PerformLemmas

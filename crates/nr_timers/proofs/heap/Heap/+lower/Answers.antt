@@ -1,0 +1,14 @@
+use Rattle.std.proofs.Common.{refl}
+use Rattle.nr_timers.proofs.SiftLemmas.{lower_more, line_end, size_of}
+use Rattle.nr_timers.proofs.heap.Heap.+lower.Goals as goal
+
+pub returns-else-place-above-clause-entries : goal.returns-else-place-above-clause-entries
+returns-else-place-above-clause-entries t c = (0, line_end c.args.place c.args.above c.requires.line c.if-place-above.false, refl)
+
+pub returns-then-place-above-clause-entries : goal.returns-then-place-above-clause-entries
+returns-then-place-above-clause-entries t c =
+    lower_more c.args.self.now.entries c.lower.new.self.entries c.swap.new.self.entries c.args.place c.args.above c.if-place-above.true c.lower.ensures.entries c.swap.ensures.entries
+
+pub returns-then-place-above-clause-size : goal.returns-then-place-above-clause-size
+returns-then-place-above-clause-size t c =
+    size_of _ _ c.args.place c.args.above (lower_more c.args.self.now.entries c.lower.new.self.entries c.swap.new.self.entries c.args.place c.args.above c.if-place-above.true c.lower.ensures.entries c.swap.ensures.entries)

@@ -1,0 +1,78 @@
+-- The way back over an operation: entries and numbers of places.
+use Rattle.std.specs.Prelude.{◌≡◌, ℕ, ◌+◌, ◌-◌, ◌*◌, ◌<◌, ◌≤◌, List, length, take, insert}
+use Rattle.nr_rev.specs.declared.timer.Entry.{Entry}
+use Rattle.nr_rev.specs.declared.timer.Timer.{Timer}
+use Rattle.nr_rev.specs.Weight.{variant_words, number_words, timer_words, entry_words}
+use Rattle.nr_timers.specs.declared.delta.TimersDelta.{TimersDelta}
+use Rattle.nr_timers.specs.declared.delta.TimersDelta.TheVariants.{Armed, Rearmed, Stopped, Still, Popped, Taken}
+use Rattle.nr_timers.specs.declared.op.TimersOp.{TimersOp}
+use Rattle.nr_timers.specs.declared.op.TimersOp.TheVariants.{Arm, Stop, Pop, TakeFiring}
+use Rattle.nr_timers.specs.Order.{at}
+use Rattle.nr_timers.specs.Change.{InsertedBack, RemovedBack}
+use Rattle.nr_timers.specs.Index.{Keyed}
+use Rattle.nr_timers.specs.State.{State}
+
+-- the entry at the place has another timer
+abbrev pub with_timer : List Entry → ℕ → Timer → Entry
+with_timer entries place timer = record (at entries place) { timer = timer }
+
+-- A timer was armed where none was, and its entry went to a place. Before, too, each entry had a key of its own within the
+-- limit.
+pub record ArmedBack (to : ℕ) (new old : State) : Type 0 where
+  pub places : InsertedBack to new.entries old.entries
+  pub keyed : Keyed old.entries (2 * new.descriptors)
+  pub number : new.next ≡ old.next + 1
+  pub rest : old ≡ record new { entries = old.entries; next = old.next }
+
+-- a timer was armed in place of another one, whose entry was removed before
+pub record RearmedBack (to place last : ℕ) (timer : Timer) (new old : State) : Type 0 where
+  pub places : (mid : List Entry) × InsertedBack to new.entries mid
+      × RemovedBack place last (with_timer new.entries to timer) mid old.entries
+  pub keyed : Keyed old.entries (2 * new.descriptors)
+  pub number : new.next ≡ old.next + 1
+  pub rest : old ≡ record new { entries = old.entries; next = old.next }
+
+-- the entry was removed from a place
+pub record StoppedBack (place last : ℕ) (entry : Entry) (new old : State) : Type 0 where
+  pub places : RemovedBack place last entry new.entries old.entries
+  pub keyed : Keyed old.entries (2 * new.descriptors)
+  pub rest : old ≡ record new { entries = old.entries }
+
+-- the entry that is the last firing now was removed from place 0
+pub record PoppedBack (last : ℕ) (new old : State) : Type 0 where
+  pub some : 0 < length new.firings
+  pub places : RemovedBack 0 last (at new.firings (length new.firings - 1)) new.entries old.entries
+  pub keyed : Keyed old.entries (2 * new.descriptors)
+  pub rest : old ≡ record new { entries = old.entries; firings = take (length new.firings - 1) new.firings }
+
+-- the firing was taken out of a place
+pub record FiringBack (place : ℕ) (entry : Entry) (new old : State) : Type 0 where
+  pub within : place ≤ length new.firings
+  pub room : length new.firings < 2 * new.descriptors
+  pub rest : old ≡ record new { firings = insert new.firings place entry }
+
+-- the delta leads back from the new timers to the old ones
+abbrev pub TimersBack : TimersDelta → State → State → Type 0
+TimersBack (Armed to) new old = ArmedBack to new old
+TimersBack (Rearmed to place last timer) new old = RearmedBack to place last timer new old
+TimersBack (Stopped place last entry) new old = StoppedBack place last entry new old
+TimersBack Still new old = old ≡ new
+TimersBack (Popped last) new old = PoppedBack last new old
+TimersBack (Taken place entry) new old = FiringBack place entry new old
+
+-- how many words a delta holds: those of its variant and of all that it has
+abbrev pub delta_weight : TimersDelta → ℕ
+delta_weight (Armed to) = variant_words + number_words to
+delta_weight (Rearmed to place last timer) =
+    variant_words + number_words to + number_words place + number_words last + timer_words timer
+delta_weight (Stopped place last entry) = variant_words + number_words place + number_words last + entry_words entry
+delta_weight Still = variant_words
+delta_weight (Popped last) = variant_words + number_words last
+delta_weight (Taken place entry) = variant_words + number_words place + entry_words entry
+
+-- how many words the way back over an operation holds at most
+abbrev pub op_allowance : TimersOp → ℕ
+op_allowance (Arm d side due function sequence) = 8
+op_allowance (Stop d side) = 9
+op_allowance (Pop now) = 2
+op_allowance (TakeFiring place) = 8

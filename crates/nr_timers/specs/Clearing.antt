@@ -1,0 +1,36 @@
+-- The entry of a key taken out, where there is one, and what leads back over that.
+use Rattle.std.specs.Prelude.{◌≡◌, ℕ, ◌<◌, List, length, Option, Some, None}
+use Rattle.nr_rev.specs.declared.timer.Entry.{Entry}
+use Rattle.nr_timers.specs.declared.heap.Gone.{Gone}
+use Rattle.nr_timers.specs.declared.delta.TimersDelta.{TimersDelta}
+use Rattle.nr_timers.specs.declared.delta.TimersDelta.TheVariants.{Armed, Rearmed, Stopped, Still}
+use Rattle.nr_timers.specs.Order.{at}
+use Rattle.nr_timers.specs.Change.{Removed, RemovedBack}
+use Rattle.nr_timers.specs.Index.{key, Absent}
+
+-- the entry is that of the key, and it was removed
+pub record Takes (k : ℕ) (gone : Gone) (old new : List Entry) : Type 0 where
+  pub within : gone.place < length old
+  pub key : key (at old gone.place) ≡ k
+  pub entry : gone.entry ≡ at old gone.place
+  pub removed : Removed old gone.place gone.last new
+
+-- the entry of the key was removed, or there was none
+abbrev pub Cleared : ℕ → Option Gone → List Entry → List Entry → Type 0
+Cleared k None old new = (new ≡ old) × Absent k old
+Cleared k (Some gone) old new = Takes k gone old new
+
+-- the way back over that
+abbrev pub ClearedBack : Option Gone → List Entry → List Entry → Type 0
+ClearedBack None new old = old ≡ new
+ClearedBack (Some gone) new old = RemovedBack gone.place gone.last gone.entry new old
+
+-- what leads back over an arming at a place, after that
+abbrev pub armed_delta : ℕ → Option Gone → TimersDelta
+armed_delta to None = Armed to
+armed_delta to (Some gone) = Rearmed to gone.place gone.last gone.entry.timer
+
+-- what leads back over a stop
+abbrev pub stopped_delta : Option Gone → TimersDelta
+stopped_delta None = Still
+stopped_delta (Some gone) = Stopped gone.place gone.last gone.entry

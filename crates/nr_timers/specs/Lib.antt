@@ -1,0 +1,17 @@
+-- what callers need
+pub mod Order
+pub mod Line
+pub mod Change
+pub mod Index
+pub mod TimersOf
+pub mod State
+pub mod Step
+pub mod Back
+-- what is inner
+pub mod Places
+pub mod Clearing
+pub mod Performing
+pub mod LineLaws
+pub mod ChangeLaws
+pub mod BackLaws
+pub mod ReversibleLaws

@@ -1,0 +1,29 @@
+-- The timers of a descriptor, looked up among the entries.
+use Rattle.std.specs.Prelude.{◌≡◌, ◌≢◌, ℕ, Bool, ◌&&◌, ◌==◌, List, slice_index_or, find, Option, None, option_map}
+use Rattle.nr_rev.specs.declared.sides.Side.{Side}
+use Rattle.nr_rev.specs.declared.sides.Side.TheVariants.{Read, Write}
+use Rattle.nr_rev.specs.declared.sides.Sides.{Sides}
+use Rattle.nr_rev.specs.declared.timer.Entry.{Entry}
+use Rattle.nr_rev.specs.declared.timer.Timer.{Timer}
+use Rattle.nr_rev.specs.Sides.{with_side, same_side, twice}
+
+-- whether the entry is that of descriptor d's side
+abbrev pub is_for : ℕ → Side → Entry → Bool
+is_for d side e = (e.descriptor == d) && same_side e.side side
+
+-- the timer that descriptor d's side has, if one is armed
+abbrev pub timer_of : List Entry → ℕ → Side → Option Timer
+timer_of entries d side = option_map (λ (e : Entry). e.timer) (find (is_for d side) entries)
+
+-- those of both sides
+abbrev pub timers_of : List Entry → ℕ → Sides (Option Timer)
+timers_of entries d = record { read = timer_of entries d Read; write = timer_of entries d Write }
+
+-- the timer of descriptor d's side is now this one, or none, and all others stay
+pub record SetsTimer (d : ℕ) (side : Side) (timer : Option Timer) (old new : List Entry) : Type 0 where
+  pub here : timers_of new d ≡ with_side side timer (timers_of old d)
+  pub others : (k : ℕ) → k ≢ d → timers_of new k ≡ timers_of old k
+
+-- these are the timers of the descriptors from number 0 on, and all others have none
+abbrev pub AreTimers : List Entry → List (Sides (Option Timer)) → Type 0
+AreTimers entries timers = (d : ℕ) → timers_of entries d ≡ slice_index_or timers d (twice None)

@@ -1,0 +1,87 @@
+//! Timers as a machine whose operations can be undone.
+
+use crate::delta::TimersDelta;
+use crate::op::TimersOp;
+use crate::timers::Timers;
+use nr_rev::{Entry, Refusal, Reversible};
+
+/// The heap's entries change places along one line of parents, so that an entry and places lead back.
+impl Reversible for Timers {
+    ghost use Rattle.nr_timers.specs.Back.{TimersBack, delta_weight, op_allowance};
+    ghost use Rattle.nr_timers.specs.ReversibleLaws.{TimersBack-unique, memory_is_no_reason, refused_has_no_step, steps_unique, words_are_within};
+    ghost use Rattle.nr_timers.specs.State.{IsTimers};
+    ghost use Rattle.nr_timers.specs.Step.{TakesMemory, TimersStep, timers_reason};
+
+    type Op = TimersOp;
+
+    type Answer = ();
+
+    type Delta = TimersDelta;
+
+    const WORDS: u32 = 9;
+
+    ghost WORDS = { 9 };
+
+    ghost is_well_formed = { IsTimers };
+
+    ghost steps = { TimersStep };
+
+    ghost reason = { timers_reason };
+
+    ghost takes_memory = { TakesMemory };
+
+    ghost back = { TimersBack };
+
+    ghost weight = { delta_weight };
+
+    ghost allowance = { op_allowance };
+
+    ghost bytes_out = { λ _ _. 0 };
+
+    #[inline(always)]
+    fn apply(&mut self, op: &TimersOp) -> Result<((), TimersDelta), Refusal> {
+        Ok(((), self.perform(op)?))
+    }
+
+    #[inline(always)]
+    fn undo(&mut self, delta: TimersDelta) {
+        match delta {
+            TimersDelta::Armed { to } => {
+                let _ = self.heap.uninsert(to as usize);
+                self.next -= 1;
+            }
+            TimersDelta::Rearmed {
+                to,
+                place,
+                last,
+                timer,
+            } => {
+                let armed = self.heap.uninsert(to as usize);
+                let entry = Entry { timer, ..armed };
+                self.heap.unremove(place as usize, last as usize, entry);
+                self.next -= 1;
+            }
+            TimersDelta::Stopped { place, last, entry } => {
+                self.heap.unremove(place as usize, last as usize, entry);
+            }
+            TimersDelta::Still => {}
+            TimersDelta::Popped { last } => {
+                let entry = self.firings.remove(self.firings.len() - 1);
+                self.heap.unremove(0, last as usize, entry);
+            }
+            TimersDelta::Taken { place, entry } => {
+                self.firings.insert(place as usize, entry);
+            }
+        }
+    }
+
+    ghost back_is_unique = { TimersBack-unique };
+
+    ghost refused_has_no_step = { refused_has_no_step };
+
+    ghost memory_is_no_reason = { memory_is_no_reason };
+
+    ghost steps_unique = { steps_unique };
+
+    ghost allowance_is_within = { words_are_within };
+}

@@ -1,0 +1,20 @@
+//! Timers in the order in which they are due: a heap with four children a place, which knows the place of the timer of
+//! each descriptor's side, and the firings that wait to be run.
+#![tactic(auto)]
+
+mod apply;
+mod changing;
+mod delta;
+mod entries;
+mod heap;
+pub mod laws;
+mod op;
+mod performing;
+mod sifting;
+#[cfg(test)]
+mod tests;
+mod timers;
+
+pub use delta::TimersDelta;
+pub use op::TimersOp;
+pub use timers::Timers;

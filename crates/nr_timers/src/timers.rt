@@ -1,0 +1,161 @@
+//! Timers that are armed, and the firings that wait to be run.
+
+ghost use Rattle.std.specs.Prelude.{◌≡◌, ◌≢◌, ℕ, ◌^◌, ◌<◌, [], List, length, slice_get, IfOk, IfErr, MatchOption};
+ghost use Rattle.nr_rev.specs.declared.refusal.Refusal.TheVariants.{Memory};
+ghost use Rattle.nr_rev.specs.declared.sides.Sides.{Sides};
+ghost use Rattle.nr_rev.specs.declared.timer.Timer.{Timer};
+ghost use Rattle.nr_timers.specs.Index.{Absent, key, key_of};
+ghost use Rattle.nr_timers.specs.Order.{at};
+ghost use Rattle.nr_timers.specs.State.{IsTimers};
+
+use crate::entries::key_of;
+use crate::heap::Heap;
+use nr_rev::{Entry, Refusal, RoomedList, Side};
+use std::alloc::{AllocError, Global};
+use std::marker::Model;
+
+/// Timers that are armed for the sides of descriptors below a limit, and the firings that wait to be run. All room is made
+/// at once, so that no operation takes memory.
+///
+/// The entries form a heap with four children a place, as the timers of `runtime/time.go` do; they are ordered by when they
+/// are due, and of those due at once by arming number.
+#[derive(Drop)]
+pub struct Timers {
+    pub(crate) heap: Heap,
+    pub(crate) firings: RoomedList<Entry>,
+    pub(crate) next: u64,
+    pub(crate) descriptors: u32,
+}
+
+impl Model for Timers {
+    ghost use Rattle.std.specs.Prelude.{◌≡◌, ◌*◌, ◌^◌, ◌<◌};
+    ghost use Rattle.nr_timers.specs.State.{State};
+
+    ghost Value = { State };
+
+    ghost view = { λ t. record {
+      entries = t.heap.entries;
+      firings = t.firings.items;
+      next = t.next;
+      descriptors = t.descriptors;
+    } };
+
+    ghost invariant = { λ t. (t.heap.limit ≡ 2 * t.descriptors)
+        × (t.firings.room ≡ 2 * t.descriptors) × (2 * t.descriptors < 2 ^ 32) };
+}
+
+impl Timers {
+    /// No timer and no firing, with room for two of each for each of so many descriptors. The first arming gets number 1.
+    /// `Refusal::Memory` where there is none for the room.
+    pub fn with_limits(alloc: Global, descriptors: u32) -> Result<Timers, Refusal>
+        requires { descriptors < 2 ^ 31 }
+        ensures well_formed { IfOk result IsTimers }
+        ensures empty { IfOk result (λ t. t ≡ record {
+          entries = [];
+          firings = [];
+          next = 1;
+          descriptors = descriptors;
+        }) }
+        ensures err { IfErr result (λ e. e ≡ Memory) }
+    {
+        Timers::with_room(alloc, descriptors).map_err(|_| Refusal::Memory)
+    }
+
+    fn with_room(alloc: Global, descriptors: u32) -> Result<Timers, AllocError>
+        requires { descriptors < 2 ^ 31 }
+        ensures { IfOk result (λ t. t ≡ record {
+          entries = [];
+          firings = [];
+          next = 1;
+          descriptors = descriptors;
+        }) }
+    {
+        let limit = 2 * descriptors as usize;
+        Ok(Timers {
+            heap: Heap::with_limit(alloc, limit)?,
+            firings: RoomedList::with_room(alloc, limit)?,
+            next: 1,
+            descriptors,
+        })
+    }
+
+    /// An equal one, each entry at its place, in room of its own. `Refusal::Memory` where there is none for it.
+    pub fn try_copy(&self, alloc: Global) -> Result<Timers, Refusal>
+        ensures well_formed { IsTimers self.now → IfOk result IsTimers }
+        ensures equal { IfOk result (λ t. t ≡ self.now) }
+        ensures err { IfErr result (λ e. e ≡ Memory) }
+    {
+        self.copy(alloc).map_err(|_| Refusal::Memory)
+    }
+
+    fn copy(&self, alloc: Global) -> Result<Timers, AllocError>
+        ensures { IfOk result (λ t. t ≡ self.now) }
+    {
+        Ok(Timers {
+            heap: self.heap.try_copy(alloc)?,
+            firings: self.firings.try_copy(alloc)?,
+            next: self.next,
+            descriptors: self.descriptors,
+        })
+    }
+
+    /// How many timers are armed.
+    #[inline(always)]
+    pub fn len(&self) -> usize
+        ensures { result ≡ length self.now.entries }
+    {
+        self.heap.len()
+    }
+
+    /// The entry at a place of the heap, counted from 0.
+    #[inline(always)]
+    pub fn at_place(&self, place: usize) -> Option<Entry>
+        ensures { result ≡ slice_get self.now.entries place }
+    {
+        self.heap.get(place)
+    }
+
+    /// The place of the entry of a descriptor's side, the only one that it has; `None` where no timer is armed.
+    #[inline(always)]
+    pub fn place_of(&self, descriptor: u32, side: Side) -> Option<usize>
+        ensures { MatchOption result (Absent (key_of descriptor side) self.now.entries)
+            (λ place. (place < length self.now.entries)
+            × (key (at self.now.entries place) ≡ key_of descriptor side)
+            × ((p : ℕ) → p < length self.now.entries
+            → key (at self.now.entries p) ≡ key_of descriptor side → p ≡ place)) }
+    {
+        self.heap.place_of(key_of(descriptor, side))
+    }
+
+    /// The entry that goes off before all others.
+    #[inline(always)]
+    pub fn least(&self) -> Option<Entry>
+        ensures { result ≡ slice_get self.now.entries 0 }
+    {
+        self.heap.get(0)
+    }
+
+    /// How many firings wait to be run.
+    #[inline(always)]
+    pub fn firings(&self) -> usize
+        ensures { result ≡ length self.now.firings }
+    {
+        self.firings.len()
+    }
+
+    /// The firing at a place, counted from 0: the first is the one that waits longest.
+    #[inline(always)]
+    pub fn firing(&self, place: usize) -> Option<Entry>
+        ensures { result ≡ slice_get self.now.firings place }
+    {
+        self.firings.get(place)
+    }
+
+    /// The number that the next arming gets.
+    #[inline(always)]
+    pub fn next_number(&self) -> u64
+        ensures { result ≡ self.now.next }
+    {
+        self.next
+    }
+}
