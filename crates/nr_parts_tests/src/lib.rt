@@ -7,3 +7,7 @@ mod buffers;
 mod descriptors;
 #[cfg(test)]
 mod locks;
+#[cfg(test)]
+mod queues;
+#[cfg(test)]
+mod timers;

@@ -1,0 +1,163 @@
+//! Goroutines in queues on real numbers: the links before an operation, after it and when it is undone. The tests pass,
+//! too, where any one allocation is refused: of two tries one has memory.
+
+ghost use Rattle.std.specs.Prelude.{◌≡◌, ◌≤◌, IfOk, length};
+ghost use Rattle.nr_gsema.specs.Applying.{IsQueuedUp};
+
+use arrayvec::ArrayVec;
+use nr_gsema::{GOperation, GTable};
+use nr_rev::{Refusal, Reversible, Side, Status, transact};
+use std::alloc::{AllocError, Global};
+use std::test::Fail;
+
+/// Two goroutines, or none in place of either: front and back of a queue, or who is before and behind a goroutine.
+type Pair = (Option<u32>, Option<u32>);
+
+/// The ends of the queue of reading at socket 0, and the neighbours of the goroutines 1, 2 and 3.
+fn links(table: &GTable) -> (Pair, [Pair; 3]) {
+    let neighbours = |goroutine| (table.previous_of(goroutine), table.next_of(goroutine));
+    (
+        (table.front_of(0, Side::Read), table.back_of(0, Side::Read)),
+        [neighbours(1), neighbours(2), neighbours(3)],
+    )
+}
+
+/// The links where 1, 2 and 3 are queued in this order.
+const OF_THREE: (Pair, [Pair; 3]) = (
+    (Some(1), Some(3)),
+    [(None, Some(2)), (Some(1), Some(3)), (Some(2), None)],
+);
+
+/// The links where 1 has left that queue.
+const OF_TWO: (Pair, [Pair; 3]) = (
+    (Some(2), Some(3)),
+    [(None, None), (None, Some(3)), (Some(2), None)],
+);
+
+fn acquiring(goroutine: u32) -> GOperation {
+    GOperation::Move {
+        goroutine,
+        from: Status::Idle,
+        to: Status::Acquiring {
+            socket: 0,
+            side: Side::Read,
+        },
+    }
+}
+
+fn acquire(goroutine: u32) -> GOperation {
+    GOperation::Acquire { goroutine }
+}
+
+/// Goroutine 0 owes a release of reading.
+const OWES: GOperation = GOperation::Move {
+    goroutine: 0,
+    from: Status::Idle,
+    to: Status::Owing {
+        socket: 0,
+        reads: 1,
+        writes: 0,
+    },
+};
+
+/// A table for four goroutines and a socket, at once or, where memory was refused, the next time.
+fn made(alloc: Global) -> Result<GTable, AllocError>
+    ensures { IfOk result IsQueuedUp }
+{
+    match GTable::with_limits(alloc, 4, 1) {
+        Err(AllocError) => GTable::with_limits(alloc, 4, 1),
+        made => made,
+    }
+}
+
+/// Applies all the operations or none.
+fn play(table: &mut GTable, operations: &[GOperation]) -> Result<(), Refusal>
+    requires queued { IsQueuedUp table.old }
+    requires few { length operations.now ≤ 8 }
+    ensures { IsQueuedUp table.new }
+{
+    let mut deltas = ArrayVec::new();
+    transact(table, operations, &mut deltas)
+}
+
+/// Four goroutines, of which 1, 2 and 3 are queued, and 0 owes a release.
+fn queue_up(table: &mut GTable) -> Result<(), Refusal>
+    requires { IsQueuedUp table.old }
+    ensures { IsQueuedUp table.new }
+{
+    play(table, &[GOperation::Spawn; 4])?;
+    play(table, &[OWES, acquiring(1), acquiring(2), acquiring(3)])?;
+    play(table, &[acquire(1), acquire(2), acquire(3)])
+}
+
+/// What is left of a release by goroutine 0, and when it is undone: the count, the links and the status of goroutine 1.
+type Left = (Option<u32>, (Pair, [Pair; 3]), Option<Status>);
+
+fn left(table: &GTable) -> Left {
+    (table.count(0, Side::Read), links(table), table.status(1))
+}
+
+/// What a release by goroutine 0 leaves, and what undoing it leaves.
+fn released_and_undone(table: &mut GTable) -> Result<(Left, Left), Refusal>
+    requires { IsQueuedUp table.old }
+    ensures { IsQueuedUp table.new }
+{
+    let (_, delta) = table.apply(&GOperation::Release { goroutine: 0 })?;
+    let after = left(table);
+    table.undo(delta);
+    Ok((after, left(table)))
+}
+
+#[test]
+fn a_release_is_undone_with_the_links(rt: HostRuntime) -> Result<(), Fail> {
+    let mut table = made(rt.alloc())?;
+    let (socket, side) = (0, Side::Read);
+    assert_eq!(rt; queue_up(&mut table), Ok(()));
+    assert_eq!(rt; (table.made(), links(&table)), (4, OF_THREE));
+    assert_eq!(rt;
+        released_and_undone(&mut table),
+        Ok((
+            (Some(1), OF_TWO, Some(Status::Acquiring { socket, side })),
+            (Some(0), OF_THREE, Some(Status::Queued { socket, side })),
+        ))
+    );
+    Ok(())
+}
+
+#[test]
+fn what_is_refused_last_leaves_the_links(rt: HostRuntime) -> Result<(), Fail> {
+    let mut table = made(rt.alloc())?;
+    let release = GOperation::Release { goroutine: 0 };
+    assert_eq!(rt; queue_up(&mut table), Ok(()));
+    assert_eq!(rt;
+        play(&mut table, &[release, acquire(1), release]),
+        Err(Refusal::NotThere)
+    );
+    assert_eq!(rt;
+        (table.count(0, Side::Read), links(&table)),
+        (Some(0), OF_THREE)
+    );
+    assert_eq!(rt; play(&mut table, &[release, acquire(1)]), Ok(()));
+    assert_eq!(rt;
+        (table.count(0, Side::Read), links(&table)),
+        (Some(0), OF_TWO)
+    );
+    Ok(())
+}
+
+/// A copy, at once or, where memory was refused, the next time.
+fn copied(table: &GTable) -> Result<GTable, AllocError> {
+    match table.try_copy() {
+        Err(AllocError) => table.try_copy(),
+        copied => copied,
+    }
+}
+
+#[test]
+fn a_copy_has_the_links(rt: HostRuntime) -> Result<(), Fail> {
+    let mut table = made(rt.alloc())?;
+    assert_eq!(rt; queue_up(&mut table), Ok(()));
+    let copy = copied(&table)?;
+    assert_eq!(rt; (links(&table), links(&copy)), (OF_THREE, OF_THREE));
+    Ok(())
+}

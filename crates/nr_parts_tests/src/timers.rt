@@ -1,0 +1,277 @@
+//! Timers on real numbers: the places of a heap before an operation, after it and when it is undone; refusals; and memory
+//! refused.
+
+ghost use Rattle.std.specs.Prelude.{◌≡◌, ◌≤◌, IfOk, length};
+ghost use Rattle.nr_timers.specs.State.{IsTimers};
+
+use arrayvec::ArrayVec;
+use nr_rev::{Entry, Refusal, Reversible, Side, Timer, TimerFunction, transact, undo_all};
+use nr_timers::{Timers, TimersOp};
+use std::alloc::Global;
+use std::process::Abort;
+use std::test::Fail;
+
+fn arm(descriptor: u32, due: i64) -> TimersOp {
+    TimersOp::Arm {
+        descriptor,
+        side: Side::Read,
+        due,
+        function: TimerFunction::Read,
+        sequence: 7,
+    }
+}
+
+fn stop(descriptor: u32) -> TimersOp {
+    TimersOp::Stop {
+        descriptor,
+        side: Side::Read,
+    }
+}
+
+/// The entry that `arm` gives.
+fn entry(descriptor: u32, due: i64, number: u64) -> Entry {
+    Entry {
+        descriptor,
+        side: Side::Read,
+        timer: Timer {
+            due,
+            number,
+            function: TimerFunction::Read,
+            sequence: 7,
+        },
+    }
+}
+
+/// Arms the timers for reading of descriptors 0, 1 and so on.
+fn armed(alloc: Global, times: &[i64]) -> Result<Timers, Refusal>
+    ensures { IfOk result IsTimers }
+{
+    let mut timers = Timers::with_limits(alloc, 16)?;
+    let mut descriptor: u32 = 0;
+    for time in times {
+        timers.apply(&arm(descriptor, *time))?;
+        descriptor = descriptor.saturating_add(1);
+    }
+    Ok(timers)
+}
+
+/// Whether the heap has just these times and arming numbers, by place, and finds each entry's place.
+fn has_places(timers: &Timers, places: &[(i64, u64)]) -> bool {
+    timers.len() == places.len()
+        && places.iter().enumerate().all(|(place, (due, number))| {
+            timers.at_place(place).is_some_and(|entry| {
+                entry.timer.due == *due
+                    && entry.timer.number == *number
+                    && timers.place_of(entry.descriptor, entry.side) == Some(place)
+            })
+        })
+}
+
+/// Whether the operation changes the heap so, and is undone whole.
+fn changes(
+    alloc: Global,
+    times: &[i64],
+    op: &TimersOp,
+    before: &[(i64, u64)],
+    after: &[(i64, u64)],
+    (firings, next): (usize, u64),
+) -> Result<bool, Refusal> {
+    let mut timers = armed(alloc, times)?;
+    let first = timers.next_number();
+    let was = has_places(&timers, before);
+    let (_, delta) = timers.apply(op)?;
+    let is = has_places(&timers, after)
+        && timers.firings() == firings
+        && timers.next_number() == next;
+    timers.undo(delta);
+    Ok(
+        was && is
+            && has_places(&timers, before)
+            && timers.firings() == 0
+            && timers.next_number() == first,
+    )
+}
+
+#[test]
+fn each_entry_has_its_place_back(rt: HostRuntime) -> Result<(), Fail> {
+    let six = [(10, 1), (20, 2), (30, 3), (40, 4), (50, 5), (60, 6)];
+    assert!(rt;
+        changes(
+            rt.alloc(),
+            &[10, 20, 30, 40, 50, 60],
+            &stop(0),
+            &six,
+            &[(20, 2), (60, 6), (30, 3), (40, 4), (50, 5)],
+            (0, 7),
+        )?
+    );
+    // of two due at once the one armed first goes off
+    assert!(rt;
+        changes(
+            rt.alloc(),
+            &[10, 10],
+            &TimersOp::Pop { now: 10 },
+            &[(10, 1), (10, 2)],
+            &[(10, 2)],
+            (1, 3),
+        )?
+    );
+    assert!(rt; changes(rt.alloc(), &[10], &arm(0, 5), &[(10, 1)], &[(5, 2)], (0, 3))?);
+    Ok(())
+}
+
+#[test]
+fn the_last_entry_goes_up_or_just_goes(rt: HostRuntime) -> Result<(), Fail> {
+    let times = [10, 50, 20, 60, 70, 51, 52, 53, 54, 21];
+    let before = [
+        (10, 1),
+        (50, 2),
+        (20, 3),
+        (60, 4),
+        (70, 5),
+        (51, 6),
+        (52, 7),
+        (53, 8),
+        (54, 9),
+        (21, 10),
+    ];
+    let up = [
+        (10, 1),
+        (21, 10),
+        (20, 3),
+        (60, 4),
+        (70, 5),
+        (50, 2),
+        (52, 7),
+        (53, 8),
+        (54, 9),
+    ];
+    assert!(rt; changes(rt.alloc(), &times, &stop(5), &before, &up, (0, 11))?);
+    assert!(rt; changes(rt.alloc(), &times, &stop(9), &before, &before[..9], (0, 11))?);
+    Ok(())
+}
+
+/// Why the operation doesn't apply, if so.
+fn refusal_of(timers: &mut Timers, op: &TimersOp) -> Option<Refusal>
+    requires { IsTimers timers.old }
+    ensures { IsTimers timers.new }
+{
+    timers.apply(op).err()
+}
+
+/// Asks for one operation after another, and says what each is refused for.
+fn expect(rt: &impl Abort, timers: &mut Timers, refusals: &[(TimersOp, Option<Refusal>)])
+    requires { IsTimers timers.old }
+    ensures { IsTimers timers.new }
+{
+    for (op, refusal) in refusals {
+        assert_eq!(rt; refusal_of(timers, op), *refusal, "at {op:?}");
+    }
+}
+
+#[test]
+fn refuses_for_the_first_reason(rt: HostRuntime) -> Result<(), Fail> {
+    let mut timers = Timers::with_limits(rt.alloc(), 1)?;
+    expect(
+        &rt,
+        &mut timers,
+        &[
+            (arm(1, 10), Some(Refusal::NoSuchDescriptor)),
+            (stop(1), Some(Refusal::NoSuchDescriptor)),
+            (stop(0), None),
+            (TimersOp::Pop { now: 10 }, Some(Refusal::NoTimerDue)),
+            (
+                TimersOp::TakeFiring { place: 0 },
+                Some(Refusal::NoSuchFiring),
+            ),
+            (arm(0, 10), None),
+            (TimersOp::Pop { now: 9 }, Some(Refusal::NoTimerDue)),
+            (TimersOp::Pop { now: 10 }, None),
+            (arm(0, 11), None),
+            (TimersOp::Pop { now: 11 }, None),
+            (arm(0, 12), None),
+            (TimersOp::Pop { now: 12 }, Some(Refusal::FiringsFull)),
+            (
+                TimersOp::TakeFiring { place: 2 },
+                Some(Refusal::NoSuchFiring),
+            ),
+            (TimersOp::TakeFiring { place: 0 }, None),
+            (TimersOp::Pop { now: 12 }, None),
+        ],
+    );
+    assert_eq!(rt; timers.firing(0), Some(entry(0, 11, 2)));
+    assert_eq!(rt; timers.firing(1), Some(entry(0, 12, 3)));
+    assert_eq!(rt; timers.least(), None);
+    Ok(())
+}
+
+/// Applies all the operations or none: whether they apply, how many deltas there are, and the least entry then and after
+/// undoing them.
+fn transacted(
+    timers: &mut Timers,
+    ops: &[TimersOp],
+) -> (Result<(), Refusal>, usize, Option<Entry>, Option<Entry>)
+    requires well_formed { IsTimers timers.old }
+    requires few { length ops.now ≤ 8 }
+    ensures { timers.new ≡ timers.old }
+{
+    let mut deltas = ArrayVec::new();
+    let applied = transact(timers, ops, &mut deltas);
+    let (made, least) = (deltas.len(), timers.least());
+    undo_all(timers, &mut deltas);
+    (applied, made, least, timers.least())
+}
+
+#[test]
+fn transactions_are_undone_whole(rt: HostRuntime) -> Result<(), Fail> {
+    let mut timers = armed(rt.alloc(), &[30])?;
+    let first = Some(entry(0, 30, 1));
+    let pop = TimersOp::Pop { now: 20 };
+    assert_eq!(rt;
+        transacted(&mut timers, &[arm(1, 20), arm(2, 10), pop, stop(0)]),
+        (Ok(()), 4, Some(entry(1, 20, 2)), first)
+    );
+    assert_eq!(rt;
+        transacted(&mut timers, &[arm(1, 20), pop, pop]),
+        (Err(Refusal::NoTimerDue), 0, first, first)
+    );
+    Ok(())
+}
+
+/// Whether a copy has the same places, firings and next number.
+fn copies(timers: &Timers, alloc: Global, places: &[(i64, u64)]) -> Result<bool, Refusal> {
+    let copy = timers.try_copy(alloc)?;
+    Ok(
+        has_places(&copy, places)
+            && copy.firing(0) == timers.firing(0)
+            && copy.firings() == timers.firings()
+            && copy.next_number() == timers.next_number(),
+    )
+}
+
+/// Says something of a refusal only with an allocation refused: `rt try --test --fail-alloc N`.
+#[test]
+fn goes_on_where_memory_was_refused(rt: HostRuntime) -> Result<(), Fail> {
+    let mut timers = match Timers::with_limits(rt.alloc(), 2) {
+        Err(Refusal::Memory) => Timers::with_limits(rt.alloc(), 2)?,
+        made => made?,
+    };
+    let pop = TimersOp::Pop { now: 10 };
+    expect(
+        &rt,
+        &mut timers,
+        &[
+            (arm(1, 20), None),
+            (arm(0, 10), None),
+            (pop, None),
+            (arm(0, 30), None),
+        ],
+    );
+    let places = [(20, 1), (30, 3)];
+    let copied = match copies(&timers, rt.alloc(), &places) {
+        Err(Refusal::Memory) => copies(&timers, rt.alloc(), &places),
+        copied => copied,
+    };
+    assert_eq!(rt; copied, Ok(true));
+    Ok(())
+}
