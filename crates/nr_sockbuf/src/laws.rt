@@ -4,6 +4,7 @@ ghost use Rattle.std.specs.Prelude.{ℕ, List, ◌≡◌, None};
 ghost use Rattle.nr_rev.specs.Socket.{Socket};
 ghost use Rattle.nr_rev.specs.World.{World};
 ghost use Rattle.nr_rev.specs.declared.step.Step.{Step};
+ghost use Rattle.nr_sockbuf.specs.declared.delta.SockDelta.{SockDelta};
 ghost use Rattle.nr_sockbuf.specs.declared.reversible.TheConstants.{MOST_WORDS};
 ghost use Rattle.nr_sockbuf.specs.Op.{TakesMemory, sock_reason};
 ghost use Rattle.nr_sockbuf.specs.Sock.{SockParts};
@@ -23,6 +24,11 @@ pub fn steps_are_of_the_machine()
 /// Where a step that has no reason takes memory, bytes leave a buffer.
 pub fn memory_is_for_bytes()
     ensures { (t : SockParts) (op : Step) → TakesMemory t op → sock_reason t op ≡ None → SockLoses t op }
+{}
+
+/// A delta is the record of its undo and has nothing beside it.
+pub fn delta_is_its_undo()
+    ensures { (delta : SockDelta) → delta ≡ record { undo = delta.undo } }
 {}
 
 /// A delta holds at most three words beside the bytes that left a buffer.

@@ -8,28 +8,28 @@ use Rattle.std.proofs.lemmas.List.Edits.{get_or-remove_below, get_or-remove_abov
 use Rattle.nr_rev.specs.declared.sides.Side.{Side}
 use Rattle.nr_rev.specs.declared.timer.Entry.{Entry}
 use Rattle.nr_rev.specs.declared.timer.TimerFunction.{TimerFunction}
-use Rattle.nr_timers.specs.declared.delta.TimersDelta.{TimersDelta}
-use Rattle.nr_timers.specs.declared.delta.TimersDelta.TheVariants.{Popped, Taken}
+use Rattle.nr_timers.specs.declared.delta.TimersUndo.{TimersUndo}
+use Rattle.nr_timers.specs.declared.delta.TimersUndo.TheVariants.{Popped, Taken}
 use Rattle.nr_timers.specs.declared.heap.Gone.{Gone}
 use Rattle.nr_timers.specs.declared.op.TimersOp.TheVariants.{Arm, Stop, Pop, TakeFiring}
 use Rattle.nr_timers.specs.Order.{at, blank, number}
 use Rattle.nr_timers.specs.Line.{Ordered}
 use Rattle.nr_timers.specs.Index.{key, key_of, Absent}
 use Rattle.nr_timers.specs.Change.{Inserted, InsertedBack, Removed, RemovedBack}
-use Rattle.nr_timers.specs.Clearing.{Takes, Cleared, ClearedBack, armed_delta, stopped_delta}
+use Rattle.nr_timers.specs.Clearing.{Takes, Cleared, ClearedBack, armed_undo, stopped_undo}
 use Rattle.nr_timers.specs.State.{State, IsTimers}
 use Rattle.nr_timers.specs.Step.{armed_entry, Arms}
-use Rattle.nr_timers.specs.Back.{TimersBack, with_timer, delta_weight}
+use Rattle.nr_timers.specs.Back.{UndoBack, with_timer, undo_weight}
 use Rattle.nr_timers.specs.Performing.{Applies}
 use Rattle.nr_timers.proofs.DrawnLemmas.{Drawn, Drawn-has, Drawn-apart}
 use Rattle.nr_timers.proofs.UndoLemmas.{returned}
 use Rattle.nr_timers.proofs.StepLemmas.{has_below, has_apart, numbered_from, Emptied, emptied, clears, stops, stopped_well, pops, popped_well, arms, armed_well, with_old_timer, popped_back, armed_below, number_armed}
 
-armed_weight : (q : ℕ) (gone : Option Gone) → delta_weight (armed_delta q gone) ≤ 8
+armed_weight : (q : ℕ) (gone : Option Gone) → undo_weight (armed_undo q gone) ≤ 8
 armed_weight q None = lit≤ tt
 armed_weight q (Some gone) = lit≤ tt
 
-stopped_weight : (gone : Option Gone) → delta_weight (stopped_delta gone) ≤ 9
+stopped_weight : (gone : Option Gone) → undo_weight (stopped_undo gone) ≤ 9
 stopped_weight None = lit≤ tt
 stopped_weight (Some gone) = lit≤ tt
 
@@ -61,7 +61,7 @@ module _ (old : State) (well : IsTimers old) (d : ℕ) (side : Side) (due : ℤ)
       abbrev after : State
       after = record old { entries = new; next = old.next + 1 }
 
-      leads_back : (g : Option Gone) → Cleared (key e) g old.entries mid → ClearedBack g mid old.entries → TimersBack (armed_delta q g) after old
+      leads_back : (g : Option Gone) → Cleared (key e) g old.entries mid → ClearedBack g mid old.entries → UndoBack (armed_undo q g) after old
       leads_back None c b =
           record { places = subst (λ (m : List Entry). InsertedBack q new m) (sym b) back; keyed = well.keyed; number = refl; rest = refl }
       leads_back (Some g) c b =
@@ -74,11 +74,11 @@ module _ (old : State) (well : IsTimers old) (d : ℕ) (side : Side) (due : ℤ)
             rest = refl;
           }
 
-      pub arming : old.next < 2 ^ 64 - 1 → Ordered new → (delta : TimersDelta) → delta ≡ armed_delta q gone → Applies old (Arm d side due function sequence) delta after
+      pub arming : old.next < 2 ^ 64 - 1 → Ordered new → (delta : TimersUndo) → delta ≡ armed_undo q gone → Applies old (Arm d side due function sequence) delta after
       arming room ordered delta same =
           let numbered = number_armed old e d side due function sequence is in
           let made : Arms old e after = arms old well e mid new q left back inserted.raised.arrives below numbered room (clears (key e) gone old.entries mid cleared_here) inserted in
-          subst (λ (x : TimersDelta). Applies old (Arm d side due function sequence) x after) (sym same)
+          subst (λ (x : TimersUndo). Applies old (Arm d side due function sequence) x after) (sym same)
           (
           record {
             made = subst (λ (x : Entry). Arms old x after) is made;
@@ -95,13 +95,13 @@ module _ (old : State) (well : IsTimers old) (d : ℕ) (side : Side) (within : d
   none : Emptied (key_of d side) old.entries new
   none = emptied (key_of d side) (2 * old.descriptors) gone old.entries new well.keyed cleared_there cleared_back
 
-  stopped_back : (g : Option Gone) → ClearedBack g new old.entries → TimersBack (stopped_delta g) (record old { entries = new }) old
+  stopped_back : (g : Option Gone) → ClearedBack g new old.entries → UndoBack (stopped_undo g) (record old { entries = new }) old
   stopped_back None b = ap (λ (es : List Entry). record old { entries = es }) b
   stopped_back (Some g) b = record { places = b; keyed = well.keyed; rest = refl }
 
-  pub stopping : Ordered new → (delta : TimersDelta) → delta ≡ stopped_delta gone → Applies old (Stop d side) delta (record old { entries = new })
+  pub stopping : Ordered new → (delta : TimersUndo) → delta ≡ stopped_undo gone → Applies old (Stop d side) delta (record old { entries = new })
   stopping ordered delta same =
-      subst (λ (x : TimersDelta). Applies old (Stop d side) x (record old { entries = new })) (sym same)
+      subst (λ (x : TimersUndo). Applies old (Stop d side) x (record old { entries = new })) (sym same)
       (
       record {
         made = stops old well d side new none within (clears (key_of d side) gone old.entries new cleared_there);

@@ -4,7 +4,8 @@ use Rattle.nr_rev.specs.declared.timer.Entry.{Entry}
 use Rattle.nr_rev.specs.declared.timer.Timer.{Timer}
 use Rattle.nr_rev.specs.Weight.{variant_words, number_words, timer_words, entry_words}
 use Rattle.nr_timers.specs.declared.delta.TimersDelta.{TimersDelta}
-use Rattle.nr_timers.specs.declared.delta.TimersDelta.TheVariants.{Armed, Rearmed, Stopped, Still, Popped, Taken}
+use Rattle.nr_timers.specs.declared.delta.TimersUndo.{TimersUndo}
+use Rattle.nr_timers.specs.declared.delta.TimersUndo.TheVariants.{Armed, Rearmed, Stopped, Still, Popped, Taken}
 use Rattle.nr_timers.specs.declared.op.TimersOp.{TimersOp}
 use Rattle.nr_timers.specs.declared.op.TimersOp.TheVariants.{Arm, Stop, Pop, TakeFiring}
 use Rattle.nr_timers.specs.Order.{at}
@@ -51,24 +52,32 @@ pub record FiringBack (place : ℕ) (entry : Entry) (new old : State) : Type 0 w
   pub room : length new.firings < 2 * new.descriptors
   pub rest : old ≡ record new { firings = insert new.firings place entry }
 
--- the delta leads back from the new timers to the old ones
-abbrev pub TimersBack : TimersDelta → State → State → Type 0
-TimersBack (Armed to) new old = ArmedBack to new old
-TimersBack (Rearmed to place last timer) new old = RearmedBack to place last timer new old
-TimersBack (Stopped place last entry) new old = StoppedBack place last entry new old
-TimersBack Still new old = old ≡ new
-TimersBack (Popped last) new old = PoppedBack last new old
-TimersBack (Taken place entry) new old = FiringBack place entry new old
+-- the undo leads back from the new timers to the old ones
+abbrev pub UndoBack : TimersUndo → State → State → Type 0
+UndoBack (Armed to) new old = ArmedBack to new old
+UndoBack (Rearmed to place last timer) new old = RearmedBack to place last timer new old
+UndoBack (Stopped place last entry) new old = StoppedBack place last entry new old
+UndoBack Still new old = old ≡ new
+UndoBack (Popped last) new old = PoppedBack last new old
+UndoBack (Taken place entry) new old = FiringBack place entry new old
 
--- how many words a delta holds: those of its variant and of all that it has
-abbrev pub delta_weight : TimersDelta → ℕ
-delta_weight (Armed to) = variant_words + number_words to
-delta_weight (Rearmed to place last timer) =
+-- a delta leads back by its undo
+abbrev pub TimersBack : TimersDelta → State → State → Type 0
+TimersBack delta new old = UndoBack delta.undo new old
+
+-- how many words an undo holds: those of its variant and of all that it has
+abbrev pub undo_weight : TimersUndo → ℕ
+undo_weight (Armed to) = variant_words + number_words to
+undo_weight (Rearmed to place last timer) =
     variant_words + number_words to + number_words place + number_words last + timer_words timer
-delta_weight (Stopped place last entry) = variant_words + number_words place + number_words last + entry_words entry
-delta_weight Still = variant_words
-delta_weight (Popped last) = variant_words + number_words last
-delta_weight (Taken place entry) = variant_words + number_words place + entry_words entry
+undo_weight (Stopped place last entry) = variant_words + number_words place + number_words last + entry_words entry
+undo_weight Still = variant_words
+undo_weight (Popped last) = variant_words + number_words last
+undo_weight (Taken place entry) = variant_words + number_words place + entry_words entry
+
+-- how many words a delta holds
+abbrev pub delta_weight : TimersDelta → ℕ
+delta_weight delta = undo_weight delta.undo
 
 -- how many words the way back over an operation holds at most
 abbrev pub op_allowance : TimersOp → ℕ

@@ -2,8 +2,8 @@
 use Rattle.std.specs.Prelude.{◌≡◌, ℕ, ◌<◌, List, length, Option, Some, None}
 use Rattle.nr_rev.specs.declared.timer.Entry.{Entry}
 use Rattle.nr_timers.specs.declared.heap.Gone.{Gone}
-use Rattle.nr_timers.specs.declared.delta.TimersDelta.{TimersDelta}
-use Rattle.nr_timers.specs.declared.delta.TimersDelta.TheVariants.{Armed, Rearmed, Stopped, Still}
+use Rattle.nr_timers.specs.declared.delta.TimersUndo.{TimersUndo}
+use Rattle.nr_timers.specs.declared.delta.TimersUndo.TheVariants.{Armed, Rearmed, Stopped, Still}
 use Rattle.nr_timers.specs.Order.{at}
 use Rattle.nr_timers.specs.Change.{Removed, RemovedBack}
 use Rattle.nr_timers.specs.Index.{key, Absent}
@@ -26,11 +26,11 @@ ClearedBack None new old = old ≡ new
 ClearedBack (Some gone) new old = RemovedBack gone.place gone.last gone.entry new old
 
 -- what leads back over an arming at a place, after that
-abbrev pub armed_delta : ℕ → Option Gone → TimersDelta
-armed_delta to None = Armed to
-armed_delta to (Some gone) = Rearmed to gone.place gone.last gone.entry.timer
+abbrev pub armed_undo : ℕ → Option Gone → TimersUndo
+armed_undo to None = Armed to
+armed_undo to (Some gone) = Rearmed to gone.place gone.last gone.entry.timer
 
 -- what leads back over a stop
-abbrev pub stopped_delta : Option Gone → TimersDelta
-stopped_delta None = Still
-stopped_delta (Some gone) = Stopped gone.place gone.last gone.entry
+abbrev pub stopped_undo : Option Gone → TimersUndo
+stopped_undo None = Still
+stopped_undo (Some gone) = Stopped gone.place gone.last gone.entry

@@ -1,20 +1,20 @@
 -- What is left where an operation was performed, or refused.
 use Rattle.std.specs.Prelude.{◌≡◌, ◌≤◌, Some, Result, Ok, Err}
 use Rattle.nr_rev.specs.declared.refusal.Refusal.{Refusal}
-use Rattle.nr_timers.specs.declared.delta.TimersDelta.{TimersDelta}
+use Rattle.nr_timers.specs.declared.delta.TimersUndo.{TimersUndo}
 use Rattle.nr_timers.specs.declared.op.TimersOp.{TimersOp}
 use Rattle.nr_timers.specs.State.{State, IsTimers}
 use Rattle.nr_timers.specs.Step.{Makes, timers_reason}
-use Rattle.nr_timers.specs.Back.{TimersBack, delta_weight, op_allowance}
+use Rattle.nr_timers.specs.Back.{UndoBack, undo_weight, op_allowance}
 
 -- the operation was made, and the delta leads back over it
-pub record Applies (old : State) (op : TimersOp) (delta : TimersDelta) (new : State) : Type 0 where
+pub record Applies (old : State) (op : TimersOp) (delta : TimersUndo) (new : State) : Type 0 where
   pub made : Makes old op new
   pub well_formed : IsTimers new
-  pub back : TimersBack delta new old
-  pub light : delta_weight delta ≤ op_allowance op
+  pub back : UndoBack delta new old
+  pub light : undo_weight delta ≤ op_allowance op
 
 -- the operation was made, or it was refused for its reason, and nothing changed
-abbrev pub Performs : State → TimersOp → Result TimersDelta Refusal → State → Type 0
+abbrev pub Performs : State → TimersOp → Result TimersUndo Refusal → State → Type 0
 Performs old op (Ok delta) new = Applies old op delta new
 Performs old op (Err refusal) new = (timers_reason old op ≡ Some refusal) × (new ≡ old)

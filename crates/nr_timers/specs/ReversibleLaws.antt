@@ -6,7 +6,8 @@ use Rattle.nr_rev.specs.declared.refusal.Refusal.{Refusal}
 use Rattle.nr_rev.specs.declared.refusal.Refusal.TheVariants.{Memory}
 use Rattle.nr_rev.specs.declared.timer.Entry.{Entry}
 use Rattle.nr_timers.specs.declared.delta.TimersDelta.{TimersDelta}
-use Rattle.nr_timers.specs.declared.delta.TimersDelta.TheVariants.{Armed, Rearmed, Stopped, Still, Popped, Taken}
+use Rattle.nr_timers.specs.declared.delta.TimersUndo.{TimersUndo}
+use Rattle.nr_timers.specs.declared.delta.TimersUndo.TheVariants.{Armed, Rearmed, Stopped, Still, Popped, Taken}
 use Rattle.nr_timers.specs.declared.op.TimersOp.{TimersOp}
 use Rattle.nr_timers.specs.declared.op.TimersOp.TheVariants.{Arm, Stop, Pop, TakeFiring}
 use Rattle.nr_timers.specs.Order.{at, is_less, number}
@@ -16,7 +17,7 @@ use Rattle.nr_timers.specs.BackLaws.{InsertedBack-unique, RemovedBack-unique}
 use Rattle.nr_timers.specs.Index.{key, key_of}
 use Rattle.nr_timers.specs.State.{State, IsTimers}
 use Rattle.nr_timers.specs.Step.{Clears, Makes, TimersStep, timers_reason}
-use Rattle.nr_timers.specs.Back.{TimersBack, with_timer, op_allowance}
+use Rattle.nr_timers.specs.Back.{TimersBack, UndoBack, with_timer, op_allowance}
 
 -- where neither of two entries is less their numbers are equal
 pub same_number : (a b : Entry) → is_less a b ≡ false → is_less b a ≡ false → number a ≡ number b
@@ -71,22 +72,27 @@ words_are_within (Stop d side) = lit≤ tt
 words_are_within (Pop now) = lit≤ tt
 words_are_within (TakeFiring place) = lit≤ tt
 
-pub TimersBack-unique : (delta : TimersDelta) (new a b : State) → TimersBack delta new a → TimersBack delta new b → a ≡ b
-TimersBack-unique (Armed to) new a b x y =
+-- an undo leads back to one state
+pub UndoBack-unique : (delta : TimersUndo) (new a b : State) → UndoBack delta new a → UndoBack delta new b → a ≡ b
+UndoBack-unique (Armed to) new a b x y =
     let next : a.next ≡ b.next = let p = x.number in let q = y.number in omega arith in
     let same = InsertedBack-unique to new.entries a.entries b.entries x.places y.places in
     x.rest ∙ ap (λ es. record new { entries = es; next = a.next }) same ∙ ap (λ n. record new { entries = b.entries; next = n }) next ∙ sym y.rest
-TimersBack-unique (Rearmed to place last timer) new a b x y =
+UndoBack-unique (Rearmed to place last timer) new a b x y =
     let next : a.next ≡ b.next = let p = x.number in let q = y.number in omega arith in
     let mids = InsertedBack-unique to new.entries x.places.0 y.places.0 x.places.1 y.places.1 in
     let same = RemovedBack-unique place last (with_timer new.entries to timer) y.places.0 a.entries b.entries (subst (λ (m : List Entry). RemovedBack place last (with_timer new.entries to timer) m a.entries) mids x.places.2) y.places.2 in
     x.rest ∙ ap (λ es. record new { entries = es; next = a.next }) same ∙ ap (λ n. record new { entries = b.entries; next = n }) next ∙ sym y.rest
-TimersBack-unique (Stopped place last entry) new a b x y =
+UndoBack-unique (Stopped place last entry) new a b x y =
     x.rest ∙ ap (λ es. record new { entries = es }) (RemovedBack-unique place last entry new.entries a.entries b.entries x.places y.places) ∙ sym y.rest
-TimersBack-unique Still new a b x y = x ∙ sym y
-TimersBack-unique (Popped last) new a b x y =
+UndoBack-unique Still new a b x y = x ∙ sym y
+UndoBack-unique (Popped last) new a b x y =
     x.rest
     ∙ ap (λ es. record new { entries = es; firings = take (length new.firings - 1) new.firings })
     (RemovedBack-unique 0 last (at new.firings (length new.firings - 1)) new.entries a.entries b.entries x.places y.places)
     ∙ sym y.rest
-TimersBack-unique (Taken place entry) new a b x y = x.rest ∙ sym y.rest
+UndoBack-unique (Taken place entry) new a b x y = x.rest ∙ sym y.rest
+
+-- a delta leads back to one state
+pub TimersBack-unique : (delta : TimersDelta) (new a b : State) → TimersBack delta new a → TimersBack delta new b → a ≡ b
+TimersBack-unique delta new a b x y = UndoBack-unique delta.undo new a b x y

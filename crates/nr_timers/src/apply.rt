@@ -3,7 +3,7 @@
 use crate::delta::TimersDelta;
 use crate::op::TimersOp;
 use crate::timers::Timers;
-use nr_rev::{Entry, Refusal, Reversible};
+use nr_rev::{Refusal, Reversible};
 
 /// The heap's entries change places along one line of parents, so that an entry and places lead back.
 impl Reversible for Timers {
@@ -40,39 +40,15 @@ impl Reversible for Timers {
 
     #[inline(always)]
     fn apply(&mut self, op: &TimersOp) -> Result<((), TimersDelta), Refusal> {
-        Ok(((), self.perform(op)?))
+        match self.perform(op) {
+            Ok(undo) => Ok(((), TimersDelta { undo })),
+            Err(refusal) => Err(refusal),
+        }
     }
 
     #[inline(always)]
     fn undo(&mut self, delta: TimersDelta) {
-        match delta {
-            TimersDelta::Armed { to } => {
-                let _ = self.heap.uninsert(to as usize);
-                self.next -= 1;
-            }
-            TimersDelta::Rearmed {
-                to,
-                place,
-                last,
-                timer,
-            } => {
-                let armed = self.heap.uninsert(to as usize);
-                let entry = Entry { timer, ..armed };
-                self.heap.unremove(place as usize, last as usize, entry);
-                self.next -= 1;
-            }
-            TimersDelta::Stopped { place, last, entry } => {
-                self.heap.unremove(place as usize, last as usize, entry);
-            }
-            TimersDelta::Still => {}
-            TimersDelta::Popped { last } => {
-                let entry = self.firings.remove(self.firings.len() - 1);
-                self.heap.unremove(0, last as usize, entry);
-            }
-            TimersDelta::Taken { place, entry } => {
-                self.firings.insert(place as usize, entry);
-            }
-        }
+        self.lead_back(delta.undo);
     }
 
     ghost back_is_unique = { TimersBack-unique };

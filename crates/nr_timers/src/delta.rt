@@ -1,14 +1,21 @@
 //! The way back over what was asked of timers.
 
 ghost use Rattle.std.specs.Prelude.{◌≡◌};
-ghost use Rattle.nr_timers.specs.Clearing.{armed_delta, stopped_delta};
+ghost use Rattle.nr_timers.specs.Clearing.{armed_undo, stopped_undo};
 
 use crate::heap::Gone;
 use nr_rev::{Entry, Timer};
 
-/// What leads back over an operation: an entry at most, and places of the heap, counted from 0; never a list.
+/// What leads back over an operation: what it changed, as it was, and nothing else.
 #[derive(Clone, Copy, Debug, PartialEq, Eq)]
-pub enum TimersDelta {
+pub struct TimersDelta {
+    /// What is put back.
+    pub undo: TimersUndo,
+}
+
+/// What an operation changed: an entry at most, and places of the heap, counted from 0; never a list.
+#[derive(Clone, Copy, Debug, PartialEq, Eq)]
+pub enum TimersUndo {
     /// A timer was armed where none was, and its entry went to the place `to`.
     Armed {
         to: u32,
@@ -40,27 +47,30 @@ pub enum TimersDelta {
     },
 }
 
+/// One that puts nothing back, for what a bounded list of deltas keeps in places that are free.
 impl Default for TimersDelta {
     ghost use Rattle.std.specs.Prelude.{◌≡◌};
-    ghost use Rattle.nr_timers.specs.declared.delta.TimersDelta.TheVariants.{Still};
+    ghost use Rattle.nr_timers.specs.declared.delta.TimersUndo.TheVariants.{Still};
 
-    ghost is_default = { λ delta. delta ≡ Still };
+    ghost is_default = { λ delta. delta ≡ record { undo = Still } };
 
     fn default() -> Self {
-        TimersDelta::Still
+        TimersDelta {
+            undo: TimersUndo::Still,
+        }
     }
 }
 
-impl TimersDelta {
+impl TimersUndo {
     /// What leads back over an arming whose entry went to the place `to`, after that of the same descriptor's side was
     /// removed, if there was one.
     #[inline(always)]
-    pub(crate) fn of_arming(to: u32, gone: Option<Gone>) -> TimersDelta
-        ensures { result ≡ armed_delta to gone }
+    pub(crate) fn of_arming(to: u32, gone: Option<Gone>) -> TimersUndo
+        ensures { result ≡ armed_undo to gone }
     {
         match gone {
-            None => TimersDelta::Armed { to },
-            Some(Gone { place, last, entry }) => TimersDelta::Rearmed {
+            None => TimersUndo::Armed { to },
+            Some(Gone { place, last, entry }) => TimersUndo::Rearmed {
                 to,
                 place,
                 last,
@@ -71,12 +81,12 @@ impl TimersDelta {
 
     /// What leads back over a stop that removed an entry, or found none.
     #[inline(always)]
-    pub(crate) fn of_stop(gone: Option<Gone>) -> TimersDelta
-        ensures { result ≡ stopped_delta gone }
+    pub(crate) fn of_stop(gone: Option<Gone>) -> TimersUndo
+        ensures { result ≡ stopped_undo gone }
     {
         match gone {
-            None => TimersDelta::Still,
-            Some(Gone { place, last, entry }) => TimersDelta::Stopped { place, last, entry },
+            None => TimersUndo::Still,
+            Some(Gone { place, last, entry }) => TimersUndo::Stopped { place, last, entry },
         }
     }
 }

@@ -36,6 +36,11 @@ pub fn four_children_a_place()
         → (parent child ≡ place) ↔ ((4 * place + 1 ≤ child) × (child ≤ 4 * place + 4)) }
 {}
 
+/// A delta is the record of its undo and has nothing beside it.
+pub fn delta_is_its_undo()
+    ensures { (delta : TimersDelta) → delta ≡ record { undo = delta.undo } }
+{}
+
 /// A delta holds at most nine words; those of each operation are at most so many.
 pub fn the_numbers()
     ensures words { (delta : TimersDelta) → delta_weight delta ≤ 9 }

@@ -14,7 +14,8 @@ mod sifting;
 #[cfg(test)]
 mod tests;
 mod timers;
+mod undoing;
 
-pub use delta::TimersDelta;
+pub use delta::{TimersDelta, TimersUndo};
 pub use op::TimersOp;
 pub use timers::Timers;

@@ -4,7 +4,7 @@ ghost use Rattle.nr_timers.specs.declared.op.TimersOp.TheVariants.{Arm, Pop, Sto
 ghost use Rattle.nr_timers.specs.Performing.{Performs};
 ghost use Rattle.nr_timers.specs.State.{IsTimers};
 
-use crate::delta::TimersDelta;
+use crate::delta::TimersUndo;
 use crate::entries::{key, key_of};
 use crate::op::TimersOp;
 use crate::timers::Timers;
@@ -13,7 +13,7 @@ use nr_rev::{Entry, Refusal, Side, Timer, TimerFunction};
 impl Timers {
     /// Performs an operation, and gives what leads back over it; or changes nothing and says why it doesn't apply.
     #[inline(always)]
-    pub(crate) fn perform(&mut self, op: &TimersOp) -> Result<TimersDelta, Refusal>
+    pub(crate) fn perform(&mut self, op: &TimersOp) -> Result<TimersUndo, Refusal>
         requires { IsTimers self.old }
         ensures { Performs self.old op.now result self.new }
     {
@@ -40,7 +40,7 @@ impl Timers {
         due: i64,
         function: TimerFunction,
         sequence: u64,
-    ) -> Result<TimersDelta, Refusal>
+    ) -> Result<TimersUndo, Refusal>
         requires { IsTimers self.old }
         ensures { Performs self.old (Arm descriptor side due function sequence) result self.new }
     {
@@ -63,12 +63,12 @@ impl Timers {
         let gone = self.heap.clear(key(&armed));
         let to = self.heap.insert(armed);
         self.next += 1;
-        Ok(TimersDelta::of_arming(to as u32, gone))
+        Ok(TimersUndo::of_arming(to as u32, gone))
     }
 
     /// Stops the timer of a descriptor's side, if one is armed.
     #[inline(always)]
-    fn stop(&mut self, descriptor: u32, side: Side) -> Result<TimersDelta, Refusal>
+    fn stop(&mut self, descriptor: u32, side: Side) -> Result<TimersUndo, Refusal>
         requires { IsTimers self.old }
         ensures { Performs self.old (Stop descriptor side) result self.new }
     {
@@ -76,12 +76,12 @@ impl Timers {
             return Err(Refusal::NoSuchDescriptor);
         }
         let gone = self.heap.clear(key_of(descriptor, side));
-        Ok(TimersDelta::of_stop(gone))
+        Ok(TimersUndo::of_stop(gone))
     }
 
     /// Puts the least entry to the back of the firings, if it is due.
     #[inline(always)]
-    fn pop(&mut self, now: i64) -> Result<TimersDelta, Refusal>
+    fn pop(&mut self, now: i64) -> Result<TimersUndo, Refusal>
         requires { IsTimers self.old }
         ensures { Performs self.old (Pop now) result self.new }
     {
@@ -96,12 +96,12 @@ impl Timers {
         }
         let (entry, last) = self.heap.remove(0);
         self.firings.push(entry);
-        Ok(TimersDelta::Popped { last: last as u32 })
+        Ok(TimersUndo::Popped { last: last as u32 })
     }
 
     /// Takes the firing at a place out.
     #[inline(always)]
-    fn take_firing(&mut self, place: u32) -> Result<TimersDelta, Refusal>
+    fn take_firing(&mut self, place: u32) -> Result<TimersUndo, Refusal>
         requires { IsTimers self.old }
         ensures { Performs self.old (TakeFiring place) result self.new }
     {
@@ -109,6 +109,6 @@ impl Timers {
             return Err(Refusal::NoSuchFiring);
         }
         let entry = self.firings.remove(place as usize);
-        Ok(TimersDelta::Taken { place, entry })
+        Ok(TimersUndo::Taken { place, entry })
     }
 }

@@ -4,7 +4,7 @@ use Rattle.std.proofs.lemmas.Int.{ints}
 use Rattle.std.proofs.lemmas.Grind.{common_steps}
 use Rattle.nr_rev.specs.declared.timer.Entry.{Entry}
 use Rattle.nr_rev.specs.RoomedList.{Roomed}
-use Rattle.nr_timers.specs.declared.delta.TimersDelta.TheVariants.{Popped}
+use Rattle.nr_timers.specs.declared.delta.TimersUndo.TheVariants.{Popped}
 use Rattle.nr_timers.specs.declared.op.TimersOp.TheVariants.{Pop}
 use Rattle.nr_timers.specs.State.{State, IsTimers}
 use Rattle.nr_timers.specs.Performing.{Applies}

@@ -1,7 +1,7 @@
 use Rattle.std.proofs.Common.{ap, subst, sym}
 use Rattle.nr_rev.specs.RoomedList.{Roomed}
 use Rattle.nr_rev.specs.declared.timer.Entry.{Entry}
-use Rattle.nr_timers.specs.declared.delta.TimersDelta.TheVariants.{Taken}
+use Rattle.nr_timers.specs.declared.delta.TimersUndo.TheVariants.{Taken}
 use Rattle.nr_timers.specs.declared.op.TimersOp.TheVariants.{TakeFiring}
 use Rattle.nr_timers.specs.Performing.{Applies}
 use Rattle.nr_timers.specs.State.{State, IsTimers}
