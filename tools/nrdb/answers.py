@@ -1,0 +1,208 @@
+"""What nrdb answers itself, a function for each of its commands. Each has the session and the words behind the command;
+Misused says what is wrong with them."""
+
+from fnmatch import fnmatchcase
+
+from .changes import MOST, history_table
+from .commands import COMMANDS, TOPICS, Origin, whole_command
+from .holders import holders_table
+from .output import Row, Table
+from .places import descriptors_table, sockets_table, timers_table
+from .session import MOVED, Misused, Session
+from .timeline import write_timeline
+from .vocabulary import CELLS, KINDS, REASONS, Of, cell_of, number_of
+from .waiting import goroutines_table
+
+ROUND = 5
+
+
+def usage(name: str) -> str:
+    """How a command is called."""
+    return f"{COMMANDS[name].usage}: {COMMANDS[name].says}"
+
+
+def taken_number(name: str, words: list) -> int:
+    """The one number that a command takes."""
+    number = number_of(words[0]) if len(words) == 1 else None
+    if number is None:
+        raise Misused(f"{usage(name)}; N is a number")
+    return number
+
+
+def taken_cell(name: str, words: list) -> tuple:
+    """The cell that the words begin with, and the words behind it."""
+    for length in (2, 1):
+        if len(words) >= length and (cell := cell_of(words[:length])):
+            return cell, words[length:]
+    if not words:
+        raise Misused(f"{usage(name)}; the cells are {' '.join(CELLS)}")
+    if words[0] in CELLS:
+        raise Misused(f"{words[0]} wants the number of a {CELLS[words[0]].of.value}: {name} {words[0]} 0")
+    raise Misused(f"{words[0]} is no cell; the cells are {' '.join(CELLS)}")
+
+
+def answer_help(session: Session, words: list) -> None:
+    if not words:
+        return session.printer.note("\n".join(all_help()))
+    word = " ".join(words)
+    reason = number_of(word)
+    if word in KINDS:
+        return session.printer.note(f"step {KINDS[word].usage}: {KINDS[word].says}")
+    if word in CELLS:
+        of = "" if CELLS[word].of is Of.ALL else f" of a {CELLS[word].of.value}"
+        return session.printer.note(f"cell {word}: {CELLS[word].says}{of}")
+    if reason is not None and reason < len(REASONS):
+        return session.printer.note(f"reason {reason}: {REASONS[reason]}")
+    name = whole_command(words[0])
+    if name not in COMMANDS:
+        raise Misused(f"{word} is no command, kind or cell; help alone lists them")
+    short = f" (short: {', '.join(COMMANDS[name].short)})" if COMMANDS[name].short else ""
+    session.printer.note(usage(name) + short)
+    if name == "info":
+        session.printer.note("\n".join(f"info {how}: {says}" for _, how, says in TOPICS.values()))
+
+
+def all_help() -> list:
+    """The lines of `help`."""
+    lines = []
+    for origin, title in ((Origin.NETREV, "netrev answers:"), (Origin.NRDB, "nrdb answers, unproved:")):
+        lines.append(title)
+        commands = [command for command in COMMANDS.values() if command.origin is origin]
+        lines += [f"  {command.usage:<34} {command.says}" for command in commands]
+        lines += [f"  info {how:<29} {says}" for of, how, says in TOPICS.values() if of is origin]
+    return [*lines, f"kinds: {' '.join(KINDS)}", f"cells: {' '.join(CELLS)}"]
+
+
+def answer_where(session: Session, words: list) -> None:
+    position, length, direction = session.stands()
+    session.printer.note(f"at {position} of {length} {direction}")
+    session.printer.place(session.place(position))
+
+
+def answer_list(session: Session, words: list) -> None:
+    position = session.stands()[0]
+    middle = taken_number("list", words) if words else position + 1
+    text = session.text()
+    rows = []
+    for number in range(max(1, middle - ROUND), min(text.length, middle + ROUND) + 1):
+        step = text.step(number)
+        here = "=>" if number == position + 1 else "  "
+        told = {"step": number, "line": step.line, "does": str(step), "next": number == position + 1}
+        rows.append(Row(told, f"{here} {number:>7}  {str(step):<34} line {step.line}"))
+    session.printer.table(Table("list", rows, "=> (end)" if position == text.length and middle + ROUND > position else ""))
+
+
+def answer_goto(session: Session, words: list) -> None:
+    number = taken_number("goto", words)
+    if number > session.length:
+        raise Misused(f"the recording has {session.length} steps")
+    arrive(session, f"goto {number}", session.go(number))
+
+
+def arrive(session: Session, line: str, reply: str) -> None:
+    """Shows netrev's reply to a move, and where the session stands then."""
+    session.printer.reply(line, [reply], "")
+    if moved := MOVED.match(reply):
+        session.arrive(int(moved[1]), [])
+
+
+def answer_until(session: Session, words: list, name: str = "until") -> None:
+    if len(words) == 1 and number_of(words[0]) is not None:
+        raise Misused(f"{usage(name)}; goto {words[0]} goes to position {words[0]}")
+    cell, rest = taken_cell(name, words)
+    value = " ".join(word for word in rest if word not in ("=", "=="))
+    if not value:
+        raise Misused(f"{usage(name)}; which value of {cell}?")
+    is_back = name == "reverse-until"
+
+    def is_wanted(shown: str) -> bool:
+        return fnmatchcase(shown, value) or fnmatchcase(session.words_of(cell, shown), value)
+
+    found = session.looks().find(cell, is_wanted, session.stands()[0], is_back)
+    if found is None:
+        session.printer.note(f"no {'earlier' if is_back else 'later'} step gives {cell} the value {value}")
+        return
+    arrive(session, f"{name} {cell} {value}", session.go(found))
+    session.show(f"print {cell}", session.netrev.ask(f"print {cell}"))
+
+
+def answer_reverse_until(session: Session, words: list) -> None:
+    answer_until(session, words, "reverse-until")
+
+
+def answer_display(session: Session, words: list) -> None:
+    if words:
+        cell, rest = taken_cell("display", words)
+        if rest:
+            raise Misused(f"display takes a cell alone: display {cell}")
+        if cell not in session.displays:
+            session.displays.append(cell)
+    session.show_displays()
+
+
+def answer_undisplay(session: Session, words: list) -> None:
+    if not words:
+        session.displays.clear()
+        return
+    cell, _ = taken_cell("undisplay", words)
+    if cell not in session.displays:
+        raise Misused(f"{cell} isn't displayed")
+    session.displays.remove(cell)
+
+
+def answer_history(session: Session, words: list) -> None:
+    cell, rest = taken_cell("history", words)
+    most = None if rest == ["all"] else number_of(rest[0]) if len(rest) == 1 else MOST
+    if len(rest) > 1 or most == 0 or (most is None and rest != ["all"]):
+        raise Misused(f"{usage('history')}; N is a number from 1")
+    table = history_table(session.looks(), session.text(), cell, session.stands()[0], most)
+    session.printer.table(table)
+
+
+def answer_timeline(session: Session, words: list) -> None:
+    numbers = [number_of(word) for word in words[1:]]
+    if len(words) not in (1, 3) or None in numbers:
+        raise Misused(usage("timeline"))
+    session.printer.note(write_timeline(session, words[0], *numbers))
+
+
+def answer_source(session: Session, words: list) -> bool:
+    if len(words) != 1:
+        raise Misused(usage("source"))
+    try:
+        return session.source(words[0])
+    except OSError as error:
+        raise Misused(f"{words[0]}: {error.strerror}") from None
+
+
+def answer_info(session: Session, words: list) -> None:
+    if not words:
+        raise Misused("info what? " + "; ".join(f"info {how}" for _, how, _ in TOPICS.values()))
+    topic, rest = words[0], words[1:]
+    if topic == "timers" and not rest:
+        return session.printer.table(timers_table(session.world()))
+    number = number_of(rest[0]) if len(rest) == 1 else None
+    if topic == "holders" and number is not None:
+        return session.printer.table(holders_table(session.world(), number))
+    is_all = rest == ["all"]
+    if topic not in TABLES or (rest and not is_all and number is None):
+        raise Misused(f"info {TOPICS[topic][1]}: {TOPICS[topic][2]}")
+    session.printer.table(TABLES[topic](session.world(), None if number is None else [number], is_all))
+
+
+TABLES = {"goroutines": goroutines_table, "sockets": sockets_table, "descriptors": descriptors_table}
+
+ANSWERS = {
+    "help": answer_help,
+    "where": answer_where,
+    "list": answer_list,
+    "goto": answer_goto,
+    "until": answer_until,
+    "reverse-until": answer_reverse_until,
+    "display": answer_display,
+    "undisplay": answer_undisplay,
+    "history": answer_history,
+    "timeline": answer_timeline,
+    "source": answer_source,
+    "info": answer_info,
+}

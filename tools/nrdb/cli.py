@@ -1,0 +1,127 @@
+"""How nrdb is called, and its exit status, which is netrev's: 0 done, 1 the recording was refused, 2 other words, 3 the
+file, the program or the connection failed."""
+
+import argparse
+import os
+import sys
+from pathlib import Path
+from typing import Optional
+
+from .answers import ANSWERS
+from .interrupts import Interrupts
+from .netrev import Ended, Joined, Own
+from .output import JsonPrinter, Printer, TextPrinter
+from .recording import Recording
+from .refusals import explained
+from .scout import Scout
+from .session import Session
+from .terminal import Terminal
+
+PROGRAM = Path(__file__).resolve().parents[2] / "crates/netrev/out/netrev"
+DONE, REFUSED, USAGE, FAILED = range(4)
+
+
+class InOrder(argparse.Action):
+    """Keeps -x and -ex in the order in which they are given."""
+
+    def __call__(self, parser, space, value, option=None):
+        space.lines = [*(space.lines or []), (self.const, value)]
+
+
+def parser() -> argparse.ArgumentParser:
+    """The words that nrdb takes."""
+    made = argparse.ArgumentParser(
+        prog="nrdb",
+        description="The companion at netrev's prompt: netrev's replies as they are; what is added begins with | and is unproved.",
+    )
+    made.add_argument("file", nargs="?", metavar="FILE", help="the recording")
+    made.add_argument("-x", dest="lines", action=InOrder, const="source", metavar="FILE", help="takes lines from a file")
+    made.add_argument("-ex", dest="lines", action=InOrder, const="line", metavar="COMMAND", help="takes this line")
+    made.add_argument("--batch", action="store_true", help="ends behind -x and -ex, in place of a prompt")
+    made.add_argument("--json", action="store_true", help="prints a line of JSON for each event")
+    made.add_argument("--timeline", metavar="OUT.html", help="writes the timeline, behind -x and -ex, and ends")
+    made.add_argument("--join", metavar="HOST:PORT", help="joins a session that `netrev serve` has")
+    made.add_argument("--netrev", default=os.environ.get("NETREV", str(PROGRAM)), metavar="PROGRAM", help="netrev's program")
+    return made
+
+
+def main(words: Optional[list] = None) -> int:
+    """Runs nrdb with these words; its exit status."""
+    wanted = parser().parse_args(words)
+    if not wanted.file and not wanted.join:
+        parser().error("a recording has to be named, or a session to join")
+    printer = (JsonPrinter if wanted.json else TextPrinter)()
+    try:
+        status = start(wanted, printer)
+    except Ended as ended:
+        printer.note("the connection with netrev has ended")
+        status = ended.status or FAILED
+    except KeyboardInterrupt:
+        printer.note("netrev didn't answer: the session is given up")
+        status = FAILED
+    except OSError as error:
+        printer.note(f"{error.filename or wanted.join or wanted.file}: {error.strerror or error}")
+        if error.filename == wanted.netrev:
+            printer.note("`make netrev` builds netrev; NETREV or --netrev names another one")
+        status = FAILED
+    printer.end(status)
+    return status
+
+
+def start(wanted: argparse.Namespace, printer: Printer) -> int:
+    """Opens the session that is wanted, and runs it to its end."""
+    interrupts = Interrupts()
+    if wanted.join:
+        netrev = Joined(*address(wanted.join), interrupts)
+    else:
+        netrev = Own(wanted.netrev, wanted.file, interrupts)
+    recording = Recording.read(wanted.file) if wanted.file else None
+    scout = Scout(wanted.netrev, wanted.file, interrupts) if wanted.file else None
+    session = Session(netrev, recording, scout, printer, interrupts, ANSWERS)
+    first = session.ask("info position")
+    if not first.startswith("at "):
+        printer.reply("", [first], "")
+        for told in explained(wanted.netrev, wanted.file, first) if wanted.file else ():
+            printer.note(told)
+        return netrev.end() or REFUSED
+    try:
+        session.begin(first)
+        played(session, wanted)
+    finally:
+        if scout:
+            scout.drop()
+    return netrev.end() or DONE
+
+
+def played(session: Session, wanted: argparse.Namespace) -> None:
+    """Takes the lines of -x and -ex, and then those of the terminal or of the input."""
+    for sort, text in wanted.lines or ():
+        if sort == "line":
+            session.printer.echo(text)
+        if not (session.run if sort == "line" else session.play)(text):
+            return
+    if wanted.timeline:
+        session.run(f"timeline {wanted.timeline}")
+    elif not wanted.batch:
+        typed(session)
+
+
+def typed(session: Session) -> None:
+    """Takes lines from the terminal, or from an input that is none."""
+    if sys.stdin.isatty():
+        if session.scout:
+            session.scout.prepare()
+        Terminal(session).run()
+        return
+    for line in sys.stdin:
+        session.printer.echo(line.rstrip("\n"))
+        if not session.run(line):
+            return
+
+
+def address(text: str) -> tuple:
+    """The host and the port of an address."""
+    host, _, port = text.rpartition(":")
+    if not port.isdigit():
+        parser().error(f"{text} is no HOST:PORT")
+    return host.strip("[]") or "127.0.0.1", int(port)

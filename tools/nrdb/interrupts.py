@@ -1,0 +1,37 @@
+"""Ctrl-C. While netrev is asked it waits for the reply, which is never left half read; a long walk looks between two
+questions whether it came. A second one, while netrev doesn't answer, gives the session up."""
+
+import signal
+from contextlib import contextmanager
+
+
+class Interrupted(Exception):
+    """Ctrl-C was pressed in a walk, which stops here."""
+
+
+class Interrupts:
+    """Holds Ctrl-C back while `held`."""
+
+    def __init__(self):
+        self._came = False
+
+    @contextmanager
+    def held(self):
+        """Within, Ctrl-C is remembered, and told by `check`; a second one is raised as a KeyboardInterrupt."""
+        self._came = False
+        before = signal.signal(signal.SIGINT, self._remember)
+        try:
+            yield
+        finally:
+            signal.signal(signal.SIGINT, before)
+
+    def _remember(self, *_):
+        if self._came:
+            raise KeyboardInterrupt
+        self._came = True
+
+    def check(self) -> None:
+        """Raises Interrupted where Ctrl-C came."""
+        if self._came:
+            self._came = False
+            raise Interrupted

@@ -1,0 +1,117 @@
+"""What nrdb prints: events, as text for people or as a line of JSON each for editors and scripts. netrev's replies are
+printed as they are; all else begins with `|`."""
+
+import json
+import sys
+from dataclasses import asdict, dataclass
+from typing import Optional, TextIO
+
+from .recording import Step
+
+
+@dataclass(frozen=True)
+class Place:
+    """Where the session stands: the position, the number of steps, and the steps before and behind, where they are
+    known."""
+
+    position: int
+    steps: int
+    last: Optional[Step]
+    next: Optional[Step]
+
+    def __str__(self) -> str:
+        if self.position == 0:
+            last = "(start)"
+        else:
+            last = f"last step {self.position}" + (f": {self.last}" if self.last else "")
+        if self.position == self.steps:
+            return f"{last}   (end)"
+        then = f"next step {self.position + 1}"
+        return f"{last}   {then}: {self.next}   (line {self.next.line})" if self.next else f"{last}   {then}"
+
+
+@dataclass(frozen=True)
+class Row:
+    """A row of a table: its values by name, and the line that shows it."""
+
+    values: dict
+    text: str
+
+
+@dataclass(frozen=True)
+class Table:
+    """Rows about a topic, with a line for what is left out, or for none."""
+
+    topic: str
+    rows: list
+    rest: str = ""
+
+
+class Printer:
+    """Where events go. Each is out before the next line is read."""
+
+    def __init__(self, out: Optional[TextIO] = None):
+        self.out = out if out is not None else sys.stdout
+
+    def write(self, text: str) -> None:
+        """Writes a line."""
+        print(text, file=self.out, flush=True)
+
+
+class TextPrinter(Printer):
+    """Events as text."""
+
+    def echo(self, line: str) -> None:
+        """A line that nobody typed, as the prompt would show it."""
+        self.write(f"(netrev) {line}".rstrip())
+
+    def reply(self, line: str, reply: list, words: str) -> None:
+        """The reply to a line, and what its value says in words."""
+        first, *rest = reply
+        self.write(f"{first}   | {words}" if words else first)
+        for entry in rest:
+            self.write(entry)
+
+    def place(self, place: Place) -> None:
+        """Where the session stands."""
+        self.write(f"| {place}")
+
+    def note(self, text: str) -> None:
+        """A remark."""
+        for line in text.split("\n"):
+            self.write(f"| {line}")
+
+    def table(self, table: Table) -> None:
+        """A table."""
+        for row in table.rows:
+            self.write(f"| {row.text}")
+        if table.rest:
+            self.write(f"| {table.rest}")
+
+    def end(self, status: int) -> None:
+        """The session has ended."""
+
+
+class JsonPrinter(Printer):
+    """Events as lines of JSON, each an object with the key `event`."""
+
+    def _event(self, event: str, **values) -> None:
+        self.write(json.dumps({"event": event, **values}, separators=(",", ":")))
+
+    def echo(self, line: str) -> None:
+        """The reply tells its line."""
+
+    def reply(self, line: str, reply: list, words: str) -> None:
+        self._event("reply", line=line, reply=reply, words=words or None)
+
+    def place(self, place: Place) -> None:
+        self._event("place", **asdict(place))
+
+    def note(self, text: str) -> None:
+        self._event("note", text=text)
+
+    def table(self, table: Table) -> None:
+        self._event("table", topic=table.topic, rows=[row.values for row in table.rows], rest=table.rest or None)
+
+    def end(self, status: int) -> None:
+        self._event("end", status=status)

@@ -1,0 +1,95 @@
+"""A recording that netrev refuses, explained: the line, what to mend in it, and of a step that doesn't apply what stood
+just before it at the places that it names."""
+
+import os
+import re
+import subprocess
+import tempfile
+
+from .recording import Recording, Step, shortened
+from .text_hints import text_hint
+from .vocabulary import KINDS, REASONS
+from .words import in_words
+
+LINE = re.compile(r"line (\d+): fault (\d+)")
+STEP = re.compile(r"step (\d+): fault 107 reason (\d+)")
+FAR = 4_294_967_295
+LONGEST = 100
+
+CAUSES = {
+    1: "was it spawned, and is its number used after its exit? Go's own numbers aren't the recording's: those count from 0",
+    2: "a step before it is missing: its status says what it still has to do",
+    3: "the header's limit is too low: it counts all that the run makes; of descriptors, those that are open at once",
+    4: "is its sockopen missing? Numbers count from 0; a kernel's file descriptor is no socket number",
+    5: "is its pollopen missing, or was it freed before?",
+    7: "a decref or rwunlock too many, or two steps in the wrong order",
+    8: "the other's wait has no end: a blockswap or waitcheck of it is missing",
+    9: "evict comes before pollclose",
+    10: "evict stands twice",
+    11: "a wait on it has no end: a blockswap or waitcheck is missing",
+    12: "a tick is missing before, or stands too late",
+    13: "a tick is missing: the clock hasn't reached the first timer",
+    15: "is its pop missing? Places count from 0",
+    16: "more bytes come than the input has room for: a larger rc of sockopen, or a sysread is missing",
+    17: "more is drained than was written",
+    19: "a capacity and n are from 1 to the header's buf, and bytes are at least one",
+    20: "nothing arrives after peerclose",
+}
+
+CELLS_OF = {
+    "g": ("gor",),
+    "s": ("lock", "in", "out"),
+    "d": ("info", "rg", "wg", "rd", "wd", "fdseq"),
+}
+OF_TIME = {"tick": ("clock",), "pop": ("clock", "least", "timers", "firings"), "fire": ("firings",)}
+
+
+def explained(program: str, path: str, fault: str) -> list:
+    """The lines that explain a fault, which is netrev's whole reply to this file."""
+    recording = Recording.read(path)
+    if found := LINE.match(fault):
+        number = int(found[1])
+        line = recording.line(number)[:LONGEST].decode("utf-8", "replace").strip("\r")
+        hint = text_hint(recording, number, int(found[2]))
+        return [f"line {number}: {line}", hint] if line.isprintable() and line and "\ufffd" not in line else [hint]
+    if found := STEP.match(fault):
+        return step_explained(program, recording, int(found[1]), int(found[2]))
+    return []
+
+
+def step_explained(program: str, recording: Recording, number: int, reason: int) -> list:
+    """Why a step doesn't apply."""
+    step = recording.step(number)
+    usage = KINDS[step.kind].usage
+    said = [f"line {step.line}: {step}" + (f"   ({usage})" if step.arguments else ""), f"reason {reason}: {REASONS[reason]}"]
+    if reason in CAUSES:
+        said.append(CAUSES[reason])
+    return said + [f"just before: {told}" for told in before(program, recording, step)]
+
+
+def named_cells(step: Step) -> list:
+    """The cells of what a step names."""
+    cells = []
+    for name, value in zip(KINDS[step.kind].arguments, step.arguments):
+        cells += [f"{cell} {value}" for cell in CELLS_OF.get(name, ())]
+    return cells + list(OF_TIME.get(step.kind, ()))
+
+
+def before(program: str, recording: Recording, step: Step) -> list:
+    """What the cells that a step names show before it, by a run of the recording that is cut there."""
+    lines = [f"stepi {FAR}", *(f"print {cell}" for cell in named_cells(step))]
+    with tempfile.TemporaryDirectory(prefix="nrdb-") as folder:
+        cut = os.path.join(folder, "cut.jsonl")
+        with open(cut, "wb") as file:
+            file.write(b"\n".join(recording.lines[: step.line - 1]) + b"\n")
+        asked = "".join(f"{line}\n" for line in lines).encode()
+        shown = subprocess.run([program, "run", cut], input=asked, capture_output=True, check=False).stdout
+    replies = shown.decode().splitlines()[1:]
+    return [with_words(reply) for reply in replies]
+
+
+def with_words(reply: str) -> str:
+    """A value with its words."""
+    cell, _, value = reply.partition(" = ")
+    words = in_words(cell, value)
+    return shortened(reply) + (f"   ({words})" if words else "")

@@ -1,0 +1,208 @@
+"""A session: lines go to netrev, or are answered here; after each move it is told where the session stands."""
+
+import re
+from dataclasses import dataclass, field
+from pathlib import Path
+from typing import Callable, Mapping, Optional
+
+from .changes import marks_table
+from .commands import COMMANDS, Ambiguous, Origin, TOPICS, whole_words
+from .interrupts import Interrupted, Interrupts
+from .line_hints import hint
+from .netrev import Joined, Netrev
+from .output import Place, Printer, Row, Table
+from .recording import Recording
+from .scout import Refused, Scout
+from .vocabulary import cell_of
+from .words import absent_words, dump_words, in_words
+from .world import World
+
+MOVED = re.compile(r"at (\d+)(?: (?:end|start|by ([\d ]+)))?\Z")
+STANDS = re.compile(r"at (\d+) of (\d+) (forward|reverse)\Z")
+VALUE = re.compile(r"((?:\w+)(?: \d+)?) = (.*)\Z")
+NESTED = 8
+
+
+class Misused(Exception):
+    """A command of nrdb with words that it doesn't take: what is wrong with them."""
+
+
+@dataclass
+class Session:
+    """A netrev, the recording and the scout where they are there, and where what is said goes."""
+
+    netrev: Netrev
+    recording: Optional[Recording]
+    scout: Optional[Scout]
+    printer: Printer
+    interrupts: Interrupts
+    answers: Mapping[str, Callable]
+    displays: list = field(default_factory=list)
+    stood: int = 0
+    length: int = 0
+    depth: int = 0
+
+    def begin(self, reply: str) -> None:
+        """Tells where the session stands, by netrev's first reply, to `info position`."""
+        self.stood, self.length, _ = self.stands(reply)
+        self.printer.reply("info position", [reply], "")
+        self.printer.place(self.place(self.stood))
+
+    def ask(self, line: str) -> str:
+        """The first line of netrev's reply."""
+        return self.netrev.ask(line)[0]
+
+    def stands(self, reply: Optional[str] = None) -> tuple:
+        """The position, the number of steps and the direction."""
+        found = STANDS.match(reply if reply is not None else self.ask("info position"))
+        if not found:
+            raise Misused("netrev doesn't tell its position")
+        return int(found[1]), int(found[2]), found[3]
+
+    def place(self, position: int) -> Place:
+        """The position with the steps round it."""
+        step = self.recording.step if self.recording else lambda _: None
+        return Place(position, self.length, step(position), step(position + 1))
+
+    def world(self) -> World:
+        """What is there at the position."""
+        return World(self.netrev, self.text(), self.stands()[0])
+
+    def text(self) -> Recording:
+        """The recording; Misused where a session was joined without it."""
+        if self.recording is None:
+            raise Misused("for this the recording has to be named: nrdb --join HOST:PORT FILE")
+        return self.recording
+
+    def looks(self) -> Scout:
+        """The scout; Misused where a session was joined without the recording."""
+        self.text()
+        return self.scout
+
+    def run(self, line: str) -> bool:
+        """Answers a line. False where the session has ended."""
+        return self.guarded(self.attempt, line)
+
+    def play(self, path: str) -> bool:
+        """Answers the lines of a file; an OSError where it can't be read. False where the session has ended."""
+        return self.guarded(self.source, path)
+
+    def guarded(self, answer: Callable, what: str) -> bool:
+        """Answers, and stops where Ctrl-C comes. False where the session has ended."""
+        try:
+            with self.interrupts.held():
+                return answer(what)
+        except Interrupted:
+            self.printer.note("interrupted; the session goes on")
+            return True
+
+    def attempt(self, line: str) -> bool:
+        """Answers a line, or says what is wrong with it. False where the session has ended."""
+        if not line.split() or line.lstrip().startswith("#"):
+            return True
+        try:
+            self.tell_of_others()
+            return self.answer(line)
+        except (Ambiguous, Misused) as wrong:
+            self.printer.note(str(wrong))
+        except Refused as refused:
+            self.printer.note(f"netrev answered: {refused}")
+        return True
+
+    def answer(self, line: str) -> bool:
+        """Answers a line that has words."""
+        words = whole_words(line.split())
+        command = COMMANDS.get(words[0])
+        is_topic_here = words[0] == "info" and len(words) > 1 and words[1] in TOPICS and TOPICS[words[1]][0] is Origin.NRDB
+        if is_topic_here or words == ["info"] or (command and command.origin is Origin.NRDB):
+            return self.answers[words[0]](self, words[1:]) is not False
+        return self.pass_on(line, words)
+
+    def pass_on(self, line: str, words: list) -> bool:
+        """Sends a line to netrev, and shows its reply. A line that netrev knows goes as it was typed."""
+        sent = " ".join(words) if words[0] in COMMANDS else line
+        reply = self.netrev.ask(sent)
+        self.show(line, reply, words[0] == "dump")
+        if moved := MOVED.match(reply[0]):
+            self.arrive(int(moved[1]), (moved[2] or "").split())
+        elif reply[0].startswith("fault"):
+            limits = self.recording.limits if self.recording else {}
+            self.printer.note(hint(words, reply[0], limits))
+        return reply[0] != "bye"
+
+    def show(self, line: str, reply: list, is_dump: bool = False) -> None:
+        """Shows a reply, a value with its words."""
+        value = VALUE.match(reply[0]) if len(reply) == 1 else None
+        if value and is_dump and value[2] != "absent":
+            words = dump_words(value[1], value[2])
+        else:
+            words = self.words_of(value[1], value[2]) if value else ""
+        self.printer.reply(line, reply, words)
+
+    def words_of(self, cell: str, value: str) -> str:
+        """What a value says in words."""
+        if value != "absent":
+            return in_words(cell, value) if cell_of(cell.split()) else ""
+        return absent_words(cell, self.recording.limits if self.recording else {})
+
+    def arrive(self, position: int, numbers: list) -> None:
+        """Tells where the session stands after a move, which marks hit there, and what is displayed."""
+        self.stood = position
+        self.printer.place(self.place(position))
+        if numbers and self.scout:
+            listed = self.netrev.ask("info breakpoints")[1:]
+            hit = [mark for mark in listed if mark.split()[0] in numbers]
+            self.printer.table(marks_table(self.scout, hit, position))
+        self.show_displays()
+
+    def show_displays(self) -> None:
+        """Shows the cells that are displayed."""
+        rows = []
+        for cell, value in zip(self.displays, self.netrev.values(self.displays)):
+            words = self.words_of(cell, value)
+            told = f"{cell} = {value}" + (f"   ({words})" if words else "")
+            rows.append(Row({"cell": cell, "value": value, "words": words or None}, told))
+        if rows:
+            self.printer.table(Table("display", rows))
+
+    def tell_of_others(self) -> None:
+        """In a session that is shared, tells where it stands if somebody else has moved it."""
+        if not isinstance(self.netrev, Joined):
+            return
+        reply = self.ask("info position")
+        if STANDS.match(reply) and (now := self.stands(reply)[0]) != self.stood:
+            self.printer.note(f"somebody has moved: from {self.stood} to {now}")
+            self.printer.place(self.place(now))
+            self.stood = now
+
+    def go(self, position: int) -> str:
+        """Goes to the position, whatever the direction; the reply to the last command."""
+        now, _, direction = self.stands()
+        if position == now:
+            return f"at {now}"
+        if position < now:
+            return self.ask(f"reverse-stepi {now - position}")
+        if direction == "forward":
+            return self.ask(f"stepi {position - now}")
+        self.ask("set exec-direction forward")
+        reply = self.ask(f"stepi {position - now}")
+        self.ask("set exec-direction reverse")
+        return reply
+
+    def source(self, path: str) -> bool:
+        """Answers the lines of a file, each shown first; an OSError where it can't be read. False where the session has
+        ended."""
+        if self.depth == NESTED:
+            raise Misused(f"files are {NESTED} deep in each other already")
+        lines = Path(path).read_text(encoding="utf-8", errors="surrogateescape").splitlines()
+        self.depth += 1
+        try:
+            return all(self.echoed(line) for line in lines)
+        finally:
+            self.depth -= 1
+
+    def echoed(self, line: str) -> bool:
+        """Answers a line that nobody typed, and shows it first. False where the session has ended."""
+        if line.split():
+            self.printer.echo(line)
+        return self.attempt(line)
