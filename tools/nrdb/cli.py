@@ -52,6 +52,15 @@ def main(words: Optional[list] = None) -> int:
         parser().error("a recording has to be named, or a session to join")
     printer = (JsonPrinter if wanted.json else TextPrinter)()
     try:
+        return run(wanted, printer)
+    except BrokenPipeError:  # whoever read what is printed has gone
+        sys.stdout = open(os.devnull, "w", encoding="utf-8")
+        return FAILED
+
+
+def run(wanted: argparse.Namespace, printer: Printer) -> int:
+    """Runs the session that is wanted, and tells how it ended; its exit status."""
+    try:
         status = start(wanted, printer)
     except Ended as ended:
         printer.note("the connection with netrev has ended")
@@ -59,6 +68,8 @@ def main(words: Optional[list] = None) -> int:
     except KeyboardInterrupt:
         printer.note("netrev didn't answer: the session is given up")
         status = FAILED
+    except BrokenPipeError:
+        raise
     except OSError as error:
         printer.note(f"{error.filename or wanted.join or wanted.file}: {error.strerror or error}")
         if error.filename == wanted.netrev:
@@ -113,8 +124,8 @@ def typed(session: Session) -> None:
             session.scout.prepare()
         Terminal(session).run()
         return
-    for line in sys.stdin:
-        session.printer.echo(line.rstrip("\n"))
+    for line in map(str.rstrip, sys.stdin):
+        session.printer.echo(line)
         if not session.run(line):
             return
 

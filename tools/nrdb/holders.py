@@ -1,7 +1,7 @@
 """Who holds the references of a socket: its lock word followed through the recording's steps, as
 `internal/poll/fd_mutex.go` changes it. What comes of it is held against the word that netrev shows."""
 
-from dataclasses import dataclass, field, replace
+from dataclasses import dataclass, field
 from typing import Iterable
 
 from .output import Row, Table
@@ -14,73 +14,63 @@ LOCKING = ("incref", "increfclose", "decref", "rwlock", "rwunlock")
 
 @dataclass(frozen=True)
 class Reference:
-    """A reference that is held: by whom, and since which step."""
+    """A reference that is held: by whom, since which step, and of a lock its side, in a list of one."""
 
     step: Step
     goroutine: int
-
-    @property
-    def is_lock(self) -> bool:
-        return self.step.kind == "rwlock"
+    side: list
 
 
 @dataclass
 class Holders:
-    """The references of a socket and its lock word, up to some step."""
+    """The references of a socket and the parts of its lock word, up to some step. A side is "r" or "w"."""
 
-    word: LockWord = LockWord(False, False, False, 0, 0, 0)
+    closed: bool = False
+    locked: dict = field(default_factory=lambda: dict.fromkeys(SIDES, False))
+    waiting: dict = field(default_factory=lambda: dict.fromkeys(SIDES, 0))
     held: list = field(default_factory=list)
+
+    @property
+    def word(self) -> LockWord:
+        """The lock word that the steps come to."""
+        return LockWord(self.closed, *self.locked.values(), len(self.held), *self.waiting.values())
 
     def follow(self, steps: Iterable[Step]) -> "Holders":
         """Takes these steps, all of one socket, into account."""
         for step in steps:
             if step.kind in ("decref", "rwunlock"):
                 self._give(step)
-            elif not self.word.closed:
+            elif not self.closed:
                 self._take(step)
         return self
 
     def _take(self, step: Step) -> None:
         """A step that takes a reference, or a lock that is taken and has to be waited for."""
-        side = step.argument("side")
-        if side and self._is_locked(side):
-            waiting = "readers" if side == "r" else "writers"
-            self.word = replace(self.word, **{waiting: getattr(self.word, waiting) + 1})
+        goroutine, _, *side = step.arguments
+        if side and self.locked[side[0]]:
+            self.waiting[side[0]] += 1
             return
         if side:
-            self._lock(side, True)
+            self.locked[side[0]] = True
         if step.kind == "increfclose":
-            self.word = replace(self.word, closed=True, readers=0, writers=0)
-        self.held.append(Reference(step, step.argument("g")))
-        self._count()
+            self.closed, self.waiting = True, dict.fromkeys(SIDES, 0)
+        self.held.append(Reference(step, goroutine, side))
 
     def _give(self, step: Step) -> None:
         """A step that gives a reference up: one of the same goroutine, where it has one, and the newest such."""
-        side, goroutine = step.argument("side"), step.argument("g")
+        goroutine, _, *side = step.arguments
         if side:
-            self._lock(side, False)
-            waiting = "readers" if side == "r" else "writers"
-            self.word = replace(self.word, **{waiting: max(getattr(self.word, waiting) - 1, 0)})
-        fits = [held for held in self.held if held.step.argument("side") == side]
+            self.locked[side[0]] = False
+            self.waiting[side[0]] = max(self.waiting[side[0]] - 1, 0)
+        fits = [held for held in self.held if held.side == side]
         own = [held for held in fits if held.goroutine == goroutine]
         for given in (own or fits or self.held)[-1:]:
             self.held.remove(given)
-        self._count()
-
-    def _is_locked(self, side: str) -> bool:
-        return self.word.read_locked if side == "r" else self.word.write_locked
-
-    def _lock(self, side: str, locked: bool) -> None:
-        self.word = replace(self.word, **{f"{SIDES[side]}_locked": locked})
-
-    def _count(self) -> None:
-        self.word = replace(self.word, references=len(self.held))
 
 
 def holders_of(world: World, socket: int) -> Holders:
     """The references of the socket at the position."""
-    steps = world.recording.steps_of(LOCKING, world.position)
-    return Holders().follow(step for step in steps if step.argument("s") == socket)
+    return Holders().follow(world.recording.steps_of(LOCKING, world.position, socket))
 
 
 def holders_table(world: World, socket: int) -> Table:
@@ -100,6 +90,6 @@ def holders_table(world: World, socket: int) -> Table:
 def _row(world: World, held: Reference) -> Row:
     status = world.value(f"gor {held.goroutine}")
     step = held.step
-    took = f"{step.kind} {SIDES[step.argument('side')]}" if held.is_lock else step.kind
+    took = " ".join((step.kind, *(SIDES[side] for side in held.side)))
     values = {"goroutine": held.goroutine, "step": step.number, "line": step.line, "took": str(step), "status": status}
     return Row(values, f"gor {held.goroutine:<4} since step {step.number} ({took}), now {status}")

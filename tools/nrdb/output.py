@@ -3,7 +3,7 @@ printed as they are; all else begins with `|`."""
 
 import json
 import sys
-from dataclasses import asdict, dataclass
+from dataclasses import dataclass
 from typing import Optional, TextIO
 
 from .recording import Step
@@ -105,7 +105,8 @@ class JsonPrinter(Printer):
         self._event("reply", line=line, reply=reply, words=words or None)
 
     def place(self, place: Place) -> None:
-        self._event("place", **asdict(place))
+        steps = {name: step and step._asdict() for name, step in (("last", place.last), ("next", place.next))}
+        self._event("place", position=place.position, steps=place.steps, **steps)
 
     def note(self, text: str) -> None:
         self._event("note", text=text)

@@ -2,18 +2,20 @@
 recording, and that its steps apply, is for netrev to say."""
 
 import json
-from dataclasses import dataclass
+import re
+from array import array
+from bisect import bisect_left, bisect_right
 from functools import cached_property
-from typing import Iterator, Optional
+from itertools import accumulate
+from typing import Iterable, Iterator, NamedTuple, Optional
 
 from .vocabulary import KINDS
 
-BLANK = b" \t\r"
+BLANK_LINE = re.compile(rb"^[ \t\r]*$", re.MULTILINE)
 SHOWN = 40
 
 
-@dataclass(frozen=True)
-class Step:
+class Step(NamedTuple):
     """A step: its number from 1, the line that it stands in, its kind, and its arguments."""
 
     number: int
@@ -39,13 +41,16 @@ def shortened(text: str) -> str:
 
 
 class Recording:
-    """A recording's lines. Steps are read when they are asked for: there may be a million."""
+    """A recording's text. Steps are read when they are asked for: there may be a million."""
 
     def __init__(self, data: bytes):
-        self.lines = data.split(b"\n")
-        numbers = [number for number, line in enumerate(self.lines, 1) if line.strip(BLANK)]
-        self.header_line = numbers[0] if numbers else 1
-        self._numbers = numbers[1:]
+        self.data = data
+        lengths = map(len, data.split(b"\n"))
+        self._starts = array("q", accumulate(lengths, lambda start, length: start + length + 1, initial=0))
+        blank = {bisect_right(self._starts, found.start()) for found in BLANK_LINE.finditer(data)}
+        numbers = range(1, len(self._starts))
+        self._numbers = [number for number in numbers if number not in blank] if blank else numbers
+        self.header_line = self._numbers[0] if self._numbers else 1
 
     @classmethod
     def read(cls, path: str) -> "Recording":
@@ -56,15 +61,21 @@ class Recording:
     @property
     def length(self) -> int:
         """How many steps there are."""
-        return len(self._numbers)
+        return max(len(self._numbers) - 1, 0)
 
     def line(self, number: int) -> bytes:
         """The line of that number, from 1, without its line feed; empty where there is none."""
-        return self.lines[number - 1] if 1 <= number <= len(self.lines) else b""
+        if not 1 <= number < len(self._starts):
+            return b""
+        return self.data[self._starts[number - 1] : self._starts[number] - 1]
 
-    def line_of(self, step: int) -> int:
-        """The number of the line in which a step stands."""
-        return self._numbers[step - 1]
+    def before_line(self, number: int) -> bytes:
+        """The lines before that one."""
+        return self.data[: self._starts[number - 1]]
+
+    def is_last(self, number: int) -> bool:
+        """Whether nothing but blanks stands behind that line."""
+        return not self.data[self._starts[number] :].strip(b" \t\r\n\0")
 
     @cached_property
     def limits(self) -> dict:
@@ -76,17 +87,34 @@ class Recording:
         """The step of that number, from 1, or None where there is none."""
         if not 1 <= number <= self.length:
             return None
-        line = self.line_of(number)
+        line = self._numbers[number]
         kind, *arguments = json.loads(self.line(line))
         return Step(number, line, kind, tuple(arguments))
 
-    def steps_of(self, kinds: tuple, until: int) -> Iterator[Step]:
-        """The steps of these kinds among the first so many. Other lines aren't read, but for those with an escape in
-        them, in which a kind may be hidden."""
-        spelled = [kind.encode() for kind in kinds]
-        for number in range(1, min(until, self.length) + 1):
-            line = self.lines[self._numbers[number - 1] - 1]
-            if any(kind in line for kind in spelled) or b"\\" in line:
-                step = self.step(number)
-                if step.kind in kinds:
-                    yield step
+    def steps_of(self, kinds: tuple, until: int, socket: Optional[int] = None) -> Iterator[Step]:
+        """The steps of these kinds among the first so many; and, where one is named, of this socket."""
+        numbers = list(self._numbers_of(kinds, until, socket))
+        lines = [self.line(self._numbers[number]) for number in numbers]
+        for number, (kind, *arguments) in zip(numbers, json.loads(b"[%s]" % b",".join(lines))):
+            step = Step(number, self._numbers[number], kind, tuple(arguments))
+            if kind in kinds and (socket is None or step.argument("s") == socket):
+                yield step
+
+    def _numbers_of(self, kinds: tuple, until: int, socket: Optional[int]) -> Iterable[int]:
+        """The numbers of the steps of these kinds and this socket, and maybe of others. They are searched as text: but
+        not where an escape stands, in which a kind may be hidden."""
+        until = min(until, self.length)
+        if until == 0 or b"\\" in self.data:
+            return range(1, until + 1)
+        named = rb"\s*,\s*\d+\s*,\s*%d\b" % socket if socket is not None else b""
+        spelled = re.compile(rb'"(?:%s)"%s' % ("|".join(kinds).encode(), named))
+        first, end = self._starts[self._numbers[1] - 1], self._starts[self._numbers[until]]
+        return self._numbers_at(found.start() for found in spelled.finditer(self.data, first, end))
+
+    def _numbers_at(self, places: Iterable[int]) -> Iterator[int]:
+        """The numbers of the steps at these places of the text, which rise."""
+        line, before = 1, 0
+        for place in places:
+            line += self.data.count(b"\n", before, place)
+            before = place
+            yield line - 1 if isinstance(self._numbers, range) else bisect_left(self._numbers, line)

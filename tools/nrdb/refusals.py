@@ -81,7 +81,7 @@ def before(program: str, recording: Recording, step: Step) -> list:
     with tempfile.TemporaryDirectory(prefix="nrdb-") as folder:
         cut = os.path.join(folder, "cut.jsonl")
         with open(cut, "wb") as file:
-            file.write(b"\n".join(recording.lines[: step.line - 1]) + b"\n")
+            file.write(recording.before_line(step.line))
         asked = "".join(f"{line}\n" for line in lines).encode()
         shown = subprocess.run([program, "run", cut], input=asked, capture_output=True, check=False).stdout
     replies = shown.decode().splitlines()[1:]

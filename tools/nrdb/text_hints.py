@@ -71,7 +71,7 @@ def parsed(text: str):
 
 def json_hint(recording: Recording, number: int, text: str) -> str:
     """Of a line that is no JSON."""
-    is_last = not any(line.strip(b" \t\r\0") for line in recording.lines[number:])
+    is_last = recording.is_last(number)
     if not text:
         return "the file is empty" if is_last else "a header is missing"
     if "\r" in text:

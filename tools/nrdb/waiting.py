@@ -51,7 +51,7 @@ def _queue_words(world: World, goroutine: int, socket: int, side: str, statuses:
         owing = [number for number, status in statuses.items() if status.startswith(f"owing {socket} ")]
         owed = "".join(f"; goroutine {number} owes a release there" for number in owing)
         return f"{place}nobody has that lock{owed}" + ("; the socket is closed" if word.closed else "")
-    having = [held for held in holders_of(world, socket).held if held.step.argument("side") == side]
+    having = [held for held in holders_of(world, socket).held if held.side == [side]]
     if not having:
         return f"{place}the lock is taken"
     return f"{place}goroutine {having[-1].goroutine} has the lock since step {having[-1].step.number}"
