@@ -8,7 +8,7 @@ from pathlib import Path
 from typing import Optional
 
 from .answers import ANSWERS
-from .interrupts import Interrupts
+from .interrupts import GivenUp, Interrupts
 from .netrev import Ended, Joined, Own
 from .output import JsonPrinter, Printer, TextPrinter
 from .recording import Recording
@@ -65,7 +65,7 @@ def run(wanted: argparse.Namespace, printer: Printer) -> int:
     except Ended as ended:
         printer.note("the connection with netrev has ended")
         status = ended.status or FAILED
-    except KeyboardInterrupt:
+    except (GivenUp, KeyboardInterrupt):
         printer.note("netrev didn't answer: the session is given up")
         status = FAILED
     except BrokenPipeError:

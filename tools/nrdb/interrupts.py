@@ -9,6 +9,10 @@ class Interrupted(Exception):
     """Ctrl-C was pressed in a walk, which stops here."""
 
 
+class GivenUp(Exception):
+    """Ctrl-C was pressed again while netrev didn't answer: a reply is left half read, and the session is of no more use."""
+
+
 class Interrupts:
     """Holds Ctrl-C back while `held`."""
 
@@ -17,7 +21,7 @@ class Interrupts:
 
     @contextmanager
     def held(self):
-        """Within, Ctrl-C is remembered, and told by `check`; a second one is raised as a KeyboardInterrupt."""
+        """Within, Ctrl-C is remembered, and told by `check`; a second one raises GivenUp."""
         self._came = False
         before = signal.signal(signal.SIGINT, self._remember)
         try:
@@ -27,7 +31,7 @@ class Interrupts:
 
     def _remember(self, *_):
         if self._came:
-            raise KeyboardInterrupt
+            raise GivenUp
         self._came = True
 
     def check(self) -> None:

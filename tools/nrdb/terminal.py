@@ -46,16 +46,15 @@ class Terminal:
         """Reads and answers one line. False where the session has ended."""
         try:
             line = input(PROMPT)
+            if line.split():
+                self._last = line if repeats(line) else ""
+            return self.session.run(line if line.split() else self._last)
         except EOFError:
             print()
             return False
         except KeyboardInterrupt:
             print("^C")
             return True
-        if not line.split():
-            return self.session.run(self._last)
-        self._last = line if repeats(line) else ""
-        return self.session.run(line)
 
     def _load(self) -> None:
         if readline is None:

@@ -59,8 +59,9 @@ def info_words(value: str) -> str:
 
 
 def _owing(socket: str, reads: str, writes: str) -> str:
-    owed = [counted(int(number), f"release of a {who}") for number, who in ((reads, "reader"), (writes, "writer")) if number != "0"]
-    return f"owes socket {socket} {' and '.join(owed).replace('releases of a', 'releases of')}"
+    owed = ((reads, "readers"), (writes, "writers"))
+    said = [f"{counted(int(number), 'release')} to {who}" for number, who in owed if number != "0"]
+    return f"owes {' and '.join(said)} of socket {socket}"
 
 
 STATUSES = {

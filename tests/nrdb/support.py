@@ -1,0 +1,102 @@
+"""What the tests of nrdb share: where things are, nrdb played with lines, and what netrev itself shows at each position
+of a recording, by plain `print`s."""
+
+import json
+import os
+import subprocess
+import sys
+from functools import lru_cache
+from pathlib import Path
+
+ROOT = Path(__file__).resolve().parents[2]
+EXAMPLES = ROOT / "examples"
+HUNTS = EXAMPLES / "hunts"
+NETREV = os.environ.get("NETREV", str(ROOT / "crates/netrev/out/netrev"))
+NRDB = str(ROOT / "nrdb")
+PATIENCE = 60  # seconds
+
+for folder in ("tools", "scripts"):
+    sys.path.insert(0, str(ROOT / folder))
+
+from nrdb.recording import Recording  # noqa: E402
+from nrdb.vocabulary import CELLS, DUMPS, Of  # noqa: E402
+
+LIMIT_OF = {Of.GOROUTINE: "gor", Of.SOCKET: "sock", Of.DESCRIPTOR: "desc"}
+
+
+def nrdb(*words, lines=(), status=0):
+    """What nrdb prints with these words, and these lines for its input, and its exit status, which has to be this."""
+    ended = subprocess.run(
+        [sys.executable, NRDB, "--netrev", NETREV, *map(str, words)],
+        input="".join(f"{line}\n" for line in lines),
+        capture_output=True,
+        text=True,
+        timeout=PATIENCE,
+        check=False,
+    )
+    assert (ended.returncode, ended.stderr) == (status, ""), (words, ended.returncode, ended.stderr)
+    return ended.stdout
+
+
+def events(path, lines):
+    """The events of nrdb on this recording with these lines, without those of its start and its end."""
+    told = [json.loads(line) for line in nrdb("--json", path, lines=lines).splitlines()]
+    return told[2:-1]
+
+
+def netrev(path, lines):
+    """The replies of netrev itself."""
+    ended = subprocess.run(
+        [NETREV, "run", str(path)],
+        input="".join(f"{line}\n" for line in lines),
+        capture_output=True,
+        text=True,
+        timeout=PATIENCE,
+        check=True,
+    )
+    return ended.stdout.splitlines()
+
+
+class Shown:
+    """What each cell and queue shows at each position of a recording."""
+
+    def __init__(self, path):
+        self.path, self.recording = path, Recording.read(path)
+        limits = self.recording.limits
+        self.cells = [cell.name for cell in CELLS.values() if cell.of is Of.ALL]
+        for cell in CELLS.values():
+            if cell.of is not Of.ALL:
+                self.cells += [f"{cell.name} {number}" for number in range(limits[LIMIT_OF[cell.of]])]
+        queues = [f"{dump} {number}" for dump in DUMPS if dump not in CELLS for number in range(limits["sock"])]
+        looks = [f"print {cell}" for cell in self.cells] + [f"dump {queue}" for queue in queues]
+        replies = netrev(path, [*looks, "stepi"] * (self.length + 1))
+        every = len(looks) + 1
+        self.values = {
+            name: [reply.partition(" = ")[2] for reply in replies[at::every]]
+            for at, name in enumerate([*self.cells, *queues])
+        }
+
+    @property
+    def length(self):
+        return self.recording.length
+
+    def at(self, position):
+        """The values of all cells and queues there."""
+        return {name: values[position] for name, values in self.values.items()}
+
+    def made(self, cell, position):
+        """The numbers of which that cell isn't absent there."""
+        names = (name.split() for name in self.values)
+        numbers = [int(rest[0]) for name, *rest in names if name == cell]
+        return [number for number in numbers if self.values[f"{cell} {number}"][position] != "absent"]
+
+
+@lru_cache(maxsize=None)
+def shown(path):
+    """What is shown of the recording: looked at once."""
+    return Shown(path)
+
+
+def recordings():
+    """The recordings of examples/ and the hunts."""
+    return sorted(EXAMPLES.glob("*.jsonl")) + sorted(HUNTS.glob("*.jsonl"))

@@ -1,0 +1,22 @@
+"""The hunts of examples/hunts: each bug is found by at most five commands, which print just what is kept."""
+
+import unittest
+
+from support import HUNTS, nrdb
+
+MOST = 5
+
+
+class Hunts(unittest.TestCase):
+    def test_each_prints_what_is_kept(self):
+        hunts = sorted(HUNTS.glob("*.nrdb"))
+        self.assertGreaterEqual(len(hunts), 4)
+        for hunt in hunts:
+            with self.subTest(hunt.stem):
+                self.assertLessEqual(len(hunt.read_text().splitlines()), MOST)
+                kept = hunt.with_suffix(".session").read_text()
+                self.assertEqual(nrdb("--batch", "-x", hunt, hunt.with_suffix(".jsonl")), kept)
+
+
+if __name__ == "__main__":
+    unittest.main()

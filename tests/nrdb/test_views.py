@@ -1,0 +1,175 @@
+"""What nrdb makes of netrev's replies agrees with plain `print`s, at positions here and there in each recording."""
+
+import random
+import re
+import unittest
+
+from support import events, recordings, shown
+
+AT = 4  # positions of each recording
+SEED = 20261125
+
+
+def closing_words(value):
+    """The lock word's fields by shifts: closed, locks, references, readers and writers who wait."""
+    word = int(value)
+    return [word & 1, word >> 1 & 1, word >> 2 & 1, word >> 3 & 0xFFFFF, word >> 23 & 0xFFFFF, word >> 43 & 0xFFFFF]
+
+
+def told_words(words):
+    """The same fields, read from what nrdb says of the word."""
+    parts = words.split(", ")
+    counted = [next((int(part.split()[0]) for part in parts if re.search(what, part)), 0) for what in FIELDS]
+    return [int("closed" in parts), int("read lock" in parts), int("write lock" in parts), *counted]
+
+
+FIELDS = (r"^\d+ references?$", r"waiting to read$", r"waiting to write$")
+
+
+def open_descriptors(recording, position):
+    """How often each descriptor was opened and not freed, by its steps' text, and the socket of the last opening."""
+    count, socket, free, made = {}, {}, [], 0
+    for number in range(1, position + 1):
+        step = recording.step(number)
+        if step.kind == "pollopen":
+            descriptor = free.pop() if free else made
+            made = max(made, descriptor + 1)
+            count[descriptor] = count.get(descriptor, 0) + 1
+            socket[descriptor] = step.arguments[1]
+        elif step.kind == "pollclose":
+            count[step.arguments[1]] -= 1
+            free.append(step.arguments[1])
+    return {descriptor: socket[descriptor] for descriptor, times in count.items() if times}
+
+
+class Views(unittest.TestCase):
+    def setUp(self):
+        self.random = random.Random(SEED)
+
+    def places(self, path):
+        """Positions of a recording, its ends among them."""
+        length = shown(path).length
+        return sorted({0, length, *(self.random.randint(0, length) for _ in range(AT))})
+
+    def test_tables_show_what_print_shows(self):
+        topics = ["goroutines all", "sockets all", "descriptors all", "timers"]
+        for path in recordings():
+            world = shown(path)
+            places = self.places(path)
+            lines = [line for at in places for line in (f"goto {at}", *(f"info {topic}" for topic in topics))]
+            tables = [event for event in events(path, lines) if event["event"] == "table"]
+            self.assertEqual(len(tables), len(places) * len(topics))
+            for number, at in enumerate(places):
+                with self.subTest(path.stem, position=at):
+                    self.compare(world, at, *(table["rows"] for table in tables[4 * number : 4 * number + 4]))
+
+    def compare(self, world, at, goroutines, sockets, descriptors, timers):
+        """Holds the tables against the cells at the position."""
+        values = world.at(at)
+        told = {row["goroutine"]: row["status"] for row in goroutines}
+        self.assertEqual(told, {number: values[f"gor {number}"] for number in world.made("gor", at)})
+        self.assertEqual([row["socket"] for row in sockets], world.made("lock", at))
+        for row in sockets:
+            for cell in ("lock", "rsem", "wsem", "in", "out"):
+                self.assertEqual(row[cell], values[f"{cell} {row['socket']}"])
+            for queue in ("rq", "wq"):
+                self.assertEqual(" ".join(map(str, row[queue])) or "-", values[f"{queue} {row['socket']}"])
+        self.assertEqual([row["descriptor"] for row in descriptors], world.made("fdseq", at))
+        opened = open_descriptors(world.recording, at)
+        for row in descriptors:
+            self.assertEqual(row["socket"], opened.get(row["descriptor"]))
+            self.assertEqual(row["open"], row["descriptor"] in opened)
+            for cell in ("info", "rg", "wg", "rd", "wd", "fdseq"):
+                self.assertEqual(row[cell], values[f"{cell} {row['descriptor']}"])
+        for cell in ("clock", "timers", "least", "firings"):
+            self.assertEqual(timers[0][cell], values[cell])
+        due = [(row["deadline"], row["descriptor"]) for row in timers[1:]]
+        wanted = [(int(values[f"{cell} {number}"]), number) for number in opened for cell in ("rd", "wd")]
+        self.assertEqual(due, sorted(pair for pair in wanted if pair[0] > 0))
+
+    def test_what_is_left_out_is_idle_gone_or_at_rest(self):
+        for path in recordings():
+            world = shown(path)
+            for at in self.places(path):
+                told = events(path, [f"goto {at}", "info goroutines", "info sockets"])
+                goroutines, sockets = (event["rows"] for event in told if event["event"] == "table")
+                with self.subTest(path.stem, position=at):
+                    values = world.at(at)
+                    left = set(world.made("gor", at)) - {row["goroutine"] for row in goroutines}
+                    self.assertLessEqual({values[f"gor {number}"] for number in left}, {"idle", "gone"})
+                    for row in goroutines:
+                        self.assertNotIn(row["status"], ("idle", "gone"))
+                    for number in set(world.made("lock", at)) - {row["socket"] for row in sockets}:
+                        self.assertEqual((values[f"rq {number}"], values[f"wq {number}"]), ("-", "-"))
+                        self.assertEqual(closing_words(values[f"lock {number}"])[3], 0)
+
+    def test_history_shows_each_change(self):
+        for path in recordings():
+            world = shown(path)
+            changing = [cell for cell in world.cells if len(set(world.values[cell])) > 1]
+            cells = self.random.sample(changing, min(6, len(changing)))
+            at = self.random.randint(0, world.length)
+            lines = [f"goto {at}", *(f"history {cell} all" for cell in cells), *(f"history {cell} 3" for cell in cells)]
+            tables = [event["rows"] for event in events(path, lines) if event["event"] == "table"]
+            self.assertEqual(len(tables), 2 * len(cells))
+            for number, cell in enumerate(cells):
+                values = world.values[cell]
+                wanted = [(p, values[p - 1], values[p]) for p in range(1, at + 1) if values[p - 1] != values[p]]
+                for rows, some in ((tables[number], wanted), (tables[len(cells) + number], wanted[-3:])):
+                    with self.subTest(path.stem, cell=cell, position=at):
+                        self.assertEqual([(row["step"], row["old"], row["new"]) for row in rows], some)
+                        for row in rows:
+                            self.assertEqual(row["does"], str(world.recording.step(row["step"])))
+
+    def test_until_goes_to_the_nearest_change_to_the_value(self):
+        for path in recordings():
+            world = shown(path)
+            changing = [cell for cell in world.cells if len(set(world.values[cell])) > 1]
+            for _ in range(AT):
+                cell, at = self.random.choice(changing), self.random.randint(0, world.length)
+                values = world.values[cell]
+                value = self.random.choice(values)
+                changes = [p for p in range(1, world.length + 1) if values[p - 1] != values[p] == value]
+                later, earlier = [p for p in changes if p > at][:1], [p for p in changes if p < at][-1:]
+                for name, wanted in (("until", later), ("reverse-until", earlier)):
+                    told = events(path, [f"goto {at}", f"{name} {cell} {value}"])[2:]
+                    with self.subTest(path.stem, cell=cell, value=value, position=at, name=name):
+                        stops = [event["position"] for event in told if event["event"] == "place"]
+                        self.assertEqual(stops, wanted)
+
+    def test_holders_are_as_many_as_the_references(self):
+        for path in recordings():
+            world = shown(path)
+            for at in self.places(path):
+                sockets = world.made("lock", at)
+                lines = [f"goto {at}", *(f"info holders {socket}" for socket in sockets)]
+                tables = [event for event in events(path, lines) if event["event"] == "table"]
+                self.assertEqual(len(tables), len(sockets))
+                for socket, table in zip(sockets, tables):
+                    with self.subTest(path.stem, position=at, socket=socket):
+                        value = world.values[f"lock {socket}"][at]
+                        closed, read, write, references, *_ = closing_words(value)
+                        self.assertIn(f"lock {socket} = {value}: ", table["rest"])
+                        self.assertEqual(len(table["rows"]), references)
+                        took = [row["took"].split() for row in table["rows"]]
+                        for locked, side in ((read, "r"), (write, "w")):
+                            self.assertEqual(locked, sum(step[0] == "rwlock" and step[3] == side for step in took))
+                        for row, step in zip(table["rows"], took):
+                            self.assertEqual((int(step[1]), int(step[2])), (row["goroutine"], socket))
+                            self.assertEqual(str(world.recording.step(row["step"])), row["took"])
+                            self.assertEqual(row["status"], world.values[f"gor {row['goroutine']}"][at])
+
+    def test_words_behind_lock_words(self):
+        for path in recordings():
+            world = shown(path)
+            told = events(path, [line for at in self.places(path) for line in (f"goto {at}", "print lock 0")])
+            values = [event for event in told if event["event"] == "reply" and event["line"] == "print lock 0"]
+            for event in values:
+                value = event["reply"][0].partition(" = ")[2]
+                if value != "absent":
+                    self.assertEqual(told_words(event["words"]), closing_words(value))
+            self.assertEqual(len(values), len(self.places(path)) and len(values))
+
+
+if __name__ == "__main__":
+    unittest.main()
