@@ -41,6 +41,7 @@ def nrdb(*words, lines=(), status=0):
 def events(path, lines):
     """The events of nrdb on this recording with these lines, without those of its start and its end."""
     told = [json.loads(line) for line in nrdb("--json", path, lines=lines).splitlines()]
+    assert [event["event"] for event in told[:2] + told[-1:]] == ["reply", "place", "end"], told[:2]
     return told[2:-1]
 
 
@@ -58,7 +59,7 @@ def netrev(path, lines):
 
 
 class Shown:
-    """What each cell and queue shows at each position of a recording."""
+    """What netrev shows of a recording, by plain looks."""
 
     def __init__(self, path):
         self.path, self.recording = path, Recording.read(path)
@@ -67,33 +68,42 @@ class Shown:
         for cell in CELLS.values():
             if cell.of is not Of.ALL:
                 self.cells += [f"{cell.name} {number}" for number in range(limits[LIMIT_OF[cell.of]])]
-        queues = [f"{dump} {number}" for dump in DUMPS if dump not in CELLS for number in range(limits["sock"])]
-        looks = [f"print {cell}" for cell in self.cells] + [f"dump {queue}" for queue in queues]
-        replies = netrev(path, [*looks, "stepi"] * (self.length + 1))
-        every = len(looks) + 1
-        self.values = {
-            name: [reply.partition(" = ")[2] for reply in replies[at::every]]
-            for at, name in enumerate([*self.cells, *queues])
-        }
+        self.queues = [f"{dump} {number}" for dump in DUMPS if dump not in CELLS for number in range(limits["sock"])]
+        self.seen = {}
 
     @property
     def length(self):
         return self.recording.length
 
     def at(self, position):
-        """The values of all cells and queues there."""
-        return {name: values[position] for name, values in self.values.items()}
+        """The values of all cells and queues at a position."""
+        if position not in self.seen:
+            looks = [f"print {cell}" for cell in self.cells] + [f"dump {queue}" for queue in self.queues]
+            moves = [f"stepi {position}"] if position else []
+            replies = netrev(self.path, [*moves, *looks])[len(moves) :]
+            self.seen[position] = dict(reply.split(" = ") for reply in replies)
+        return self.seen[position]
+
+    def series(self, cells):
+        """Of each of these cells the values at all positions."""
+        replies = netrev(self.path, [*(f"print {cell}" for cell in cells), "stepi"] * (self.length + 1))
+        values = [reply.partition(" = ")[2] for reply in replies]
+        return {cell: values[at :: len(cells) + 1] for at, cell in enumerate(cells)}
 
     def made(self, cell, position):
         """The numbers of which that cell isn't absent there."""
-        names = (name.split() for name in self.values)
-        numbers = [int(rest[0]) for name, *rest in names if name == cell]
-        return [number for number in numbers if self.values[f"{cell} {number}"][position] != "absent"]
+        values = self.at(position)
+        numbers = (int(name.split()[1]) for name in values if name.startswith(f"{cell} "))
+        return [number for number in numbers if values[f"{cell} {number}"] != "absent"]
+
+    def made_cells(self):
+        """The cells of all that is made by the end."""
+        return [cell for cell in self.cells if self.at(self.length)[cell] != "absent"]
 
 
 @lru_cache(maxsize=None)
 def shown(path):
-    """What is shown of the recording: looked at once."""
+    """What netrev shows of a recording; what was looked at is kept."""
     return Shown(path)
 
 

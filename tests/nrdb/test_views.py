@@ -6,24 +6,25 @@ import unittest
 
 from support import events, recordings, shown
 
-AT = 4  # positions of each recording
+AT = 4  # positions of each recording, besides its ends
+CELLS = 8  # cells of each recording
 SEED = 20261125
 
 
-def closing_words(value):
+FIELDS = (r"^\d+ references?$", r"waiting to read$", r"waiting to write$")
+
+
+def lock_fields(value):
     """The lock word's fields by shifts: closed, locks, references, readers and writers who wait."""
     word = int(value)
     return [word & 1, word >> 1 & 1, word >> 2 & 1, word >> 3 & 0xFFFFF, word >> 23 & 0xFFFFF, word >> 43 & 0xFFFFF]
 
 
-def told_words(words):
+def told_fields(words):
     """The same fields, read from what nrdb says of the word."""
     parts = words.split(", ")
     counted = [next((int(part.split()[0]) for part in parts if re.search(what, part)), 0) for what in FIELDS]
     return [int("closed" in parts), int("read lock" in parts), int("write lock" in parts), *counted]
-
-
-FIELDS = (r"^\d+ references?$", r"waiting to read$", r"waiting to write$")
 
 
 def open_descriptors(recording, position):
@@ -89,10 +90,10 @@ class Views(unittest.TestCase):
 
     def test_what_is_left_out_is_idle_gone_or_at_rest(self):
         for path in recordings():
-            world = shown(path)
-            for at in self.places(path):
-                told = events(path, [f"goto {at}", "info goroutines", "info sockets"])
-                goroutines, sockets = (event["rows"] for event in told if event["event"] == "table")
+            world, places = shown(path), self.places(path)
+            lines = [line for at in places for line in (f"goto {at}", "info goroutines", "info sockets")]
+            tables = [event["rows"] for event in events(path, lines) if event["event"] == "table"]
+            for at, goroutines, sockets in zip(places, tables[::2], tables[1::2], strict=True):
                 with self.subTest(path.stem, position=at):
                     values = world.at(at)
                     left = set(world.made("gor", at)) - {row["goroutine"] for row in goroutines}
@@ -101,22 +102,21 @@ class Views(unittest.TestCase):
                         self.assertNotIn(row["status"], ("idle", "gone"))
                     for number in set(world.made("lock", at)) - {row["socket"] for row in sockets}:
                         self.assertEqual((values[f"rq {number}"], values[f"wq {number}"]), ("-", "-"))
-                        self.assertEqual(closing_words(values[f"lock {number}"])[3], 0)
+                        self.assertEqual(lock_fields(values[f"lock {number}"])[3], 0)
 
     def test_history_shows_each_change(self):
         for path in recordings():
             world = shown(path)
-            changing = [cell for cell in world.cells if len(set(world.values[cell])) > 1]
-            cells = self.random.sample(changing, min(6, len(changing)))
-            at = self.random.randint(0, world.length)
-            lines = [f"goto {at}", *(f"history {cell} all" for cell in cells), *(f"history {cell} 3" for cell in cells)]
+            cells = self.random.sample(world.made_cells(), CELLS)
+            series = world.series(cells)
+            at = self.random.randint(world.length // 2, world.length)
+            lines = [f"goto {at}", *(f"history {cell} {most}" for cell in cells for most in ("all", 3))]
             tables = [event["rows"] for event in events(path, lines) if event["event"] == "table"]
-            self.assertEqual(len(tables), 2 * len(cells))
-            for number, cell in enumerate(cells):
-                values = world.values[cell]
+            for cell, every, last in zip(cells, tables[::2], tables[1::2], strict=True):
+                values = series[cell]
                 wanted = [(p, values[p - 1], values[p]) for p in range(1, at + 1) if values[p - 1] != values[p]]
-                for rows, some in ((tables[number], wanted), (tables[len(cells) + number], wanted[-3:])):
-                    with self.subTest(path.stem, cell=cell, position=at):
+                with self.subTest(path.stem, cell=cell, position=at):
+                    for rows, some in ((every, wanted), (last, wanted[-3:])):
                         self.assertEqual([(row["step"], row["old"], row["new"]) for row in rows], some)
                         for row in rows:
                             self.assertEqual(row["does"], str(world.recording.step(row["step"])))
@@ -124,51 +124,52 @@ class Views(unittest.TestCase):
     def test_until_goes_to_the_nearest_change_to_the_value(self):
         for path in recordings():
             world = shown(path)
-            changing = [cell for cell in world.cells if len(set(world.values[cell])) > 1]
-            for _ in range(AT):
-                cell, at = self.random.choice(changing), self.random.randint(0, world.length)
-                values = world.values[cell]
-                value = self.random.choice(values)
+            cells = self.random.sample(world.made_cells(), CELLS)
+            places, lines = [], []
+            for cell, values in world.series(cells).items():
+                at, value = self.random.randint(0, world.length), self.random.choice(values)
                 changes = [p for p in range(1, world.length + 1) if values[p - 1] != values[p] == value]
-                later, earlier = [p for p in changes if p > at][:1], [p for p in changes if p < at][-1:]
-                for name, wanted in (("until", later), ("reverse-until", earlier)):
-                    told = events(path, [f"goto {at}", f"{name} {cell} {value}"])[2:]
-                    with self.subTest(path.stem, cell=cell, value=value, position=at, name=name):
-                        stops = [event["position"] for event in told if event["event"] == "place"]
-                        self.assertEqual(stops, wanted)
+                places += [at, *[p for p in changes if p > at][:1], at, *[p for p in changes if p < at][-1:]]
+                lines += [f"goto {at}", f"until {cell} {value}", f"goto {at}", f"reverse-until {cell} {value}"]
+            with self.subTest(path.stem, lines=lines):
+                stops = [event["position"] for event in events(path, lines) if event["event"] == "place"]
+                self.assertEqual(stops, places)
 
     def test_holders_are_as_many_as_the_references(self):
         for path in recordings():
             world = shown(path)
-            for at in self.places(path):
-                sockets = world.made("lock", at)
-                lines = [f"goto {at}", *(f"info holders {socket}" for socket in sockets)]
-                tables = [event for event in events(path, lines) if event["event"] == "table"]
-                self.assertEqual(len(tables), len(sockets))
-                for socket, table in zip(sockets, tables):
-                    with self.subTest(path.stem, position=at, socket=socket):
-                        value = world.values[f"lock {socket}"][at]
-                        closed, read, write, references, *_ = closing_words(value)
-                        self.assertIn(f"lock {socket} = {value}: ", table["rest"])
-                        self.assertEqual(len(table["rows"]), references)
-                        took = [row["took"].split() for row in table["rows"]]
-                        for locked, side in ((read, "r"), (write, "w")):
-                            self.assertEqual(locked, sum(step[0] == "rwlock" and step[3] == side for step in took))
-                        for row, step in zip(table["rows"], took):
-                            self.assertEqual((int(step[1]), int(step[2])), (row["goroutine"], socket))
-                            self.assertEqual(str(world.recording.step(row["step"])), row["took"])
-                            self.assertEqual(row["status"], world.values[f"gor {row['goroutine']}"][at])
+            asked = [(at, socket) for at in self.places(path) for socket in world.made("lock", at)]
+            lines = [line for at, socket in asked for line in (f"goto {at}", f"info holders {socket}")]
+            tables = [event for event in events(path, lines) if event["event"] == "table"]
+            for (at, socket), table in zip(asked, tables, strict=True):
+                with self.subTest(path.stem, position=at, socket=socket):
+                    self.compare_holders(world, at, socket, table)
+
+    def compare_holders(self, world, at, socket, table):
+        """Holds the holders against the lock word, and each against the step that it names."""
+        value = world.at(at)[f"lock {socket}"]
+        _, read, write, references, *_ = lock_fields(value)
+        self.assertIn(f"lock {socket} = {value}: ", table["rest"])
+        self.assertEqual(len(table["rows"]), references)
+        took = [row["took"].split() for row in table["rows"]]
+        for locked, side in ((read, "r"), (write, "w")):
+            self.assertEqual(locked, sum(step[0] == "rwlock" and step[3] == side for step in took))
+        for row, step in zip(table["rows"], took):
+            self.assertEqual((int(step[1]), int(step[2])), (row["goroutine"], socket))
+            self.assertEqual(str(world.recording.step(row["step"])), row["took"])
+            self.assertEqual(row["status"], world.at(at)[f"gor {row['goroutine']}"])
 
     def test_words_behind_lock_words(self):
         for path in recordings():
             world = shown(path)
-            told = events(path, [line for at in self.places(path) for line in (f"goto {at}", "print lock 0")])
-            values = [event for event in told if event["event"] == "reply" and event["line"] == "print lock 0"]
-            for event in values:
-                value = event["reply"][0].partition(" = ")[2]
-                if value != "absent":
-                    self.assertEqual(told_words(event["words"]), closing_words(value))
-            self.assertEqual(len(values), len(self.places(path)) and len(values))
+            asked = [(at, socket) for at in self.places(path) for socket in world.made("lock", at)]
+            lines = [line for at, socket in asked for line in (f"goto {at}", f"print lock {socket}")]
+            told = [event for event in events(path, lines) if event.get("line", "").startswith("print")]
+            for (at, socket), event in zip(asked, told, strict=True):
+                value = world.at(at)[f"lock {socket}"]
+                with self.subTest(path.stem, position=at, socket=socket):
+                    self.assertEqual(event["reply"], [f"lock {socket} = {value}"])
+                    self.assertEqual(told_fields(event["words"]), lock_fields(value))
 
 
 if __name__ == "__main__":
