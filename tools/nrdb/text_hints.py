@@ -93,8 +93,10 @@ def json_hint(recording: Recording, number: int, text: str) -> str:
         return "the last line is cut: take it away"
     try:
         json.loads(text)
-    except (ValueError, RecursionError) as error:
-        return str(error)
+    except json.JSONDecodeError as error:
+        return f"it goes wrong at character {error.pos + 1}"
+    except (ValueError, RecursionError):
+        pass
     return "netrev takes no such number or text: RECORDING.md tells which"
 
 
