@@ -95,6 +95,12 @@ def start(wanted: argparse.Namespace, printer: Printer) -> int:
         for told in explained(wanted.netrev, wanted.file, first) if wanted.file else ():
             printer.note(told)
         return netrev.end() or REFUSED
+    session.stood, session.length, _ = session.stands(first)
+    if recording and recording.length != session.length:
+        told = f"{wanted.file} has {recording.length} steps, and the session has {session.length}"
+        printer.note(f"{told}: it is another recording")
+        netrev.end()
+        return FAILED
     try:
         session.begin(first)
         played(session, wanted)

@@ -43,8 +43,7 @@ class Session:
     depth: int = 0
 
     def begin(self, reply: str) -> None:
-        """Tells where the session stands, by netrev's first reply, to `info position`."""
-        self.stood, self.length, _ = self.stands(reply)
+        """Tells where the session stands, with netrev's first reply, to `info position`."""
         self.printer.reply("info position", [reply], "")
         self.printer.place(self.place(self.stood))
 

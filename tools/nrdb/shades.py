@@ -36,7 +36,7 @@ SHADES = {
         parked #0b3c7d parked
         swapping #c3e6a1 goes on, takes the word
         checking #5fa83a goes on, checks why
-        acquiring #fddcab about to acquire
+        acquiring #f9d7a0 about to acquire
         relock #f5a14b tries the lock again
         queued #8a2f04 queued for a lock
         owing #b0509e owes a release
