@@ -3,7 +3,7 @@
 
 NETREV = crates/netrev/out/netrev
 
-.PHONY: look run test refused loopback netrev examples share bench
+.PHONY: look run hunt test refused loopback companion netrev examples share bench
 
 # Runs the first example without waiting for proofs. Nothing is proved by it.
 look:
@@ -15,8 +15,12 @@ run: netrev
 	@echo
 	@sh examples/play.sh first
 
-# The gate: every proof, the edits that must fail, the tests, the program, the program refused memory, and
-# sessions over the loopback.
+# A session at a prompt with history, completion and further views: `make hunt FILE=my.jsonl` (docs/NRDB.md).
+hunt: netrev
+	@./nrdb $(FILE)
+
+# The gate: every proof, the edits that must fail, the tests, the program, the program refused memory,
+# sessions over the loopback, and the companion's tests.
 test:
 	@sh scripts/gate.sh
 
@@ -28,6 +32,10 @@ refused: netrev
 # Sessions of the built program over the loopback: up to 64 fronts at a time, and callers who misbehave.
 loopback: netrev
 	@python3 scripts/loopback.py
+
+# The tests of nrdb, the companion, with the built program; among them the hunts of examples/hunts.
+companion: netrev
+	@python3 -m unittest discover -s tests/nrdb
 
 # Leaves the proved program at $(NETREV). With no change since, nothing is proved again.
 netrev:

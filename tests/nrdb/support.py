@@ -1,6 +1,8 @@
 """What the tests of nrdb share: where things are, nrdb played with lines, and what netrev itself shows at each position
 of a recording, by plain `print`s."""
 
+import contextlib
+import io
 import json
 import os
 import subprocess
@@ -18,6 +20,7 @@ PATIENCE = 60  # seconds
 for folder in ("tools", "scripts"):
     sys.path.insert(0, str(ROOT / folder))
 
+from nrdb.cli import main  # noqa: E402
 from nrdb.recording import Recording  # noqa: E402
 from nrdb.vocabulary import CELLS, DUMPS, Of  # noqa: E402
 
@@ -25,7 +28,21 @@ LIMIT_OF = {Of.GOROUTINE: "gor", Of.SOCKET: "sock", Of.DESCRIPTOR: "desc"}
 
 
 def nrdb(*words, lines=(), status=0):
-    """What nrdb prints with these words, and these lines for its input, and its exit status, which has to be this."""
+    """What nrdb prints with these words, and these lines for its input; its exit status has to be this. It is called
+    here, which takes less time than a process of its own."""
+    said, input_before = io.StringIO(), sys.stdin
+    sys.stdin = io.StringIO("".join(f"{line}\n" for line in lines))
+    try:
+        with contextlib.redirect_stdout(said):
+            ended = main(["--netrev", NETREV, *map(str, words)])
+    finally:
+        sys.stdin = input_before
+    assert ended == status, (words, ended, said.getvalue())
+    return said.getvalue()
+
+
+def nrdb_process(*words, lines=()):
+    """The same by a process: what it prints, what it says on standard error, and its exit status."""
     ended = subprocess.run(
         [sys.executable, NRDB, "--netrev", NETREV, *map(str, words)],
         input="".join(f"{line}\n" for line in lines),
@@ -34,8 +51,7 @@ def nrdb(*words, lines=(), status=0):
         timeout=PATIENCE,
         check=False,
     )
-    assert (ended.returncode, ended.stderr) == (status, ""), (words, ended.returncode, ended.stderr)
-    return ended.stdout
+    return ended.stdout, ended.stderr, ended.returncode
 
 
 def events(path, lines):

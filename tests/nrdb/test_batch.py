@@ -7,7 +7,7 @@ import tempfile
 import unittest
 from pathlib import Path
 
-from support import EXAMPLES, NETREV, NRDB, events, netrev, nrdb, recordings
+from support import EXAMPLES, NETREV, NRDB, events, netrev, nrdb, nrdb_process, recordings
 
 FIRST = EXAMPLES / "first.jsonl"
 
@@ -69,8 +69,18 @@ class Batch(unittest.TestCase):
 
     def test_other_words_have_status_2(self):
         for words in ([], ["--nonsense"], [FIRST, FIRST], ["--join", "nonsense"]):
-            ended = subprocess.run([sys.executable, NRDB, *words], capture_output=True, check=False, timeout=60)
-            self.assertEqual((ended.returncode, ended.stdout), (2, b""), words)
+            said, error, status = nrdb_process(*words)
+            self.assertEqual((said, status), ("", 2), words)
+            self.assertIn("usage: nrdb", error)
+
+    def test_statuses_and_streams_of_the_process(self):
+        self.assertEqual(nrdb_process(FIRST, lines=["quit"])[1:], ("", 0))
+        with tempfile.TemporaryDirectory() as folder:
+            bad = Path(folder) / "bad.jsonl"
+            bad.write_text("[]\n")
+            said, error, status = nrdb_process(bad)
+            self.assertEqual((said.splitlines()[0], error, status), ("line 1: fault 101 header", "", 1))
+            self.assertEqual(nrdb_process(f"{bad}.none")[1:], ("", 3))
 
     def test_an_output_that_nobody_reads_ends_it(self):
         words = [sys.executable, NRDB, "--netrev", NETREV, FIRST]

@@ -2,7 +2,7 @@
 
 import unittest
 
-from support import HUNTS, nrdb
+from support import HUNTS, nrdb_process
 
 MOST = 5
 
@@ -15,7 +15,8 @@ class Hunts(unittest.TestCase):
             with self.subTest(hunt.stem):
                 self.assertLessEqual(len(hunt.read_text().splitlines()), MOST)
                 kept = hunt.with_suffix(".session").read_text()
-                self.assertEqual(nrdb("--batch", "-x", hunt, hunt.with_suffix(".jsonl")), kept)
+                played = nrdb_process("--batch", "-x", hunt, hunt.with_suffix(".jsonl"))
+                self.assertEqual(played, (kept, "", 0))
 
 
 if __name__ == "__main__":

@@ -26,7 +26,8 @@ class Joined:
 
     def __exit__(self, *_):
         self.process.kill()
-        self.process.communicate()
+        if not self.process.stdout.closed:
+            self.process.communicate()
 
     def ask(self, *lines):
         """The events that these lines bring, and that were there before."""
@@ -113,7 +114,7 @@ class Join(unittest.TestCase):
         with serving() as server:
             other = EXAMPLES / "lost-wakeup.jsonl"
             said = nrdb("--batch", "--join", f"127.0.0.1:{server.port}", other, status=3)
-            self.assertEqual(said, f"| {other} has 22 steps, and the session has 10: it is another recording\n")
+            self.assertEqual(said, "| the recording has 22 steps, and that of the session 10\n")
 
     def test_nobody_serves(self):
         with serving() as server:

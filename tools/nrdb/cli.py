@@ -4,6 +4,7 @@ file, the program or the connection failed."""
 import argparse
 import os
 import sys
+from contextlib import closing
 from pathlib import Path
 from typing import Optional
 
@@ -14,7 +15,7 @@ from .output import JsonPrinter, Printer, TextPrinter
 from .recording import Recording
 from .refusals import explained
 from .scout import Scout
-from .session import Session
+from .session import Mismatched, Session
 from .terminal import Terminal
 
 PROGRAM = Path(__file__).resolve().parents[2] / "crates/netrev/out/netrev"
@@ -65,6 +66,9 @@ def run(wanted: argparse.Namespace, printer: Printer) -> int:
     except Ended as ended:
         printer.note("the connection with netrev has ended")
         status = ended.status or FAILED
+    except Mismatched as mismatched:
+        printer.note(str(mismatched))
+        status = FAILED
     except (GivenUp, KeyboardInterrupt):
         printer.note("netrev didn't answer: the session is given up")
         status = FAILED
@@ -80,34 +84,29 @@ def run(wanted: argparse.Namespace, printer: Printer) -> int:
 
 
 def start(wanted: argparse.Namespace, printer: Printer) -> int:
-    """Opens the session that is wanted, and runs it to its end."""
+    """Opens the session that is wanted, and runs it to its end; the exit status."""
     interrupts = Interrupts()
     if wanted.join:
         netrev = Joined(*address(wanted.join), interrupts)
     else:
         netrev = Own(wanted.netrev, wanted.file, interrupts)
-    recording = Recording.read(wanted.file) if wanted.file else None
-    scout = Scout(wanted.netrev, wanted.file, interrupts) if wanted.file else None
-    session = Session(netrev, recording, scout, printer, interrupts, ANSWERS)
-    first = session.ask("info position")
-    if not first.startswith("at "):
-        printer.reply("", [first], "")
-        for told in explained(wanted.netrev, wanted.file, first) if wanted.file else ():
-            printer.note(told)
-        return netrev.end() or REFUSED
-    session.stood, session.length, _ = session.stands(first)
-    if recording and recording.length != session.length:
-        told = f"{wanted.file} has {recording.length} steps, and the session has {session.length}"
-        printer.note(f"{told}: it is another recording")
-        netrev.end()
-        return FAILED
-    try:
+    with closing(netrev):
+        recording = Recording.read(wanted.file) if wanted.file else None
+        scout = Scout(wanted.netrev, wanted.file, interrupts) if wanted.file else None
+        session = Session(netrev, recording, scout, printer, interrupts, ANSWERS)
+        first = session.ask("info position")
+        if not first.startswith("at "):
+            printer.reply("", [first], "")
+            for told in explained(wanted.netrev, wanted.file, first) if wanted.file else ():
+                printer.note(told)
+            return netrev.close() or REFUSED
         session.begin(first)
-        played(session, wanted)
-    finally:
-        if scout:
-            scout.drop()
-    return netrev.end() or DONE
+        try:
+            played(session, wanted)
+        finally:
+            if scout:
+                scout.drop()
+        return netrev.close() or DONE
 
 
 def played(session: Session, wanted: argparse.Namespace) -> None:

@@ -67,11 +67,11 @@ class Netrev:
         except OSError:
             line = b""
         if not line.endswith(b"\n"):
-            raise Ended(self.end())
+            raise Ended(self.close())
         return line[:-1].decode("utf-8", "surrogateescape")
 
-    def end(self) -> Optional[int]:
-        """Ends the conversation; the exit status where there is one."""
+    def close(self) -> Optional[int]:
+        """Ends the conversation; the exit status where there is one. It may be called again."""
         raise NotImplementedError
 
 
@@ -84,7 +84,7 @@ class Own(Netrev):
         )
         super().__init__(self._process.stdin, self._process.stdout, interrupts)
 
-    def end(self) -> Optional[int]:
+    def close(self) -> Optional[int]:
         with suppress(OSError):
             self._process.stdin.close()
         self._process.stdout.close()
@@ -93,7 +93,7 @@ class Own(Netrev):
     def drop(self) -> None:
         """Ends netrev, whatever it does."""
         self._process.kill()
-        self.end()
+        self.close()
 
 
 class Joined(Netrev):
@@ -105,7 +105,7 @@ class Joined(Netrev):
         self._socket.setsockopt(socket.IPPROTO_TCP, socket.TCP_NODELAY, 1)
         super().__init__(self._socket.makefile("wb"), self._socket.makefile("rb"), interrupts)
 
-    def end(self) -> Optional[int]:
+    def close(self) -> Optional[int]:
         for stream in (self._commands, self._replies, self._socket):
             with suppress(OSError):
                 stream.close()

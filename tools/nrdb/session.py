@@ -27,6 +27,10 @@ class Misused(Exception):
     """A command of nrdb with words that it doesn't take: what is wrong with them."""
 
 
+class Mismatched(Exception):
+    """A session was joined that has another recording."""
+
+
 @dataclass
 class Session:
     """A netrev, the recording and the scout where they are there, and where what is said goes."""
@@ -43,7 +47,11 @@ class Session:
     depth: int = 0
 
     def begin(self, reply: str) -> None:
-        """Tells where the session stands, with netrev's first reply, to `info position`."""
+        """Tells where the session stands, with netrev's first reply, to `info position`. Mismatched where the recording
+        isn't the session's."""
+        self.stood, self.length, _ = self.stands(reply)
+        if self.recording and self.recording.length != self.length:
+            raise Mismatched(f"the recording has {self.recording.length} steps, and that of the session {self.length}")
         self.printer.reply("info position", [reply], "")
         self.printer.place(self.place(self.stood))
 
