@@ -1,22 +1,24 @@
 """A plain model of the shared debugger, against which the replies of a session are held.
 
 `Recording` knows what stands at each position of a recording: the kinds of its steps by its text, and the replies of
-looks by one pass of `netrev run` over it. What the commands do with that, and which line is answered what, is the
-model's own, as docs/COMMANDS.md tells it: `read_line` says what a line asks for, and `Recording.answer` what it is
-answered in a state of the session, and the state behind it.
+looks by one pass of `netrev run` over it. The words stand in the tables of tools/nrdb. What the commands do, and which
+line is answered what, is the model's own, as docs/COMMANDS.md tells it: `read_line` says what a line asks for, and
+`Recording.answer` what it is answered in a state of the session, and the state behind it.
 """
 
 import json
 import subprocess
+import sys
 from bisect import bisect_left, bisect_right
 from dataclasses import dataclass
 from functools import lru_cache
 from pathlib import Path
 from typing import NamedTuple
 
-MOST = 4_294_967_295
-MOST_LINE = 256
-MOST_STANDING = 64
+sys.path.insert(0, str(Path(__file__).resolve().parent.parent / "tools"))
+
+from nrdb.commands import OF_NETREV, SHORT  # noqa: E402
+from nrdb.vocabulary import DUMPS, KINDS, MOST_LINE, MOST_STANDING, break_of, cell_of, number_of  # noqa: E402
 
 UNKNOWN = "fault 201 unknown command"
 BAD = "fault 202 bad argument"
@@ -26,24 +28,6 @@ NO_MARK = "fault 401 no such mark"
 MARKS_FULL = "fault 402 marks full"
 NO_CHECKPOINT = "fault 403 no such checkpoint"
 CHECKPOINTS_FULL = "fault 404 checkpoints full"
-
-KINDS = """spawn exit sockopen arrive peerclose sysread syswrite drain incref increfclose decref rwlock rwunlock acquire
-release pollopen pollclose pollreset waitbegin blockarm blockcheck parkcommit blockswap waitcheck setdeadline evict
-pollevent tick pop fire""".split()
-CELLS_OF_ALL = "clock waiters timers firings least".split()
-CELLS_OF_ONE = "gor lock rsem wsem in out rg wg rd wd rseq wseq fdseq info".split()
-DUMPS = "in out rq wq".split()
-ABBREVIATIONS = {
-    "si": "stepi",
-    "rsi": "reverse-stepi",
-    "c": "continue",
-    "rc": "reverse-continue",
-    "b": "break",
-    "p": "print",
-    "q": "quit",
-}
-FIRST_WORDS = """stepi reverse-stepi continue reverse-continue set break watch delete checkpoint restart print dump info
-resume quit""".split()
 
 
 class Asked(NamedTuple):
@@ -67,34 +51,6 @@ class State(NamedTuple):
 COMMANDS = {"step", "seek", "turn", "mark", "delete", "checkpoint", "restart", "forget"}
 
 
-def number_of(word):
-    """The number that a word spells, or None."""
-    if not (word.isascii() and word.isdigit()):
-        return None
-    number = int(word)
-    return number if number <= MOST else None
-
-
-def cell_of(words):
-    """The cell that the words spell, as replies spell it, or None."""
-    if len(words) == 1 and words[0] in CELLS_OF_ALL:
-        return words[0]
-    if len(words) == 2 and words[0] in CELLS_OF_ONE and number_of(words[1]) is not None:
-        return f"{words[0]} {number_of(words[1])}"
-    return None
-
-
-def break_of(words):
-    """The break that the words spell, as `info breakpoints` does, or None."""
-    if len(words) != 1:
-        return None
-    word = words[0]
-    if word in KINDS:
-        return f"break {word}"
-    step = number_of(word[1:]) if word.startswith("@") else None
-    return f"break @{step}" if step else None
-
-
 def read_line(line):
     """What a line of bytes, without its line feed, asks for. None where it has no words."""
     if len(line) > MOST_LINE:
@@ -103,8 +59,8 @@ def read_line(line):
     words = [word for word in text.split(" ") if word]
     if not words:
         return None
-    first = ABBREVIATIONS.get(words[0], words[0])
-    if first not in FIRST_WORDS:
+    first = SHORT.get(words[0], words[0])
+    if first not in OF_NETREV:
         return Asked("fault", UNKNOWN)
     return read_words(first, words[1:]) or Asked("fault", BAD)
 

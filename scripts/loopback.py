@@ -26,8 +26,9 @@ import tempfile
 from dataclasses import replace
 from pathlib import Path
 
-from debugger import DUMPS, FULL, KINDS, MOST, Recording, is_command, read_line
+from debugger import FULL, Recording, is_command, read_line  # (it tells Python where nrdb is)
 from history import GaveUp, Search
+from nrdb.vocabulary import CELLS, DUMPS, KINDS, MOST, Of
 from sharing import NETREV, ROOT, Server, Talker, Wrong, converse, expect, read_to_end, talk
 
 # a reader parks and is woken by bytes: twelve steps
@@ -45,12 +46,9 @@ PARKED = """{"netrev":1,"gor":4,"sock":2,"desc":2,"buf":16}
 ["sysread",0,0,8]
 ["rwunlock",0,0,"r"]
 """
-CELLS = "clock waiters timers firings least".split() + [
-    f"{kind} {number}"
-    for kind in "gor lock rsem wsem in out rg wg rd wd rseq wseq fdseq info".split()
-    for number in (0, 1)
-]
-LOOKS = [f"print {cell}" for cell in CELLS] + [f"dump {dump} {number}" for dump in DUMPS for number in (0, 1)]
+SHOWN = [cell.name for cell in CELLS.values() if cell.of is Of.ALL]
+SHOWN += [f"{cell.name} {number}" for cell in CELLS.values() if cell.of is not Of.ALL for number in (0, 1)]
+LOOKS = [f"print {cell}" for cell in SHOWN] + [f"dump {dump} {number}" for dump in DUMPS for number in (0, 1)]
 NONSENSE = [b"frob", b"stepi 0", b"print", b"watch clock 1", b"quit now", b"break @0", b"\tstepi", b"stepi 4294967296"]
 NOTHING = [b"", b"   ", b"\r"]
 TOO_LONG = [b"x" * 257, b"stepi" + b" " * 300, b"checkpoint" + b" " * 246 + b"\r"]
@@ -74,7 +72,7 @@ class Lines:
     def __init__(self, dice, recording):
         self.dice = dice
         self.most = recording.length
-        self.kinds = sorted(set(recording.kinds)) + KINDS[:2]
+        self.kinds = sorted(set(recording.kinds)) + list(KINDS)[:2]
 
     def number(self):
         """That of a mark or checkpoint, which may stand or not."""
@@ -95,7 +93,7 @@ class Lines:
     def mark(self):
         word = self.dice.choice(["break", "b"])
         step = self.dice.randint(1, self.most + 2)
-        watch = f"watch {self.dice.choice(CELLS)}"
+        watch = f"watch {self.dice.choice(SHOWN)}"
         return self.dice.choice([f"{word} {self.dice.choice(self.kinds)}", f"{word} @{step}", f"{word} @{step}", watch])
 
     def checkpoint(self):

@@ -44,14 +44,28 @@ class Typist:
         """Presses keys."""
         os.write(self.terminal, text.encode())
 
-    def until(self, *texts):
-        """Reads until one of these texts is on the screen, and gives what came up to its end."""
-        limit = time.monotonic() + PATIENCE
+    def interrupt(self, text):
+        """Presses Ctrl-C until this text is on the screen: Python tells one that comes between two keys at the next key."""
+        for _ in range(PATIENCE):
+            self.type(INTERRUPT)
+            if self.reads_until([text], 1):
+                break
+        self.until(text)
+
+    def reads_until(self, texts, patience):
+        """Reads until one of these texts is on the screen; whether it came in time."""
+        limit = time.monotonic() + patience
         while not any(text in self.screen for text in texts):
             left = limit - time.monotonic()
             if left < 0 or not select.select([self.terminal], [], [], left)[0]:
-                raise AssertionError(f"wanted {texts}, and the screen shows {self.screen!r}")
+                return False
             self.screen += os.read(self.terminal, 65536).decode().replace("\r\n", "\n")
+        return True
+
+    def until(self, *texts):
+        """Reads until one of these texts is on the screen, and gives what came up to its end."""
+        if not self.reads_until(texts, PATIENCE):
+            raise AssertionError(f"wanted {texts}, and the screen shows {self.screen!r}")
         end = min(self.screen.index(text) + len(text) for text in texts if text in self.screen)
         seen, self.screen = self.screen[:end], self.screen[end:]
         return seen
@@ -109,8 +123,9 @@ class Terminal(unittest.TestCase):
             ):
                 person.type(typed)
                 self.assertTrue(person.until(whole).endswith(whole))
-                person.type(INTERRUPT)
+                person.type("\r")
                 person.until(PROMPT)
+            person.ask("set exec-direction forward")
             person.ask("stepi 3")
             person.type("print loc\t\t")
             person.until("print lock 0 ")
@@ -134,8 +149,7 @@ class Terminal(unittest.TestCase):
         with self.typist() as person:
             person.type("stepi 3")
             person.until("stepi 3")
-            person.type(INTERRUPT)
-            person.until("^C\n")
+            person.interrupt("^C\n")
             person.until(PROMPT)
             self.assertIn("at 0 of 10 forward\n", person.ask("info position"))
 

@@ -5,7 +5,8 @@ const data = JSON.parse(document.getElementById("data").textContent);
 const part = (name) => document.getElementById(name);
 const LABEL = 92, ROW = 17, STEPS = 58;
 const MONO = "11px 'DejaVu Sans Mono', monospace";
-let column = Math.max(4, Math.min(92, Math.floor(1000 / (data.last - data.first + 1))));
+const fitting = (part("scroll").clientWidth - LABEL - 4) / (data.last - data.first + 1);
+let column = Math.max(4, Math.min(92, Math.floor(fitting)));
 let chosen = Math.min(Math.max(data.position, data.first), data.last);
 let rows = [];
 let found = new Set();
@@ -166,9 +167,10 @@ function show() {
   for (const mark of data.marks) if (mark.hits.includes(p)) panel.append(made("p", `mark ${mark.mark}: ${mark.what}`));
   const table = made("table", "");
   const lines = Object.keys(data.cells).map((cell) => ({ cell, value: valueAt(cell, p), old: p > data.first ? valueAt(cell, p - 1) : null }));
+  const unsaid = part("quiet").checked ? ["absent"] : ["absent", "idle", "gone"];
   const isChanged = (line) => line.old !== null && line.old !== line.value;
   for (const line of [...lines.filter(isChanged), ...lines.filter((line) => !isChanged(line))]) {
-    if (line.value === "absent" && !isChanged(line)) continue;
+    if (!isChanged(line) && unsaid.includes(line.value)) continue;
     const row = made("tr", "", isChanged(line) ? "changed" : ""), shown = made("td", line.value);
     const words = (data.words[line.cell.split(" ")[0]] || {})[line.value];
     if (isChanged(line)) shown.append(made("small", `was ${line.old}`));
@@ -209,7 +211,7 @@ function legend() {
 part("scroll").addEventListener("scroll", draw);
 window.addEventListener("resize", resize);
 part("filter").addEventListener("input", choose_rows);
-part("quiet").addEventListener("change", choose_rows);
+part("quiet").addEventListener("change", () => { choose_rows(); show(); });
 part("find").addEventListener("input", find_steps);
 part("narrow").addEventListener("click", () => widen(0.7));
 part("wide").addEventListener("click", () => widen(1.4));
