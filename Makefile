@@ -54,10 +54,12 @@ share: netrev
 	@$(NETREV) serve examples/first.jsonl --port 47200 --fronts 2
 
 # Loads and walks recordings of up to 1,000,000 steps: `make bench STEPS="10000 100000"` for fewer. Then shares sessions,
-# and searches with several workers.
+# searches with several workers, and asks nrdb.
 bench: netrev
 	@sh bench/run.sh $(STEPS)
 	@echo
 	@python3 bench/serving.py
 	@echo
 	@python3 bench/searching.py
+	@echo
+	@python3 bench/companion.py
