@@ -18,7 +18,7 @@ from typing import NamedTuple
 sys.path.insert(0, str(Path(__file__).resolve().parent.parent / "tools"))
 
 from nrdb.commands import OF_NETREV, SHORT  # noqa: E402
-from nrdb.vocabulary import DUMPS, KINDS, MOST_LINE, MOST_STANDING, break_of, cell_of, number_of  # noqa: E402
+from nrdb.vocabulary import DUMPS, MOST_LINE, MOST_STANDING, break_of, cell_of, number_of  # noqa: E402
 
 UNKNOWN = "fault 201 unknown command"
 BAD = "fault 202 bad argument"

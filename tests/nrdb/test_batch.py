@@ -31,7 +31,9 @@ class Batch(unittest.TestCase):
                 said = nrdb("--batch", "-x", script, path).splitlines()
                 plain = [line.split("   | ")[0] for line in said if not line.startswith(("| ", "(netrev) "))]
                 with self.subTest(path.stem):
-                    self.assertEqual(plain, [*netrev(path, ["info position"]), *netrev(path, script.read_text().splitlines())])
+                    self.assertEqual(
+                        plain, [*netrev(path, ["info position"]), *netrev(path, script.read_text().splitlines())]
+                    )
 
     def test_files_and_lines_are_taken_in_order(self):
         with tempfile.TemporaryDirectory() as folder:
@@ -54,7 +56,9 @@ class Batch(unittest.TestCase):
             file = Path(folder) / "lines"
             file.write_text("stepi\nquit\nstepi\n")
             said = nrdb("-x", file, "-ex", "stepi", FIRST, lines=["stepi"])
-        self.assertEqual([line for line in said.splitlines() if not line.startswith(("|", "(netrev)"))][1:], ["at 1", "bye"])
+        self.assertEqual(
+            [line for line in said.splitlines() if not line.startswith(("|", "(netrev)"))][1:], ["at 1", "bye"]
+        )
 
     def test_lines_of_json(self):
         told = [json.loads(line) for line in nrdb("--json", FIRST, lines=["si 4", "list 2", "nonsense"]).splitlines()]

@@ -1,5 +1,5 @@
-"""Recordings that are refused and lines that are faults: each with what nrdb says of it, which is kept as data, and names
-what to mend."""
+"""Recordings that are refused and lines that are faults: each with what nrdb says of it, which is kept as data, and
+names what to mend."""
 
 import json
 import tempfile

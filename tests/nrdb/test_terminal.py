@@ -45,7 +45,7 @@ class Typist:
         os.write(self.terminal, text.encode())
 
     def interrupt(self, text):
-        """Presses Ctrl-C until this text is on the screen: Python tells one that comes between two keys at the next key."""
+        """Presses Ctrl-C until this text comes: one between two keys, Python may tell at the next key only."""
         for _ in range(PATIENCE):
             self.type(INTERRUPT)
             if self.reads_until([text], 1):
@@ -138,7 +138,9 @@ class Terminal(unittest.TestCase):
             person.ask("print waiters")
             person.type(END)
             self.assertEqual(person.ends(), 0)
-        self.assertEqual((Path(self.home) / ".netrev_history").read_text().split("\n")[-3:-1], ["print clock", "print waiters"])
+        self.assertEqual(
+            (Path(self.home) / ".netrev_history").read_text().split("\n")[-3:-1], ["print clock", "print waiters"]
+        )
         with self.typist() as person:
             person.type(UP)
             person.until("print waiters")

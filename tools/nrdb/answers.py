@@ -2,6 +2,7 @@
 Misused says what is wrong with them."""
 
 from fnmatch import fnmatchcase
+from typing import Callable, Optional
 
 from .changes import MOST, history_table
 from .commands import COMMANDS, TOPICS, Origin, whole_command
@@ -89,7 +90,9 @@ def answer_list(session: Session, words: list) -> None:
         here = "=>" if number == position + 1 else "  "
         told = {"step": number, "line": step.line, "does": str(step), "next": number == position + 1}
         rows.append(Row(told, f"{here} {number:>7}  {str(step):<34} line {step.line}"))
-    session.printer.table(Table("list", rows, "=> (end)" if position == text.length and middle + ROUND > position else ""))
+    session.printer.table(
+        Table("list", rows, "=> (end)" if position == text.length and middle + ROUND > position else "")
+    )
 
 
 def answer_goto(session: Session, words: list) -> None:
@@ -192,7 +195,7 @@ def answer_info(session: Session, words: list) -> None:
 
 TABLES = {"goroutines": goroutines_table, "sockets": sockets_table, "descriptors": descriptors_table}
 
-ANSWERS = {
+ANSWERS: dict[str, Callable[[Session, list], Optional[bool]]] = {
     "help": answer_help,
     "where": answer_where,
     "list": answer_list,

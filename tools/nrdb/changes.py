@@ -22,7 +22,14 @@ def history_table(scout: Scout, recording: Recording, cell: str, position: int, 
 def _row(recording: Recording, cell: str, change: Change) -> Row:
     step = recording.step(change.step)
     words = in_words(cell, change.new)
-    values = {"cell": cell, "step": change.step, "line": step.line, "does": str(step), "old": change.old, "new": change.new}
+    values = {
+        "cell": cell,
+        "step": change.step,
+        "line": step.line,
+        "does": str(step),
+        "old": change.old,
+        "new": change.new,
+    }
     told = f"{change.step:>7}  {str(step):<30} {change.old} -> {change.new}"
     return Row({**values, "words": words or None}, f"{told}   ({words})" if words else told)
 

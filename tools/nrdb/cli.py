@@ -10,7 +10,7 @@ from typing import Optional
 
 from .answers import ANSWERS
 from .interrupts import GivenUp, Interrupts
-from .netrev import Ended, Joined, Own
+from .netrev import Ended, Joined, Netrev, Own
 from .output import JsonPrinter, Printer, TextPrinter
 from .recording import Recording
 from .refusals import explained
@@ -33,16 +33,20 @@ def parser() -> argparse.ArgumentParser:
     """The words that nrdb takes."""
     made = argparse.ArgumentParser(
         prog="nrdb",
-        description="The companion at netrev's prompt: netrev's replies as they are; what is added begins with | and is unproved.",
+        description="The companion at netrev's prompt: what it adds to netrev's replies begins with | and is unproved.",
     )
     made.add_argument("file", nargs="?", metavar="FILE", help="the recording")
-    made.add_argument("-x", dest="lines", action=InOrder, const="source", metavar="FILE", help="takes lines from a file")
+    made.add_argument(
+        "-x", dest="lines", action=InOrder, const="source", metavar="FILE", help="takes lines from a file"
+    )
     made.add_argument("-ex", dest="lines", action=InOrder, const="line", metavar="COMMAND", help="takes this line")
     made.add_argument("--batch", action="store_true", help="ends behind -x and -ex, in place of a prompt")
     made.add_argument("--json", action="store_true", help="prints a line of JSON for each event")
     made.add_argument("--timeline", metavar="OUT.html", help="writes the timeline, behind -x and -ex, and ends")
     made.add_argument("--join", metavar="HOST:PORT", help="joins a session that `netrev serve` has")
-    made.add_argument("--netrev", default=os.environ.get("NETREV", str(PROGRAM)), metavar="PROGRAM", help="netrev's program")
+    made.add_argument(
+        "--netrev", default=os.environ.get("NETREV", str(PROGRAM)), metavar="PROGRAM", help="netrev's program"
+    )
     return made
 
 
@@ -86,11 +90,7 @@ def run(wanted: argparse.Namespace, printer: Printer) -> int:
 def start(wanted: argparse.Namespace, printer: Printer) -> int:
     """Opens the session that is wanted, and runs it to its end; the exit status."""
     interrupts = Interrupts()
-    if wanted.join:
-        netrev = Joined(*address(wanted.join), interrupts)
-    else:
-        netrev = Own(wanted.netrev, wanted.file, interrupts)
-    with closing(netrev):
+    with closing(opened(wanted, interrupts)) as netrev:
         recording = Recording.read(wanted.file) if wanted.file else None
         scout = Scout(wanted.netrev, wanted.file, interrupts) if wanted.file else None
         session = Session(netrev, recording, scout, printer, interrupts, ANSWERS)
@@ -107,6 +107,13 @@ def start(wanted: argparse.Namespace, printer: Printer) -> int:
             if scout:
                 scout.drop()
         return netrev.close() or DONE
+
+
+def opened(wanted: argparse.Namespace, interrupts: Interrupts) -> Netrev:
+    """A netrev of one's own, or a front of a session that is shared."""
+    if wanted.join:
+        return Joined(address(wanted.join), interrupts)
+    return Own(wanted.netrev, wanted.file, interrupts)
 
 
 def played(session: Session, wanted: argparse.Namespace) -> None:
@@ -135,7 +142,7 @@ def typed(session: Session) -> None:
             return
 
 
-def address(text: str) -> tuple:
+def address(text: str) -> tuple[str, int]:
     """The host and the port of an address."""
     host, _, port = text.rpartition(":")
     if not port.isdigit():

@@ -12,7 +12,7 @@ VALUES = {"gor": STATUSES, "rg": ["nil", "ready", "wait"], "wg": ["nil", "ready"
 
 
 def candidates(before: list, numbers: Callable[[Of], list]) -> list:
-    """What can stand behind these words; `numbers` gives those of goroutines, sockets or descriptors that are in use."""
+    """What can stand behind these words; `numbers` gives those that are in use."""
     if not before:
         return list(COMMANDS)
     try:

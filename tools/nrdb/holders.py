@@ -28,12 +28,13 @@ class Holders:
     closed: bool = False
     locked: dict = field(default_factory=lambda: dict.fromkeys(SIDES, False))
     waiting: dict = field(default_factory=lambda: dict.fromkeys(SIDES, 0))
-    held: list = field(default_factory=list)
+    held: list[Reference] = field(default_factory=list)
 
     @property
     def word(self) -> LockWord:
         """The lock word that the steps come to."""
-        return LockWord(self.closed, *self.locked.values(), len(self.held), *self.waiting.values())
+        locked, waiting = self.locked, self.waiting
+        return LockWord(self.closed, locked["r"], locked["w"], len(self.held), waiting["r"], waiting["w"])
 
     def follow(self, steps: Iterable[Step]) -> "Holders":
         """Takes these steps, all of one socket, into account."""
@@ -81,7 +82,9 @@ def holders_table(world: World, socket: int) -> Table:
     holders = holders_of(world, socket)
     rows = [_row(world, held) for held in holders.held]
     if holders.word != LockWord.of(int(shown)):
-        rest = f"netrev shows lock {socket} = {shown}, {lock_words(shown)}: the steps come to {holders.word}, so take care"
+        rest = (
+            f"netrev shows lock {socket} = {shown}, {lock_words(shown)}: the steps come to {holders.word}, so take care"
+        )
     else:
         rest = f"lock {socket} = {shown}: {lock_words(shown)}; {counted(len(rows), 'holder')}"
     return Table("holders", rows, rest)

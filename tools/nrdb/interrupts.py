@@ -10,7 +10,7 @@ class Interrupted(Exception):
 
 
 class GivenUp(Exception):
-    """Ctrl-C was pressed again while netrev didn't answer: a reply is left half read, and the session is of no more use."""
+    """Ctrl-C was pressed again while netrev didn't answer: a reply is left half read, and the session of no use."""
 
 
 class Interrupts:

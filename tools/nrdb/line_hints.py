@@ -68,7 +68,7 @@ def unknown(words: list) -> str:
         return f"print {' '.join(words)} shows that cell"
     known = [*COMMANDS, *SPELLINGS, *(short for command in COMMANDS.values() for short in command.short)]
     if plain in known:
-        return f"did you mean {SPELLINGS.get(plain, plain)}? Commands are in lower case, and nothing else stands beside them"
+        return f"did you mean {SPELLINGS.get(plain, plain)}? Commands are words in lower case"
     near = difflib.get_close_matches(plain, list(COMMANDS), n=3)
     return f"did you mean {' or '.join(near)}?" if near else "help lists the commands"
 
@@ -103,7 +103,9 @@ def of_numbered(cell, rest: list, command: str) -> str:
         return f"did you mean {command} {cell.name} {digits}?"
     if len(rest) > 1 and command == "watch":
         value = " ".join(word for word in rest[1:] if word not in ("if", "=", "=="))
-        return f"watch takes a cell alone; until {cell.name} {digits} {value}* goes to the step that gives it this value"
+        return (
+            f"watch takes a cell alone; until {cell.name} {digits} {value}* goes to the step that gives it this value"
+        )
     return f"one {cell.of.value} at a time: {command} {cell.name} {digits}"
 
 
@@ -177,7 +179,8 @@ def of_dump(words: list) -> str:
     if words[0] not in DUMPS:
         return f"{words[0]} can't be dumped: dump {kinds} S; print shows cells"
     digits = words[1].strip("s[]") if len(words) > 1 else "0"
-    return f"{words[0]} wants the number of a socket alone: dump {words[0]} {digits if number_of(digits) is not None else 0}"
+    number = digits if number_of(digits) is not None else "0"
+    return f"{words[0]} wants the number of a socket alone: dump {words[0]} {number}"
 
 
 def of_info(words: list) -> str:

@@ -4,7 +4,7 @@ import re
 import socket
 import subprocess
 from contextlib import suppress
-from typing import Optional
+from typing import IO, Optional
 
 from .interrupts import Interrupts
 
@@ -23,7 +23,7 @@ class Ended(Exception):
 class Netrev:
     """Lines are sent, and each is answered by a line; the two lists by a line more an entry."""
 
-    def __init__(self, commands, replies, interrupts: Interrupts):
+    def __init__(self, commands: IO[bytes], replies: IO[bytes], interrupts: Interrupts):
         self._commands, self._replies, self._interrupts = commands, replies, interrupts
 
     def ask(self, line: str) -> list:
@@ -82,12 +82,13 @@ class Own(Netrev):
         self._process = subprocess.Popen(
             [program, "run", path], stdin=subprocess.PIPE, stdout=subprocess.PIPE, start_new_session=True
         )
+        assert self._process.stdin and self._process.stdout
         super().__init__(self._process.stdin, self._process.stdout, interrupts)
 
     def close(self) -> Optional[int]:
         with suppress(OSError):
-            self._process.stdin.close()
-        self._process.stdout.close()
+            self._commands.close()
+        self._replies.close()
         return self._process.wait()
 
     def drop(self) -> None:
@@ -99,14 +100,14 @@ class Own(Netrev):
 class Joined(Netrev):
     """A front of a session that `netrev serve` has, by its address."""
 
-    def __init__(self, host: str, port: int, interrupts: Interrupts):
-        self._socket = socket.create_connection((host, port), timeout=10)
+    def __init__(self, address: tuple[str, int], interrupts: Interrupts):
+        self._socket = socket.create_connection(address, timeout=10)
         self._socket.settimeout(None)
         self._socket.setsockopt(socket.IPPROTO_TCP, socket.TCP_NODELAY, 1)
         super().__init__(self._socket.makefile("wb"), self._socket.makefile("rb"), interrupts)
 
     def close(self) -> Optional[int]:
-        for stream in (self._commands, self._replies, self._socket):
+        for close in (self._commands.close, self._replies.close, self._socket.close):
             with suppress(OSError):
-                stream.close()
+                close()
         return None

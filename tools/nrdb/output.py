@@ -3,6 +3,7 @@ printed as they are; all else begins with `|`."""
 
 import json
 import sys
+from abc import ABC, abstractmethod
 from dataclasses import dataclass
 from typing import Optional, TextIO
 
@@ -47,7 +48,7 @@ class Table:
     rest: str = ""
 
 
-class Printer:
+class Printer(ABC):
     """Where events go. Each is out before the next line is read."""
 
     def __init__(self, out: Optional[TextIO] = None):
@@ -57,32 +58,51 @@ class Printer:
         """Writes a line."""
         print(text, file=self.out, flush=True)
 
+    @abstractmethod
+    def echo(self, line: str) -> None:
+        """A line that nobody typed, as the prompt would show it."""
+
+    @abstractmethod
+    def reply(self, line: str, reply: list[str], words: str) -> None:
+        """netrev's reply to a line, and what its value says in words."""
+
+    @abstractmethod
+    def place(self, place: Place) -> None:
+        """Where the session stands."""
+
+    @abstractmethod
+    def note(self, text: str) -> None:
+        """A remark, of one line or several."""
+
+    @abstractmethod
+    def table(self, table: Table) -> None:
+        """A table."""
+
+    @abstractmethod
+    def end(self, status: int) -> None:
+        """The session has ended."""
+
 
 class TextPrinter(Printer):
     """Events as text."""
 
     def echo(self, line: str) -> None:
-        """A line that nobody typed, as the prompt would show it."""
         self.write(f"(netrev) {line}".rstrip())
 
     def reply(self, line: str, reply: list, words: str) -> None:
-        """The reply to a line, and what its value says in words."""
         first, *rest = reply
         self.write(f"{first}   | {words}" if words else first)
         for entry in rest:
             self.write(entry)
 
     def place(self, place: Place) -> None:
-        """Where the session stands."""
         self.write(f"| {place}")
 
     def note(self, text: str) -> None:
-        """A remark."""
         for line in text.split("\n"):
             self.write(f"| {line}")
 
     def table(self, table: Table) -> None:
-        """A table."""
         for row in table.rows:
             self.write(f"| {row.text}")
         if table.rest:

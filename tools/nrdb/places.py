@@ -68,7 +68,12 @@ def _descriptor_row(number: int, values: list, socket) -> Row:
     if named["info"] == "absent":
         return Row(told, f"desc {number:<3} isn't made yet")
     whose = "free" if socket is None else f"open for socket {socket}"
-    said = [whose, f"rg {named['rg']}, wg {named['wg']}", f"rd {named['rd']}, wd {named['wd']}", f"use {named['fdseq']}"]
+    said = [
+        whose,
+        f"rg {named['rg']}, wg {named['wg']}",
+        f"rd {named['rd']}, wd {named['wd']}",
+        f"use {named['fdseq']}",
+    ]
     if named["info"] != "0":
         said.append(info_words(named["info"]))
     return Row(told, f"desc {number:<3} {'; '.join(said)}")

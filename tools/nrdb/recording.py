@@ -83,21 +83,26 @@ class Recording:
         header = json.loads(self.line(self.header_line))
         return header if isinstance(header, dict) else {}
 
-    def step(self, number: int) -> Optional[Step]:
+    def step_or_none(self, number: int) -> Optional[Step]:
         """The step of that number, from 1, or None where there is none."""
-        if not 1 <= number <= self.length:
-            return None
-        line = self._numbers[number]
-        kind, *arguments = json.loads(self.line(line))
-        return Step(number, line, kind, tuple(arguments))
+        return self.step(number) if 1 <= number <= self.length else None
+
+    def step(self, number: int) -> Step:
+        """The step of that number, from 1 to the recording's length."""
+        return self._made(number, json.loads(self.line(self._numbers[number])))
+
+    def _made(self, number: int, values: list) -> Step:
+        """The step of that number, by the array in its line."""
+        kind, *arguments = values
+        return Step(number, self._numbers[number], kind, tuple(arguments))
 
     def steps_of(self, kinds: tuple, until: int, socket: Optional[int] = None) -> Iterator[Step]:
         """The steps of these kinds among the first so many; and, where one is named, of this socket."""
         numbers = list(self._numbers_of(kinds, until, socket))
         lines = [self.line(self._numbers[number]) for number in numbers]
-        for number, (kind, *arguments) in zip(numbers, json.loads(b"[%s]" % b",".join(lines))):
-            step = Step(number, self._numbers[number], kind, tuple(arguments))
-            if kind in kinds and (socket is None or step.argument("s") == socket):
+        for number, values in zip(numbers, json.loads(b"[%s]" % b",".join(lines))):
+            step = self._made(number, values)
+            if step.kind in kinds and (socket is None or step.argument("s") == socket):
                 yield step
 
     def _numbers_of(self, kinds: tuple, until: int, socket: Optional[int]) -> Iterable[int]:

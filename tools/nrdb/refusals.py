@@ -17,7 +17,7 @@ FAR = 4_294_967_295
 LONGEST = 100
 
 CAUSES = {
-    1: "was it spawned, and is its number used after its exit? Go's own numbers aren't the recording's: those count from 0",
+    1: "was it spawned, or does it come after its exit? Numbers count from 0, and aren't Go's own",
     2: "a step before it is missing: its status says what it still has to do",
     3: "the header's limit is too low: it counts all that the run makes; of descriptors, those that are open at once",
     4: "is its sockopen missing? Numbers count from 0; a kernel's file descriptor is no socket number",
@@ -61,7 +61,10 @@ def step_explained(program: str, recording: Recording, number: int, reason: int)
     """Why a step doesn't apply."""
     step = recording.step(number)
     usage = KINDS[step.kind].usage
-    said = [f"line {step.line}: {step}" + (f"   ({usage})" if step.arguments else ""), f"reason {reason}: {REASONS[reason]}"]
+    said = [
+        f"line {step.line}: {step}" + (f"   ({usage})" if step.arguments else ""),
+        f"reason {reason}: {REASONS[reason]}",
+    ]
     if reason in CAUSES:
         said.append(CAUSES[reason])
     return said + [f"just before: {told}" for told in before(program, recording, step)]

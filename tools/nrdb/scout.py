@@ -1,10 +1,10 @@
-"""A second netrev over the same recording, which goes wherever something is to be seen: so the session's position, marks
-and checkpoints stay as they were typed, and those who share one don't notice."""
+"""A second netrev over the same recording, which goes wherever something is to be seen: so the session's position,
+marks and checkpoints stay as they were typed, and those who share one don't notice."""
 
 from contextlib import closing
 from dataclasses import dataclass
 from itertools import islice
-from typing import Callable, Iterator, Optional
+from typing import Callable, Generator, Iterator, Optional
 
 from .interrupts import Interrupts
 from .netrev import Own
@@ -31,19 +31,25 @@ class Scout:
 
     def __init__(self, program: str, path: str, interrupts: Interrupts):
         self._program, self._path, self._interrupts = program, path, interrupts
-        self.netrev: Optional[Own] = None
+        self._netrev: Optional[Own] = None
         self._placed = 0
+
+    @property
+    def netrev(self) -> Own:
+        """The netrev that looks, wherever it stands."""
+        if self._netrev is None:
+            self._netrev, self._placed = Own(self._program, self._path, self._interrupts), 0
+        return self._netrev
 
     def prepare(self) -> None:
         """Starts netrev, if it isn't there yet, and doesn't wait until it has read the recording."""
-        if self.netrev is None:
-            self.netrev, self._placed = Own(self._program, self._path, self._interrupts), 0
+        self.netrev  # (the property starts it)
 
     def drop(self) -> None:
         """Ends netrev, whatever it does."""
-        if self.netrev is not None:
-            self.netrev.drop()
-            self.netrev = None
+        if self._netrev is not None:
+            self._netrev.drop()
+            self._netrev = None
 
     def values(self, position: int, cells: list) -> list:
         """The values of the cells at the position."""
@@ -78,7 +84,7 @@ class Scout:
             self._placed += 1
             yield replies[:-1]
 
-    def _stops_up_to(self, cell: str, position: int) -> Iterator[tuple]:
+    def _stops_up_to(self, cell: str, position: int) -> Generator[tuple, None, None]:
         """The positions behind changes of the cell, backwards, from this position on, each with the value there."""
         if position:
             before, now = (self.values(at, [cell])[0] for at in (position - 1, position))
@@ -86,7 +92,7 @@ class Scout:
                 yield position, now
         yield from self._stops(cell, position, "reverse-continue")
 
-    def _stops(self, cell: str, position: int, way: str) -> Iterator[tuple]:
+    def _stops(self, cell: str, position: int, way: str) -> Generator[tuple, None, None]:
         """The positions that way behind changes of the cell, each with the value there."""
         mark, size = self._watch(cell, position), 1
         try:
@@ -112,7 +118,6 @@ class Scout:
         """Goes to the position, with room in the journal for what comes."""
         if self._placed + 4 * AT_ONCE >= JOURNAL:
             self.drop()
-        self.prepare()
         self._ask(["restart 0", f"stepi {position}"] if position else ["restart 0"], 2)
 
     def _ask(self, lines: list, placed: int) -> list:

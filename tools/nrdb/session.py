@@ -21,6 +21,7 @@ MOVED = re.compile(r"at (\d+)(?: (?:end|start|by ([\d ]+)))?\Z")
 STANDS = re.compile(r"at (\d+) of (\d+) (forward|reverse)\Z")
 VALUE = re.compile(r"((?:\w+)(?: \d+)?) = (.*)\Z")
 NESTED = 8
+UNNAMED = "for this the recording has to be named: nrdb --join HOST:PORT FILE"
 
 
 class Misused(Exception):
@@ -68,8 +69,10 @@ class Session:
 
     def place(self, position: int) -> Place:
         """The position with the steps round it."""
-        step = self.recording.step if self.recording else lambda _: None
-        return Place(position, self.length, step(position), step(position + 1))
+        if self.recording is None:
+            return Place(position, self.length, None, None)
+        last, then = (self.recording.step_or_none(number) for number in (position, position + 1))
+        return Place(position, self.length, last, then)
 
     def world(self) -> World:
         """What is there at the position."""
@@ -78,12 +81,13 @@ class Session:
     def text(self) -> Recording:
         """The recording; Misused where a session was joined without it."""
         if self.recording is None:
-            raise Misused("for this the recording has to be named: nrdb --join HOST:PORT FILE")
+            raise Misused(UNNAMED)
         return self.recording
 
     def looks(self) -> Scout:
         """The scout; Misused where a session was joined without the recording."""
-        self.text()
+        if self.scout is None:
+            raise Misused(UNNAMED)
         return self.scout
 
     def run(self, line: str) -> bool:
@@ -120,7 +124,9 @@ class Session:
         """Answers a line that has words."""
         words = whole_words(line.split())
         command = COMMANDS.get(words[0])
-        is_topic_here = words[0] == "info" and len(words) > 1 and words[1] in TOPICS and TOPICS[words[1]][0] is Origin.NRDB
+        is_topic_here = (
+            words[0] == "info" and len(words) > 1 and words[1] in TOPICS and TOPICS[words[1]][0] is Origin.NRDB
+        )
         if is_topic_here or words == ["info"] or (command and command.origin is Origin.NRDB):
             return self.answers[words[0]](self, words[1:]) is not False
         return self.pass_on(line, words)

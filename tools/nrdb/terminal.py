@@ -1,4 +1,4 @@
-"""The prompt: line editing, a history that is kept in a file, completion, and an empty line that repeats the last step."""
+"""The prompt: line editing, a history that is kept in a file, completion, and an empty line that repeats a step."""
 
 import os
 from pathlib import Path
@@ -6,14 +6,14 @@ from pathlib import Path
 from .commands import COMMANDS, Ambiguous, whole_words
 from .completion import candidates
 from .netrev import Ended
-from .session import Misused, Session
+from .session import Session
 from .vocabulary import Of
-from .world import World
+from .world import made_at
 
 try:
     import readline
 except ImportError:  # a Python without it has no line editing
-    readline = None
+    readline = None  # type: ignore[assignment]
 
 PROMPT = "(netrev) "
 KEPT = 1000
@@ -31,7 +31,7 @@ class Terminal:
     def __init__(self, session: Session):
         self.session = session
         self._last = ""
-        self._found = []
+        self._found: list[str] = []
 
     def run(self) -> None:
         """Reads and answers lines until quit, or the end of the input."""
@@ -88,8 +88,8 @@ class Terminal:
     def _numbers(self, of: Of) -> list:
         """The numbers in use at the position."""
         try:
-            made = World(self.session.netrev, self.session.recording, self.session.stood).made(of)
-        except (Ended, Misused):
+            made = made_at(self.session.netrev, of)
+        except Ended:
             return []
         return [str(number) for number in range(min(made, MOST_NUMBERS))]
 

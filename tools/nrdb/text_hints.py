@@ -103,7 +103,7 @@ def json_hint(recording: Recording, number: int, text: str) -> str:
 def header_hint(value) -> str:
     """Of the first line, which isn't the header that was wanted."""
     if isinstance(value, list) and value and isinstance(value[0], dict):
-        return "the whole is one array: a recording has a line for the header and one for each step, without commas between"
+        return "the whole is one array: the header and each step have a line of their own, without commas between"
     if not isinstance(value, dict):
         return f"the first line has to be the header: {HEADER_EXAMPLE}"
     said = [f"key {key} is missing ({limit.says})" for key, limit in HEADER.items() if key not in value]
@@ -160,7 +160,9 @@ def is_written(how: Written, given) -> bool:
     if how is Written.MODE:
         return given in ("r", "w", "rw")
     if how is Written.BYTES:
-        return isinstance(given, str) and re.fullmatch("(?:[0-9a-fA-F]{2})*", given) is not None and len(given) <= 131_072
+        return (
+            isinstance(given, str) and re.fullmatch("(?:[0-9a-fA-F]{2})*", given) is not None and len(given) <= 131_072
+        )
     ranges = {
         Written.NUMBER: (0, MOST),
         Written.TAG: (0, 2**64 - 1),

@@ -63,11 +63,13 @@ def collected(session: Session, recording: Recording, window: Window) -> dict:
         "last": window.last,
         "length": recording.length,
         "position": session.stands()[0],
-        "steps": [str(recording.step(number) or "") for number in range(window.first, window.last + 2)],
+        "steps": [str(recording.step_or_none(number) or "") for number in range(window.first, window.last + 2)],
         "cells": spelled,
         "rows": rows_of(runs),
         "words": words_of(runs),
-        "shades": {name: {"colour": shade.colour, "says": shade.says, "of": shade.of.value} for name, shade in SHADES.items()},
+        "shades": {
+            name: {"colour": shade.colour, "says": shade.says, "of": shade.of.value} for name, shade in SHADES.items()
+        },
         "marks": marks_of(session, recording, window, runs),
     }
 
@@ -87,7 +89,7 @@ def cells_at(session: Session, position: int) -> list:
 def runs_of(session: Session, window: Window, cells: list) -> dict:
     """Of each cell the positions at which it has another value than before, with that value."""
     looks = [f"dump {cell}" if cell.startswith(QUEUES) else f"print {cell}" for cell in cells]
-    runs = {cell: [] for cell in cells}
+    runs: dict[str, list[tuple[int, str]]] = {cell: [] for cell in cells}
     before = [""] * len(cells)
     for position, shown in enumerate(session.looks().rows(window.first, window.last, looks), window.first):
         for cell, old, new in zip(cells, before, shown):
@@ -111,7 +113,7 @@ def rows_of(runs: dict) -> list:
 
 def words_of(runs: dict) -> dict:
     """The words of the values of cells that have such, by the cell's name."""
-    words = {}
+    words: dict[str, dict[str, str]] = {}
     for cell, run in runs.items():
         name = cell.split()[0]
         for _, value in run:

@@ -1,5 +1,5 @@
-"""`info goroutines`: what each goroutine does that is neither idle nor gone, and what it waits for. It is the first look
-where something hangs."""
+"""`info goroutines`: what each goroutine does that is neither idle nor gone, and what it waits for. It is the first
+look where something hangs."""
 
 from .holders import holders_of
 from .output import Row, Table

@@ -1,5 +1,5 @@
-"""What is there at the session's position, by netrev's replies, and what the recording's steps tell of it besides: which
-descriptors are open, and whose they are."""
+"""What is there at the session's position, by netrev's replies, and what the recording's steps tell of it besides:
+which descriptors are open, and whose they are."""
 
 from .netrev import Netrev
 from .recording import Recording
@@ -40,19 +40,13 @@ class World:
 
     def made(self, of: Of) -> int:
         """How many goroutines, sockets or descriptors were made: those are the numbers below."""
-        count, size = 0, AT_FIRST
-        while True:
-            values = self.values([f"{COUNTED_BY[of]} {number}" for number in range(count, count + size)])
-            there = values.index("absent") if "absent" in values else size
-            count += there
-            if there < size:
-                return count
-            size *= 2
+        return made_at(self.netrev, of)
 
     def sockets_of_open(self) -> dict:
         """The open descriptors, each with its socket: `pollopen` takes the number that was freed last, else the next
         new one."""
-        free, made, open_now = [], 0, {}
+        free: list[int] = []
+        made, open_now = 0, dict[int, int]()
         for step in self.recording.steps_of(("pollopen", "pollclose"), self.position):
             if step.kind == "pollclose":
                 free.append(step.argument("d"))
@@ -64,3 +58,15 @@ class World:
                 descriptor, made = made, made + 1
             open_now[descriptor] = step.argument("s")
         return open_now
+
+
+def made_at(netrev: Netrev, of: Of) -> int:
+    """How many goroutines, sockets or descriptors are made where netrev stands."""
+    count, size = 0, AT_FIRST
+    while True:
+        values = netrev.values([f"{COUNTED_BY[of]} {number}" for number in range(count, count + size)])
+        there = values.index("absent") if "absent" in values else size
+        count += there
+        if there < size:
+            return count
+        size *= 2
