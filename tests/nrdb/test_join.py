@@ -90,6 +90,7 @@ class Join(unittest.TestCase):
                 self.assertEqual(told[0], {"event": "note", "text": "somebody has moved: from 6 to 9"})
                 self.assertEqual(told[1]["position"], 9)
                 self.assertEqual(replies(told), ["lock 0 = 9"])
+                self.assertEqual([event["event"] for event in person.ask("print lock 0")], ["reply"])
                 changes = [event["rows"] for event in person.ask("history lock 0") if event["event"] == "table"]
                 self.assertEqual([row["step"] for row in changes[0]], [3, 4, 5, 6, 7, 8, 9])
                 self.assertEqual(other.ask("info position"), "at 9 of 10 forward")

@@ -3,6 +3,7 @@
 import random
 import re
 import unittest
+from collections import Counter
 
 from support import events, recordings, shown
 
@@ -41,6 +42,16 @@ def open_descriptors(recording, position):
             count[step.arguments[1]] -= 1
             free.append(step.arguments[1])
     return {descriptor: socket[descriptor] for descriptor, times in count.items() if times}
+
+
+def balance(recording, words, position):
+    """How many references of a socket each goroutine has, by how its lock word's count changed at that one's steps."""
+    counts = [0 if word == "absent" else lock_fields(word)[3] for word in words]
+    held = Counter()
+    for number in range(1, position + 1):
+        if change := counts[number] - counts[number - 1]:
+            held[recording.step(number).argument("g")] += change
+    return +held
 
 
 class Views(unittest.TestCase):
@@ -158,6 +169,23 @@ class Views(unittest.TestCase):
             self.assertEqual((int(step[1]), int(step[2])), (row["goroutine"], socket))
             self.assertEqual(str(world.recording.step(row["step"])), row["took"])
             self.assertEqual(row["status"], world.at(at)[f"gor {row['goroutine']}"])
+
+    def test_holders_are_those_whose_steps_took_more_than_they_gave(self):
+        count = 0
+        for path in recordings():
+            world = shown(path)
+            held = [(at, socket) for at in self.places(path) for socket in world.made("lock", at)]
+            held = [(at, socket) for at, socket in held if lock_fields(world.at(at)[f"lock {socket}"])[3]]
+            asked = self.random.sample(held, min(3, len(held)))
+            lines = [line for at, socket in asked for line in (f"goto {at}", f"info holders {socket}")]
+            tables = [event["rows"] for event in events(path, lines) if event["event"] == "table"]
+            series = world.series([f"lock {socket}" for _, socket in asked])
+            for (at, socket), rows in zip(asked, tables, strict=True):
+                with self.subTest(path.stem, position=at, socket=socket):
+                    told = Counter(row["goroutine"] for row in rows)
+                    self.assertEqual(told, balance(world.recording, series[f"lock {socket}"], at))
+                count += 1
+        self.assertGreater(count, 9)
 
     def test_words_behind_lock_words(self):
         for path in recordings():
