@@ -3,7 +3,13 @@
 
 NETREV = crates/netrev/out/netrev
 
-.PHONY: look run hunt test refused loopback companion netrev examples share bench
+.PHONY: help look run hunt test refused loopback companion netrev examples share bench clean
+
+# Tells what there is to make.
+help:
+	@awk '/^# / { text = text (text ? " " : "") substr($$0, 3); next } \
+		/^[a-z]+:/ && text { sub(/:.*/, ""); sub(/[.:;]( .*)?$$/, "", text); printf "make %-10s %s\n", $$0, text } \
+		{ text = "" }' Makefile
 
 # Runs the first example without waiting for proofs. Nothing is proved by it.
 look:
@@ -63,3 +69,8 @@ bench: netrev
 	@python3 bench/searching.py
 	@echo
 	@python3 bench/companion.py
+
+# Removes all that was built and checked here. What `make test` keeps on this machine stays.
+clean:
+	rm -rf out crates/*/out
+	find tools tests scripts bench -name __pycache__ -prune -exec rm -rf {} +
