@@ -86,6 +86,16 @@ class Batch(unittest.TestCase):
             self.assertEqual((said.splitlines()[0], error, status), ("line 1: fault 101 header", "", 1))
             self.assertEqual(nrdb_process(f"{bad}.none")[1:], ("", 3))
 
+    def test_bytes_that_are_no_text_go_as_they_come(self):
+        words = [sys.executable, NRDB, "--netrev", NETREV, FIRST]
+        ended = subprocess.run(words, input=b"print \xff\n\xff\n", capture_output=True, timeout=60, check=True)
+        self.assertEqual(ended.stderr, b"")
+        self.assertEqual(
+            [line for line in ended.stdout.split(b"\n") if line.startswith(b"(")],
+            [b"(netrev) print \xff", b"(netrev) \xff"],
+        )
+        self.assertEqual(ended.stdout.count(b"fault 20"), 2)
+
     def test_an_output_that_nobody_reads_ends_it(self):
         words = [sys.executable, NRDB, "--netrev", NETREV, FIRST]
         with subprocess.Popen(words, stdin=subprocess.PIPE, stdout=subprocess.PIPE, stderr=subprocess.PIPE) as process:

@@ -72,6 +72,11 @@ class Timeline(unittest.TestCase):
         told = {cell: value_at(runs, 995) for cell, runs in data["cells"].items()}
         self.assertEqual(told, {cell: values[cell] for cell in told})
 
+    def test_a_page_that_cannot_be_written(self):
+        with tempfile.TemporaryDirectory() as folder:
+            said = nrdb("--timeline", f"{folder}/none/page.html", recordings()[0], status=3)
+        self.assertIn("none/page.html: No such file or directory", said)
+
     def test_shades_of_one_kind_differ_in_brightness(self):
         _, data = page_of(shown(recordings()[0]).path)
         for of in ("goroutine", "descriptor", "socket"):

@@ -5,7 +5,7 @@ from fnmatch import fnmatchcase
 from typing import Callable, Optional
 
 from .changes import MOST, history_table
-from .commands import COMMANDS, TOPICS, Origin, whole_command
+from .commands import ALL_TOPICS, COMMANDS, TOPICS, Origin, whole_command
 from .holders import holders_table
 from .output import Row, Table
 from .places import descriptors_table, sockets_table, timers_table
@@ -60,7 +60,7 @@ def answer_help(session: Session, words: list) -> None:
     short = f" (short: {', '.join(COMMANDS[name].short)})" if COMMANDS[name].short else ""
     session.printer.note(usage(name) + short)
     if name == "info":
-        session.printer.note("\n".join(f"info {how}: {says}" for _, how, says in TOPICS.values()))
+        session.printer.note("\n".join(f"info {topic.usage}: {topic.says}" for topic in TOPICS.values()))
 
 
 def all_help() -> list:
@@ -70,7 +70,8 @@ def all_help() -> list:
         lines.append(title)
         commands = [command for command in COMMANDS.values() if command.origin is origin]
         lines += [f"  {command.usage:<34} {command.says}" for command in commands]
-        lines += [f"  info {how:<29} {says}" for of, how, says in TOPICS.values() if of is origin]
+        topics = [topic for topic in TOPICS.values() if topic.origin is origin]
+        lines += [f"  info {topic.usage:<29} {topic.says}" for topic in topics]
     return [*lines, f"kinds: {' '.join(KINDS)}", f"cells: {' '.join(CELLS)}"]
 
 
@@ -180,7 +181,7 @@ def answer_source(session: Session, words: list) -> bool:
 
 def answer_info(session: Session, words: list) -> None:
     if not words:
-        raise Misused("info what? " + "; ".join(f"info {how}" for _, how, _ in TOPICS.values()))
+        raise Misused(f"info what? {ALL_TOPICS}")
     topic, rest = words[0], words[1:]
     if topic == "timers" and not rest:
         return session.printer.table(timers_table(session.world()))
@@ -189,7 +190,7 @@ def answer_info(session: Session, words: list) -> None:
         return session.printer.table(holders_table(session.world(), number))
     is_all = rest == ["all"]
     if topic not in TABLES or (rest and not is_all and number is None):
-        raise Misused(f"info {TOPICS[topic][1]}: {TOPICS[topic][2]}")
+        raise Misused(f"info {TOPICS[topic].usage}: {TOPICS[topic].says}")
     session.printer.table(TABLES[topic](session.world(), None if number is None else [number], is_all))
 
 

@@ -2,6 +2,7 @@
 file, the program or the connection failed."""
 
 import argparse
+import io
 import os
 import sys
 from contextlib import closing
@@ -9,14 +10,15 @@ from pathlib import Path
 from typing import Optional
 
 from .answers import ANSWERS
-from .interrupts import GivenUp, Interrupts
+from .interrupts import GivenUp, Interrupted, Interrupts
 from .netrev import Ended, Joined, Netrev, Own
 from .output import JsonPrinter, Printer, TextPrinter
 from .recording import Recording
 from .refusals import explained
 from .scout import Scout
-from .session import Mismatched, Session
+from .session import Mismatched, Misused, Session
 from .terminal import Terminal
+from .timeline import write_timeline
 
 PROGRAM = Path(__file__).resolve().parents[2] / "crates/netrev/out/netrev"
 DONE, REFUSED, USAGE, FAILED = range(4)
@@ -55,6 +57,9 @@ def main(words: Optional[list] = None) -> int:
     wanted = parser().parse_args(words)
     if not wanted.file and not wanted.join:
         parser().error("a recording has to be named, or a session to join")
+    for stream in (sys.stdin, sys.stdout):
+        if isinstance(stream, io.TextIOWrapper):
+            stream.reconfigure(errors="surrogateescape")  # bytes that are no UTF-8 go as they come
     printer = (JsonPrinter if wanted.json else TextPrinter)()
     try:
         return run(wanted, printer)
@@ -68,8 +73,8 @@ def run(wanted: argparse.Namespace, printer: Printer) -> int:
     try:
         status = start(wanted, printer)
     except Ended as ended:
-        printer.note("the connection with netrev has ended")
-        status = ended.status or FAILED
+        printer.note("netrev has ended")
+        status = ended.status if ended.status and ended.status > 0 else FAILED
     except Mismatched as mismatched:
         printer.note(str(mismatched))
         status = FAILED
@@ -102,11 +107,11 @@ def start(wanted: argparse.Namespace, printer: Printer) -> int:
             return netrev.close() or REFUSED
         session.begin(first)
         try:
-            played(session, wanted)
+            status = played(session, wanted)
         finally:
             if scout:
                 scout.drop()
-        return netrev.close() or DONE
+        return netrev.close() or status
 
 
 def opened(wanted: argparse.Namespace, interrupts: Interrupts) -> Netrev:
@@ -116,17 +121,30 @@ def opened(wanted: argparse.Namespace, interrupts: Interrupts) -> Netrev:
     return Own(wanted.netrev, wanted.file, interrupts)
 
 
-def played(session: Session, wanted: argparse.Namespace) -> None:
-    """Takes the lines of -x and -ex, and then those of the terminal or of the input."""
+def played(session: Session, wanted: argparse.Namespace) -> int:
+    """Takes the lines of -x and -ex, and then writes the timeline, or takes those of the terminal or of the input; the
+    exit status."""
     for sort, text in wanted.lines or ():
         if sort == "line":
             session.printer.echo(text)
         if not (session.run if sort == "line" else session.play)(text):
-            return
+            return DONE
     if wanted.timeline:
-        session.run(f"timeline {wanted.timeline}")
-    elif not wanted.batch:
+        return drawn(session, wanted.timeline)
+    if not wanted.batch:
         typed(session)
+    return DONE
+
+
+def drawn(session: Session, path: str) -> int:
+    """Writes the timeline; the exit status."""
+    try:
+        with session.interrupts.held():
+            session.printer.note(write_timeline(session, path))
+    except (Interrupted, Misused) as stopped:
+        session.printer.note(str(stopped) or "interrupted")
+        return FAILED
+    return DONE
 
 
 def typed(session: Session) -> None:

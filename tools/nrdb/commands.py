@@ -75,16 +75,30 @@ COMMANDS = {
     )
 }
 
+
+@dataclass(frozen=True)
+class Topic:
+    """What `info` tells about: who answers, how it is called and what it tells."""
+
+    origin: Origin
+    usage: str
+    says: str
+
+
 TOPICS = {
-    "position": (Origin.NETREV, "position", "where it stands"),
-    "breakpoints": (Origin.NETREV, "breakpoints", "the marks"),
-    "checkpoints": (Origin.NETREV, "checkpoints", "the checkpoints"),
-    "goroutines": (Origin.NRDB, "goroutines [all|G]", "what each does that is neither idle nor gone"),
-    "sockets": (Origin.NRDB, "sockets [all|S]", "those whose lock word, queue or input says something"),
-    "descriptors": (Origin.NRDB, "descriptors [all|D]", "the open ones: whose socket, words and deadlines"),
-    "timers": (Origin.NRDB, "timers", "the clock, and the deadlines to come"),
-    "holders": (Origin.NRDB, "holders S", "who holds the references of socket S, and since which step"),
+    topic.usage.split()[0]: topic
+    for topic in (
+        Topic(Origin.NETREV, "position", "where it stands"),
+        Topic(Origin.NETREV, "breakpoints", "the marks"),
+        Topic(Origin.NETREV, "checkpoints", "the checkpoints"),
+        Topic(Origin.NRDB, "goroutines [all|G]", "what each does that is neither idle nor gone"),
+        Topic(Origin.NRDB, "sockets [all|S]", "those whose lock word, queue or input says something"),
+        Topic(Origin.NRDB, "descriptors [all|D]", "the open ones: whose socket, words and deadlines"),
+        Topic(Origin.NRDB, "timers", "the clock, and the deadlines to come"),
+        Topic(Origin.NRDB, "holders S", "who holds the references of socket S, and since which step"),
+    )
 }
+ALL_TOPICS = "; ".join(f"info {topic.usage}" for topic in TOPICS.values())
 
 # Words of other debuggers, and what they come to here.
 SPELLINGS = {
@@ -155,3 +169,11 @@ def whole_words(words: list) -> list:
     elif first == "set" and len(rest) == 2:
         rest = [whole(rest[0], ("exec-direction",)), whole(rest[1], DIRECTIONS)]
     return [first, *rest]
+
+
+def is_answered_here(words: list) -> bool:
+    """Whether nrdb answers a line of these words itself."""
+    first, *rest = words
+    if first == "info":
+        return not rest or (rest[0] in TOPICS and TOPICS[rest[0]].origin is Origin.NRDB)
+    return first in COMMANDS and COMMANDS[first].origin is Origin.NRDB

@@ -4,7 +4,7 @@ import difflib
 import re
 import unicodedata
 
-from .commands import COMMANDS, SPELLINGS, TOPICS
+from .commands import ALL_TOPICS, COMMANDS, SPELLINGS, TOPICS
 from .vocabulary import CELLS, DUMPS, KINDS, MOST_LINE, Of, cell_of, number_of
 
 FOREIGN = {
@@ -38,7 +38,7 @@ FAULTS = {
 }
 
 
-def hint(words: list, fault: str, limits: dict) -> str:
+def hint(words: list, fault: str) -> str:
     """What to mend in the line of these words, which was answered with this fault."""
     number = fault.split()[1]
     if number == "201":
@@ -187,7 +187,7 @@ def of_info(words: list) -> str:
     """Of what should be told about."""
     if words and words[0] in TOPICS:
         return f"info {words[0]} takes no words"
-    return "; ".join(f"info {how}" for _, how, _ in TOPICS.values())
+    return ALL_TOPICS
 
 
 def of_set(words: list) -> str:

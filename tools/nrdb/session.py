@@ -6,7 +6,7 @@ from pathlib import Path
 from typing import Callable, Mapping, Optional
 
 from .changes import marks_table
-from .commands import COMMANDS, Ambiguous, Origin, TOPICS, whole_words
+from .commands import COMMANDS, Ambiguous, is_answered_here, whole_words
 from .interrupts import Interrupted, Interrupts
 from .line_hints import hint
 from .netrev import Joined, Netrev
@@ -123,11 +123,7 @@ class Session:
     def answer(self, line: str) -> bool:
         """Answers a line that has words."""
         words = whole_words(line.split())
-        command = COMMANDS.get(words[0])
-        is_topic_here = (
-            words[0] == "info" and len(words) > 1 and words[1] in TOPICS and TOPICS[words[1]][0] is Origin.NRDB
-        )
-        if is_topic_here or words == ["info"] or (command and command.origin is Origin.NRDB):
+        if is_answered_here(words):
             return self.answers[words[0]](self, words[1:]) is not False
         return self.pass_on(line, words)
 
@@ -139,8 +135,7 @@ class Session:
         if moved := MOVED.match(reply[0]):
             self.arrive(int(moved[1]), (moved[2] or "").split())
         elif reply[0].startswith("fault"):
-            limits = self.recording.limits if self.recording else {}
-            self.printer.note(hint(words, reply[0], limits))
+            self.printer.note(hint(words, reply[0]))
         return reply[0] != "bye"
 
     def show(self, line: str, reply: list, is_dump: bool = False) -> None:
