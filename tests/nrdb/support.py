@@ -124,5 +124,5 @@ def shown(path):
 
 
 def recordings():
-    """The recordings of examples/ and the hunts."""
-    return sorted(EXAMPLES.glob("*.jsonl")) + sorted(HUNTS.glob("*.jsonl"))
+    """The recordings of examples/ and its folders."""
+    return sorted(EXAMPLES.glob("**/*.jsonl"))

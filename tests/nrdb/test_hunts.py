@@ -1,16 +1,17 @@
-"""The hunts of examples/hunts: each bug is found by at most five commands, which print just what is kept."""
+"""The hunts of examples/hunts and examples/real: each bug is found by at most five commands, which print just what is
+kept."""
 
 import unittest
 
-from support import HUNTS, nrdb_process
+from support import EXAMPLES, nrdb_process
 
 MOST = 5
 
 
 class Hunts(unittest.TestCase):
     def test_each_prints_what_is_kept(self):
-        hunts = sorted(HUNTS.glob("*.nrdb"))
-        self.assertGreaterEqual(len(hunts), 4)
+        hunts = sorted(EXAMPLES.glob("*/*.nrdb"))
+        self.assertGreaterEqual(len(hunts), 7)
         for hunt in hunts:
             with self.subTest(hunt.stem):
                 self.assertLessEqual(len(hunt.read_text().splitlines()), MOST)
