@@ -21,8 +21,8 @@ UP = "\x1b[A"
 class Typist:
     """Types at nrdb, and reads what is on its screen."""
 
-    def __init__(self, recording, home):
-        words = [sys.executable, NRDB, "--netrev", NETREV, str(recording)]
+    def __init__(self, recording, home, program=NETREV):
+        words = [sys.executable, NRDB, "--netrev", str(program), str(recording)]
         environment = {**os.environ, "HOME": home, "TERM": "dumb", "INPUTRC": "/dev/null", "COLUMNS": "200"}
         environment.pop("NETREV_HISTORY", None)
         self.process, self.terminal = pty.fork()
@@ -154,6 +154,16 @@ class Terminal(unittest.TestCase):
             person.interrupt("^C\n")
             person.until(PROMPT)
             self.assertIn("at 0 of 10 forward\n", person.ask("info position"))
+
+    def test_a_second_ctrl_c_gives_up_a_netrev_that_does_not_answer(self):
+        silent = Path(self.home) / "silent"
+        silent.write_text("#!/bin/sh\nread line\necho at 0 of 10 forward\nexec sleep 1000\n")
+        silent.chmod(0o755)
+        with Typist(EXAMPLES / "first.jsonl", self.home, silent) as person:
+            person.type("stepi\r")
+            person.until("\n")
+            person.interrupt("the session is given up\n")
+            self.assertEqual(person.ends(), 3)
 
     def test_ctrl_c_stops_a_walk_and_keeps_the_session(self):
         recording = Path(self.home) / "long.jsonl"

@@ -4,6 +4,7 @@ file, the program or the connection failed."""
 import argparse
 import io
 import os
+import shutil
 import sys
 from contextlib import closing
 from pathlib import Path
@@ -20,7 +21,7 @@ from .session import Mismatched, Misused, Session
 from .terminal import Terminal
 from .timeline import write_timeline
 
-PROGRAM = Path(__file__).resolve().parents[2] / "crates/netrev/out/netrev"
+BUILT = Path(__file__).resolve().parents[2] / "crates/netrev/out/netrev"
 DONE, REFUSED, USAGE, FAILED = range(4)
 
 
@@ -29,6 +30,11 @@ class InOrder(argparse.Action):
 
     def __call__(self, parser, space, value, option=None):
         space.lines = [*(space.lines or []), (self.const, value)]
+
+
+def program() -> str:
+    """netrev's program where none is named: the one that is built here, or one that is installed."""
+    return os.environ.get("NETREV") or (not BUILT.exists() and shutil.which("netrev")) or str(BUILT)
 
 
 def parser() -> argparse.ArgumentParser:
@@ -46,9 +52,7 @@ def parser() -> argparse.ArgumentParser:
     made.add_argument("--json", action="store_true", help="prints a line of JSON for each event")
     made.add_argument("--timeline", metavar="OUT.html", help="writes the timeline, behind -x and -ex, and ends")
     made.add_argument("--join", metavar="HOST:PORT", help="joins a session that `netrev serve` has")
-    made.add_argument(
-        "--netrev", default=os.environ.get("NETREV", str(PROGRAM)), metavar="PROGRAM", help="netrev's program"
-    )
+    made.add_argument("--netrev", default=program(), metavar="PROGRAM", help="netrev's program")
     return made
 
 
@@ -108,6 +112,9 @@ def start(wanted: argparse.Namespace, printer: Printer) -> int:
         session.begin(first)
         try:
             status = played(session, wanted)
+        except GivenUp:
+            netrev.drop()
+            raise
         finally:
             if scout:
                 scout.drop()

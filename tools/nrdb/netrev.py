@@ -74,6 +74,10 @@ class Netrev:
         """Ends the conversation; the exit status where there is one. It may be called again."""
         raise NotImplementedError
 
+    def drop(self) -> None:
+        """Ends the conversation without waiting for anything."""
+        self.close()
+
 
 class Own(Netrev):
     """`netrev run FILE`, in a process group of its own: an interrupt from the keyboard is not for it."""
@@ -92,7 +96,6 @@ class Own(Netrev):
         return self._process.wait()
 
     def drop(self) -> None:
-        """Ends netrev, whatever it does."""
         self._process.kill()
         self.close()
 
