@@ -4,7 +4,7 @@
 const data = JSON.parse(document.getElementById("data").textContent);
 const part = (name) => document.getElementById(name);
 const LABEL = 92, ROW = 17, STEPS = 58;
-const MONO = "11px 'DejaVu Sans Mono', monospace";
+const MONO = "11px 'DejaVu Sans Mono', monospace", SMALL = "9px 'DejaVu Sans Mono', monospace";
 const fitting = (part("scroll").clientWidth - LABEL - 4) / (data.last - data.first + 1);
 let column = Math.max(4, Math.min(92, Math.floor(fitting)));
 let chosen = Math.min(Math.max(data.position, data.first), data.last);
@@ -131,8 +131,10 @@ function drawHead(pen, from, to, xOf, view) {
     if (p % every === 0) pen.fillText(String(p), xOf(p) + 2, 10);
     if (column >= 40) {
       const [kind, ...rest] = stepText(p).split(" ");
+      pen.font = SMALL;
       pen.fillText(fitted(pen, kind, column - 3), xOf(p) + 2, 25);
-      pen.fillText(fitted(pen, rest.join(" "), column - 3), xOf(p) + 2, 38);
+      pen.fillText(fitted(pen, rest.join(" "), column - 3), xOf(p) + 2, 37);
+      pen.font = MONO;
     }
   }
   for (const mark of data.marks) for (const hit of mark.hits) if (hit >= from && hit <= to) {
