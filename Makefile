@@ -2,6 +2,8 @@
 # a C compiler and Python (3.10 or later).
 
 NETREV = crates/netrev/out/netrev
+FILE = examples/first.jsonl
+SCRIPT = examples/first.script
 
 .PHONY: help look run hunt test refused loopback companion netrev examples share bench clean
 
@@ -11,9 +13,9 @@ help:
 		/^[a-z]+:/ && text { sub(/:.*/, ""); sub(/[.:;]( .*)?$$/, "", text); printf "make %-10s %s\n", $$0, text } \
 		{ text = "" }' Makefile
 
-# Runs the first example without waiting for proofs. Nothing is proved by it.
+# Runs the first example without waiting for proofs: `make look FILE=my.jsonl SCRIPT=my.script` for yours. Nothing is proved by it.
 look:
-	@cd crates/netrev && rt try -- run "$(CURDIR)/examples/first.jsonl" < ../../examples/first.script
+	@cd crates/netrev && rt try -- run "$(abspath $(FILE))" < "$(abspath $(SCRIPT))"
 	@echo "So it runs; nothing of this was proved. \`make run\` proves netrev first."
 
 # Builds netrev with its proofs, and replays the first example with its commands.
@@ -49,7 +51,8 @@ netrev:
 
 # All examples, compared with their replies, and last a session that two share.
 examples: netrev
-	@for name in first lost-wakeup stale-deadline past-deadline reused-descriptor leaked-reference; do \
+	@for name in first lost-wakeup stale-deadline past-deadline reused-descriptor leaked-reference \
+		real/past real/lost real/leak; do \
 		echo; echo "== $$name"; sh examples/play.sh $$name || exit 1; \
 	done
 	@echo; echo "== shared"; sh examples/shared.sh
