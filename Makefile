@@ -4,8 +4,9 @@
 NETREV = crates/netrev/out/netrev
 FILE = examples/first.jsonl
 SCRIPT = examples/first.script
+PREFIX = /usr/local
 
-.PHONY: help look run hunt test refused loopback companion netrev examples share bench clean
+.PHONY: help look run hunt test refused loopback companion netrev examples share bench install clean
 
 # Tells what there is to make.
 help:
@@ -72,6 +73,15 @@ bench: netrev
 	@python3 bench/searching.py
 	@echo
 	@python3 bench/companion.py
+
+# Installs netrev, nrdb and the man page below PREFIX: `make install PREFIX=~/.local`.
+install: netrev
+	install -d $(DESTDIR)$(PREFIX)/bin $(DESTDIR)$(PREFIX)/lib/netrev/nrdb/page $(DESTDIR)$(PREFIX)/share/man/man1
+	install $(NETREV) $(DESTDIR)$(PREFIX)/bin/netrev
+	install nrdb $(DESTDIR)$(PREFIX)/bin/nrdb
+	install -m 644 tools/nrdb/*.py $(DESTDIR)$(PREFIX)/lib/netrev/nrdb
+	install -m 644 tools/nrdb/page/* $(DESTDIR)$(PREFIX)/lib/netrev/nrdb/page
+	python3 tools/man.py > $(DESTDIR)$(PREFIX)/share/man/man1/netrev.1
 
 # Removes all that was built and checked here. What `make test` keeps on this machine stays.
 clean:

@@ -33,8 +33,10 @@ class InOrder(argparse.Action):
 
 
 def program() -> str:
-    """netrev's program where none is named: the one that is built here, or one that is installed."""
-    return os.environ.get("NETREV") or (not BUILT.exists() and shutil.which("netrev")) or str(BUILT)
+    """netrev's program where none is named: the one that is built here, one that is installed beside nrdb, or another."""
+    beside = Path(sys.argv[0]).resolve().with_name("netrev")
+    there = [str(path) for path in (BUILT, beside) if path.is_file()]
+    return os.environ.get("NETREV") or next(iter(there), None) or shutil.which("netrev") or str(BUILT)
 
 
 def parser() -> argparse.ArgumentParser:
