@@ -1,0 +1,48 @@
+"""A difference is made small and kept, in a folder from which it can be played again."""
+
+from .cases import Case
+from .counts import Met
+from .playing import difference, first_difference
+
+TRIES = 400
+FILES = {"recording": "recording.jsonl", "script": "script"}
+
+
+def smaller(netrev, case, folder):
+    """The case with lines of its recording and script left out, as long as there is a difference."""
+    tries = TRIES
+    for part in FILES:
+        lines = getattr(case, part).split(b"\n")
+        size = len(lines) // 2
+        while size and tries > 0:
+            start = 0
+            while start < len(lines) and tries > 0:
+                fewer = lines[:start] + lines[start + size :]
+                tries -= 1
+                shorter = case._replace(**{part: b"\n".join(fewer)})
+                if difference(netrev, shorter, folder, Met()):
+                    case, lines = shorter, fewer
+                else:
+                    start += size
+            size //= 2
+    return case
+
+
+def keep(netrev, case, differs, folder):
+    """Writes a case, what was told of it and what the model wants, to a folder."""
+    folder.mkdir(parents=True, exist_ok=True)
+    small = smaller(netrev, case, folder)
+    tells, want = difference(netrev, small, folder, Met()) or differs
+    for part, name in FILES.items():
+        (folder / name).write_bytes(getattr(small, part))
+        (folder / f"whole-{name}").write_bytes(getattr(case, part))
+    (folder / "told").write_bytes(tells.output)
+    (folder / "wanted").write_bytes(want.output)
+    (folder / "case").write_text(f"{case.seed}\n{case.sort}\n{case.program}\n", encoding="utf-8")
+    return first_difference(tells, want)
+
+
+def kept(folder):
+    """The case that was kept in a folder."""
+    seed, sort, program = (folder / "case").read_text(encoding="utf-8").splitlines()
+    return Case(seed, sort, program, *((folder / name).read_bytes() for name in FILES.values()))

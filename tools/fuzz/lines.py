@@ -1,0 +1,112 @@
+"""Random scripts of command lines: good ones for the most part, spelled in all the ways that they may be, and bad ones."""
+
+from .cells import CELLS_OF_ALL, CELLS_OF_ONE, DUMPS
+from .reading import KINDS
+
+NONSENSE = [
+    *(b"frob", b"stepi 0", b"stepi -1", b"stepi +1", b"stepi 1.0", b"stepi 4294967296", b"stepi 1 2", b"Stepi", b"ste"),
+    *(b"break", b"break @0", b"break @", b"break @4294967296", b"break jump", b"break @1 @2", b"watch", b"watch clock 1"),
+    *(b"watch gor", b"watch gor -1", b"print", b"print lock", b"print lock x", b"print rg 4294967296", b"p  rq 0"),
+    *(b"dump", b"dump in", b"dump clock", b"dump in 0 0", b"info", b"info marks", b"info position now", b"delete"),
+    *(b"delete x", b"delete checkpoint", b"delete checkpoint 0", b"delete 0", b"restart", b"restart -1", b"set"),
+    *(b"set exec-direction", b"set exec-direction back", b"checkpoint 1", b"continue 2", b"c c", b"quit now", b"q 1"),
+    *(b"resume", b"resume 1", b"\tstepi", b"stepi\t1", b"stepi\r\r", b"step\xc3\xaf", b"\xff\xfe", b"\0", b"stepi \x001"),
+    *(b"", b"   ", b"\r", b" \r", b"stepi \xd9\xa3"),
+]
+
+
+class Speaker:
+    """Makes up lines over a recording. How often it says what differs from script to script."""
+
+    def __init__(self, dice, steps):
+        self.dice = dice
+        self.length = len(steps)
+        self.kinds = sorted({step[0] for step in steps}) or ["spawn"]
+        self.weights = [dice.random() ** 2 + 0.01 for _ in self.SAYINGS]
+
+    def script(self, count):
+        lines = [self.line() for _ in range(count)]
+        if self.dice.random() < 0.05:
+            lines.insert(self.dice.randint(0, count), self.dice.choice([b"quit", b"q", b" q "]))
+        end = self.dice.choice([b"\n", b"\n", b"\n", b"\r\n"])
+        text = end.join(lines)
+        return text if self.dice.random() < 0.1 else text + end
+
+    def line(self):
+        roll = self.dice.random()
+        if roll < 0.06:
+            return self.dice.choice(NONSENSE)
+        if roll < 0.07:
+            return bytes(self.dice.choices(bytes(range(256)).replace(b"\n", b""), k=self.dice.choice([1, 5, 30, 256, 257])))
+        say = self.dice.choices(self.SAYINGS, self.weights)[0]
+        line = say(self).encode()
+        return line if self.dice.random() < 0.9 else self.spaced(line)
+
+    def spaced(self, line):
+        """The line with more spaces, now and then about as many as a line may have."""
+        line = line.replace(b" ", b" " * self.dice.randint(1, 4))
+        line = b" " * self.dice.randint(0, 3) + line
+        if self.dice.random() < 0.2:
+            line = line.ljust(self.dice.choice([255, 256, 257]))
+        return line
+
+    def number(self, most):
+        """A number about so great, in one of its spellings."""
+        number = self.dice.randint(0, most + 1)
+        return f"{self.dice.choice(['', '', '', '0', '000'])}{number}"
+
+    def few(self):
+        return self.number(self.dice.choice([3, 8, 70]))
+
+    def step(self):
+        word = self.dice.choice(["stepi", "si", "reverse-stepi", "rsi"])
+        most = self.dice.choice([2, 9, self.length, 2 * self.length])
+        return word + self.dice.choice(["", f" {self.number(most)}", f" {self.number(most)}"])
+
+    def far(self):
+        return f"{self.dice.choice(['stepi', 'rsi'])} {self.dice.choice([self.length, self.length + 1, 4_294_967_295])}"
+
+    def seek(self):
+        return self.dice.choice(["continue", "c", "reverse-continue", "rc"])
+
+    def turn(self):
+        return f"set exec-direction {self.dice.choice(['forward', 'reverse'])}"
+
+    def break_(self):
+        kind = self.dice.choice(self.kinds if self.dice.random() < 0.8 else KINDS)
+        at = f"@{self.number(self.length)}"
+        return f"{self.dice.choice(['break', 'b'])} {self.dice.choice([kind, at])}"
+
+    def cell(self):
+        if self.dice.random() < 0.25:
+            return self.dice.choice(CELLS_OF_ALL)
+        return f"{self.dice.choice(CELLS_OF_ONE)} {self.number(self.dice.choice([0, 0, 1, 2, 8]))}"
+
+    def watch(self):
+        return f"watch {self.cell()}"
+
+    def delete(self):
+        return f"delete {self.few()}"
+
+    def checkpoint(self):
+        return "checkpoint"
+
+    def restart(self):
+        return f"restart {self.few()}"
+
+    def forget(self):
+        return f"delete checkpoint {self.few()}"
+
+    def print_(self):
+        return f"{self.dice.choice(['print', 'p'])} {self.cell()}"
+
+    def dump(self):
+        return f"dump {self.dice.choice(DUMPS)} {self.number(self.dice.choice([0, 0, 1, 2]))}"
+
+    def info(self):
+        return f"info {self.dice.choice(['position', 'position', 'breakpoints', 'checkpoints'])}"
+
+    SAYINGS = (
+        *(step, step, far, seek, seek, turn, break_, watch, watch, delete, checkpoint, restart, forget),
+        *(print_, print_, print_, dump, info),
+    )

@@ -1,0 +1,135 @@
+"""Recordings as text: well written in one of many ways, random bytes, random JSON, and numbers at the limits of what a
+line may have."""
+
+import json
+from itertools import chain
+
+from .reading import ARGUMENTS, KINDS, RANGES
+
+BLANKS = [b"", b"  ", b"\t", b"\r", b" \t \r"]
+PIECES = """[ ] { } , : " \\ 0 1 -0 1.0 1e0 -1 1e999 true false null "r" "rw" [] {} "spawn" "exit" ["spawn"] ["exit",0]
+"\\ud800" "\\ud83d\\ude00" "\\u0072" NaN Infinity 00 .5 1. +1 'r' // "netrev":1 "gor":4 "sock":1 "desc":1 "buf":9
+18446744073709551615 18446744073709551616 -9223372036854775808 ["pop"] ["tick",5]""".split()
+NUMBERS = [0, 1, 2, 2**32 - 1, 2**32, 2**63 - 1, 2**63, 2**64 - 1, 2**64, -1, -(2**63), -(2**63) - 1, 10**30]
+ODD = ["-0", "1.0", "1e0", "0.0", "-1.5", "1E2", "0e5", "1e-999", "null", "true", '"1"', '""', "[]", "{}", "[0]", '"R"']
+TEXTS = ["r", "w", "rw", "wr", "", "R", "6869", "686", "6g", "ABcd", "0x12", " 12", "é1", "00"]
+
+
+def header_of(limits, version=1):
+    return {"netrev": version, **limits._asdict()}
+
+
+def line_of(step):
+    """A step as a line of compact JSON."""
+    return json.dumps([part.hex() if isinstance(part, bytes) else part for part in step], separators=(",", ":"))
+
+
+def write_plain(limits, steps):
+    lines = [json.dumps(header_of(limits), separators=(",", ":")), *map(line_of, steps)]
+    return "".join(f"{line}\n" for line in lines).encode()
+
+
+def write_text(dice, limits, steps):
+    """The text of a recording in one of the ways in which it may be written."""
+    plain = write_plain(limits, steps)
+    if dice.random() < 0.4:
+        return plain
+    lines = plain.split(b"\n")[:-1]
+    lines[0] = shuffled_header(dice, limits)
+    if dice.random() < 0.3:
+        lines = [line.replace(b",", b" ,\t ") for line in lines]
+    if dice.random() < 0.3:
+        lines = [line.replace(b'"rw"', b'"\\u0072w"').replace(b'"r"', b'"\\u0072"') for line in lines]
+    if dice.random() < 0.3:
+        for _ in range(dice.randint(1, 4)):
+            lines.insert(dice.randint(0, len(lines)), dice.choice(BLANKS))
+    end = dice.choice([b"\n", b"\n", b"\r\n", b" \n"])
+    text = end.join(lines)
+    return text if dice.random() < 0.3 else text + end
+
+
+def shuffled_header(dice, limits):
+    """The header with its keys in any order, and now and then one key twice."""
+    items = list(header_of(limits).items())
+    dice.shuffle(items)
+    if dice.random() < 0.2:
+        items.insert(0, (dice.choice(items)[0], dice.choice([0, 1, "x", 3])))
+    spaces = dice.choice(["", " "])
+    return ("{" + ",".join(f"{spaces}{json.dumps(key)}:{spaces}{json.dumps(value)}" for key, value in items) + "}").encode()
+
+
+
+
+def random_bytes(dice):
+    alphabet = dice.choice([bytes(range(256)), b'[]{}",:0123456789-.eE \t\r\n\\urwspawnexit', b"\n\r\t []"])
+    data = bytes(dice.choices(alphabet, k=dice.choice([0, 1, 5, 40, 400])))
+    return data if dice.random() < 0.5 else b'{"netrev":1,"gor":4,"sock":2,"desc":2,"buf":16}\n' + data
+
+
+def random_json(dice):
+    """Lines of pieces of JSON, most of which are no JSON, behind a good header or not."""
+    lines = []
+    if dice.random() < 0.7:
+        lines.append('{"netrev":1,"gor":4,"sock":2,"desc":2,"buf":16}')
+    for _ in range(dice.randint(1, 4)):
+        if dice.random() < 0.5:
+            lines.append(json.dumps(random_value(dice, 0)))
+        elif dice.random() < 0.1:
+            lines.append(nested(dice))
+        else:
+            lines.append(dice.choice(["", " "]).join(dice.choices(PIECES, k=dice.randint(1, 6))))
+    return "\n".join(lines).encode()
+
+
+def nested(dice):
+    deep = dice.choice([126, 127, 128, 129, 2000])
+    opening, closing = dice.choice([("[", "]"), ('{"a":', "}")])
+    return opening * deep + dice.choice(["", "1"] if opening == "[" else ["1"]) + closing * deep
+
+
+def random_value(dice, depth):
+    roll = dice.random()
+    if depth < 3 and roll < 0.35:
+        return [random_value(dice, depth + 1) for _ in range(dice.randint(0, 4))]
+    if depth < 3 and roll < 0.45:
+        return {dice.choice([*RANGES, "netrev", "x"]): random_value(dice, depth + 1) for _ in range(dice.randint(0, 5))}
+    return dice.choice([*KINDS, *TEXTS, *NUMBERS, 1.5, None, True, False])
+
+
+def at_limits(dice):
+    """A header and steps with arguments of the right number and form, most of them at a limit or one past."""
+    lines = [limits_header(dice)]
+    for _ in range(dice.randint(1, 5)):
+        kind = dice.choice(KINDS)
+        arguments = [limits_argument(dice, form) for form in ARGUMENTS[kind]]
+        if dice.random() < 0.05:
+            arguments = dice.choice([arguments[:-1], [*arguments, "0"]])
+        lines.append(f"[{','.join(chain([json.dumps(kind)], arguments))}]")
+    return "\n".join(lines).encode()
+
+
+def limits_header(dice):
+    header = {"netrev": "1"}
+    for key, most in RANGES.items():
+        good = dice.random() < 0.95
+        header[key] = str(dice.choice([1, most, 2, 4]) if good else dice.choice([0, most + 1, *NUMBERS, *ODD]))
+    if dice.random() < 0.05:
+        header["netrev"] = dice.choice(["0", "2", "3", "1.0", "-0", "-1", '"1"'])
+    if dice.random() < 0.03:
+        del header[dice.choice(list(header))]
+    if dice.random() < 0.03:
+        header[dice.choice(["more", "Gor", "gor "])] = "1"
+    return "{" + ",".join(f'"{key}":{value}' for key, value in header.items()) + "}"
+
+
+def limits_argument(dice, form):
+    """An argument as it is written, of this form or nearly."""
+    if dice.random() < 0.06:
+        return dice.choice(ODD)
+    if form in ("side", "mode"):
+        return json.dumps(dice.choice(["r", "w"] if dice.random() < 0.8 else TEXTS))
+    if form == "bytes":
+        if dice.random() < 0.1:
+            return '"' + "aB" * dice.choice([65_535, 65_536, 65_537]) + dice.choice(["", "", "c"]) + '"'
+        return json.dumps(dice.choice(TEXTS[6:]))
+    return str(dice.choice([0, 0, 1] if dice.random() < 0.5 else NUMBERS))
