@@ -67,6 +67,9 @@ def play(netrev, seed, met, minutes=5, cases=None, out=ROOT / "out/fuzz"):
 def main(words=None):
     asked = arguments(words)
     netrev = os.environ.get("NETREV") or ROOT / "crates/netrev/out/netrev"
+    if not Path(netrev).is_file():
+        print(f"no program at {netrev}: `make netrev` builds it, or NETREV names another", file=sys.stderr)
+        return 2
     met = Met()
     if asked.again or asked.case:
         return int(play_one(netrev, kept(asked.again) if asked.again else make(asked.case), met))

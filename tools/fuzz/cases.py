@@ -1,11 +1,11 @@
 """The cases: each is made from its seed, and is a recording's text, a script, and which program is to play them."""
 
 import random
-from typing import NamedTuple
+from typing import Callable, NamedTuple
 
 from . import texts
 from .damage import damaged
-from .lines import NONSENSE, Speaker
+from .lines import NONSENSE, Speaker, every_cell
 from .randomsteps import Author
 from .reading import MOST_STEPS
 from .session import ROOM
@@ -44,9 +44,10 @@ def damaged_recording(dice):
 def refused_step(dice):
     """A recording whose last step doesn't apply, but for some that all do."""
     author = Author(dice)
-    steps, world = author.recording(dice.choice([1, 4, 12, 40, 120]))
-    last = author.refused_step(world)
-    steps += [last] if last else []
+    steps, worlds = author.recording(dice.choice([1, 4, 12, 40, 120]))
+    position = author.rare_position(worlds)
+    last = author.refused_step(worlds[position])
+    steps = steps[:position] + ([last] if last else [])
     return texts.write_text(dice, author.limits, steps), None
 
 
@@ -54,6 +55,14 @@ def walk(dice):
     author = Author(dice)
     steps, _ = author.recording(dice.choice([0, 1, 5, 20, 60, 200]))
     script = Speaker(dice, steps).script(dice.choice([5, 40, 150]))
+    return texts.write_text(dice, author.limits, steps), script
+
+
+def every_cell_shown(dice):
+    """A recording of which all is looked at at each position."""
+    author = Author(dice)
+    steps, _ = author.recording(dice.choice([10, 30, 80]))
+    script = every_cell(author.limits, len(steps), dice.random() < 0.5)
     return texts.write_text(dice, author.limits, steps), script
 
 
@@ -93,9 +102,9 @@ def many_steps(dice):
     return HEADER + b'["tick",0]\n' * dice.choice([MOST_STEPS - 1, MOST_STEPS]) + last, None
 
 
-SORTS = {
-    **{bytes_at_random: 5, json_at_random: 8, numbers_at_limits: 12, damaged_recording: 25, refused_step: 22},
-    **{walk: 25, lines: 8, long_walk: 0.4, full_journal: 0.03, many_steps: 0.02},
+SORTS: dict[Callable, float] = {
+    **{bytes_at_random: 5, json_at_random: 8, numbers_at_limits: 12, damaged_recording: 25, refused_step: 30},
+    **{walk: 22, every_cell_shown: 10, lines: 6, long_walk: 0.4, full_journal: 0.03, many_steps: 0.02},
 }
 
 

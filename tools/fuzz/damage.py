@@ -45,7 +45,9 @@ def piece_dropped(dice, text):
 
 def put_in(dice, text):
     start = dice.randint(0, len(text))
-    piece = dice.choice(PIECES).encode() if dice.random() < 0.6 else dice.choice([b"\r", b"\0", b"\xff", b"\xef\xbb\xbf"])
+    piece = (
+        dice.choice(PIECES).encode() if dice.random() < 0.6 else dice.choice([b"\r", b"\0", b"\xff", b"\xef\xbb\xbf"])
+    )
     return text[:start] + piece + text[start:]
 
 

@@ -1,18 +1,47 @@
 """Random scripts of command lines: good ones for the most part, spelled in all the ways that they may be, and bad ones."""
 
-from .cells import CELLS_OF_ALL, CELLS_OF_ONE, DUMPS
+from .cells import CELLS_OF_ALL, CELLS_OF_ONE, DUMPS, SHOWS_DESC, SHOWS_SOCKET
 from .reading import KINDS
 
 NONSENSE = [
     *(b"frob", b"stepi 0", b"stepi -1", b"stepi +1", b"stepi 1.0", b"stepi 4294967296", b"stepi 1 2", b"Stepi", b"ste"),
-    *(b"break", b"break @0", b"break @", b"break @4294967296", b"break jump", b"break @1 @2", b"watch", b"watch clock 1"),
+    *(
+        b"break",
+        b"break @0",
+        b"break @",
+        b"break @4294967296",
+        b"break jump",
+        b"break @1 @2",
+        b"watch",
+        b"watch clock 1",
+    ),
     *(b"watch gor", b"watch gor -1", b"print", b"print lock", b"print lock x", b"print rg 4294967296", b"p  rq 0"),
     *(b"dump", b"dump in", b"dump clock", b"dump in 0 0", b"info", b"info marks", b"info position now", b"delete"),
     *(b"delete x", b"delete checkpoint", b"delete checkpoint 0", b"delete 0", b"restart", b"restart -1", b"set"),
     *(b"set exec-direction", b"set exec-direction back", b"checkpoint 1", b"continue 2", b"c c", b"quit now", b"q 1"),
-    *(b"resume", b"resume 1", b"\tstepi", b"stepi\t1", b"stepi\r\r", b"step\xc3\xaf", b"\xff\xfe", b"\0", b"stepi \x001"),
+    *(
+        b"resume",
+        b"resume 1",
+        b"\tstepi",
+        b"stepi\t1",
+        b"stepi\r\r",
+        b"step\xc3\xaf",
+        b"\xff\xfe",
+        b"\0",
+        b"stepi \x001",
+    ),
     *(b"", b"   ", b"\r", b" \r", b"stepi \xd9\xa3"),
 ]
+
+
+def every_cell(limits, length, backwards):
+    """A script that looks at all there is at each position of a recording, on the way forwards or backwards."""
+    made = {"gor": limits.gor, **dict.fromkeys(SHOWS_SOCKET, limits.sock), **dict.fromkeys(SHOWS_DESC, limits.desc)}
+    looks = [f"print {cell}" for cell in CELLS_OF_ALL]
+    looks += [f"print {cell} {number}" for cell, most in made.items() for number in range(min(most, 9))]
+    looks += [f"dump {dump} {number}" for dump in DUMPS for number in range(min(limits.sock, 3))]
+    begin, move = (f"stepi {length + 1}\n", "reverse-stepi\n") if backwards else ("", "stepi\n")
+    return (begin + ("".join(f"{look}\n" for look in looks) + move) * (length + 1)).encode()
 
 
 class Speaker:
@@ -37,7 +66,9 @@ class Speaker:
         if roll < 0.06:
             return self.dice.choice(NONSENSE)
         if roll < 0.07:
-            return bytes(self.dice.choices(bytes(range(256)).replace(b"\n", b""), k=self.dice.choice([1, 5, 30, 256, 257])))
+            return bytes(
+                self.dice.choices(bytes(range(256)).replace(b"\n", b""), k=self.dice.choice([1, 5, 30, 256, 257]))
+            )
         say = self.dice.choices(self.SAYINGS, self.weights)[0]
         line = say(self).encode()
         return line if self.dice.random() < 0.9 else self.spaced(line)

@@ -84,7 +84,9 @@ def first_difference(tells, want):
     for number, (one, other) in enumerate(lines, 1):
         if one != other:
             return f"reply {number} is {shortened(one)}, the model's {shortened(other)}"
-    return f"status {tells.status}, the model's {want.status}; {len(tells.output)} bytes, the model's {len(want.output)}"
+    return (
+        f"status {tells.status}, the model's {want.status}; {len(tells.output)} bytes, the model's {len(want.output)}"
+    )
 
 
 def shortened(line):

@@ -1,8 +1,8 @@
 """Random recordings. Most steps are what some goroutine does next, or what the network, the poller and the clock may do,
-so that waits, queues, timers, evictions and full buffers all come about; how often each, differs from recording to
-recording."""
+so that waits, queues, timers, evictions and full buffers all come about. How often each, differs from recording to
+recording: most have a theme."""
 
-from .machine import GREATEST_TIME, Limits, Refused, World
+from .machine import GREATEST_TIME, IDLE, Limits, Refused, World
 from .reading import ARGUMENTS, KINDS
 from .steps import apply
 
@@ -18,18 +18,49 @@ NEXT = {
 OF_IDLE = {
     **{"rwlock": 6, "rwunlock": 9, "incref": 2, "decref": 2, "increfclose": 0.12, "exit": 0.1},
     **{"sysread": 4, "syswrite": 4, "pollreset": 3, "waitbegin": 8, "setdeadline": 6},
-    **{"pollopen": 1, "evict": 0.6, "pollclose": 2},
+    **{"pollopen": 1, "evict": 0.8, "pollclose": 2},
 }
 OF_NOBODY = {
     **{"spawn": 2, "sockopen": 1, "arrive": 4, "drain": 3, "peerclose": 0.08},
     **{"pollevent": 2, "tick": 2, "pop": 6, "fire": 4},
 }
+THEMES = (
+    "",
+    "rwlock rwunlock increfclose spawn",
+    "incref decref increfclose rwlock rwunlock",
+    "sysread syswrite arrive drain peerclose",
+    "setdeadline tick pop fire",
+    "setdeadline tick pop waitbegin",
+    "waitbegin setdeadline evict pollevent fire",
+    "pollopen evict pollclose pollevent setdeadline",
+)
+TIMES_AS_OFTEN = 8
+SELDOM = 0.03
 
 
 def random_limits(dice):
     if dice.random() < 0.03:
         return Limits(4096, 256, 256, 65_536)
     return Limits(dice.randint(1, 9), dice.randint(1, 3), dice.randint(1, 3), dice.choice([1, 2, 5, 16, 64, 65_536]))
+
+
+def features(world):
+    """Names of what a state has: statuses, what is full or free or closed, timers that wait."""
+    yield from {status[0] for status in world.goroutines}
+    if len(world.descs) == world.limits.desc and not world.free:
+        yield "no descriptor left"
+    if world.free:
+        yield "a free descriptor"
+    if any(desc.closing for desc in world.descs):
+        yield "a closing descriptor"
+    if world.firings:
+        yield "firings full" if len(world.firings) == 2 * world.limits.desc else "a firing"
+    if world.timers and world.timers[0].when <= world.clock:
+        yield "a timer due"
+    if any(socket.peer_closed for socket in world.sockets):
+        yield "a peer closed"
+    if any(len(socket.buffers[0]) == socket.capacities[0] for socket in world.sockets):
+        yield "an input full"
 
 
 class Author:
@@ -39,33 +70,47 @@ class Author:
         self.dice = dice
         self.limits = random_limits(dice)
         self.wild = wild
+        self.past = SELDOM
         self.of_goroutines = dice.uniform(0.35, 0.8)
-        self.of_idle = {kind: weight * dice.random() ** 2 for kind, weight in OF_IDLE.items()}
-        self.of_nobody = {kind: weight * dice.random() ** 2 + 0.02 for kind, weight in OF_NOBODY.items()}
+        theme = dice.choice(THEMES).split()
+        self.of_idle = {kind: self.weight(kind in theme, weight) for kind, weight in OF_IDLE.items()}
+        self.of_nobody = {kind: self.weight(kind in theme, weight) for kind, weight in OF_NOBODY.items()}
+
+    def weight(self, of_theme, weight):
+        return weight * self.dice.random() ** 2 * (TIMES_AS_OFTEN if of_theme else 1) + 0.01
 
     def recording(self, length):
-        """Steps that all apply, and the state at their end."""
-        world, steps = World(self.limits), []
+        """Steps that all apply, and the states of all positions."""
+        worlds, steps = [World(self.limits)], []
         for _ in range(3 * length):
             if len(steps) == length:
                 break
-            step = self.step(world)
+            step = self.step(worlds[-1])
             try:
-                world, _ = apply(world, step)
+                worlds.append(apply(worlds[-1], step)[0])
             except Refused:
                 continue
             steps.append(step)
-        return steps, world
+        return steps, worlds
+
+    def rare_position(self, worlds):
+        """A position at which there is something that is seldom there: each such thing has the same chance."""
+        having = {}
+        for position, world in enumerate(worlds):
+            for feature in features(world):
+                having.setdefault(feature, []).append(position)
+        return self.dice.choice(having[self.dice.choice(sorted(having))])
 
     def refused_step(self, world):
-        """A step that doesn't apply, if one is found."""
-        for _ in range(50):
+        """A step that doesn't apply, if one is found: of those that are tried, each kind and reason has the same chance."""
+        found = {}
+        for _ in range(60):
             step = self.wild_step(world) if self.dice.random() < 0.5 else self.step(world)
             try:
                 apply(world, step)
-            except Refused:
-                return step
-        return None
+            except Refused as refused:
+                found[step[0], refused.reason] = step
+        return self.dice.choice(list(found.values())) if found else None
 
     def step(self, world):
         if self.dice.random() < self.wild:
@@ -87,18 +132,27 @@ class Author:
             return ("rwlock", g, *status[1:])
         if status[0] in NEXT:
             return (NEXT[status[0]], g)
-        kind = self.choose(self.of_idle)
-        if world.sockets and not world.descs and self.dice.random() < 0.3:
-            kind = "pollopen"
-        return self.with_arguments(world, kind, g)
+        if world.sockets and len(world.descs) == len(world.free) and self.dice.random() < 0.3:
+            return self.with_arguments(world, "pollopen", g)
+        closing = [d for d, desc in enumerate(world.descs) if desc.closing and d not in world.free]
+        if closing and self.dice.random() < 0.15:
+            return ("pollclose", g, self.dice.choice(closing))
+        return self.with_arguments(world, self.choose(self.of_idle), g)
 
     def choose(self, weights):
         return self.dice.choices(list(weights), list(weights.values()))[0]
 
     def wild_step(self, world):
-        """Any kind, and arguments that now and then name what isn't there."""
+        """Any kind, and arguments of which many name what isn't there."""
+        self.past = self.dice.choice([0.05, 0.2, 0.6])
+        idle = [g for g, status in enumerate(world.goroutines) if status == IDLE]
+        g = self.dice.choice(idle) if idle and self.dice.random() < 0.6 else self.near(len(world.goroutines))
         kind = self.dice.choice(KINDS)
-        return self.with_arguments(world, kind, self.near(len(world.goroutines)))
+        if g < len(world.goroutines) and world.goroutines[g][0] == "relock" and self.dice.random() < 0.5:
+            kind = "rwlock"
+        step = self.with_arguments(world, kind, g)
+        self.past = SELDOM
+        return step
 
     def with_arguments(self, world, kind, g):
         s, d = self.near(len(world.sockets)), self.near(len(world.descs))
@@ -110,7 +164,7 @@ class Author:
 
     def near(self, count):
         """The number of one of so many, and now and then one past."""
-        if self.dice.random() < 0.03 or count == 0:
+        if self.dice.random() < self.past or count == 0:
             return self.dice.choice([count, count, count + 1, 4_294_967_295])
         return self.dice.randrange(count)
 
@@ -122,11 +176,11 @@ class Author:
             case "mode":
                 return dice.choice(["r", "w", "rw"])
             case "bytes":
-                return dice.randbytes(self.size(world, 0.02))
+                return dice.randbytes(self.size(world))
             case "n" if kind == "drain" and s < len(world.sockets) and dice.random() < 0.9:
-                return min(self.size(world, 0.02), len(world.sockets[s].buffers[1]))
+                return min(self.size(world), len(world.sockets[s].buffers[1]))
             case "n":
-                return self.size(world, 0.05)
+                return self.size(world)
             case "tag":
                 now = world.descs[d].fdseq if d < len(world.descs) else 0
                 return max(0, now + dice.choice([0, 0, 0, 0, 0, -1, 1])) if dice.random() < 0.98 else 2**64 - 1
@@ -134,27 +188,27 @@ class Author:
                 return int(dice.random() < 0.2)
             case "deadline":
                 extreme = [GREATEST_TIME, -GREATEST_TIME - 1, GREATEST_TIME - world.clock, -7]
-                return dice.choice([1, 1, 2, 2, 3, 4, 6, 0, -1]) if dice.random() < 0.95 else dice.choice(extreme)
+                return dice.choice([1, 1, 2, 2, 3, 5, 0, -1, -1]) if dice.random() < 0.9 else dice.choice(extreme)
             case "clock":
                 return self.time(world)
             case "i":
                 return self.near(len(world.firings))
         raise ValueError(form)
 
-    def size(self, world, past):
-        """A count of bytes, often a small one, with some chance none or one past what a buffer may hold."""
+    def size(self, world):
+        """A count of bytes, often a small one, now and then none or one past what a buffer may hold."""
         most = world.limits.buf
-        if self.dice.random() < past:
+        if self.dice.random() < self.past:
             return self.dice.choice([0, most + 1, 65_536]) if most < 65_536 else 0
         return self.dice.randint(1, min(most, self.dice.choice([2, 4, 9, 40, 300])))
 
     def time(self, world):
         """A time for the clock: a little on, or where the first timer is due."""
         roll = self.dice.random()
-        if roll < 0.3 and world.timers:
+        if roll < 0.4 and world.timers:
             return world.timers[0].when
-        if roll < 0.34:
+        if roll < 0.44:
             return max(0, world.clock - 1)
-        if roll < 0.3405:
+        if roll < 0.4405:
             return GREATEST_TIME
         return min(world.clock + self.dice.choice([0, 1, 1, 2, 5]), GREATEST_TIME)

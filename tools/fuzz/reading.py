@@ -12,7 +12,7 @@ MOST_STEPS = 1_000_000
 MOST_DIGITS = 131_072
 RANGES = {"gor": 4096, "sock": 256, "desc": 256, "buf": 65_536}
 
-ARGUMENTS = {
+FORMS = {
     "spawn": "",
     "exit": "g",
     "sockopen": "n n",
@@ -44,7 +44,7 @@ ARGUMENTS = {
     "pop": "",
     "fire": "i",
 }
-ARGUMENTS = {kind: tuple(forms.split()) for kind, forms in ARGUMENTS.items()}
+ARGUMENTS = {kind: tuple(forms.split()) for kind, forms in FORMS.items()}
 KINDS = tuple(ARGUMENTS)
 
 

@@ -2,16 +2,38 @@
 line may have."""
 
 import json
+import re
 from itertools import chain
 
-from .reading import ARGUMENTS, KINDS, RANGES
+from .reading import ARGUMENTS, KINDS, MOST_DIGITS, RANGES
 
 BLANKS = [b"", b"  ", b"\t", b"\r", b" \t \r"]
 PIECES = """[ ] { } , : " \\ 0 1 -0 1.0 1e0 -1 1e999 true false null "r" "rw" [] {} "spawn" "exit" ["spawn"] ["exit",0]
-"\\ud800" "\\ud83d\\ude00" "\\u0072" NaN Infinity 00 .5 1. +1 'r' // "netrev":1 "gor":4 "sock":1 "desc":1 "buf":9
+"\\ud800" {"\\udc00":1} ["spawn",{"a":"\\ud800"}] "\\ud83d\\ude00" "\\u0072" NaN Infinity 00 .5 1. +1 'r' // "netrev":1 "gor":4 "sock":1 "desc":1 "buf":9
 18446744073709551615 18446744073709551616 -9223372036854775808 ["pop"] ["tick",5]""".split()
-NUMBERS = [0, 1, 2, 2**32 - 1, 2**32, 2**63 - 1, 2**63, 2**64 - 1, 2**64, -1, -(2**63), -(2**63) - 1, 10**30]
+NUMBERS = [
+    0,
+    1,
+    2,
+    2**32 - 1,
+    2**32,
+    2**63 - 1,
+    2**63,
+    2**64 - 1,
+    2**64,
+    -1,
+    -(2**63),
+    -(2**63) - 1,
+    10**30,
+]
 ODD = ["-0", "1.0", "1e0", "0.0", "-1.5", "1E2", "0e5", "1e-999", "null", "true", '"1"', '""', "[]", "{}", "[0]", '"R"']
+ENDS = {
+    "tag": [2**64 - 1],
+    "err": [],
+    "deadline": [-1, 2**63 - 1, -(2**63)],
+    "clock": [2**63 - 1],
+}
+WITH_LIMITS = ("arrive", "syswrite", "setdeadline", "pollevent", "tick")
 TEXTS = ["r", "w", "rw", "wr", "", "R", "6869", "686", "6g", "ABcd", "0x12", " 12", "é1", "00"]
 
 
@@ -41,6 +63,8 @@ def write_text(dice, limits, steps):
     if dice.random() < 0.3:
         lines = [line.replace(b'"rw"', b'"\\u0072w"').replace(b'"r"', b'"\\u0072"') for line in lines]
     if dice.random() < 0.3:
+        lines = [re.sub(rb'"[0-9a-f]+"', lambda found: found[0].upper(), line) for line in lines]
+    if dice.random() < 0.3:
         for _ in range(dice.randint(1, 4)):
             lines.insert(dice.randint(0, len(lines)), dice.choice(BLANKS))
     end = dice.choice([b"\n", b"\n", b"\r\n", b" \n"])
@@ -55,13 +79,13 @@ def shuffled_header(dice, limits):
     if dice.random() < 0.2:
         items.insert(0, (dice.choice(items)[0], dice.choice([0, 1, "x", 3])))
     spaces = dice.choice(["", " "])
-    return ("{" + ",".join(f"{spaces}{json.dumps(key)}:{spaces}{json.dumps(value)}" for key, value in items) + "}").encode()
-
-
+    return (
+        "{" + ",".join(f"{spaces}{json.dumps(key)}:{spaces}{json.dumps(value)}" for key, value in items) + "}"
+    ).encode()
 
 
 def random_bytes(dice):
-    alphabet = dice.choice([bytes(range(256)), b'[]{}",:0123456789-.eE \t\r\n\\urwspawnexit', b"\n\r\t []"])
+    alphabet = dice.choice([bytes(range(256)), b'[]{}",:0123456789-.eE \t\r\n\\urwspawnexit', b"\n\r\t []", b"\n\r\t "])
     data = bytes(dice.choices(alphabet, k=dice.choice([0, 1, 5, 40, 400])))
     return data if dice.random() < 0.5 else b'{"netrev":1,"gor":4,"sock":2,"desc":2,"buf":16}\n' + data
 
@@ -74,7 +98,7 @@ def random_json(dice):
     for _ in range(dice.randint(1, 4)):
         if dice.random() < 0.5:
             lines.append(json.dumps(random_value(dice, 0)))
-        elif dice.random() < 0.1:
+        elif dice.random() < 0.3:
             lines.append(nested(dice))
         else:
             lines.append(dice.choice(["", " "]).join(dice.choices(PIECES, k=dice.randint(1, 6))))
@@ -83,7 +107,7 @@ def random_json(dice):
 
 def nested(dice):
     deep = dice.choice([126, 127, 128, 129, 2000])
-    opening, closing = dice.choice([("[", "]"), ('{"a":', "}")])
+    opening, closing = dice.choice([("[", "]"), ("[", "]"), ('{"a":', "}")])
     return opening * deep + dice.choice(["", "1"] if opening == "[" else ["1"]) + closing * deep
 
 
@@ -100,7 +124,7 @@ def at_limits(dice):
     """A header and steps with arguments of the right number and form, most of them at a limit or one past."""
     lines = [limits_header(dice)]
     for _ in range(dice.randint(1, 5)):
-        kind = dice.choice(KINDS)
+        kind = dice.choice(KINDS if dice.random() < 0.7 else WITH_LIMITS)
         arguments = [limits_argument(dice, form) for form in ARGUMENTS[kind]]
         if dice.random() < 0.05:
             arguments = dice.choice([arguments[:-1], [*arguments, "0"]])
@@ -123,13 +147,20 @@ def limits_header(dice):
 
 
 def limits_argument(dice, form):
-    """An argument as it is written, of this form or nearly."""
-    if dice.random() < 0.06:
+    """An argument as it is written: mostly a least or greatest one of its form, else one past it or of another form."""
+    if dice.random() < 0.05:
         return dice.choice(ODD)
+    past = dice.random() < 0.1
     if form in ("side", "mode"):
-        return json.dumps(dice.choice(["r", "w"] if dice.random() < 0.8 else TEXTS))
+        return json.dumps(dice.choice(TEXTS if past else ["r", "w"] if form == "side" else ["r", "w", "rw"]))
     if form == "bytes":
-        if dice.random() < 0.1:
-            return '"' + "aB" * dice.choice([65_535, 65_536, 65_537]) + dice.choice(["", "", "c"]) + '"'
-        return json.dumps(dice.choice(TEXTS[6:]))
-    return str(dice.choice([0, 0, 1] if dice.random() < 0.5 else NUMBERS))
+        return f'"{limits_bytes(dice, past)}"'
+    return str(dice.choice(NUMBERS if past else [0, 1, *ENDS.get(form, [2**32 - 1])]))
+
+
+def limits_bytes(dice, past):
+    if dice.random() < 0.2:
+        return "aB" * (MOST_DIGITS // 2 + dice.choice([0, 1] if past else [0, -1]))
+    return dice.choice(
+        ["686", "6g", " 12", "0x12", "6 8", "\u00e9\u00e9"] if past else ["", "6869", "ABcd", "00", "Ff"]
+    )
