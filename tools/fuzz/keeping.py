@@ -9,22 +9,21 @@ FILES = {"recording": "recording.jsonl", "script": "script"}
 
 
 def smaller(netrev, case, folder):
-    """The case with lines of its recording and script left out, as long as there is a difference."""
-    tries = TRIES
+    """The case with lines of its recording and script left out, as long as there is a difference: the last ones first,
+    since what comes later rests on what came before."""
+    left = TRIES
     for part in FILES:
         lines = getattr(case, part).split(b"\n")
-        size = len(lines) // 2
-        while size and tries > 0:
-            start = 0
-            while start < len(lines) and tries > 0:
-                fewer = lines[:start] + lines[start + size :]
-                tries -= 1
-                shorter = case._replace(**{part: b"\n".join(fewer)})
-                if difference(netrev, shorter, folder, Met()):
-                    case, lines = shorter, fewer
-                else:
-                    start += size
-            size //= 2
+        size, start = len(lines) // 2, len(lines)
+        while size and left:
+            start = max(0, start - size)
+            fewer = lines[:start] + lines[start + size :]
+            shorter = case._replace(**{part: b"\n".join(fewer)})
+            left -= 1
+            if difference(netrev, shorter, folder, Met()):
+                case, lines = shorter, fewer
+            if start == 0:
+                size, start = size // 2, len(lines)
     return case
 
 
