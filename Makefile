@@ -5,8 +5,9 @@ NETREV = crates/netrev/out/netrev
 FILE = examples/first.jsonl
 SCRIPT = examples/first.script
 PREFIX = /usr/local
+MINUTES = 5
 
-.PHONY: help look run hunt test refused loopback companion netrev examples share bench install clean
+.PHONY: help look run hunt test refused loopback fuzz companion netrev examples share bench install clean
 
 # Tells what there is to make.
 help:
@@ -45,6 +46,11 @@ loopback: netrev
 # The tests of nrdb, the companion, with the built program; among them the hunts of examples/hunts.
 companion: netrev
 	@python3 -m unittest discover -s tests/nrdb
+
+# Random recordings and command lines, held against a model of the machine in Python: `make fuzz MINUTES=30 SEED=7`. What
+# differs is kept in out/fuzz (CONTRIBUTING.md). Not in the gate.
+fuzz: netrev
+	@PYTHONPATH=tools python3 -m fuzz --minutes $(MINUTES) --seed "$(SEED)"
 
 # Leaves the proved program at $(NETREV). With no change since, nothing is proved again.
 netrev:

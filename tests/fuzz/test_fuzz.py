@@ -51,9 +51,9 @@ def error_stays(world, d, mode, error):
 EVENT = polling.event
 # what is planted in the model, and a seed whose first cases show it (a change of how cases are made wants other seeds)
 PLANTED = {
-    "a reason exchanged": ("51", lambda: mock.patch.dict(steps.OF_KIND, decref=reason_exchanged)),
+    "a reason exchanged": ("52", lambda: mock.patch.dict(steps.OF_KIND, decref=reason_exchanged)),
     "a mark that stays": ("1", lambda: mock.patch.object(polling, "event", error_stays)),
-    "a command line shorter by one": ("8", lambda: mock.patch("debugger.MOST_LINE", 255)),
+    "a command line shorter by one": ("2", lambda: mock.patch("debugger.MOST_LINE", 255)),
 }
 WITHIN = 15
 

@@ -98,8 +98,8 @@ def full_journal(dice):
 
 def many_steps(dice):
     """As many steps as a recording may have, or one more."""
-    last = dice.choice([b"", b'["tick",0]', b'["jump"]', b'["pop"]', b"[", b"\n\n\r"])
-    return HEADER + b'["tick",0]\n' * dice.choice([MOST_STEPS - 1, MOST_STEPS]) + last, None
+    last = dice.choice([b"", b'["tick",0]', b'["jump"]', b'["pop"]', b"{}", b"[", b"\n\n\r"])
+    return HEADER + b'["tick",0]\n' * dice.choice([MOST_STEPS - 1, MOST_STEPS, MOST_STEPS]) + last, None
 
 
 SORTS: dict[Callable, float] = {

@@ -56,7 +56,7 @@ def features(world):
     if world.firings:
         yield "firings full" if len(world.firings) == 2 * world.limits.desc else "a firing"
     if world.timers and world.timers[0].when <= world.clock:
-        yield "a timer due"
+        yield "a timer due, firings full" if len(world.firings) == 2 * world.limits.desc else "a timer due"
     if any(socket.peer_closed for socket in world.sockets):
         yield "a peer closed"
     if any(len(socket.buffers[0]) == socket.capacities[0] for socket in world.sockets):
@@ -102,15 +102,16 @@ class Author:
         return self.dice.choice(having[self.dice.choice(sorted(having))])
 
     def refused_step(self, world):
-        """A step that doesn't apply, if one is found: of those that are tried, each kind and reason has the same chance."""
+        """A step that doesn't apply, if one is found: of those that are tried, each reason has the same chance, and each
+        kind of that reason."""
         found = {}
-        for _ in range(60):
+        for _ in range(80):
             step = self.wild_step(world) if self.dice.random() < 0.5 else self.step(world)
             try:
                 apply(world, step)
             except Refused as refused:
-                found[step[0], refused.reason] = step
-        return self.dice.choice(list(found.values())) if found else None
+                found.setdefault(refused.reason, {})[step[0]] = step
+        return self.dice.choice(list(self.dice.choice(list(found.values())).values())) if found else None
 
     def step(self, world):
         if self.dice.random() < self.wild:
