@@ -10,20 +10,21 @@ FILES = {"recording": "recording.jsonl", "script": "script"}
 
 def smaller(netrev, case, folder):
     """The case with lines of its recording and script left out, as long as there is a difference: the last ones first,
-    since what comes later rests on what came before."""
+    since what comes later rests on what came before; in the end none more can be left out, unless the tries are used up.
+    """
     left = TRIES
     for part in FILES:
         lines = getattr(case, part).split(b"\n")
-        size, start = len(lines) // 2, len(lines)
+        size, start, fewer_now = len(lines) // 2, len(lines), False
         while size and left:
-            start = max(0, start - size)
+            start, left = max(0, start - size), left - 1
             fewer = lines[:start] + lines[start + size :]
             shorter = case._replace(**{part: b"\n".join(fewer)})
-            left -= 1
             if difference(netrev, shorter, folder, Met()):
-                case, lines = shorter, fewer
+                case, lines, fewer_now = shorter, fewer, True
             if start == 0:
-                size, start = size // 2, len(lines)
+                size = size if size == 1 and fewer_now else size // 2
+                start, fewer_now = len(lines), False
     return case
 
 
