@@ -2,8 +2,8 @@
 
 import re
 
-from .reading import LONGEST_LINE
-from .texts import BLANKS, NUMBERS, PIECES, RANGES, TEXTS
+from .reading import LONGEST_LINE, RANGES
+from .texts import BLANKS, NUMBERS, PIECES, TEXTS
 
 
 def damaged(dice, text):

@@ -120,14 +120,13 @@ def with_timer(world, d, side, combo):
 
 
 def fired(world, firing):
-    """Runs a firing: None where it is stale."""
-    desc = world.descs[firing.desc]
-    if firing.sequence != desc.sequences[at(firing.covers[0])]:
+    """Runs a firing: None where it is stale. Whose sequence it goes by is the first of the sides that it covers."""
+    d, own = firing.desc, at(firing.covers[0])
+    if firing.sequence != world.descs[d].sequences[own]:
         return None
     for side in firing.covers:
-        place = at(side)
-        if world.descs[firing.desc].deadlines[place] <= 0 or not desc.running[at(firing.covers[0])]:
+        desc = world.descs[d]
+        if desc.deadlines[at(side)] <= 0 or not desc.running[own]:
             raise Refused(21)
-        deadlines = put(world.descs[firing.desc].deadlines, place, -1)
-        world = unblock(world.with_desc(firing.desc, deadlines=deadlines), firing.desc, side, False)
+        world = unblock(world.with_desc(d, deadlines=put(desc.deadlines, at(side), -1)), d, side, False)
     return world
