@@ -30,7 +30,6 @@ SHOWS_DESC = {
 }
 CELLS_OF_ALL = tuple(SHOWS_ALL)
 CELLS_OF_ONE = (*SHOWS_GOROUTINE, *SHOWS_SOCKET, *SHOWS_DESC)
-DUMPS = ("in", "out", "rq", "wq")
 
 
 def word(held):

@@ -1,6 +1,8 @@
 """Random scripts of command lines: good ones for the most part, spelled in all the ways that they may be, and bad ones."""
 
-from .cells import CELLS_OF_ALL, CELLS_OF_ONE, DUMPS, SHOWS_DESC, SHOWS_SOCKET
+from nrdb.vocabulary import DUMPS
+
+from .cells import CELLS_OF_ALL, CELLS_OF_ONE, SHOWS_DESC, SHOWS_SOCKET
 from .reading import KINDS
 
 NONSENSE = [
@@ -132,7 +134,7 @@ class Speaker:
         return f"{self.dice.choice(['print', 'p'])} {self.cell()}"
 
     def dump(self):
-        return f"dump {self.dice.choice(DUMPS)} {self.number(self.dice.choice([0, 0, 1, 2]))}"
+        return f"dump {self.dice.choice(list(DUMPS))} {self.number(self.dice.choice([0, 0, 1, 2]))}"
 
     def info(self):
         return f"info {self.dice.choice(['position', 'position', 'breakpoints', 'checkpoints'])}"

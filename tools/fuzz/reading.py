@@ -3,6 +3,8 @@
 import re
 from functools import lru_cache
 
+from nrdb.vocabulary import HEADER, KINDS as OF_NRDB
+
 from .jsontext import NoJson, read_json
 from .machine import GREATEST_TIME, Limits, Refused, World
 from .steps import apply
@@ -10,41 +12,16 @@ from .steps import apply
 LONGEST_LINE = 200_000
 MOST_STEPS = 1_000_000
 MOST_DIGITS = 131_072
-RANGES = {"gor": 4096, "sock": 256, "desc": 256, "buf": 65_536}
+RANGES = {key: limit.greatest for key, limit in HEADER.items() if key != "netrev"}
 
-FORMS = {
-    "spawn": "",
-    "exit": "g",
-    "sockopen": "n n",
-    "arrive": "s bytes",
-    "peerclose": "s",
-    "sysread": "g s n",
-    "syswrite": "g s bytes",
-    "drain": "s n",
-    "incref": "g s",
-    "increfclose": "g s",
-    "decref": "g s",
-    "rwlock": "g s side",
-    "rwunlock": "g s side",
-    "acquire": "g",
-    "release": "g",
-    "pollopen": "g s",
-    "pollclose": "g d",
-    "pollreset": "g d side",
-    "waitbegin": "g d side",
-    "blockarm": "g",
-    "blockcheck": "g",
-    "parkcommit": "g",
-    "blockswap": "g",
-    "waitcheck": "g",
-    "setdeadline": "g d mode deadline",
-    "evict": "g d",
-    "pollevent": "d tag mode err",
-    "tick": "clock",
-    "pop": "",
-    "fire": "i",
-}
-ARGUMENTS = {kind: tuple(forms.split()) for kind, forms in FORMS.items()}
+
+def forms_of(kind):
+    """The forms of a kind's arguments. `n` is a capacity or a count of bytes; of times, those of a deadline have signs."""
+    of_time = "deadline" if kind.name == "setdeadline" else "clock"
+    return tuple({"rc": "n", "wc": "n", "time": of_time}.get(argument, argument) for argument in kind.arguments)
+
+
+ARGUMENTS = {kind.name: forms_of(kind) for kind in OF_NRDB.values()}
 KINDS = tuple(ARGUMENTS)
 
 
