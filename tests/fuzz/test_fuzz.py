@@ -119,7 +119,19 @@ class Model(unittest.TestCase):
 
     def test_json_is_read_strictly(self):
         good = [b'"\\ud83d\\ude00"', b"1e300", b"-9223372036854775808", b"[" * 127 + b"]" * 127, b' {"a":1,"a":2}\r']
-        bad = [b"1e999", b"9" * 400, b'"\\ud800"', b'{"\\udc00":1}', b'[{"a":"\\ud800"}]', b"NaN", b"01", b"\xff"]
+        good += [b"0e99999999", b"1e-9999999999999999999999"]
+        bad = [
+            b"1e999",
+            b"-1E9999999",
+            b"1e9999999999999999999999",
+            b"9" * 400,
+            b'"\\ud800"',
+            b'{"\\udc00":1}',
+            b'[{"a":"\\ud800"}]',
+            b"NaN",
+            b"01",
+            b"\xff",
+        ]
         bad += [b"[" * 128 + b"]" * 128, b"1 2", b"'a'", b'"\t"', b"\xef\xbb\xbf1", b""]
         for line in good:
             read_json(line)

@@ -56,7 +56,12 @@ def play(netrev, seed, met, minutes=5, cases=None, out=ROOT / "out/fuzz"):
             if time.monotonic() > until or found == MOST_DIFFERENCES:
                 break
             met.cases[case.sort] += 1
-            if differs := difference(netrev, case, Path(name), met):
+            try:
+                differs = difference(netrev, case, Path(name), met)
+            except Exception:
+                print(f"{case.seed} ({case.sort}): the fuzzer itself failed", flush=True)
+                raise
+            if differs:
                 found += 1
                 where = out / case.seed
                 print(f"{case.seed} ({case.sort}): {keep(netrev, case, differs, where)}")

@@ -38,7 +38,7 @@ def whole(text):
 
 def fraction(text):
     try:
-        if DOUBTED[0] <= abs(Decimal(text)) <= DOUBTED[1]:
+        if DOUBTED[0] <= Decimal(text).copy_abs() <= DOUBTED[1]:
             raise Doubtful(text)
     except InvalidOperation:  # an exponent past Decimal's own
         pass
