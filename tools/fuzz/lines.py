@@ -5,35 +5,14 @@ from nrdb.vocabulary import DUMPS
 from .cells import CELLS_OF_ALL, CELLS_OF_ONE, SHOWS_DESC, SHOWS_SOCKET
 from .reading import KINDS
 
-NONSENSE = [
-    *(b"frob", b"stepi 0", b"stepi -1", b"stepi +1", b"stepi 1.0", b"stepi 4294967296", b"stepi 1 2", b"Stepi", b"ste"),
-    *(
-        b"break",
-        b"break @0",
-        b"break @",
-        b"break @4294967296",
-        b"break jump",
-        b"break @1 @2",
-        b"watch",
-        b"watch clock 1",
-    ),
-    *(b"watch gor", b"watch gor -1", b"print", b"print lock", b"print lock x", b"print rg 4294967296", b"p  rq 0"),
-    *(b"dump", b"dump in", b"dump clock", b"dump in 0 0", b"info", b"info marks", b"info position now", b"delete"),
-    *(b"delete x", b"delete checkpoint", b"delete checkpoint 0", b"delete 0", b"restart", b"restart -1", b"set"),
-    *(b"set exec-direction", b"set exec-direction back", b"checkpoint 1", b"continue 2", b"c c", b"quit now", b"q 1"),
-    *(
-        b"resume",
-        b"resume 1",
-        b"\tstepi",
-        b"stepi\t1",
-        b"stepi\r\r",
-        b"step\xc3\xaf",
-        b"\xff\xfe",
-        b"\0",
-        b"stepi \x001",
-    ),
-    *(b"", b"   ", b"\r", b" \r", b"stepi \xd9\xa3"),
-]
+NONSENSE = (
+    b"frob|stepi 0|stepi -1|stepi +1|stepi 1.0|stepi 4294967296|stepi 1 2|Stepi|ste|break|break @0|break @|"
+    b"break @4294967296|break jump|break @1 @2|watch|watch clock 1|watch gor|watch gor -1|print|print lock|"
+    b"print lock x|print rg 4294967296|p  rq 0|dump|dump in|dump clock|dump in 0 0|info|info marks|"
+    b"info position now|delete|delete x|delete checkpoint|delete checkpoint 0|delete 0|restart|restart -1|set|"
+    b"set exec-direction|set exec-direction back|checkpoint 1|continue 2|c c|quit now|q 1|resume|resume 1|\tstepi|"
+    b"stepi\t1|stepi\r\r|step\xc3\xaf|\xff\xfe|\x00|stepi \x001||   |\r| \r|stepi \xd9\xa3"
+).split(b"|")
 
 
 def every_cell(limits, length, backwards):
