@@ -6,7 +6,8 @@
 # refused for what it means: not one that can't be tried, or that the prover gave up on, or that is refused only because a
 # proof file names what the edit takes away. And the program that was built has to stand scripts/refused.sh,
 # scripts/refused_serving.py and scripts/loopback.py, play examples/shared.sh and examples/real, and pass the tests of nrdb, the
-# companion, which play the hunts of examples/hunts, and those of tools/go.
+# companion, which play the hunts of examples/hunts, and those of tools/go and
+# tools/fuzz.
 # The last line is that of `rt ci`, with one more failed for each of these that fails.
 set -eu
 cd "$(dirname "$0")/.."
@@ -30,6 +31,7 @@ sh examples/shared.sh || more=$((more + 1))
 python3 -m unittest discover -s tests/nrdb || more=$((more + 1))
 for name in past lost leak; do sh examples/play.sh "real/$name" || more=$((more + 1)); done
 python3 -m unittest discover -s tests/go || more=$((more + 1))
+python3 -m unittest discover -s tests/fuzz || more=$((more + 1))
 
 last=$(tail -n 1 "$log")
 passed=${last%% passed*} failed=${last#*passed, }
