@@ -2,10 +2,14 @@
 """Plays sessions of the built program over the loopback:  scripts/loopback.py [--seed N] [NAME ..]
 
     table     two callers one after the other, whose replies are known, with journals of one word and of four
+    turns     three callers at each of two fronts, one after the other
+    stopped   one who is to serve without end is stopped by a signal; then another serves at the same ports
+    elsewhere nobody is served at this machine's other addresses
     crowded   eight callers at the same time, with room for seven commands; two with a hundred commands each
     silent    a caller who says nothing and reads nothing holds up nobody at the sixteen other fronts
-    hostile   callers who leave in the middle, send no end of a line, don't read, and a port that is taken: the next
-              caller is served as ever, netrev ends by itself, and its status says whether a connection failed
+    hostile   callers who leave in the middle, send no end of a line, don't read, go on or stay behind `quit`, and a
+              port that is taken: the next caller is served as ever, netrev ends by itself, and its status says whether
+              a connection failed
     histories callers at 64 fronts, two at each, send random lines. All replies have to be right by one order of all
               lines (history.py), and `placed K` has to tell their number. Where all sorts of lines are sent, eight of
               the fronts talk at the same time and the others' callers wait, since of more the search takes too long;
@@ -17,7 +21,9 @@ Ends with status 1 at the first that isn't as it has to be, and says what was ex
 """
 
 import argparse
+import errno
 import random
+import signal
 import socket
 import struct
 import subprocess
@@ -29,7 +35,7 @@ from pathlib import Path
 from debugger import FULL, Recording, is_command, read_line  # (it tells Python where nrdb is)
 from history import GaveUp, Search
 from nrdb.vocabulary import CELLS, DUMPS, KINDS, MOST, Of
-from sharing import NETREV, ROOT, Server, Talker, Wrong, converse, expect, read_to_end, talk
+from sharing import NETREV, PATIENCE, ROOT, Server, Talker, Wrong, converse, expect, read_to_end, talk
 
 # a reader parks and is woken by bytes: twelve steps
 PARKED = """{"netrev":1,"gor":4,"sock":2,"desc":2,"buf":16}
@@ -202,6 +208,68 @@ def play_table(parked, _lives, _dice):
             server.expect_end(0, f"placed {placed}\n")
 
 
+def play_turns(parked, _lives, _dice):
+    """Three callers a front, each of whom finds the session where the one before left it."""
+    turns = (
+        (0, ["stepi 3", "quit"], ["at 3", "bye"]),
+        (0, ["info position", "break @5", "quit"], ["at 3 of 12 forward", "mark 1", "bye"]),
+        (1, ["continue", "quit"], ["at 4 by 1", "bye"]),
+        (1, ["stepi", "checkpoint", "quit"], ["at 5", "checkpoint 1 at 5", "bye"]),
+        (0, ["reverse-stepi 2", "quit"], ["at 3", "bye"]),
+        (1, ["info position", "quit"], ["at 3 of 12 forward", "bye"]),
+    )
+    with Server(parked.path, fronts=2, connections=3) as server:
+        for front, lines, replies in turns:
+            expect(f"the replies of front {front}", replies, talk(server.call(front), lines))
+        server.expect_end(0, "placed 6\n")
+
+
+def play_stopped(parked, _lives, _dice):
+    """A signal ends one that serves without end, while one is connected too, and leaves no port taken."""
+    for stop in (signal.SIGTERM, signal.SIGKILL):
+        with Server(parked.path, fronts=2, connections=None) as server:
+            for _ in range(3):
+                expect("the replies", ["bye"], talk(server.call(1), ["quit"]))
+            with server.call(0) as silent:
+                expect("netrev serve ended by itself", False, server.has_ended())
+                server.process.send_signal(stop)
+                expect("the end of netrev serve: status, output and errors", (-stop, "", ""), server.ended())
+                with Server(parked.path, fronts=2, port=server.port) as next_one:
+                    for front, place in ((0, 1), (1, 2)):
+                        came = talk(next_one.call(front), ["stepi", "quit"])
+                        expect(f"the replies of front {front}", [f"at {place}", "bye"], came)
+                    next_one.expect_end(0, "placed 2\n")
+
+
+def play_elsewhere(parked, _lives, _dice):
+    """Each port is one of 127.0.0.1 alone."""
+    with Server(parked.path, fronts=2) as server:
+        callers = [server.call(front) for front in range(2)]
+        for front in range(2):
+            for family, address in other_addresses():
+                with socket.socket(family) as one:
+                    one.settimeout(PATIENCE)
+                    refused = one.connect_ex((address, server.port + front))
+                expect(f"what a caller at {address} was told", errno.ECONNREFUSED, refused)
+        for caller in callers:
+            expect("the replies", ["bye"], talk(caller, ["quit"]))
+        server.expect_end(0, "placed 0\n")
+
+
+def other_addresses():
+    """Addresses of this machine that aren't 127.0.0.1: each of 127.0.0.0/8 is, and those that it has besides."""
+    found = [(socket.AF_INET, "127.0.0.2"), (socket.AF_INET, "127.255.255.254")]
+    # nothing is sent: these only ask from where it would be
+    for family, far in ((socket.AF_INET, "192.0.2.1"), (socket.AF_INET6, "2001:db8::1"), (socket.AF_INET6, "::1")):
+        try:
+            with socket.socket(family, socket.SOCK_DGRAM) as one:
+                one.connect((far, 9))
+                found.append((family, one.getsockname()[0]))
+        except OSError:  # it has none
+            continue
+    return found
+
+
 def play_crowded(_parked, lives, _dice):
     """Callers who step forwards at the same time: each place up to the journal's room is one command's."""
     for fronts, each, journal in ((8, 1, 7), (2, 100, 4096)):
@@ -268,6 +336,32 @@ def reads_nothing(caller):
     raise Wrong("64 MB of lines were taken from one who reads no reply")
 
 
+def more_behind_quit(caller):
+    """What comes behind `quit` isn't answered, and doesn't cost the caller the last reply."""
+    caller.sendall(b"quit\n" + b"stepi\n" * 1000)
+    expect("the replies", ["bye"], read_to_end(caller))
+
+
+def no_end_behind_quit(caller):
+    """Netrev takes some of it, and closes."""
+    caller.sendall(b"quit\n")
+    expect("the reply", b"bye\n", caller.recv(100))
+    try:
+        for _ in range(1000):
+            caller.sendall(b"x" * 65_536)
+    except ConnectionError:
+        return caller.close()
+    raise Wrong("64 MB behind quit were taken")
+
+
+def stays_behind_quit(caller):
+    """One who reads the end of the replies and neither closes nor says anything is left alone."""
+    caller.sendall(b"quit\n")
+    expect("the reply", b"bye\n", caller.recv(100))
+    expect("the end of the replies", b"", caller.recv(100))
+    return caller
+
+
 def play_hostile(parked, _lives, _dice):
     """After each of these the next caller of the front is served where the front stands, and then it ends."""
     for leave, status, position, placed in (
@@ -275,9 +369,12 @@ def play_hostile(parked, _lives, _dice):
         (half_a_line_and_reset, 3, 3, 1),
         (line_without_end, 0, 0, 0),
         (reads_nothing, 3, 3, 1),
+        (more_behind_quit, 0, 0, 0),
+        (no_end_behind_quit, 0, 0, 0),
+        (stays_behind_quit, 0, 0, 0),
     ):
         with Server(parked.path, connections=2) as server:
-            leave(server.call(0, SO_RCVBUF=4096))
+            _staying = leave(server.call(0, SO_RCVBUF=4096))
             came = talk(server.call(0), ["info position", "stepi", "quit"])
             shown = [f"at {position} of 12 forward", f"at {position + 1}", "bye"]
             expect(f"the replies after {leave.__name__}", shown, came)
@@ -367,6 +464,9 @@ def expect_no_other(recording, exchanged, has_one_place):
 
 SESSIONS = {
     "table": play_table,
+    "turns": play_turns,
+    "stopped": play_stopped,
+    "elsewhere": play_elsewhere,
     "crowded": play_crowded,
     "silent": play_silent,
     "hostile": play_hostile,

@@ -31,11 +31,13 @@ from sharing import ROOT, Server, Wrong, expect
 
 
 class Played(NamedTuple):
-    """What came of a session: whether anything was refused, how often that was told, and whether callers were served."""
+    """What came of a session: whether anything was refused, how often that was told, whether callers were served, and
+    whether how many commands they placed was told."""
 
     refused: bool
     told: int
     served: bool
+    counted: bool
 
 
 @dataclass
@@ -166,13 +168,13 @@ def play(folder, script, words):
         session.told = 1
         if not served:
             expect("commands that were placed by callers who weren't served", 0, session.placed)
-            return Played(refused, session.told, served)
+            return Played(refused, session.told, served, counted=False)
     else:
         expect("the end of netrev serve: status, output and errors", right, ended)
     expect("whether each caller was served", True, served)
     expect("commands that were placed", script.commands(), session.placed)
     expect("how often memory was told of is at most once where it was refused", True, session.told <= refused)
-    return Played(refused, session.told, served)
+    return Played(refused, session.told, served, counted=ended[0] == 0)
 
 
 def first_served(play_number):
@@ -201,7 +203,9 @@ def play_script(folder, preload, script):
             played += pool.map(play_number, range(begin, begin + AT_A_TIME))
     expect(f"{script.name}: whether the first allocation was refused", True, played[0].refused)
     threadless = play(folder, script, [preload, "THREADS=0"])
-    expect("with no thread: refused, told of memory, served", Played(True, 0, True), threadless)
+    expect("with no thread: refused, told of memory, served, counted", Played(True, 0, True, True), threadless)
+    uncounted = any(one.served and not one.counted for one in played)
+    expect(f"{script.name}: whether memory was refused for the history once", True, uncounted)
     return played
 
 

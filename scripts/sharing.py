@@ -87,17 +87,20 @@ PORTS = Ports()
 
 
 class Server:
-    """A netrev that serves a recording, at ports of its own. `before` is called with the first one before it is
-    started, which is done by the words of `through`, if any. Each search of it has so many workers."""
+    """A netrev that serves a recording, at ports of its own, or from `port` on. `before` is called with the first one
+    before it is started, which is done by the words of `through`, if any. Each search of it has so many workers. With
+    no number of connections it serves until it is stopped."""
 
-    def __init__(self, recording, fronts=1, connections=1, journal=4096, workers=1, through=(), before=None):
+    def __init__(self, recording, fronts=1, connections=1, journal=4096, workers=1, through=(), before=None, port=None):
         self.errors = tempfile.TemporaryFile()
         with PORTS.lock:
-            self.port = PORTS.take(fronts)
+            self.port = port or PORTS.take(fronts)
             if before:
                 before(self.port)
             words = [*through, NETREV, "serve", str(recording), "--port", str(self.port), "--fronts", str(fronts)]
-            words += ["--connections", str(connections), "--journal", str(journal), "--workers", str(workers)]
+            words += ["--journal", str(journal), "--workers", str(workers)]
+            if connections:
+                words += ["--connections", str(connections)]
             self.process = subprocess.Popen(
                 words, stdin=subprocess.DEVNULL, stdout=subprocess.PIPE, stderr=self.errors
             )

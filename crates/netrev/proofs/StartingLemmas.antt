@@ -2,10 +2,9 @@
 use Rattle.std.proofs.Common.{ℕ, List, length, take, Result, Ok, Err, sym, subst}
 use Rattle.std.proofs.Math.Seq.{take-length}
 use Rattle.std.specs.Io.KnownBytes.{Appends}
-use Rattle.nr_command.specs.Sender.{Goes}
-use Rattle.nr_command.specs.Sink.{Outgoing}
-use Rattle.nr_command.specs.declared.sender.Part.{Part}
+use Rattle.nr_text.specs.Streams.{Outgoing, Prints}
+use Rattle.nr_text.specs.declared.sink.CutShort.{CutShort}
 
-pub goes_part : (old new : Outgoing) (text : List ℕ) (sent : Result ℕ Part) → Goes old new text sent → (n : ℕ) × Appends old.contents new.contents (take n text)
-goes_part old new text (Ok len) went = (length text, subst (Appends old.contents new.contents) (sym (take-length text)) went.1.0)
-goes_part old new text (Err part) went = (went.n, went.out)
+pub prints_prefix : (old new : Outgoing) (text : List ℕ) (printed : Result Unit CutShort) → Prints old new text printed → (n : ℕ) × Appends old.contents new.contents (take n text)
+prints_prefix old new text (Ok _) went = (length text, subst (Appends old.contents new.contents) (sym (take-length text)) went.0)
+prints_prefix old new text (Err cut) went = (went.n, went.out)

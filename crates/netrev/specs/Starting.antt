@@ -3,13 +3,11 @@ use Rattle.std.specs.Prelude.{◌≡◌, ℕ, true, List, take, codes}
 use Rattle.std.specs.Io.KnownBytes.{Appends}
 use Rattle.std.specs.declared.io.ErrorKind.{ErrorKind}
 use Rattle.std.specs.declared.io.ErrorKind.TheVariants as kind
-use Rattle.nr_command.specs.Sink.{Outgoing}
-use Rattle.nr_lines.specs.Streams.{Incoming}
-use Rattle.nr_programs.specs.Opening.{fault_line}
+use Rattle.nr_text.specs.Streams.{Incoming, Outgoing}
+use Rattle.nr_recording.specs.Faults.{memory_line}
 use Rattle.nr_programs.specs.Run.{Checks, Prints, Runs}
 use Rattle.nr_programs.specs.Serving.{ServesAll}
 use Rattle.nr_programs.specs.Sharing.{is_in_range}
-use Rattle.nr_programs.specs.declared.opening.OpenFault.TheVariants as faults
 use Rattle.nr_programs.specs.declared.run.ExitStatus.{ExitStatus}
 use Rattle.nr_programs.specs.declared.run.ExitStatus.TheVariants as statuses
 use Rattle.netrev.specs.declared.starting.Unstarted.{Unstarted}
@@ -51,6 +49,6 @@ abbrev pub Tells : Unstarted → Outgoing → Outgoing → Outgoing → Outgoing
 Tells unstarted.Usage old new before after status =
     (status ≡ statuses.Usage) × (new ≡ old) × ((n : ℕ) × Appends before.contents after.contents (take n usage_text))
 Tells unstarted.Memory old new before after status =
-    Prints (fault_line faults.Memory) statuses.Refused old new status × (after ≡ before)
+    Prints memory_line statuses.Refused old new status × (after ≡ before)
 Tells unstarted.File old new before after status =
     (status ≡ statuses.StreamFailed) × (new ≡ old) × (after ≡ before)

@@ -4,8 +4,13 @@ use crate::arguments::Program;
 use nr_serving::{Connection, Connections, Next, Ports};
 use std::io;
 use std::io::{Read, Write};
-use std::net::{Ipv4Addr, SocketAddr, TcpListener, TcpStream};
+use std::net::{Ipv4Addr, Shutdown, SocketAddr, TcpListener, TcpStream};
 use std::num::NonZeroU32;
+use std::time::Duration;
+
+/// How many milliseconds a read waits once no reply comes any more. A caller who reads up to the end of the replies and
+/// closes is heard in that time; one who stays and says nothing doesn't hold up the next.
+const FAREWELL: u64 = 100;
 
 /// A caller on a port of the loopback.
 #[derive(Drop)]
@@ -20,6 +25,12 @@ impl Connection for Caller {
     fn write(&self, bytes: &[u8]) -> io::Result<usize> {
         let mut stream = &self.0;
         stream.write(bytes)
+    }
+
+    fn end_replies(&self) -> io::Result<()> {
+        self.0.shutdown(Shutdown::Write)?;
+        self.0
+            .set_read_timeout(Some(Duration::from_millis(FAREWELL)))
     }
 }
 

@@ -7,11 +7,11 @@ ghost use Rattle.nr_programs.specs.declared.run.ExitStatus.{ExitStatus as Status
 ghost use Rattle.netrev.specs.declared.starting.Unstarted.TheVariants as reasons;
 
 use crate::arguments::{ArgumentsFault, Program, USAGE};
-use nr_command::{Sink, send};
-use nr_lines::Source;
-use nr_programs::{ExitStatus, OpenFault, check_bytes, refuse, run_bytes, serve_bytes};
+use nr_programs::{ExitStatus, check_bytes, refuse, run_bytes, serve_bytes};
+use nr_recording::OutOfMemory;
 use nr_rev::Worlds;
 use nr_serving::Ports;
+use nr_text::{Sink, Source};
 use std::alloc::{AllocError, Global};
 use std::io;
 use std::io::{ErrorKind, Read, Write};
@@ -70,10 +70,10 @@ impl Unstarted {
     {
         match self {
             Unstarted::Usage => {
-                let _sent = send(USAGE.as_bytes(), errors);
+                let _printed = errors.print(&USAGE.as_bytes());
                 ExitStatus::Usage
             }
-            Unstarted::Memory => refuse(OpenFault::Memory, output),
+            Unstarted::Memory => refuse(&OutOfMemory, output),
             Unstarted::File => ExitStatus::StreamFailed,
         }
     }

@@ -2,7 +2,6 @@ pub mod CommandLemmas
 pub mod CountLemmas
 pub mod LawLemmas
 pub mod ReplyLemmas
-pub mod SenderLemmas
 pub mod WordLemmas
 pub mod DebuggerLemmas
 pub mod WithinLemmas

@@ -25,7 +25,7 @@ use Rattle.nr_command.specs.declared.command.Command.TheVariants as commands
 use Rattle.nr_command.specs.declared.debugger.Debugger.{Debugger}
 use Rattle.nr_command.specs.declared.reply.Reply.{Reply}
 use Rattle.nr_command.specs.declared.reply.Reply.TheVariants as replies
-use Rattle.nr_command.proofs.DebuggerLemmas.{found_that_way}
+use Rattle.nr_command.proofs.DebuggerLemmas.{found_within}
 
 -- a checkpoint that is found is such as they all are
 found_kept : (P : Checkpoint → Type 0) (test : Checkpoint → Bool) (xs : List Checkpoint) (c : Checkpoint) → All P xs → find test xs ≡ Some c → P c
@@ -77,7 +77,7 @@ module _ (last : ℕ) (d : Debugger) (w : IsWithin last d) where
 
 module _ (r : Recording) (d : Debugger) (w : IsWithin (length r.steps) d) where
   arrive-within : (way : Direction) (found : Found) → found ≡ nearest_hit way r d.marks.standing d.position → IsWithin (length r.steps) (arrive way r d found).1
-  arrive-within way (Hit p) is = at-within (length r.steps) d w p (found_that_way way r d.marks.standing d.position p w.position is).within
+  arrive-within way (Hit h) is = at-within (length r.steps) d w h.position (found_within way r d.marks.standing d.position (Hit h) w.position is)
   arrive-within way Nothing is = to_end-within (length r.steps) d w way
 
   continue-within : (way : Direction) → IsWithin (length r.steps) (continue way r d).1

@@ -3,7 +3,6 @@ use Rattle.std.specs.Prelude.{ℕ, ◌+◌, ◌-◌, ◌<◌, ◌≤◌, ◌==�
 use Rattle.nr_rev.specs.Cell.{cell, bytes_of, queue_of}
 use Rattle.nr_rev.specs.Run.{Recording, world_at}
 use Rattle.nr_rev.specs.Worlds.{HasItems}
-use Rattle.nr_marks.specs.Hit.{hits_at}
 use Rattle.nr_marks.specs.Marks.{deletion, next_number}
 use Rattle.nr_marks.specs.Numbered.{empty, item_of, with_item, without_item}
 use Rattle.nr_marks.specs.declared.mark.Mark.{Mark}
@@ -52,7 +51,7 @@ step Backward n last d = if nat_lt d.position n then to_end Backward last d else
 
 -- it goes to what was found, and tells which marks hit there; where nothing was, to the end that way
 abbrev pub arrive : Direction → Recording → Debugger → Found → Ran
-arrive way r d (Hit p) = (replies.AtHit p (record { items = hits_at r d.marks.standing p }), at p d)
+arrive way r d (Hit h) = (replies.AtHit h.position h.marks, at h.position d)
 arrive way r d Nothing = to_end way (length r.steps) d
 
 -- it goes to the nearest hit that way

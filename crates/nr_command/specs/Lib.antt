@@ -3,8 +3,7 @@ pub mod Command
 pub mod Count
 pub mod Listing
 pub mod Reply
-pub mod Sender
-pub use Rattle.nr_recording.specs.Sink
 pub mod Value
 pub mod Word
 pub mod Debugger
+pub mod Looking

@@ -2,7 +2,7 @@
 use Rattle.std.specs.Prelude.{ℕ, List, [], ◌∷◌, ◌++◌, flat_map, Option, Some, None, codes, decimal}
 use Rattle.nr_rev.specs.declared.sides.Side.{Side}
 use Rattle.nr_rev.specs.declared.sides.Side.TheVariants.{Read, Write}
-use Rattle.nr_command.specs.Sender.{hex_pair, next_number}
+use Rattle.nr_text.specs.Text.{hex_pair, next_number}
 use Rattle.nr_command.specs.Value.{cell_text, value_text}
 use Rattle.nr_command.specs.Listing.{checkpoints_text, marks_text}
 use Rattle.nr_command.specs.declared.checkpoint.CheckpointFault.TheVariants.{NoSuchCheckpoint, CheckpointsFull}

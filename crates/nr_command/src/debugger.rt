@@ -8,7 +8,7 @@ use crate::command::Command;
 use crate::reply::{Fault, Reply};
 use nr_marks::{Mark, Marks};
 use nr_rev::Worlds;
-use nr_search::{Direction, Finder, Found, hits_at, nearest_hit};
+use nr_search::{Direction, Finder, Found, nearest_hit};
 use nr_snaps::Film;
 use std::alloc::AllocError;
 
@@ -147,10 +147,12 @@ impl Debugger {
     {
         let found = nearest_hit(finder, film, &self.marks, direction, self.position)?;
         match found {
-            Found::Hit(position) => {
-                let marks = hits_at(film, &self.marks, position)?;
-                self.position = position;
-                Ok(Reply::AtHit { position, marks })
+            Found::Hit(hit) => {
+                self.position = hit.position;
+                Ok(Reply::AtHit {
+                    position: hit.position,
+                    marks: hit.marks,
+                })
             }
             Found::Nothing => Ok(self.to_end(direction, film.len())),
         }

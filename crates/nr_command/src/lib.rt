@@ -10,7 +10,6 @@ mod listing;
 mod looking;
 mod parsing;
 mod reply;
-mod sender;
 mod value;
 mod word;
 
@@ -18,7 +17,5 @@ pub use checkpoint::{Checkpoint, CheckpointFault, Checkpoints, MOST_CHECKPOINTS}
 pub use command::{Command, Line, LineFault, Query};
 pub use count::from_one;
 pub use debugger::Debugger;
-pub use nr_recording::Sink;
 pub use parsing::{MAX_LINE, number};
 pub use reply::{Fault, Reply};
-pub use sender::{Part, Sent, Token, send, send_all};

@@ -1,20 +1,30 @@
 //! Sends the lines of the lists of marks and checkpoints.
 
+ghost use Rattle.std.specs.Prelude.{ℕ, List, flat_map};
 ghost use Rattle.nr_command.specs.Listing.{checkpoint_line, checkpoints_text, listing_text, mark_line, marks_text};
-ghost use Rattle.nr_command.specs.Sender.{Goes};
+ghost use Rattle.nr_text.specs.Buffered.{Writes};
 
 use crate::checkpoint::Checkpoint;
-use crate::sender::{Part, Sent, Token, send_all};
 use crate::value::Piece;
 use nr_marks::{Break, Mark, NumberedMark};
-use nr_recording::Sink;
+use nr_text::{Buffered, Text, Token, WriteFailed, send_all};
 use std::io::Write;
 
-/// A mark is a line: its number, and the command that makes such a mark.
-impl Sent for NumberedMark {
-    ghost text = { mark_line };
+/// What is listed, each on a line of its own.
+trait Listed {
+    /// Its line.
+    ghost line: { Self → List ℕ };
 
-    fn send<W: Write>(&self, w: &mut Sink<W>) -> Result<u64, Part> {
+    /// Sends the line.
+    fn send_line<W: Write>(&self, w: &mut Buffered<W>) -> Result<(), WriteFailed>
+        ensures { Writes w.old w.new (line self.now) result };
+}
+
+/// A mark's line is its number, and the command that makes such a mark.
+impl Listed for NumberedMark {
+    ghost line = { mark_line };
+
+    fn send_line<W: Write>(&self, w: &mut Buffered<W>) -> Result<(), WriteFailed> {
         let number = Piece::Number(self.number);
         match self.item {
             Mark::Break(Break::Kind(kind)) => {
@@ -42,11 +52,11 @@ impl Sent for NumberedMark {
     }
 }
 
-/// A checkpoint is a line: its number and its position.
-impl Sent for Checkpoint {
-    ghost text = { checkpoint_line };
+/// A checkpoint's line is its number and its position.
+impl Listed for Checkpoint {
+    ghost line = { checkpoint_line };
 
-    fn send<W: Write>(&self, w: &mut Sink<W>) -> Result<u64, Part> {
+    fn send_line<W: Write>(&self, w: &mut Buffered<W>) -> Result<(), WriteFailed> {
         let tokens = [
             Token::Number(u64::from(self.number)),
             Token::Text(b" at "),
@@ -68,24 +78,37 @@ enum Listing<'a> {
     Checkpoints(&'a [Checkpoint]),
 }
 
-impl Sent for Listing<'_> {
+impl Text for Listing<'_> {
     ghost text = { listing_text };
 
-    fn send<W: Write>(&self, w: &mut Sink<W>) -> Result<u64, Part> {
+    fn send<W: Write>(&self, w: &mut Buffered<W>) -> Result<(), WriteFailed> {
         match self {
             Listing::Heading(name, count) => {
                 let count = Token::Number(*count as u64);
                 send_all(&[Token::Text(name), count, Token::Text(b"\n")], w)
             }
-            Listing::Marks(marks) => send_all(marks, w),
-            Listing::Checkpoints(checkpoints) => send_all(checkpoints, w),
+            Listing::Marks(marks) => send_lines(marks, w),
+            Listing::Checkpoints(checkpoints) => send_lines(checkpoints, w),
         }
     }
 }
 
+/// Sends the lines one after the other.
+fn send_lines<T: Listed, W: Write>(items: &[T], w: &mut Buffered<W>) -> Result<(), WriteFailed>
+    ensures { Writes w.old w.new (flat_map T.line items.now) result }
+{
+    for item in items {
+        item.send_line(w)?;
+    }
+    Ok(())
+}
+
 /// Writes how many marks there are, and a line for each.
-pub(crate) fn send_marks<W: Write>(marks: &[NumberedMark], w: &mut Sink<W>) -> Result<u64, Part>
-    ensures { Goes w.old w.new (marks_text marks.now) result }
+pub(crate) fn send_marks<W: Write>(
+    marks: &[NumberedMark],
+    w: &mut Buffered<W>,
+) -> Result<(), WriteFailed>
+    ensures { Writes w.old w.new (marks_text marks.now) result }
 {
     let heading = Listing::Heading(b"marks ", marks.len());
     send_all(&[heading, Listing::Marks(marks)], w)
@@ -94,9 +117,9 @@ pub(crate) fn send_marks<W: Write>(marks: &[NumberedMark], w: &mut Sink<W>) -> R
 /// Writes how many checkpoints there are, and a line for each.
 pub(crate) fn send_checkpoints<W: Write>(
     checkpoints: &[Checkpoint],
-    w: &mut Sink<W>,
-) -> Result<u64, Part>
-    ensures { Goes w.old w.new (checkpoints_text checkpoints.now) result }
+    w: &mut Buffered<W>,
+) -> Result<(), WriteFailed>
+    ensures { Writes w.old w.new (checkpoints_text checkpoints.now) result }
 {
     let heading = Listing::Heading(b"checkpoints ", checkpoints.len());
     send_all(&[heading, Listing::Checkpoints(checkpoints)], w)

@@ -1,8 +1,9 @@
 //! What a look shows.
 
-ghost use Rattle.std.specs.Prelude.{◌≡◌, ◌≤◌, length, IfOk, OnErr};
+ghost use Rattle.std.specs.Prelude.{◌≡◌, ◌≤◌, length, true, false, IfNone, IfOk, IfSome, OnErr, OnSome};
 ghost use Rattle.nr_rev.specs.Run.{Stands};
 ghost use Rattle.nr_command.specs.Debugger.{Copies, shown};
+ghost use Rattle.nr_command.specs.Looking.{is_at_world};
 
 use crate::command::Query;
 use crate::debugger::Debugger;
@@ -27,6 +28,9 @@ impl Debugger {
         ensures ok { IfOk result (λ reply. reply ≡ shown film.now.recording self.now query) }
         ensures err { OnErr result (Copies film.now.recording self.now query) }
     {
+        if let Some(reply) = self.look_within(film, query) {
+            return Ok(reply);
+        }
         match query {
             Query::Print(cell) => {
                 let value = world.cell(cell);
@@ -48,13 +52,26 @@ impl Debugger {
                     queue,
                 })
             }
-            Query::Position => Ok(Reply::Position {
+            Query::Position | Query::Breakpoints | Query::Checkpoints => unreachable!(),
+        }
+    }
+
+    /// What a look shows that is at the debugger alone: it needs no world, and takes no memory. `None`: the look is at the
+    /// world, as a value and the dumps are.
+    pub fn look_within<W: Worlds + Drop>(&self, film: &Film<W>, query: Query) -> Option<Reply>
+        ensures some { IfSome result (λ reply. reply ≡ shown film.now.recording self.now query) }
+        ensures within { OnSome result (is_at_world query ≡ false) }
+        ensures at_world { IfNone result (is_at_world query ≡ true) }
+    {
+        match query {
+            Query::Print(_) | Query::DumpBytes { .. } | Query::DumpQueue { .. } => None,
+            Query::Position => Some(Reply::Position {
                 position: self.position,
                 last: film.len(),
                 direction: self.direction,
             }),
-            Query::Breakpoints => Ok(Reply::Marks(listed(self.marks.as_slice()))),
-            Query::Checkpoints => Ok(Reply::Checkpoints(listed(self.checkpoints.as_slice()))),
+            Query::Breakpoints => Some(Reply::Marks(listed(self.marks.as_slice()))),
+            Query::Checkpoints => Some(Reply::Checkpoints(listed(self.checkpoints.as_slice()))),
         }
     }
 }

@@ -4,18 +4,18 @@ ghost use Rattle.std.specs.Prelude.{◌≡◌, ◌++◌, codes, decimal};
 ghost use Rattle.nr_command.specs.declared.reply.Fault.TheVariants as faults;
 ghost use Rattle.nr_command.specs.declared.reply.Reply.TheVariants as replies;
 ghost use Rattle.nr_command.specs.Reply.{direction_text, fault_text, text_of};
-ghost use Rattle.nr_command.specs.Sender.{Goes, Prints, token_text};
+ghost use Rattle.nr_text.specs.Buffered.{Writes};
+ghost use Rattle.nr_text.specs.Text.{token_text};
 
 use crate::checkpoint::{Checkpoint, CheckpointFault, MOST_CHECKPOINTS};
 use crate::command::LineFault;
 use crate::listing::{send_checkpoints, send_marks};
-use crate::sender::{Part, Sent, Token, send, send_all};
 use crate::value::Piece;
 use arrayvec::ArrayVec;
 use nr_marks::{MOST_MARKS, MarkFault, NumberedMark};
-use nr_recording::Sink;
 use nr_rev::{Bytes, Cell, CellValue, Queue, Side};
 use nr_search::Direction;
+use nr_text::{Buffered, Text, Token, WriteFailed, send_all};
 use std::io::Write;
 
 /// What a line is answered.
@@ -92,26 +92,15 @@ pub enum Fault {
     Checkpoint(CheckpointFault),
 }
 
-impl Reply {
-    /// Writes the reply's text: one line, or in a list one for each item behind the first. It takes no memory.
-    ///
-    /// Where a write fails or takes nothing, `Part` says how many bytes of the text are out, and no more are written.
-    pub fn print<W: Write>(&self, w: &mut Sink<W>) -> Result<(), Part>
-        ensures { Prints w.old w.new (text_of self.now) result }
-    {
-        self.send(w)?;
-        Ok(())
-    }
-}
-
-impl Sent for Reply {
+/// The text: one line, or in a list one for each item behind the first.
+impl Text for Reply {
     ghost text = { text_of };
 
-    fn send<W: Write>(&self, w: &mut Sink<W>) -> Result<u64, Part> {
+    fn send<W: Write>(&self, w: &mut Buffered<W>) -> Result<(), WriteFailed> {
         match self {
             Reply::At(position) => send_position(*position, b"\n", w),
             Reply::AtEnd(position) => send_position(*position, b" end\n", w),
-            Reply::AtStart => send(b"at 0 start\n", w),
+            Reply::AtStart => w.send(b"at 0 start\n"),
             Reply::AtHit { position, marks } => send_hit(*position, marks.as_slice(), w),
             Reply::Direction(direction) => send_direction(*direction, w),
             Reply::MarkMade(number) => send_numbered(b"mark ", *number, w),
@@ -136,8 +125,8 @@ impl Sent for Reply {
             } => send_place(*position, *last, *direction, w),
             Reply::Marks(marks) => send_marks(marks.as_slice(), w),
             Reply::Checkpoints(checkpoints) => send_checkpoints(checkpoints.as_slice(), w),
-            Reply::NothingOwed => send(b"nothing owed\n", w),
-            Reply::Bye => send(b"bye\n", w),
+            Reply::NothingOwed => w.send(b"nothing owed\n"),
+            Reply::Bye => w.send(b"bye\n"),
             Reply::Fault(fault) => send_fault(*fault, w),
         }
     }
@@ -146,17 +135,21 @@ impl Sent for Reply {
 fn send_position<W: Write>(
     position: usize,
     end: &'static [u8],
-    w: &mut Sink<W>,
-) -> Result<u64, Part>
-    ensures { Goes w.old w.new
+    w: &mut Buffered<W>,
+) -> Result<(), WriteFailed>
+    ensures { Writes w.old w.new
         (codes "at " ++ decimal position ++ end.now) result }
 {
     let number = Token::Number(position as u64);
     send_all(&[Token::Text(b"at "), number, Token::Text(end)], w)
 }
 
-fn send_hit<W: Write>(position: usize, marks: &[u32], w: &mut Sink<W>) -> Result<u64, Part>
-    ensures { Goes w.old w.new
+fn send_hit<W: Write>(
+    position: usize,
+    marks: &[u32],
+    w: &mut Buffered<W>,
+) -> Result<(), WriteFailed>
+    ensures { Writes w.old w.new
         (text_of (replies.AtHit position (record { items = marks.now }))) result }
 {
     let tokens = [
@@ -169,8 +162,8 @@ fn send_hit<W: Write>(position: usize, marks: &[u32], w: &mut Sink<W>) -> Result
     send_all(&tokens, w)
 }
 
-fn send_direction<W: Write>(direction: Direction, w: &mut Sink<W>) -> Result<u64, Part>
-    ensures { Goes w.old w.new
+fn send_direction<W: Write>(direction: Direction, w: &mut Buffered<W>) -> Result<(), WriteFailed>
+    ensures { Writes w.old w.new
         (text_of (replies.Direction direction)) result }
 {
     let way = direction_token(direction);
@@ -187,16 +180,20 @@ fn direction_token(direction: Direction) -> Token<'static>
 }
 
 /// Writes what a number is of, and the number.
-fn send_numbered<W: Write>(name: &'static [u8], number: u32, w: &mut Sink<W>) -> Result<u64, Part>
-    ensures { Goes w.old w.new
+fn send_numbered<W: Write>(
+    name: &'static [u8],
+    number: u32,
+    w: &mut Buffered<W>,
+) -> Result<(), WriteFailed>
+    ensures { Writes w.old w.new
         (name.now ++ decimal number ++ codes "\n") result }
 {
     let number = Token::Number(u64::from(number));
     send_all(&[Token::Text(name), number, Token::Text(b"\n")], w)
 }
 
-fn send_checkpoint<W: Write>(checkpoint: Checkpoint, w: &mut Sink<W>) -> Result<u64, Part>
-    ensures { Goes w.old w.new
+fn send_checkpoint<W: Write>(checkpoint: Checkpoint, w: &mut Buffered<W>) -> Result<(), WriteFailed>
+    ensures { Writes w.old w.new
         (text_of (replies.CheckpointMade checkpoint)) result }
 {
     let tokens = [
@@ -209,8 +206,12 @@ fn send_checkpoint<W: Write>(checkpoint: Checkpoint, w: &mut Sink<W>) -> Result<
     send_all(&tokens, w)
 }
 
-fn send_printed<W: Write>(cell: Cell, value: CellValue, w: &mut Sink<W>) -> Result<u64, Part>
-    ensures { Goes w.old w.new
+fn send_printed<W: Write>(
+    cell: Cell,
+    value: CellValue,
+    w: &mut Buffered<W>,
+) -> Result<(), WriteFailed>
+    ensures { Writes w.old w.new
         (text_of (replies.Printed cell value)) result }
 {
     let pieces = [
@@ -226,9 +227,9 @@ fn send_bytes<W: Write>(
     side: Side,
     socket: u32,
     bytes: &Option<Bytes>,
-    w: &mut Sink<W>,
-) -> Result<u64, Part>
-    ensures { Goes w.old w.new
+    w: &mut Buffered<W>,
+) -> Result<(), WriteFailed>
+    ensures { Writes w.old w.new
         (text_of (replies.Bytes side socket bytes.now)) result }
 {
     let name = match side {
@@ -247,9 +248,9 @@ fn send_queue<W: Write>(
     side: Side,
     socket: u32,
     queue: &Option<Queue>,
-    w: &mut Sink<W>,
-) -> Result<u64, Part>
-    ensures { Goes w.old w.new
+    w: &mut Buffered<W>,
+) -> Result<(), WriteFailed>
+    ensures { Writes w.old w.new
         (text_of (replies.Queue side socket queue.now)) result }
 {
     let name = match side {
@@ -269,9 +270,9 @@ fn send_dump<W: Write>(
     socket: u32,
     equals: &'static [u8],
     shown: Token<'_>,
-    w: &mut Sink<W>,
-) -> Result<u64, Part>
-    ensures { Goes w.old w.new
+    w: &mut Buffered<W>,
+) -> Result<(), WriteFailed>
+    ensures { Writes w.old w.new
         (name.now ++ decimal socket ++ equals.now ++ token_text shown.entry ++ codes "\n") result }
 {
     let tokens = [
@@ -288,9 +289,9 @@ fn send_place<W: Write>(
     position: usize,
     last: usize,
     direction: Direction,
-    w: &mut Sink<W>,
-) -> Result<u64, Part>
-    ensures { Goes w.old w.new
+    w: &mut Buffered<W>,
+) -> Result<(), WriteFailed>
+    ensures { Writes w.old w.new
         (text_of (replies.Position position last direction)) result }
 {
     let tokens = [
@@ -305,16 +306,16 @@ fn send_place<W: Write>(
     send_all(&tokens, w)
 }
 
-fn send_fault<W: Write>(fault: Fault, w: &mut Sink<W>) -> Result<u64, Part>
-    ensures { Goes w.old w.new (fault_text fault) result }
+fn send_fault<W: Write>(fault: Fault, w: &mut Buffered<W>) -> Result<(), WriteFailed>
+    ensures { Writes w.old w.new (fault_text fault) result }
 {
     match fault {
-        Fault::Line(fault) => send(line_fault(fault), w),
-        Fault::Memory => send(b"fault 301 memory\n", w),
+        Fault::Line(fault) => w.send(line_fault(fault)),
+        Fault::Memory => w.send(b"fault 301 memory\n"),
         Fault::Placed(place) => send_placed(place, w),
-        Fault::JournalFull => send(b"fault 303 journal full\n", w),
-        Fault::Mark(fault) => send(mark_fault(fault), w),
-        Fault::Checkpoint(fault) => send(checkpoint_fault(fault), w),
+        Fault::JournalFull => w.send(b"fault 303 journal full\n"),
+        Fault::Mark(fault) => w.send(mark_fault(fault)),
+        Fault::Checkpoint(fault) => w.send(checkpoint_fault(fault)),
     }
 }
 
@@ -328,8 +329,8 @@ fn line_fault(fault: LineFault) -> &'static [u8]
     }
 }
 
-fn send_placed<W: Write>(place: usize, w: &mut Sink<W>) -> Result<u64, Part>
-    ensures { Goes w.old w.new (fault_text (faults.Placed place)) result }
+fn send_placed<W: Write>(place: usize, w: &mut Buffered<W>) -> Result<(), WriteFailed>
+    ensures { Writes w.old w.new (fault_text (faults.Placed place)) result }
 {
     let tokens = [
         Token::Text(b"fault 302 memory, placed "),

@@ -2,32 +2,31 @@
 
 ghost use Rattle.std.specs.Prelude.{◌++◌, decimal};
 ghost use Rattle.nr_rev.specs.declared.status.Status.TheVariants.{Owing};
-ghost use Rattle.nr_command.specs.Sender.{Goes};
+ghost use Rattle.nr_text.specs.Buffered.{Writes};
 ghost use Rattle.nr_command.specs.Value.{cell_text, piece_text, side_text, status_text, value_text, word_text};
 
-use crate::sender::{Part, Sent, Token, send, send_all};
-use nr_recording::Sink;
 use nr_rev::{Cell, CellValue, Side, Status, Word};
+use nr_text::{Buffered, Text, Token, WriteFailed, send_all};
 use std::io::Write;
 
 /// Writes how the cell is spelled: its name, and its number behind a space if it has one.
-pub(crate) fn send_cell<W: Write>(cell: Cell, w: &mut Sink<W>) -> Result<u64, Part>
-    ensures { Goes w.old w.new (cell_text cell) result }
+pub(crate) fn send_cell<W: Write>(cell: Cell, w: &mut Buffered<W>) -> Result<(), WriteFailed>
+    ensures { Writes w.old w.new (cell_text cell) result }
 {
     let name = cell.name().as_bytes();
     let Some(index) = cell.index() else {
-        return send(name, w);
+        return w.send(name);
     };
     let number = Token::Number(u64::from(index));
     send_all(&[Token::Text(name), Token::Text(b" "), number], w)
 }
 
 /// Writes the value of a cell.
-pub(crate) fn send_value<W: Write>(value: CellValue, w: &mut Sink<W>) -> Result<u64, Part>
-    ensures { Goes w.old w.new (value_text value) result }
+pub(crate) fn send_value<W: Write>(value: CellValue, w: &mut Buffered<W>) -> Result<(), WriteFailed>
+    ensures { Writes w.old w.new (value_text value) result }
 {
     match value {
-        CellValue::Absent => send(b"absent", w),
+        CellValue::Absent => w.send(b"absent"),
         CellValue::Number(number) => Token::Number(number).send(w),
         CellValue::Time(time) => Token::Time(time).send(w),
         CellValue::Word(word) => send_word(word, w),
@@ -35,22 +34,22 @@ pub(crate) fn send_value<W: Write>(value: CellValue, w: &mut Sink<W>) -> Result<
     }
 }
 
-fn send_word<W: Write>(word: Word, w: &mut Sink<W>) -> Result<u64, Part>
-    ensures { Goes w.old w.new (word_text word) result }
+fn send_word<W: Write>(word: Word, w: &mut Buffered<W>) -> Result<(), WriteFailed>
+    ensures { Writes w.old w.new (word_text word) result }
 {
     match word {
-        Word::Nil => send(b"nil", w),
-        Word::Ready => send(b"ready", w),
-        Word::Wait => send(b"wait", w),
+        Word::Nil => w.send(b"nil"),
+        Word::Ready => w.send(b"ready"),
+        Word::Wait => w.send(b"wait"),
         Word::Held(goroutine) => send_named(b"g", goroutine, w),
     }
 }
 
-fn send_status<W: Write>(status: Status, w: &mut Sink<W>) -> Result<u64, Part>
-    ensures { Goes w.old w.new (status_text status) result }
+fn send_status<W: Write>(status: Status, w: &mut Buffered<W>) -> Result<(), WriteFailed>
+    ensures { Writes w.old w.new (status_text status) result }
 {
     match status {
-        Status::Idle => send(b"idle", w),
+        Status::Idle => w.send(b"idle"),
         Status::Acquiring { socket, side } => send_placed(b"acquiring ", socket, side, w),
         Status::Queued { socket, side } => send_placed(b"queued ", socket, side, w),
         Status::Relock { socket, side } => send_placed(b"relock ", socket, side, w),
@@ -65,12 +64,17 @@ fn send_status<W: Write>(status: Status, w: &mut Sink<W>) -> Result<u64, Part>
         Status::Parked { descriptor, side } => send_placed(b"parked ", descriptor, side, w),
         Status::Swapping { descriptor, side } => send_placed(b"swapping ", descriptor, side, w),
         Status::Checking { descriptor, side } => send_placed(b"checking ", descriptor, side, w),
-        Status::Gone => send(b"gone", w),
+        Status::Gone => w.send(b"gone"),
     }
 }
 
-fn send_owing<W: Write>(socket: u32, reads: u32, writes: u32, w: &mut Sink<W>) -> Result<u64, Part>
-    ensures { Goes w.old w.new
+fn send_owing<W: Write>(
+    socket: u32,
+    reads: u32,
+    writes: u32,
+    w: &mut Buffered<W>,
+) -> Result<(), WriteFailed>
+    ensures { Writes w.old w.new
         (status_text (Owing socket reads writes)) result }
 {
     let tokens = [
@@ -89,9 +93,9 @@ fn send_placed<W: Write>(
     name: &'static [u8],
     number: u32,
     side: Side,
-    w: &mut Sink<W>,
-) -> Result<u64, Part>
-    ensures { Goes w.old w.new
+    w: &mut Buffered<W>,
+) -> Result<(), WriteFailed>
+    ensures { Writes w.old w.new
         (name.now ++ decimal number ++ side_text side) result }
 {
     let side = match side {
@@ -103,8 +107,12 @@ fn send_placed<W: Write>(
 }
 
 /// Writes a name and a number.
-fn send_named<W: Write>(name: &'static [u8], number: u32, w: &mut Sink<W>) -> Result<u64, Part>
-    ensures { Goes w.old w.new (name.now ++ decimal number) result }
+fn send_named<W: Write>(
+    name: &'static [u8],
+    number: u32,
+    w: &mut Buffered<W>,
+) -> Result<(), WriteFailed>
+    ensures { Writes w.old w.new (name.now ++ decimal number) result }
 {
     let number = Token::Number(u64::from(number));
     send_all(&[Token::Text(name), number], w)
@@ -119,12 +127,12 @@ pub(crate) enum Piece {
     Value(CellValue),
 }
 
-impl Sent for Piece {
+impl Text for Piece {
     ghost text = { piece_text };
 
-    fn send<W: Write>(&self, w: &mut Sink<W>) -> Result<u64, Part> {
+    fn send<W: Write>(&self, w: &mut Buffered<W>) -> Result<(), WriteFailed> {
         match self {
-            Piece::Text(text) => send(text, w),
+            Piece::Text(text) => w.send(text),
             Piece::Number(number) => Token::Number(u64::from(*number)).send(w),
             Piece::Cell(cell) => send_cell(*cell, w),
             Piece::Value(value) => send_value(*value, w),

@@ -21,7 +21,17 @@ pub exec_answers : (a b d e : Desk) (command : Command) (reply : Reply) → Catc
 exec_answers a b d e command reply x y is replies =
     let p = places_then a b d command x.learns y.0 in
     subst (λ (t : Desk). Answers command a t reply) (sym is) (record {
-      places = record { between = p.between; same = record { table = p.same.table; recording = p.same.recording }; placed = p.placed; others = p.others; told_before = p.told_before; tag = p.tag; told = p.told; looks = p.looks; unowed = p.unowed };
+      places = record {
+        between = p.between;
+        same = record { table = p.same.table; recording = p.same.recording; workers = p.same.workers; footing = p.same.footing };
+        placed = p.placed;
+        others = p.others;
+        told_before = p.told_before;
+        tag = p.tag;
+        told = p.told;
+        looks = p.looks;
+        unowed = p.unowed;
+      };
       replies = record { debugger = replies.debugger; behind = replies.behind; answer = replies.answer };
       run = refl;
     })

@@ -10,7 +10,7 @@ use Rattle.nr_journal.specs.declared.pass.Offered.TheVariants as offered
 use Rattle.nr_command.specs.declared.command.Command.{Command}
 use Rattle.nr_command.specs.Word.{command_of, word_of}
 use Rattle.nr_front.specs.Desk.{Desk, SearchIsDue, own_due, owed}
-use Rattle.nr_front.specs.Front.{CatchesAll, FindsFull, IsRefused, IsSame, Learns, Places, settled}
+use Rattle.nr_front.specs.Front.{CatchesAll, FindsFull, IsRefused, IsUnmoved, Learns, Places, settled}
 use Rattle.nr_front.specs.Steps.{FindsNone, HasSeenAll, Offers, Sees, SeesWord, due_at}
 
 own_due-others : (x : Option (ℕ × Command)) → own_due (due_at x) ≡ None
@@ -18,10 +18,10 @@ own_due-others None = refl
 own_due-others (Some tagged) = refl
 
 -- another's word was seen, and its command is due
-pub sees_word : (word : ℕ) (view old new : Desk) (journal : TableId) → view ≡ old → old.table ≡ journal → IsSame view new → new.stand ≡ shown view.stand word
+pub sees_word : (word : ℕ) (view old new : Desk) (journal : TableId) → view ≡ old → old.table ≡ journal → IsUnmoved view new → new.stand ≡ shown view.stand word
     → IsOthers view.stand.tag word → length view.stand.seen < room_of journal → new.due ≡ due_at (command_of word) → SeesWord word old new
 sees_word word view old new journal is at same stand others room due = record {
-  same = subst (λ (d : Desk). IsSame d new) is same;
+  same = subst (λ (d : Desk). IsUnmoved d new) is same;
   stand = stand ∙ ap (λ (d : Desk). shown d.stand word) is;
   others = subst (λ (d : Desk). IsOthers d.stand.tag word) is others;
   room = subst (λ (d : Desk). length d.stand.seen < room_of old.table) is (subst (λ (t : TableId). length view.stand.seen < room_of t) (sym at) room);
@@ -72,11 +72,11 @@ gains_then a b d x y = (
   y.4 ∙ x.4,
 )
 
-same_then : (a b d : Desk) → IsSame a b → IsSame b d → IsSame a d
-same_then a b d x y = record { table = y.table ∙ x.table; recording = y.recording ∙ x.recording }
+same_then : (a b d : Desk) → IsUnmoved a b → IsUnmoved b d → IsUnmoved a d
+same_then a b d x y = record { table = y.table ∙ x.table; recording = y.recording ∙ x.recording; workers = y.workers ∙ x.workers; footing = y.footing ∙ x.footing }
 
 -- no word was seen
-learns_none : (a b : Desk) → IsSame a b → SeesNothing a.stand b.stand → owed a ≡ None → owed b ≡ None → Learns a b
+learns_none : (a b : Desk) → IsUnmoved a b → SeesNothing a.stand b.stand → owed a ≡ None → owed b ≡ None → Learns a b
 learns_none a b same none before after = record {
   same = same;
   gains = gains_none a.stand b.stand none;
@@ -107,7 +107,13 @@ learns_word word a b unowed s = record {
 
 -- what was due was run
 pub learns_settled : (a b d : Desk) → Learns a b → d ≡ settled b → Learns a d
-learns_settled a b d x is = subst (λ (t : Desk). Learns a t) (sym is) (record { same = record { table = x.same.table; recording = x.same.recording }; gains = x.gains; looks = x.looks; unowed = x.unowed; unowed_still = refl })
+learns_settled a b d x is = subst (λ (t : Desk). Learns a t) (sym is) (record {
+  same = record { table = x.same.table; recording = x.same.recording; workers = x.same.workers; footing = x.same.footing };
+  gains = x.gains;
+  looks = x.looks;
+  unowed = x.unowed;
+  unowed_still = refl;
+})
 
 -- what stays where a look found no word
 found_none : (a b : Desk) → FindsNone a b → SeesNothing a.stand b.stand

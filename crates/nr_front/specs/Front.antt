@@ -3,30 +3,43 @@ use Rattle.std.specs.Prelude.{◌≡◌, ℕ, ◌≤◌, ◌⊎◌, List, [], �
 use Rattle.std.specs.List.{All}
 use Rattle.nr_journal.specs.Pass.{Gains, CatchesUp}
 use Rattle.nr_journal.specs.Rule.{IsOthers, StartsWith, room_of}
-use Rattle.nr_command.specs.Debugger.{after_words, opening, shown}
+use Rattle.nr_command.specs.Debugger.{shown}
 use Rattle.nr_command.specs.Word.{word_of}
 use Rattle.nr_command.specs.declared.command.Command.{Command}
 use Rattle.nr_command.specs.declared.command.Query.{Query}
 use Rattle.nr_command.specs.declared.reply.Reply.{Reply}
-use Rattle.nr_front.specs.Desk.{Desk, RepliesLast, SearchIsDue, owed, place_of}
+use Rattle.nr_front.specs.Desk.{Desk, RepliesLast, SearchIsDue, machine_of, owed, place_of}
+use Rattle.nr_front.specs.Replica.{Footing, LookIsRefused, after_look}
 use Rattle.nr_front.specs.declared.due.Due.TheVariants.{Nothing}
 use Rattle.nr_front.specs.declared.fault.FrontFault.{FrontFault}
 use Rattle.nr_front.specs.declared.fault.FrontFault.TheVariants.{Memory, Placed, Full}
 
--- the same journal and the same recording
+-- The same journal, and the same recording with as many steps between two copies; as many workers
+-- search, and as many deltas are kept at most.
 pub record IsSame (old new : Desk) : Type 0 where
   pub table : new.table ≡ old.table
   pub recording : new.recording ≡ old.recording
+  pub workers : new.workers ≡ old.workers
+  pub every : new.footing.every ≡ old.footing.every
+  pub depth : new.footing.depth ≡ old.footing.depth
+
+-- the same journal, the same recording and as many workers, and the walker stands where it stood
+pub record IsUnmoved (old new : Desk) : Type 0 where
+  pub table : new.table ≡ old.table
+  pub recording : new.recording ≡ old.recording
+  pub workers : new.workers ≡ old.workers
+  pub footing : new.footing ≡ old.footing
 
 -- words of others were seen, if any, and no reply is owed, before or after
 pub record Learns (old new : Desk) : Type 0 where
-  pub same : IsSame old new
+  pub same : IsUnmoved old new
   pub gains : Gains old.stand new.stand
   pub looks : old.stand.looks ≤ new.stand.looks
   pub unowed : owed old ≡ None
   pub unowed_still : owed new ≡ None
 
--- words of others were seen until one look more found none, or all words of the journal are seen; and all were run
+-- words of others were seen until one look more found none, or all words of the journal are seen;
+-- and all were run
 pub record CatchesAll (old new : Desk) : Type 0 where
   pub learns : Learns old new
   pub caught_up : CatchesUp (room_of old.table) old.stand new.stand
@@ -43,11 +56,12 @@ pub record FindsFull (old new : Desk) : Type 0 where
   pub full : length new.stand.seen ≡ room_of old.table
   pub run : new.due ≡ Nothing
 
--- The command's word, with the front's tag, was placed once, behind the words that were seen, among them all that the
--- pass had been told of. Those seen by this call, between the old ones and the own, are others'.
+-- The command's word, with the front's tag, was placed once, behind the words that were seen, among
+-- them all that the pass had been told of. Those seen by this call, between the old ones and the
+-- own, are others'.
 pub record Places (command : Command) (old new : Desk) : Type 0 where
   pub between : List ℕ
-  pub same : IsSame old new
+  pub same : IsUnmoved old new
   pub placed : new.stand.seen ≡ (old.stand.seen ++ between) ++ word_of old.stand.tag command ∷ []
   pub others : All (IsOthers old.stand.tag) between
   pub told_before : StartsWith (old.stand.seen ++ between) old.stand.told
@@ -83,21 +97,37 @@ Executes command old new (Err Memory) = IsRefused old new
 Executes command old new (Err (Placed place)) = IsLeftOwed command old new place ⊎ StaysOwed old new place
 Executes command old new (Err Full) = FindsFull old new
 
--- all is seen and run, and the reply is what the look shows of the debugger that the words lead to
-pub record Shows (query : Query) (old new : Desk) (reply : Reply) : Type 0 where
-  pub catches_all : CatchesAll old new
-  pub answer : reply ≡ shown new.recording (after_words new.recording opening new.stand.seen) query
+-- The front with its walker standing so.
+abbrev pub with_footing : Footing → Desk → Desk
+with_footing footing desk = record desk { footing = footing }
 
--- What `look` does. It is refused memory for another's command that searches, or for itself once all is seen and run.
+-- All is seen and run; then the walker is led to the debugger's position, if the look is at the
+-- world; and the reply is what the look shows of the debugger that the words lead to.
+pub record Shows (query : Query) (old new : Desk) (reply : Reply) : Type 0 where
+  pub caught_up : Desk
+  pub catches_all : CatchesAll old caught_up
+  pub led : new ≡ with_footing (after_look query (machine_of caught_up)) caught_up
+  pub answer : reply ≡ shown caught_up.recording (machine_of caught_up).debugger query
+
+-- all is seen and run; and the look itself was refused memory, with the walker left on the way or
+-- at the position
+pub record IsRefusedLook (query : Query) (old new : Desk) : Type 0 where
+  pub caught_up : Desk
+  pub catches_all : CatchesAll old caught_up
+  pub moved : new ≡ with_footing new.footing caught_up
+  pub wanted : LookIsRefused query (machine_of caught_up) new.footing
+
+-- What `look` does. It is refused memory for another's command that searches, or for itself once
+-- all is seen and run.
 abbrev pub Looks : Query → Desk → Desk → Result Reply FrontFault → Type 0
 Looks query old new (Ok reply) = Shows query old new reply
-Looks query old new (Err Memory) = IsRefused old new ⊎ CatchesAll old new
+Looks query old new (Err Memory) = IsRefused old new ⊎ IsRefusedLook query old new
 Looks query old new (Err (Placed place)) = StaysOwed old new place
 Looks query old new (Err Full) = ⊥
 
 -- with nothing due
 abbrev pub settled : Desk → Desk
-settled desk = record { table = desk.table; recording = desk.recording; stand = desk.stand; due = Nothing }
+settled desk = record desk { due = Nothing }
 
 -- the reply that was owed is given, and owed no more
 pub record Repays (old new : Desk) (reply : Reply) : Type 0 where

@@ -1,3 +1,4 @@
 pub mod Desk
 pub mod Front
+pub mod Replica
 pub mod Steps

@@ -6,7 +6,7 @@ use Rattle.nr_journal.specs.declared.pass.Offered.TheVariants as offered
 use Rattle.nr_command.specs.Word.{word_of}
 use Rattle.nr_command.specs.declared.command.Command.{Command}
 use Rattle.nr_front.specs.Desk.{Desk, owed}
-use Rattle.nr_front.specs.Front.{FindsFull, IsRefused, IsSame, Places}
+use Rattle.nr_front.specs.Front.{FindsFull, IsRefused, IsUnmoved, Places}
 use Rattle.nr_front.specs.declared.due.Due.{Due}
 use Rattle.nr_front.specs.declared.due.Due.TheVariants.{Nothing, Others, Own}
 use Rattle.nr_front.specs.declared.fault.FrontFault.{FrontFault}
@@ -19,7 +19,7 @@ due_at (Some tagged) = Others tagged.1
 
 -- one word more was seen, another's
 pub record SeesWord (word : ℕ) (old new : Desk) : Type 0 where
-  pub same : IsSame old new
+  pub same : IsUnmoved old new
   pub stand : new.stand ≡ shown old.stand word
   pub others : IsOthers old.stand.tag word
   pub room : length old.stand.seen < room_of old.table
@@ -34,16 +34,17 @@ FindsNone old new =
 -- a look, which tells whether a word was found
 abbrev pub Sees : Desk → Desk → Bool → Type 0
 Sees old new true = (word : ℕ) × SeesWord word old new
-Sees old new false = IsSame old new × (new.due ≡ Nothing) × FindsNone old new
+Sees old new false = IsUnmoved old new × (new.due ≡ Nothing) × FindsNone old new
 
 -- an offer: the command's word is placed, and it is due; another's word stood there; or all words are seen
 abbrev pub Offers : Command → Desk → Desk → Offered → Type 0
 Offers command old new offered.Placed =
-    IsSame old new × (new.stand ≡ shown old.stand (word_of old.stand.tag command)) × (new.due ≡ Own command)
-    × (length old.stand.seen < room_of old.table)
+    IsUnmoved old new × (new.stand ≡ shown old.stand (word_of old.stand.tag command))
+    × (new.due ≡ Own command) × (length old.stand.seen < room_of old.table)
 Offers command old new (offered.Lost word) = SeesWord word old new
 Offers command old new offered.Full =
-    IsSame old new × (new.stand ≡ old.stand) × (new.due ≡ Nothing) × (length old.stand.seen ≡ room_of old.table)
+    IsUnmoved old new × (new.stand ≡ old.stand) × (new.due ≡ Nothing)
+    × (length old.stand.seen ≡ room_of old.table)
 
 -- all that the pass was told of is seen, or all words of the journal are
 abbrev pub HasSeenAll : Desk → Type 0

@@ -3,7 +3,8 @@
 ghost use Rattle.std.specs.Prelude.{◌≡◌, ◌≤◌, [], IfOk, IfErr};
 ghost use Rattle.nr_walker.specs.declared.walker.TheConstants.{LEAST_DEPTH, MOST_DEPTH};
 ghost use Rattle.nr_front.specs.Desk.{opened, pass_of};
-ghost use Rattle.nr_front.specs.Front.{Executes, IsSame, Looks, Resumes};
+ghost use Rattle.nr_front.specs.Front.{Executes, IsSame, IsUnmoved, Looks, Resumes};
+ghost use Rattle.nr_front.specs.Replica.{at_start};
 
 use crate::due::Due;
 use crate::fault::FrontFault;
@@ -17,7 +18,8 @@ use std::alloc::{AllocError, Global};
 use std::marker::Model;
 
 /// A pass of the journal, and a machine that runs the words that the pass sees. Contracts see the journal, the
-/// recording, what the pass knows, and what the machine hasn't run yet.
+/// recording, how many workers search, how the machine's walker stands, what the pass knows, and what the machine hasn't
+/// run yet.
 #[derive(Drop)]
 pub struct Front<'f, W: Worlds + Drop + Sync, F: Finder>
 where
@@ -38,12 +40,15 @@ where
 
     ghost view = { λ f. record {
       table = f.pass.table;
-      recording = f.machine.0;
+      recording = f.machine.recording;
+      workers = f.machine.workers;
+      footing = f.machine.footing;
       stand = f.pass.stand;
       due = f.due;
     } };
 
-    ghost invariant = { λ f. IsAt f.machine.0 f.pass.stand.seen (command_due f.due) f.machine.1 };
+    ghost invariant = { λ f. IsAt f.machine.recording f.pass.stand.seen (command_due f.due)
+        f.machine.debugger };
 }
 
 impl<'f, W: Worlds + Drop + Sync, F: Finder> Front<'f, W, F>
@@ -58,7 +63,7 @@ where
     /// owed it does nothing but answer `Placed` again. Where no place is left it answers `Full`, and has run all words.
     pub fn exec(&mut self, journal: &Journal, command: Command) -> Result<Reply, FrontFault>
         requires { self.old.table ≡ journal.now }
-        ensures same { IsSame self.old self.new }
+        ensures same { IsUnmoved self.old self.new }
         ensures executes { Executes command self.old self.new result }
     {
         if self.owed().is_some() {
@@ -78,8 +83,10 @@ where
 
     /// Runs what others placed, until it finds no word more, and then looks. No word is placed.
     ///
-    /// It answers `Memory` where another's command that searches was refused it, or the look was; and `Placed`, having
-    /// done nothing, while a reply is owed.
+    /// A look at the world, for a value or a dump, leads the walker to the debugger's position. It answers `Memory` where
+    /// another's command that searches was refused it, or the walker was on the way, as `Walker::goto` says, or a dump of
+    /// something; so a look at the debugger alone is never refused it for itself. It answers `Placed`, having done nothing,
+    /// while a reply is owed.
     pub fn look(&mut self, journal: &Journal, query: Query) -> Result<Reply, FrontFault>
         requires { self.old.table ≡ journal.now }
         ensures same { IsSame self.old self.new }
@@ -100,7 +107,7 @@ where
     /// Gives the reply that is owed, once; None where none is. Refused memory again, it answers `Placed` with the same
     /// place, and the reply is still owed.
     pub fn resume(&mut self) -> Result<Option<Reply>, FrontFault>
-        ensures same { IsSame self.old self.new }
+        ensures same { IsUnmoved self.old self.new }
         ensures resumes { Resumes self.old self.new result }
     {
         let Some(command) = self.owed() else {
@@ -130,7 +137,9 @@ where
         requires unseen { pass.stand.seen ≡ [] }
         requires least { LEAST_DEPTH ≤ depth }
         requires most { depth ≤ MOST_DEPTH }
-        ensures ok { IfOk result (λ front. front ≡ opened pass film.now.recording) }
+        ensures ok { IfOk result (λ front. front
+            ≡ opened pass film.now.recording (F.count finder)
+            (at_start film.now.every depth)) }
         ensures err { IfErr result (λ refused. refused.0 ≡ pass) }
     {
         match Replica::new(alloc, film, finder, depth) {

@@ -1,7 +1,8 @@
-//! A replica: a debugger over a film, and the walker that is led to where it stands when somebody looks.
+//! A replica: a debugger over a film, and the walker that is led to where it stands when somebody looks at the world.
 
-ghost use Rattle.std.specs.Prelude.{◌≡◌, ◌≤◌, IfOk, OnErr};
+ghost use Rattle.std.specs.Prelude.{◌≡◌, ◌≤◌, IfOk, OnErr, OnOk};
 ghost use Rattle.nr_command.specs.Debugger.{Searches, opening, run, shown};
+ghost use Rattle.nr_front.specs.Replica.{LookIsRefused, after_look, at_start};
 ghost use Rattle.nr_walker.specs.declared.walker.TheConstants.{LEAST_DEPTH, MOST_DEPTH};
 
 use nr_command::{Command, Debugger, Query, Reply};
@@ -12,7 +13,8 @@ use nr_walker::Walker;
 use std::alloc::{AllocError, Global};
 use std::marker::Model;
 
-/// A debugger over a film, with a walker of its own. Contracts see the film's recording and the debugger.
+/// A debugger over a film, with a walker of its own. Contracts see the film's recording, how many workers search, the
+/// debugger, and how the walker stands.
 #[derive(Drop)]
 pub struct Replica<'f, W: Worlds + Drop + Sync, F: Finder>
 where
@@ -28,13 +30,17 @@ where
     W::Delta: Drop,
 {
     ghost use Rattle.std.specs.Prelude.{length};
-    ghost use Rattle.nr_rev.specs.Run.{Recording as Recorded};
     ghost use Rattle.nr_command.specs.Debugger.{IsWithin};
-    ghost use Rattle.nr_command.specs.declared.debugger.Debugger.{Debugger as Debugging};
+    ghost use Rattle.nr_front.specs.Replica.{Machine, footing_of};
 
-    ghost Value = { Recorded × Debugging };
+    ghost Value = { Machine };
 
-    ghost view = { λ s. (s.walker.film.recording, s.debugger) };
+    ghost view = { λ s. record {
+      recording = s.walker.film.recording;
+      workers = F.count s.finder;
+      debugger = s.debugger;
+      footing = footing_of s.walker;
+    } };
 
     ghost invariant = { λ s. IsWithin (length s.walker.film.recording.steps) s.debugger };
 }
@@ -53,7 +59,12 @@ where
     ) -> Result<Replica<'f, W, F>, AllocError>
         requires least { LEAST_DEPTH ≤ depth }
         requires most { depth ≤ MOST_DEPTH }
-        ensures { IfOk result (λ replica. replica ≡ (film.now.recording, opening)) }
+        ensures { IfOk result (λ replica. replica ≡ record {
+          recording = film.now.recording;
+          workers = F.count finder;
+          debugger = opening;
+          footing = at_start film.now.every depth;
+        }) }
     {
         let walker = Walker::new(alloc, film, depth)?;
         Ok(Replica {
@@ -68,23 +79,35 @@ impl<'f, W: Worlds + Drop + Sync, F: Finder> Replica<'f, W, F>
 where
     W::Delta: Drop,
 {
-    /// Runs a command. Only one that searches can be refused memory, and then nothing has changed.
+    /// Runs a command, and leaves the walker where it stands. Only a command that searches can be refused memory, and then
+    /// nothing has changed.
     pub(crate) fn exec(&mut self, command: Command) -> Result<Reply, AllocError>
-        ensures recording { self.new.0 ≡ self.old.0 }
-        ensures ok { IfOk result (λ reply. (reply, self.new.1) ≡ run self.old.0 command self.old.1) }
-        ensures unchanged { OnErr result (self.new.1 ≡ self.old.1) }
-        ensures memory { OnErr result (Searches self.old.0 command self.old.1) }
+        ensures recording { self.new.recording ≡ self.old.recording }
+        ensures workers { self.new.workers ≡ self.old.workers }
+        ensures footing { self.new.footing ≡ self.old.footing }
+        ensures ok { IfOk result (λ reply. (reply, self.new.debugger)
+            ≡ run self.old.recording command self.old.debugger) }
+        ensures unchanged { OnErr result (self.new.debugger ≡ self.old.debugger) }
+        ensures memory { OnErr result (Searches self.old.recording command self.old.debugger) }
     {
         self.debugger
             .exec(self.walker.film(), &self.finder, command)
     }
 
-    /// Looks at what the debugger shows where it stands. Nothing changes, also where it is refused memory.
+    /// Looks at what the debugger shows where it stands. A look at the world leads the walker there first; it is refused
+    /// memory on the way, or for a dump of something. Nothing else changes, also where it is refused.
     pub(crate) fn look(&mut self, query: Query) -> Result<Reply, AllocError>
-        ensures recording { self.new.0 ≡ self.old.0 }
-        ensures unchanged { self.new.1 ≡ self.old.1 }
-        ensures ok { IfOk result (λ reply. reply ≡ shown self.old.0 self.old.1 query) }
+        ensures recording { self.new.recording ≡ self.old.recording }
+        ensures workers { self.new.workers ≡ self.old.workers }
+        ensures debugger { self.new.debugger ≡ self.old.debugger }
+        ensures ok { IfOk result (λ reply. reply
+            ≡ shown self.old.recording self.old.debugger query) }
+        ensures led { OnOk result (self.new.footing ≡ after_look query self.old) }
+        ensures memory { OnErr result (LookIsRefused query self.old self.new.footing) }
     {
+        if let Some(reply) = self.debugger.look_within(self.walker.film(), query) {
+            return Ok(reply);
+        }
         self.walker.goto(self.debugger.position())?;
         self.debugger
             .look(self.walker.film(), self.walker.world(), query)

@@ -1,9 +1,10 @@
 //! The steps that the calls of a front are made of.
 
 ghost use Rattle.std.specs.Prelude.{◌≡◌, Some, None, IfOk, OnOk, OnErr};
-ghost use Rattle.nr_command.specs.Debugger.{after_words, opening, shown};
-ghost use Rattle.nr_front.specs.Desk.{RepliesLast, SearchIsDue, command_due, owed, place_of};
-ghost use Rattle.nr_front.specs.Front.{CatchesAll, IsRefused, settled};
+ghost use Rattle.nr_command.specs.Debugger.{shown};
+ghost use Rattle.nr_front.specs.Desk.{RepliesLast, SearchIsDue, command_due, machine_of, owed, place_of};
+ghost use Rattle.nr_front.specs.Front.{CatchesAll, IsRefused, settled, with_footing};
+ghost use Rattle.nr_front.specs.Replica.{LookIsRefused, after_look};
 ghost use Rattle.nr_front.specs.Steps.{HasSeenAll, Offers, Placing, Sees};
 ghost use Rattle.nr_front.specs.declared.due.Due.TheVariants.{Nothing};
 
@@ -59,12 +60,14 @@ where
         Ok(())
     }
 
-    /// Shows the debugger of the words seen.
+    /// Shows the debugger of the words seen. Only the walker moves, and only for a look at the world.
     pub(crate) fn look_here(&mut self, query: Query) -> Result<Reply, AllocError>
         requires { self.old.due ≡ Nothing }
-        ensures unchanged { self.new ≡ self.old }
-        ensures ok { IfOk result (λ reply. reply ≡ shown self.old.recording
-            (after_words self.old.recording opening self.old.stand.seen) query) }
+        ensures moved { self.new ≡ with_footing self.new.footing self.old }
+        ensures ok { IfOk result (λ reply. reply
+            ≡ shown self.old.recording (machine_of self.old).debugger query) }
+        ensures led { OnOk result (self.new.footing ≡ after_look query (machine_of self.old)) }
+        ensures memory { OnErr result (LookIsRefused query (machine_of self.old) self.new.footing) }
     {
         self.machine.look(query)
     }

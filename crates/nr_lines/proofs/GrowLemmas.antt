@@ -29,6 +29,13 @@ same d d' is = stays d d' (ap (λ (t : Desk). t.stand) is)
 learns : (d d' : Desk) → Learns d d' → Grows d d'
 learns d d' l = record { words = (l.gains.0, l.gains.1); looks = l.looks }
 
+-- others' words were seen, and then the walker moved
+learns_led : (d mid d' : Desk) → Learns d mid → d'.stand ≡ mid.stand → Grows d d'
+learns_led d mid d' l is = record {
+  words = (l.gains.0, ap (λ (t : Stand). t.seen) is ∙ l.gains.1);
+  looks = let p = l.looks in let e = ap (λ (t : Stand). t.looks) is in omega (arith, p, e);
+}
+
 places : (command : Command) (d d' : Desk) → Places command d d' → Grows d d'
 places command d d' p = record {
   words = (p.between ++ word_of d.stand.tag command ∷ [], p.placed ∙ append_assoc d.stand.seen p.between (word_of d.stand.tag command ∷ []));
@@ -42,8 +49,11 @@ executes command d d' (Err (Placed place)) e = elim e as (λ _. Grows d d') [ in
 executes command d d' (Err Full) e = learns d d' e.learns
 
 looks : (query : Query) (d d' : Desk) (given : Result Reply FrontFault) → Looks query d d' given → Grows d d'
-looks query d d' (Ok reply) e = learns d d' e.catches_all.learns
-looks query d d' (Err Memory) e = elim e as (λ _. Grows d d') [ inl refused ↦ learns d d' refused.learns | inr all ↦ learns d d' all.learns ]
+looks query d d' (Ok reply) e = learns_led d e.caught_up d' e.catches_all.learns (ap (λ (t : Desk). t.stand) e.led)
+looks query d d' (Err Memory) e = elim e as (λ _. Grows d d') [
+  | inl refused ↦ learns d d' refused.learns
+  | inr look ↦ learns_led d look.caught_up d' look.catches_all.learns (ap (λ (t : Desk). t.stand) look.moved)
+]
 looks query d d' (Err (Placed place)) e = same d d' e.unchanged
 looks query d d' (Err Full) e = absurd e
 

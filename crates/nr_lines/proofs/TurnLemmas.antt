@@ -5,7 +5,7 @@ use Rattle.std.proofs.lemmas.List.Folds.{concat-append}
 use Rattle.std.proofs.lemmas.List.Elements.{filter-append}
 use Rattle.nr_command.specs.Command.{meaning_of}
 use Rattle.nr_front.specs.Desk.{Desk}
-use Rattle.nr_command.specs.Sender.{saturating_count}
+use Rattle.nr_text.specs.Streams.{saturating_count}
 use Rattle.nr_lines.specs.Turn.{MayReply, Turn, is_quit, count_with}
 use Rattle.nr_lines.specs.Engine.{Turns, has_quit, some_count}
 

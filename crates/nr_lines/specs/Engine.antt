@@ -5,7 +5,7 @@ use Rattle.std.specs.Io.KnownBytes.{Appends, Consumes, IsAtEnd}
 use Rattle.nr_command.specs.Command.{meaning_of}
 use Rattle.nr_journal.specs.Rule.{StartsWith}
 use Rattle.nr_front.specs.Desk.{Desk}
-use Rattle.nr_command.specs.Sender.{saturating_count}
+use Rattle.nr_text.specs.Streams.{saturating_count}
 use Rattle.nr_lines.specs.Turn.{Turn, is_quit}
 use Rattle.nr_lines.specs.declared.ending.End.{End}
 use Rattle.nr_lines.specs.declared.ending.End.TheVariants.{Closed, Quit}

@@ -1,4 +1,3 @@
 pub mod Engine
 pub mod Standing
-pub mod Streams
 pub mod Turn

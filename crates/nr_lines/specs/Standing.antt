@@ -2,7 +2,7 @@
 use Rattle.std.specs.Prelude.{◌≡◌, ℕ, ◌==◌, Bool, true, false, List, [], ◌∷◌, take, Option, Result, Ok, Err}
 use Rattle.std.specs.List.{concat, slice_split}
 use Rattle.std.specs.Io.KnownBytes.{Appends, Consumes}
-use Rattle.nr_command.specs.Sender.{saturating_count}
+use Rattle.nr_text.specs.Streams.{saturating_count}
 use Rattle.nr_front.specs.Desk.{Desk}
 use Rattle.nr_lines.specs.Engine.{Serves, Turns, has_quit, lines_of, some_count}
 use Rattle.nr_lines.specs.declared.ending.End.TheVariants.{Quit}

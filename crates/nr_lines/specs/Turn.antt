@@ -3,7 +3,7 @@ use Rattle.std.specs.Prelude.{◌≡◌, ℕ, ◌+◌, ◌<◌, nat_lt, Bool, tr
 use Rattle.nr_command.specs.Command.{meaning_of}
 use Rattle.nr_command.specs.Reply.{text_of}
 use Rattle.std.specs.Io.KnownBytes.{Appends}
-use Rattle.nr_command.specs.Sender.{saturating_count}
+use Rattle.nr_text.specs.Streams.{saturating_count}
 use Rattle.nr_command.specs.declared.command.Line.{Line}
 use Rattle.nr_command.specs.declared.command.Line.TheVariants.{Run, Look, Resume, Quit, Empty}
 use Rattle.nr_command.specs.declared.command.LineFault.{LineFault}

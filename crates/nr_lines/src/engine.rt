@@ -6,14 +6,14 @@ ghost use Rattle.nr_lines.specs.Engine.{Serves, tells_read, tells_write};
 ghost use Rattle.nr_lines.specs.Standing.{GoesOn, Standing};
 
 use crate::ending::{End, LineEnd};
-use crate::source::Source;
 use crate::turn::turn;
 use arrayvec::ArrayVec;
-use nr_command::{MAX_LINE, Sink};
+use nr_command::MAX_LINE;
 use nr_front::Front;
 use nr_journal::Journal;
 use nr_rev::Worlds;
 use nr_search::Finder;
+use nr_text::{Sink, Source};
 use std::io::{Read, Write};
 use std::sync::Wait;
 

@@ -4,9 +4,7 @@
 mod ending;
 mod engine;
 pub mod laws;
-mod source;
 mod turn;
 
 pub use ending::{End, LineEnd};
 pub use engine::serve;
-pub use source::Source;

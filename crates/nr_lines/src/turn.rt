@@ -6,11 +6,12 @@ ghost use Rattle.nr_command.specs.Command.{meaning_of};
 ghost use Rattle.nr_lines.specs.Turn.{IsCut, MayReply, Turn, count_with, is_quit, outcome, resumed, told};
 
 use crate::ending::LineEnd;
-use nr_command::{Command, Fault, Line, LineFault, Part, Reply, Sink};
+use nr_command::{Command, Fault, Line, LineFault, Reply};
 use nr_front::{Front, FrontFault};
 use nr_journal::Journal;
 use nr_rev::Worlds;
 use nr_search::Finder;
+use nr_text::{CutShort, Sink};
 use std::io::Write;
 
 /// Answers a line, and says whether it is `quit`. `whole` counts the texts that went out whole.
@@ -41,12 +42,12 @@ where
     let Some(reply) = reply_to_line(front, journal, asked) else {
         return Ok(false);
     };
-    match reply.print(w) {
+    match w.print(&reply) {
         Ok(()) => {
             *whole = whole.saturating_add(1);
             Ok(quits)
         }
-        Err(Part(part)) => Err(LineEnd::Write {
+        Err(CutShort(part)) => Err(LineEnd::Write {
             whole: *whole,
             part,
         }),

@@ -1,11 +1,12 @@
 -- Where marks hit.
-use Rattle.std.specs.Prelude.{ℕ, ◌+◌, ◌-◌, ◌==◌, nat_lt, length, Bool, false, not, List, slice_get, map, filter, Option, Some, None, option_map}
+use Rattle.std.specs.Prelude.{ℕ, ◌+◌, ◌-◌, ◌==◌, Bool, false, not, List, slice_get, map, filter, Option, Some, None, option_map}
 use Rattle.std.specs.Int.NonZero.{non_zero_u32_get}
 use Rattle.nr_rev.specs.Cell.{cell}
 use Rattle.nr_rev.specs.Kind.{kind_of}
 use Rattle.nr_rev.specs.Run.{Recording, world_at}
 use Rattle.nr_rev.specs.World.{World}
 use Rattle.nr_rev.specs.declared.cell_value.CellValue.{CellValue}
+use Rattle.nr_rev.specs.declared.cell_value.CellValue.TheVariants.{Absent}
 use Rattle.nr_rev.specs.declared.kind.Kind.{Kind}
 use Rattle.nr_rev.specs.declared.step.Step.{Step}
 use Rattle.nr_rev.specs.contracts.cell_value.CellValuePartialEq.TheImpl as value_eq
@@ -30,12 +31,22 @@ abbrev pub names : Break → NextStep → Bool
 names (break.Kind kind) step = same_kind kind step.kind
 names (break.Step number) step = non_zero_u32_get number == step.number
 
--- A break hits where it names the step that comes next, and a watch where its cell has another value than in the
--- world before. A cell that isn't there has a value of its own.
+-- The value that a mark watches in a world: its cell's. A break watches none.
+abbrev pub watched : World → Mark → CellValue
+watched w (mark.Break wanted) = Absent
+watched w (mark.Watch c) = cell w c
+
+-- By the values that a mark watches in the world before and in this one: a break hits where it names
+-- the step that comes next, and a watch where its cell has another value than before. A cell that
+-- isn't there has a value of its own.
+abbrev pub hits_by : CellValue → CellValue → Option NextStep → Mark → Bool
+hits_by before now None (mark.Break wanted) = false
+hits_by before now (Some step) (mark.Break wanted) = names wanted step
+hits_by before now next (mark.Watch c) = not (same_value before now)
+
+-- a mark hits between two worlds
 abbrev pub mark_hits : World → World → Option NextStep → Mark → Bool
-mark_hits before after None (mark.Break wanted) = false
-mark_hits before after (Some step) (mark.Break wanted) = names wanted step
-mark_hits before after next (mark.Watch c) = not (same_value (cell before c) (cell after c))
+mark_hits before after next mark = hits_by (watched before mark) (watched after mark) next mark
 
 -- The numbers of the marks that hit, in the order of the marks.
 abbrev pub hits_between : World → World → Option NextStep → List NumberedMark → List ℕ
@@ -48,7 +59,3 @@ numbered p step = option_map (λ (s : Step). record { number = p + 1; kind = kin
 -- Which marks hit at position p of a recording. Before position 0 nothing has changed, so no watch hits there.
 abbrev pub hits_at : Recording → List NumberedMark → ℕ → List ℕ
 hits_at r marks p = hits_between (world_at r (p - 1)) (world_at r p) (numbered p (slice_get r.steps p)) marks
-
--- whether some mark hits at position p
-abbrev pub is_hit_at : Recording → List NumberedMark → ℕ → Bool
-is_hit_at r marks p = nat_lt 0 (length (hits_at r marks p))

@@ -2,9 +2,9 @@
 
 ghost use Rattle.std.specs.Prelude.{◌≡◌, ◌+◌, ◌<◌, ◌^◌};
 ghost use Rattle.std.specs.Option.{option_copied};
-ghost use Rattle.nr_marks.specs.Hit.{mark_hits, names, numbered};
+ghost use Rattle.nr_marks.specs.Hit.{hits_by, names, numbered, watched};
 
-use nr_rev::{Cell, Kind, Step, Worlds};
+use nr_rev::{Cell, CellValue, Kind, Step, Worlds};
 use std::num::NonZeroU32;
 
 /// What a breakpoint names.
@@ -69,18 +69,30 @@ impl Break {
 }
 
 impl Mark {
-    /// Whether it hits at a position that lies between a world and the one after it, and where this step comes next.
-    pub fn hits<W: Worlds>(self, before: &W, after: &W, next: Option<NextStep>) -> bool
-        requires before { W.is_well_formed before.now }
-        requires after { W.is_well_formed after.now }
-        ensures { result ≡ mark_hits (W.world before.now) (W.world after.now) next self }
+    /// The value that it watches in a world: its cell's. A break watches none, as a cell that is not there.
+    #[inline(always)]
+    pub fn watched<W: Worlds>(self, world: &W) -> CellValue
+        requires { W.is_well_formed world.now }
+        ensures { result ≡ watched (W.world world.now) self }
+    {
+        match self {
+            Mark::Break(_) => CellValue::Absent,
+            Mark::Watch(cell) => world.cell(cell),
+        }
+    }
+
+    /// Whether it hits at a position: by the values that it watches one step before and there, and by the step that
+    /// comes next.
+    #[inline(always)]
+    pub fn hits(self, before: CellValue, now: CellValue, next: Option<NextStep>) -> bool
+        ensures { result ≡ hits_by before now next self }
     {
         match self {
             Mark::Break(wanted) => match next {
                 Some(step) => wanted.names(step),
                 None => false,
             },
-            Mark::Watch(cell) => before.cell(cell) != after.cell(cell),
+            Mark::Watch(_) => before != now,
         }
     }
 }

@@ -132,7 +132,8 @@ impl Marks {
     {
         let mut hits = ArrayVec::new();
         for numbered in self.as_slice() {
-            if numbered.item.hits(before, after, next) {
+            let mark = numbered.item;
+            if mark.hits(mark.watched(before), mark.watched(after), next) {
                 hits.push(numbered.number);
             }
         }

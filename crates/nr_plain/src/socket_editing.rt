@@ -1,4 +1,7 @@
 //! Making the primitive changes of a socket, and undoing them.
+//!
+//! A plan changes only sockets that are there. For one that isn't, an edit changes nothing and needs no room; what it gives
+//! back, `OpenPeer`, then undoes nothing. So `CanEdit` needs no premise that the socket is there.
 
 ghost use Rattle.std.specs.Prelude.{◌≡◌, ◌+◌, ◌-◌, ◌^◌, ◌<◌, ◌≤◌, ◌++◌, length, drop, take, option_to_list, slice_get, IfSome};
 ghost use Rattle.nr_rev.specs.Sides.{of_side};

@@ -125,7 +125,8 @@ impl PlainWorld {
         }
     }
 
-    /// The count of waiters with one more, which are at most two for each descriptor.
+    /// The count of waiters with one more. A well-formed world has at most two for each descriptor, so `min` changes nothing:
+    /// it is there so that the sum is seen to fit.
     #[tactic(auto, using(crate::proofs::WaitLemmas::waiters_within))]
     fn one_waiter_more(&self) -> u64
         requires { WellFormed self.now }

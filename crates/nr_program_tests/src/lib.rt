@@ -10,4 +10,6 @@ mod playing;
 #[cfg(test)]
 mod programs;
 #[cfg(test)]
+mod serving;
+#[cfg(test)]
 mod sizes;

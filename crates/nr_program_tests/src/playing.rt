@@ -1,8 +1,7 @@
 //! Plays the programs on recordings: what came of it is a plain value, which tests compare.
-use nr_command::Sink;
-use nr_lines::Source;
 use nr_plain::PlainWorld as World;
 use nr_programs::{ExitStatus, check_bytes, run_bytes};
+use nr_text::{Sink, Source};
 use std::alloc::{AllocError, Global};
 use std::io::{Read, Write};
 use std::process::Abort;

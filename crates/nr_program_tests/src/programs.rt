@@ -3,10 +3,10 @@ use crate::playing::{
     HEADER, Played, SCRIPT, assert_accepted, assert_all_refused, assert_all_replies,
     assert_refused, run, run_on,
 };
-use nr_command::Sink;
 use nr_plain::PlainWorld as World;
 use nr_programs::{ExitStatus, check_bytes};
 use nr_replay_tests::{Cup, Drip};
+use nr_text::Sink;
 use std::alloc::{AllocError, Global};
 use std::process::Abort;
 use std::sync::Wait;

@@ -1,7 +1,7 @@
 //! The programs over recordings, dumps and texts that are larger than any that a body could have in mind.
-use crate::playing::{check, run, ticks};
+use crate::playing::{HEADER, check, run, ticks};
 use nr_programs::ExitStatus;
-use std::alloc::AllocError;
+use std::alloc::{AllocError, Global};
 use std::test::*;
 
 const WIDE: &str =
@@ -36,5 +36,25 @@ fn a_text_of_more_than_a_megabyte_is_checked(rt: HostRuntime) -> Result<(), Allo
     assert!(rt; recording.len() > 1 << 20);
     let played = check(rt.alloc(), recording.as_str());
     played.assert(&rt, ExitStatus::Done, "ok 100000 steps\n");
+    Ok(())
+}
+
+/// A line, so many times.
+fn lines(alloc: Global, line: &str, count: u32) -> Result<String, AllocError> {
+    let mut text = String::new(alloc);
+    for _ in 0..count {
+        text.push_str(line)?;
+    }
+    Ok(text)
+}
+
+/// Each of these commands is placed, and the next finds the journal full.
+#[test]
+fn run_places_65536_commands(rt: HostRuntime) -> Result<(), AllocError> {
+    let script = lines(rt.alloc(), "delete 1\n", 65_537)?;
+    let mut replies = lines(rt.alloc(), "fault 401 no such mark\n", 65_536)?;
+    replies.push_str("fault 303 journal full\n")?;
+    let played = run(&rt, rt.alloc(), HEADER, script.as_str());
+    played.assert(&rt, ExitStatus::Done, replies.as_str());
     Ok(())
 }

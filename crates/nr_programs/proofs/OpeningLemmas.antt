@@ -1,14 +1,17 @@
 -- A recording whose steps all apply has no fault.
-use Rattle.std.proofs.Common.{◌≡◌, ℕ, List, true, false, sym, subst}
-use Rattle.std.specs.Prelude.{IsOk}
+use Rattle.std.proofs.Common.{◌≡◌, ℕ, ◌-◌, List, refl, sym, subst}
 use Rattle.nr_rev.specs.Run.{Recording, IsGood}
 use Rattle.nr_recording.specs.Text.{IsTextOf}
 use Rattle.nr_recording.proofs.TextLaws.{reading_again}
-use Rattle.nr_command.specs.Sink.{Outgoing}
+use Rattle.nr_text.specs.Streams.{Outgoing}
+use Rattle.nr_recording.specs.Faults.{memory_line}
+use Rattle.nr_recording.specs.declared.fault.ReadFault.TheVariants as read
+use Rattle.nr_snaps.specs.declared.fault.LoadFault.TheVariants as load
+use Rattle.nr_snaps.proofs.RefusedLemmas.{good_is_not_refused}
 use Rattle.nr_programs.specs.Opening.{IsFirstFault, fault_line}
 use Rattle.nr_programs.specs.Run.{Prints}
 use Rattle.nr_programs.specs.declared.opening.OpenFault.{OpenFault}
-use Rattle.nr_programs.specs.declared.opening.OpenFault.TheVariants.{Line, Step, Memory}
+use Rattle.nr_programs.specs.declared.opening.OpenFault.TheVariants.{Read, Load}
 use Rattle.nr_programs.specs.declared.run.ExitStatus.{ExitStatus}
 use Rattle.nr_programs.specs.declared.run.ExitStatus.TheVariants.{Refused}
 
@@ -20,20 +23,18 @@ one_recording bytes r s one other =
     cc
 
 -- want of memory is all that can be told of it
-only_memory : (bytes : List ℕ) (fault : OpenFault) (r : Recording) → IsFirstFault bytes fault → IsTextOf bytes r → IsGood r → fault ≡ Memory
-only_memory bytes (Line n f) r first text good =
-    let read = reading_again bytes r text in
+only_memory : (bytes : List ℕ) (fault : OpenFault) (r : Recording) → IsFirstFault bytes fault → IsTextOf bytes r → IsGood r → fault_line fault ≡ memory_line
+only_memory bytes (Read read.Memory) r first text good = refl
+only_memory bytes (Read (read.Line n fault)) r first text good =
+    let again = reading_again bytes r text in
     cc
-only_memory bytes (Step n reason) r first text good =
+only_memory bytes (Load load.Memory) r first text good = refl
+only_memory bytes (Load (load.Refused n reason)) r first text good =
     let same = one_recording bytes first.0 r first.1 text in
-    let refused = first.2.2 in
-    let applies = subst IsGood (sym same) good _ refused.step refused.next in
-    let no : false ≡ true = subst IsOk refused.refused applies in
-    cc
-only_memory bytes Memory r first text good = cc
+    absurd (good_is_not_refused first.0 (n - 1) reason first.2.2 (subst IsGood (sym same) good))
 
 -- so that is what is printed of it
 pub tells_memory : (bytes : List ℕ) (fault : OpenFault) (r : Recording) (old new : Outgoing) (status : ExitStatus)
-    → IsFirstFault bytes fault → IsTextOf bytes r → IsGood r → Prints (fault_line fault) Refused old new status → Prints (fault_line Memory) Refused old new status
+    → IsFirstFault bytes fault → IsTextOf bytes r → IsGood r → Prints (fault_line fault) Refused old new status → Prints memory_line Refused old new status
 tells_memory bytes fault r old new status first text good prints =
-    subst (λ told. Prints (fault_line told) Refused old new status) (only_memory bytes fault r first text good) prints
+    subst (λ told. Prints told Refused old new status) (only_memory bytes fault r first text good) prints

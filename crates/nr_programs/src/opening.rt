@@ -1,100 +1,51 @@
 //! Opening a recording: its text is read, and its steps are replayed once.
 
 ghost use Rattle.std.specs.Prelude.{◌≡◌, IfOk, IfErr};
-ghost use Rattle.nr_programs.specs.Opening.{IsGoodText, IsFirstFault, fault_of_reading, fault_of_loading, fault_line};
-ghost use Rattle.nr_command.specs.Sender.{Goes, Prints};
+ghost use Rattle.nr_programs.specs.Opening.{IsGoodText, IsFirstFault, fault_line};
 ghost use Rattle.nr_programs.specs.declared.opening.OpenFault.TheVariants as faults;
 
-use nr_command::{Part, Sink, Token, send, send_all};
-use nr_recording::{Fault, ReadFault, read};
-use nr_rev::{Refusal, Worlds};
+use nr_recording::{ReadFault, read};
+use nr_rev::Worlds;
 use nr_snaps::{Film, LoadFault, Snaps};
+use nr_text::{Buffered, Text, WriteFailed};
 use std::alloc::Global;
 use std::io::Write;
 
 /// Why a recording is refused: its first fault.
 #[derive(Clone, Copy, Debug, PartialEq, Eq)]
 pub enum OpenFault {
-    /// The line of this number, counted from 1, is no line of a recording.
-    Line { line: usize, fault: Fault },
-    /// The step of this number, counted from 1, does not apply after the ones before it.
-    Step { step: usize, reason: Refusal },
-    /// There was no memory.
-    Memory,
+    /// A line is none of a recording, or there was no memory to read it.
+    Read(ReadFault),
+    /// A step does not apply after the ones before it, or there was no memory to replay them.
+    Load(LoadFault),
 }
 
 impl From<ReadFault> for OpenFault {
-    ghost from_gives = { λ fault e. e ≡ fault_of_reading fault };
+    ghost from_gives = { λ fault e. e ≡ faults.Read fault };
 
     fn from(fault: ReadFault) -> OpenFault {
-        match fault {
-            ReadFault::Line { line, fault } => OpenFault::Line { line, fault },
-            ReadFault::Memory => OpenFault::Memory,
-        }
+        OpenFault::Read(fault)
     }
 }
 
 impl From<LoadFault> for OpenFault {
-    ghost from_gives = { λ fault e. e ≡ fault_of_loading fault };
+    ghost from_gives = { λ fault e. e ≡ faults.Load fault };
 
     fn from(fault: LoadFault) -> OpenFault {
-        match fault {
-            LoadFault::Refused { step, reason } => OpenFault::Step { step, reason },
-            LoadFault::Memory => OpenFault::Memory,
-        }
+        OpenFault::Load(fault)
     }
 }
 
-impl OpenFault {
-    /// Writes the fault, which is one line, as `line 6: fault 102 not JSON`, `step 5: fault 107
-    /// reason 2` or `fault 108 memory`. It takes no memory.
-    ///
-    /// Where a write fails or takes nothing, `Part` says how many bytes of the line are out, and no
-    /// more are written.
-    pub(crate) fn print<W: Write>(self, w: &mut Sink<W>) -> Result<(), Part>
-        ensures { Prints w.old w.new (fault_line self) result }
-    {
-        self.send(w)?;
-        Ok(())
-    }
+/// It is the line of its cause, as `line 6: fault 102 not JSON`, `step 5: fault 107 reason 2` or `fault 108 memory`.
+impl Text for OpenFault {
+    ghost text = { fault_line };
 
-    fn send<W: Write>(self, w: &mut Sink<W>) -> Result<u64, Part>
-        ensures { Goes w.old w.new (fault_line self) result }
-    {
+    fn send<W: Write>(&self, w: &mut Buffered<W>) -> Result<(), WriteFailed> {
         match self {
-            OpenFault::Line { line, fault } => send_line_fault(line, fault, w),
-            OpenFault::Step { step, reason } => send_step_fault(step, reason, w),
-            OpenFault::Memory => send(b"fault 108 memory\n", w),
+            OpenFault::Read(fault) => fault.send(w),
+            OpenFault::Load(fault) => fault.send(w),
         }
     }
-}
-
-fn send_line_fault<W: Write>(line: usize, fault: Fault, w: &mut Sink<W>) -> Result<u64, Part>
-    ensures { Goes w.old w.new
-        (fault_line (faults.Line line fault)) result }
-{
-    let tokens = [
-        Token::Text(b"line "),
-        Token::Number(line as u64),
-        Token::Text(b": fault "),
-        Token::Text(fault.text().as_bytes()),
-        Token::Text(b"\n"),
-    ];
-    send_all(&tokens, w)
-}
-
-fn send_step_fault<W: Write>(step: usize, reason: Refusal, w: &mut Sink<W>) -> Result<u64, Part>
-    ensures { Goes w.old w.new
-        (fault_line (faults.Step step reason)) result }
-{
-    let tokens = [
-        Token::Text(b"step "),
-        Token::Number(step as u64),
-        Token::Text(b": fault 107 reason "),
-        Token::Number(u64::from(reason.number())),
-        Token::Text(b"\n"),
-    ];
-    send_all(&tokens, w)
 }
 
 /// How many steps lie between two copies of the world.
@@ -104,6 +55,7 @@ const COPY_EVERY: usize = 1_024;
 /// fault: of the lines, or, where they are all right, of the steps; or that there was no memory.
 pub(crate) fn open<W: Worlds + Drop>(alloc: Global, bytes: &[u8]) -> Result<Film<W>, OpenFault>
     ensures film { IfOk result (λ film. IsGoodText bytes.now film.recording) }
+    ensures every { IfOk result (λ film. film.every ≡ 1024) }
     ensures fault { IfErr result (IsFirstFault bytes.now) }
 {
     let recording = read(alloc, bytes)?;

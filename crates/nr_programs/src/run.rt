@@ -4,19 +4,19 @@ ghost use Rattle.std.specs.Prelude.{◌≡◌, ◌⊎◌, false};
 ghost use Rattle.std.specs.Process.{exit_status};
 ghost use Rattle.nr_rev.specs.Run.{Recording, IsGood};
 ghost use Rattle.nr_recording.specs.Text.{IsTextOf};
-ghost use Rattle.nr_programs.specs.Opening.{fault_line};
+ghost use Rattle.nr_recording.specs.Faults.{memory_line};
 ghost use Rattle.nr_programs.specs.Run.{Runs, Walks, TellsFault, Checks, Prints, code_of, ok_line};
-ghost use Rattle.nr_programs.specs.declared.opening.OpenFault.TheVariants as faults;
 ghost use Rattle.nr_programs.specs.declared.run.ExitStatus.TheVariants as statuses;
 
-use crate::opening::{OpenFault, open};
-use nr_command::{Sink, Token, send_all};
+use crate::opening::open;
 use nr_front::Front;
 use nr_journal::Journal;
-use nr_lines::{Source, serve};
+use nr_lines::serve;
+use nr_recording::OutOfMemory;
 use nr_rev::Worlds;
 use nr_search::OneWorker;
 use nr_snaps::Film;
+use nr_text::{Parts, Sink, Source, Text, Token};
 use std::alloc::Global;
 use std::io::{Read, Write};
 use std::process::ExitCode;
@@ -94,11 +94,11 @@ where
     // A recording whose steps all apply is walked, unless memory runs out before the first line.
     ensures good { (r : Recording) → IsTextOf bytes.now r → IsGood r
         → Walks input.old input.new output.old output.new r result
-        ⊎ TellsFault faults.Memory input.old input.new output.old output.new result }
+        ⊎ TellsFault memory_line input.old input.new output.old output.new result }
 {
     match open::<W>(alloc, bytes) {
         Ok(film) => walk(rt, alloc, &film, input, output),
-        Err(fault) => refuse(fault, output),
+        Err(fault) => refuse(&fault, output),
     }
 }
 
@@ -116,20 +116,21 @@ where
     R: Threads + Wait + Sync,
     I: Read,
     O: Write,
+    requires every { film.now.every ≡ 1024 }
     requires input { input.old.failed ≡ false }
     requires output { output.old.failed ≡ false }
     ensures { Walks input.old input.new output.old output.new film.now.recording result
-        ⊎ TellsFault faults.Memory input.old input.new output.old output.new result }
+        ⊎ TellsFault memory_line input.old input.new output.old output.new result }
 {
     let Ok((journal, seat)) = Journal::new(alloc, JOURNAL_ROOM) else {
-        return refuse(OpenFault::Memory, output);
+        return refuse(&OutOfMemory, output);
     };
     // there is a tag, since nobody else has a seat
     let Ok(pass) = journal.enter(seat) else {
-        return refuse(OpenFault::Memory, output);
+        return refuse(&OutOfMemory, output);
     };
     let Ok(mut front) = Front::new(alloc, pass, film, OneWorker::<R>::new(), DELTAS_KEPT) else {
-        return refuse(OpenFault::Memory, output);
+        return refuse(&OutOfMemory, output);
     };
     match serve(rt, input, output, &mut front, &journal) {
         Ok(_) => ExitStatus::Done,
@@ -138,11 +139,22 @@ where
 }
 
 /// Prints the fault, as one line: `Refused`, or `StreamFailed` where a write failed; then a first part of it is written.
-pub fn refuse<O: Write>(fault: OpenFault, output: &mut Sink<O>) -> ExitStatus
-    ensures { Prints (fault_line fault) statuses.Refused output.old output.new result }
+pub fn refuse<T: Text, O: Write>(fault: &T, output: &mut Sink<O>) -> ExitStatus
+    ensures { Prints (T.text fault.now) statuses.Refused output.old output.new result }
 {
-    match fault.print(output) {
-        Ok(()) => ExitStatus::Refused,
+    print(fault, ExitStatus::Refused, output)
+}
+
+// Prints the text, and gives the wanted status where it went out whole.
+pub(crate) fn print<T: Text, O: Write>(
+    text: &T,
+    wanted: ExitStatus,
+    output: &mut Sink<O>,
+) -> ExitStatus
+    ensures { Prints (T.text text.now) wanted output.old output.new result }
+{
+    match output.print(text) {
+        Ok(()) => wanted,
         Err(_) => ExitStatus::StreamFailed,
     }
 }
@@ -163,12 +175,12 @@ pub fn check_bytes<W: Worlds + Drop, O: Write>(
     ensures good { (r : Recording) → IsTextOf bytes.now r → IsGood r
         → Prints (ok_line r) statuses.Done
         output.old output.new result
-        ⊎ Prints (fault_line faults.Memory) statuses.Refused
+        ⊎ Prints memory_line statuses.Refused
         output.old output.new result }
 {
     match open::<W>(alloc, bytes) {
         Ok(film) => accept(&film, output),
-        Err(fault) => refuse(fault, output),
+        Err(fault) => refuse(&fault, output),
     }
 }
 
@@ -178,11 +190,6 @@ fn accept<W: Worlds + Drop, O: Write>(film: &Film<W>, output: &mut Sink<O>) -> E
         output.old output.new result }
 {
     let steps = Token::Number(film.len() as u64);
-    match send_all(
-        &[Token::Text(b"ok "), steps, Token::Text(b" steps\n")],
-        output,
-    ) {
-        Ok(_) => ExitStatus::Done,
-        Err(_) => ExitStatus::StreamFailed,
-    }
+    let line = [Token::Text(b"ok "), steps, Token::Text(b" steps\n")];
+    print(&Parts(&line), ExitStatus::Done, output)
 }

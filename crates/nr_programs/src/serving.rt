@@ -1,23 +1,25 @@
 //! The program `serve`, over the bytes of the file and the callers of each front.
 
-ghost use Rattle.std.specs.Prelude.{◌≡◌, true};
+ghost use Rattle.std.specs.Prelude.{◌≡◌, IfOk, true};
 ghost use Rattle.nr_rev.specs.Run.{Recording, IsGood};
 ghost use Rattle.nr_recording.specs.Text.{IsTextOf};
 ghost use Rattle.nr_programs.specs.Run.{Prints};
-ghost use Rattle.nr_programs.specs.Serving.{ServesAll, Shares, placed_line, status_of};
+ghost use Rattle.nr_serving.specs.Session.{IsShared, words_of};
+ghost use Rattle.nr_programs.specs.Serving.{ServesAll, Shares, Tells, placed_line, status_of};
 ghost use Rattle.nr_programs.specs.Sharing.{is_in_range};
-ghost use Rattle.nr_programs.specs.declared.opening.OpenFault.TheVariants as faults;
+ghost use Rattle.nr_programs.specs.declared.run.TheConstants.{DELTAS_KEPT};
 ghost use Rattle.nr_programs.specs.declared.run.ExitStatus.TheVariants as statuses;
 
-use crate::opening::{OpenFault, open};
-use crate::run::{DELTAS_KEPT, ExitStatus, refuse};
+use crate::opening::open;
+use crate::run::{DELTAS_KEPT, ExitStatus, print, refuse};
 use crate::sharing::Sharing;
-use nr_command::{Sink, Token, send_all};
+use nr_recording::OutOfMemory;
 use nr_rev::Worlds;
 use nr_search::{ManyWorkers, OneWorker, Open};
 use nr_serving::{Ended, Ports, Shape, Unshared, share};
 use nr_snaps::Film;
-use std::alloc::Global;
+use nr_text::{Parts, Sink, Token};
+use std::alloc::{AllocError, Global};
 use std::io::Write;
 use std::sync::Wait;
 use std::thread::Threads;
@@ -53,11 +55,11 @@ where
 {
     match open::<W>(alloc, bytes) {
         Ok(film) => share_film(rt, alloc, &film, sharing, ports, output),
-        Err(fault) => refuse(fault, output),
+        Err(fault) => refuse(&fault, output),
     }
 }
 
-// Shares a film.
+// Shares a film, and tells what came of it.
 fn share_film<W, R, P, O>(
     rt: &R,
     alloc: Global,
@@ -75,35 +77,64 @@ where
     requires { is_in_range sharing ≡ true }
     ensures { Shares film.now.recording sharing output.old output.new result }
 {
+    let shared = share_among(rt, alloc, film, sharing, ports);
+    tell(&shared, output)
+}
+
+// Shares a film among as many fronts, with searches of as many workers, as are asked for.
+fn share_among<W, R, P>(
+    rt: &R,
+    alloc: Global,
+    film: &Film<W>,
+    sharing: Sharing,
+    ports: &mut P,
+) -> Result<Ended, Unshared>
+where
+    W: Worlds + Drop + Send + Sync,
+    W::Delta: Drop + Send,
+    R: Threads + Wait + Sync,
+    P: Ports,
+    requires { is_in_range sharing ≡ true }
+    ensures { IfOk result (λ ended. IsShared film.now.recording sharing.journal sharing.fronts
+        DELTAS_KEPT sharing.workers (words_of ended.history) ended.failed) }
+{
     let shape = Shape {
         fronts: sharing.fronts as usize,
         room: sharing.journal as usize,
         depth: DELTAS_KEPT,
     };
-    let shared = if sharing.workers == 1 {
+    if sharing.workers == 1 {
         share(rt, alloc, film, OneWorker::<&R>::new(), shape, ports)
     } else {
         let many = ManyWorkers::new(rt, alloc, Open, sharing.workers as usize);
         share(rt, alloc, film, &many, shape, ports)
+    }
+}
+
+// Tells how many commands were placed, or that there was no memory: to share the recording, or for the history.
+fn tell<O: Write>(shared: &Result<Ended, Unshared>, output: &mut Sink<O>) -> ExitStatus
+    ensures { Tells shared.now output.old output.new result }
+{
+    // of tags there are as many as fronts, at least
+    let Ok(ended) = shared else {
+        return refuse(&OutOfMemory, output);
     };
-    match shared {
-        Ok(ended) => tell_placed(&ended, output),
-        // there are as many tags as fronts, at most
-        Err(Unshared::Memory | Unshared::NoTag) => refuse(OpenFault::Memory, output),
+    match &ended.history {
+        Ok(history) => tell_placed(history.as_slice(), ended.failed, output),
+        Err(AllocError) => refuse(&OutOfMemory, output),
     }
 }
 
 // Prints how many commands were placed.
-fn tell_placed<O: Write>(ended: &Ended, output: &mut Sink<O>) -> ExitStatus
-    ensures { Prints (placed_line ended.now.history.items) (status_of ended.now.failed)
-        output.old output.new result }
+fn tell_placed<O: Write>(history: &[u64], failed: bool, output: &mut Sink<O>) -> ExitStatus
+    ensures { Prints (placed_line history.now) (status_of failed) output.old output.new result }
 {
-    let placed = Token::Number(ended.history.len() as u64);
-    match send_all(
-        &[Token::Text(b"placed "), placed, Token::Text(b"\n")],
-        output,
-    ) {
-        Ok(_) if !ended.failed => ExitStatus::Done,
-        _ => ExitStatus::StreamFailed,
-    }
+    let placed = Token::Number(history.len() as u64);
+    let line = [Token::Text(b"placed "), placed, Token::Text(b"\n")];
+    let status = if failed {
+        ExitStatus::StreamFailed
+    } else {
+        ExitStatus::Done
+    };
+    print(&Parts(&line), status, output)
 }

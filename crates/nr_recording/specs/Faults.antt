@@ -28,10 +28,20 @@ fault_text fault.Arguments = codes "104 arguments"
 fault_text fault.Limit = codes "105 limit"
 fault_text fault.TooManySteps = codes "106 too many steps"
 
+-- there was no memory
+abbrev pub memory_text : List ℕ
+memory_text = codes "fault 108 memory"
+
+abbrev pub memory_line : List ℕ
+memory_line = memory_text ++ codes "\n"
+
 -- why a text was not read
 abbrev pub read_fault_text : ReadFault → List ℕ
 read_fault_text (reads.Line n f) = codes "line " ++ decimal n ++ codes ": fault " ++ fault_text f
-read_fault_text reads.Memory = codes "fault 108 memory"
+read_fault_text reads.Memory = memory_text
+
+abbrev pub read_fault_line : ReadFault → List ℕ
+read_fault_line f = read_fault_text f ++ codes "\n"
 
 -- why limits and steps make no recording
 abbrev pub make_fault_text : MakeFault → List ℕ

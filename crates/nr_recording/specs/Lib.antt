@@ -8,5 +8,4 @@ pub mod Steps
 pub mod Header
 pub mod Reading
 pub mod Text
-pub mod Sink
 pub mod Writing

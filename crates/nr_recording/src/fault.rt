@@ -3,15 +3,15 @@
 ghost use Rattle.std.specs.Prelude.{◌≡◌, Some};
 ghost use Rattle.nr_recording.specs.declared.fault.LineError.TheVariants.{Memory, Fault as AFault};
 ghost use Rattle.nr_recording.specs.declared.fault.WriteFault.TheVariants.{Memory as NoMemory, Device as DeviceFailed};
-ghost use Rattle.nr_recording.specs.Faults.{fault_text, read_fault_text, make_fault_text, write_fault_text, of_hex, of_json};
+ghost use Rattle.nr_recording.specs.Faults.{fault_text, memory_line, read_fault_line, read_fault_text, make_fault_text, write_fault_text, of_hex, of_json};
 
-use crate::sink::CutShort;
 use hex::FromHexError;
+use nr_text::{Buffered, CutShort, Text, Token, WriteFailed, send_all};
 use serde_json::Category;
 use std::alloc::{AllocError, AllocFailed};
 use std::error::Error;
-use std::fmt;
 use std::fmt::{Display, Formatter, Write};
+use std::{fmt, io};
 
 /// What is wrong with a line.
 #[derive(Clone, Copy, Debug, PartialEq, Eq)]
@@ -55,13 +55,47 @@ impl Display for Fault {
     }
 }
 
-/// Why a text was not read. Prints as `line 6: fault 102 not JSON` or `fault 108 memory`.
+/// There was no memory.
+#[derive(Clone, Copy, Debug, PartialEq, Eq)]
+pub struct OutOfMemory;
+
+/// It is the line `fault 108 memory`.
+impl Text for OutOfMemory {
+    ghost text = { λ _. memory_line };
+
+    fn send<W: io::Write>(&self, w: &mut Buffered<W>) -> Result<(), WriteFailed> {
+        w.send(b"fault 108 memory\n")
+    }
+}
+
+/// Why a text was not read.
 #[derive(Clone, Copy, Debug, PartialEq, Eq)]
 pub enum ReadFault {
     /// The first faulty line, counted from 1, and what is wrong with it.
     Line { line: usize, fault: Fault },
     /// Memory ran out.
     Memory,
+}
+
+/// It is a line, as `line 6: fault 102 not JSON` or `fault 108 memory`.
+impl Text for ReadFault {
+    ghost text = { read_fault_line };
+
+    fn send<W: io::Write>(&self, w: &mut Buffered<W>) -> Result<(), WriteFailed> {
+        match self {
+            ReadFault::Line { line, fault } => {
+                let parts = [
+                    Token::Text(b"line "),
+                    Token::Number(*line as u64),
+                    Token::Text(b": fault "),
+                    Token::Text(fault.text().as_bytes()),
+                    Token::Text(b"\n"),
+                ];
+                send_all(&parts, w)
+            }
+            ReadFault::Memory => OutOfMemory.send(w),
+        }
+    }
 }
 
 impl Display for ReadFault {

@@ -7,14 +7,12 @@ mod header;
 pub mod laws;
 mod reading;
 mod recording;
-mod sink;
 mod spelling;
 mod steps;
 mod version;
 mod writing;
 
-pub use fault::{Fault, MakeFault, ReadFault, WriteFault};
+pub use fault::{Fault, MakeFault, OutOfMemory, ReadFault, WriteFault};
 pub use reading::read;
 pub use recording::{MOST_STEPS, Recording};
-pub use sink::{CutShort, Sink, WriteFailed};
 pub use writing::write;

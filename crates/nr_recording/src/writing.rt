@@ -10,10 +10,10 @@ ghost use Rattle.nr_recording.specs.Writing.{limits_data, line_text, line_texts,
 
 use crate::fault::WriteFault;
 use crate::recording::Recording;
-use crate::sink::Sink;
 use crate::steps::step_value;
 use crate::version::Version;
 use nr_rev::Limits;
+use nr_text::Sink;
 use serde_json::{Value, json};
 use std::alloc::{AllocError, Global};
 use std::io::Write;
@@ -50,7 +50,7 @@ fn write_line<W: Write>(alloc: Global, value: &Value, out: &mut Sink<W>) -> Resu
     ensures failed { out.new.failed ≡ (out.old.failed || tells_device result) }
 {
     let line = line_bytes(alloc, value)?;
-    out.send(&line)?;
+    out.print(&line.as_slice())?;
     Ok(())
 }
 

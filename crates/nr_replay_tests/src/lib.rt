@@ -18,4 +18,4 @@ mod walker;
 
 pub use films::{OPEN, add_ticks, film_of, ticking};
 pub use observed::Observed;
-pub use streams::{Cup, Drip, Stutter};
+pub use streams::{Counted, Cup, Drip, Stutter};

@@ -1,8 +1,9 @@
 //! Texts that are read, refused and written.
 
 use crate::streams::{Cup, Stutter};
-use nr_recording::{Fault, MakeFault, ReadFault, Recording, Sink, WriteFault, read, write};
+use nr_recording::{Fault, MakeFault, ReadFault, Recording, WriteFault, read, write};
 use nr_rev::{Limits, Step};
+use nr_text::Sink;
 use std::test::Fail;
 
 const HEADER: &str = "{\"netrev\":1,\"gor\":4,\"sock\":2,\"desc\":2,\"buf\":16}\n";
@@ -371,6 +372,11 @@ fn prints_faults(rt: HostRuntime) -> Result<(), Fail> {
     ] {
         assert_eq!(rt; text.as_str(), printed);
     }
+    let mut out = Sink::new(Vec::new(rt.alloc()));
+    assert_eq!(rt; out.print(&fault), Ok(()));
+    assert_eq!(rt; out.print(&ReadFault::Memory), Ok(()));
+    let lines = b"line 6: fault 102 not JSON\nfault 108 memory\n";
+    assert_eq!(rt; out.into_inner().as_slice(), lines.as_slice());
     assert_eq!(rt; Fault::TooManySteps.text(), "106 too many steps");
     Ok(())
 }

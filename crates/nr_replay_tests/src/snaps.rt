@@ -5,6 +5,7 @@ use nr_plain::PlainWorld;
 use nr_recording::Recording;
 use nr_rev::{Cell, CellValue, Refusal, Step, Worlds};
 use nr_snaps::{Film, LoadFault, Snaps};
+use nr_text::Sink;
 use std::alloc::Global;
 use std::test::Fail;
 
@@ -58,5 +59,10 @@ fn a_refused_step_is_told_with_its_reason(rt: HostRuntime) -> Result<(), Fail> {
         LoadFault::Memory.to_string(rt.alloc())?.as_str(),
         "fault 108 memory"
     );
+    let mut out = Sink::new(Vec::new(rt.alloc()));
+    assert_eq!(rt; out.print(&fault), Ok(()));
+    assert_eq!(rt; out.print(&LoadFault::Memory), Ok(()));
+    let lines = b"step 71: fault 107 reason 12\nfault 108 memory\n";
+    assert_eq!(rt; out.into_inner().as_slice(), lines.as_slice());
     Ok(())
 }

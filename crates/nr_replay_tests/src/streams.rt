@@ -101,3 +101,24 @@ impl<W: Write> Write for Stutter<W> {
         self.stream.flush()
     }
 }
+
+/// Takes all that it is given, and counts the calls.
+#[derive(Drop)]
+pub struct Counted {
+    pub held: Vec<u8>,
+    pub calls: usize,
+}
+
+impl Write for Counted {
+    ghost contents = { λ s. Some s.held.items };
+
+    fn write(&mut self, buf: &[u8]) -> io::Result<usize> {
+        self.calls = self.calls.saturating_add(1);
+        self.held.extend_from_slice(buf)?;
+        Ok(buf.len())
+    }
+
+    fn flush(&mut self) -> io::Result<()> {
+        Ok(())
+    }
+}

@@ -1,4 +1,5 @@
-//! Laws over the definitions: what a step leaves is well formed.
+//! Laws over the definitions: well-formed worlds and what keeps them so, the names and numbers of kinds and cells, what the
+//! weights count, and the greatest limits.
 
 ghost use Rattle.std.specs.Prelude.{All, ◌≡◌, ◌≢◌, ◌⊎◌, ℕ, Ok, Err, slice_get, Option, Some, ◌<◌, ◌-◌, List};
 ghost use Rattle.nr_rev.specs.declared.answer.Answer.{Answer};

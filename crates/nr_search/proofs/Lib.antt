@@ -1,5 +1,6 @@
-mod FinderLemmas
+pub mod FinderLemmas
 mod KnownLemmas
 mod NearestLemmas
+mod ReportLemmas
 mod SegmentLemmas
 mod WatchedLemmas

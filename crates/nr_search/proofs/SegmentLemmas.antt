@@ -1,5 +1,5 @@
 -- From one segment to the next.
-use Rattle.std.proofs.Common.{◌≡◌, ◌⊎◌, inl, inr, ℕ, ◌+◌, ◌-◌, ◌*◌, ◌<◌, ◌≤◌, Bool, true, false, subst, arith}
+use Rattle.std.proofs.Common.{◌≡◌, ◌⊎◌, inl, inr, ℕ, ◌+◌, ◌-◌, ◌*◌, ◌<◌, ◌≤◌, true, false, List, [], length, subst, arith}
 use Rattle.std.proofs.Math.Nat.{mul-le-mul_right}
 use Rattle.nr_search.specs.Nearest.{IsNearest, NoneHits, IsFound}
 use Rattle.nr_search.specs.Segments.{from_of, nth_segment, to_of}
@@ -27,71 +27,73 @@ border Forward first count k = first + k
 border Backward first count k = first + (count - k)
 
 -- of the positions of a search none hits on this side of a segment's copy
-abbrev pub Passed : Direction → (ℕ → Bool) → ℕ → ℕ → ℕ → Type 0
-Passed Forward hit after last copy = (q : ℕ) → after < q → q ≤ last → q ≤ copy → hit q ≡ false
-Passed Backward hit after last copy = (q : ℕ) → after < q → q ≤ last → copy < q → hit q ≡ false
+abbrev pub Passed : Direction → (ℕ → List ℕ) → ℕ → ℕ → ℕ → Type 0
+Passed Forward hits after last copy = (q : ℕ) → after < q → q ≤ last → q ≤ copy → hits q ≡ []
+Passed Backward hits after last copy = (q : ℕ) → after < q → q ≤ last → copy < q → hits q ≡ []
 
 -- none hits in the first k segments on the way
-abbrev pub ArePassed : Span → (ℕ → Bool) → ℕ → Type 0
-ArePassed span hit k = Passed span.direction hit span.after span.last (border span.direction span.first span.count k * span.every)
+abbrev pub ArePassed : Span → (ℕ → List ℕ) → ℕ → Type 0
+ArePassed span hits k = Passed span.direction hits span.after span.last (border span.direction span.first span.count k * span.every)
 
 pub nth-within : (direction : Direction) (first count k : ℕ) → k < count → (first ≤ nth_segment direction first count k) × (nth_segment direction first count k < first + count)
 nth-within Forward first count k below = (omega arith, omega arith)
 nth-within Backward first count k below = (omega arith, omega arith)
 
-module _ (hit : ℕ → Bool) (after last every : ℕ) where
+module _ (hits : ℕ → List ℕ) (after last every : ℕ) where
   -- a segment without a hit is passed, forwards and backwards
-  past-forward : (s : ℕ) → Passed Forward hit after last (s * every) → NoneHits hit (from_of after every s + 1) (to_of last every s + 1) → Passed Forward hit after last ((s + 1) * every)
+  past-forward : (s : ℕ) → Passed Forward hits after last (s * every) → NoneHits hits (from_of after every s + 1) (to_of last every s + 1) → Passed Forward hits after last ((s + 1) * every)
   past-forward s passed none q a b c =
       elim (split (s * every) q) [ inl behind ↦ none.none q (omega arith) (omega arith) | inr before ↦ passed q a b before ]
 
-  past-backward : (s : ℕ) → Passed Backward hit after last ((s + 1) * every) → NoneHits hit (from_of after every s + 1) (to_of last every s + 1) → Passed Backward hit after last (s * every)
+  past-backward : (s : ℕ) → Passed Backward hits after last ((s + 1) * every) → NoneHits hits (from_of after every s + 1) (to_of last every s + 1) → Passed Backward hits after last (s * every)
   past-backward s passed none q a b c =
       elim (split ((s + 1) * every) q) [ inl behind ↦ passed q a b behind | inr before ↦ none.none q (omega arith) (omega arith) ]
 
   -- the nearest hit of the first segment with one is the nearest
-  hit-forward : (s p : ℕ) → Passed Forward hit after last (s * every) → IsNearest Forward hit (from_of after every s + 1) (to_of last every s + 1) p → IsNearest Forward hit (after + 1) (last + 1) p
-  hit-forward s p passed found =
+  hit-forward : (s p : ℕ) (ms : List ℕ) → Passed Forward hits after last (s * every) → IsNearest Forward hits (from_of after every s + 1) (to_of last every s + 1) p ms → IsNearest Forward hits (after + 1) (last + 1) p ms
+  hit-forward s p ms passed found =
       record {
         above = omega (arith, found.above);
         below = omega (arith, found.below);
-        hits = found.hits;
+        told = found.told;
+        some = found.some;
         nearest = λ q a b c. elim (split (s * every) q) [
           | inl behind ↦ found.nearest q (omega arith) (omega (arith, found.below, c)) c
           | inr before ↦ passed q (omega arith) (omega arith) before
         ];
       }
 
-  hit-backward : (s p : ℕ) → Passed Backward hit after last ((s + 1) * every) → IsNearest Backward hit (from_of after every s + 1) (to_of last every s + 1) p → IsNearest Backward hit (after + 1) (last + 1) p
-  hit-backward s p passed found =
+  hit-backward : (s p : ℕ) (ms : List ℕ) → Passed Backward hits after last ((s + 1) * every) → IsNearest Backward hits (from_of after every s + 1) (to_of last every s + 1) p ms → IsNearest Backward hits (after + 1) (last + 1) p ms
+  hit-backward s p ms passed found =
       record {
         above = omega (arith, found.above);
         below = omega (arith, found.below);
-        hits = found.hits;
+        told = found.told;
+        some = found.some;
         nearest = λ q a b c. elim (split ((s + 1) * every) q) [
           | inl behind ↦ passed q (omega arith) (omega arith) behind
           | inr before ↦ found.nearest q (omega (arith, found.above, c)) (omega arith) c
         ];
       }
 
-module _ (hit : ℕ → Bool) where
-  next-passed : (direction : Direction) (after last every first count k : ℕ) → k < count → Passed direction hit after last (border direction first count k * every) → NoneHits hit (from_of after every (nth_segment direction first count k) + 1) (to_of last every (nth_segment direction first count k) + 1) → Passed direction hit after last (border direction first count (k + 1) * every)
+module _ (hits : ℕ → List ℕ) where
+  next-passed : (direction : Direction) (after last every first count k : ℕ) → k < count → Passed direction hits after last (border direction first count k * every) → NoneHits hits (from_of after every (nth_segment direction first count k) + 1) (to_of last every (nth_segment direction first count k) + 1) → Passed direction hits after last (border direction first count (k + 1) * every)
   next-passed Forward after last every first count k below passed none =
       let next : first + k + 1 ≡ first + (k + 1) = omega arith in
-      subst (λ b. Passed Forward hit after last (b * every)) next (past-forward hit after last every (first + k) passed none)
+      subst (λ b. Passed Forward hits after last (b * every)) next (past-forward hits after last every (first + k) passed none)
   next-passed Backward after last every first count k below passed none =
       let now : first + (count - k) ≡ first + (count - 1 - k) + 1 = omega arith in
       let next : first + (count - 1 - k) ≡ first + (count - (k + 1)) = omega arith in
-      subst (λ b. Passed Backward hit after last (b * every)) next
-      (past-backward hit after last every (first + (count - 1 - k)) (subst (λ b. Passed Backward hit after last (b * every)) now passed) none)
+      subst (λ b. Passed Backward hits after last (b * every)) next
+      (past-backward hits after last every (first + (count - 1 - k)) (subst (λ b. Passed Backward hits after last (b * every)) now passed) none)
 
-  next-hit : (direction : Direction) (after last every first count k p : ℕ) → k < count → Passed direction hit after last (border direction first count k * every) → IsNearest direction hit (from_of after every (nth_segment direction first count k) + 1) (to_of last every (nth_segment direction first count k) + 1) p → IsNearest direction hit (after + 1) (last + 1) p
-  next-hit Forward after last every first count k p below passed found = hit-forward hit after last every (first + k) p passed found
-  next-hit Backward after last every first count k p below passed found =
+  next-hit : (direction : Direction) (after last every first count k p : ℕ) (ms : List ℕ) → k < count → Passed direction hits after last (border direction first count k * every) → IsNearest direction hits (from_of after every (nth_segment direction first count k) + 1) (to_of last every (nth_segment direction first count k) + 1) p ms → IsNearest direction hits (after + 1) (last + 1) p ms
+  next-hit Forward after last every first count k p ms below passed found = hit-forward hits after last every (first + k) p ms passed found
+  next-hit Backward after last every first count k p ms below passed found =
       let now : first + (count - k) ≡ first + (count - 1 - k) + 1 = omega arith in
-      hit-backward hit after last every (first + (count - 1 - k)) p (subst (λ b. Passed Backward hit after last (b * every)) now passed) found
+      hit-backward hits after last every (first + (count - 1 - k)) p ms (subst (λ b. Passed Backward hits after last (b * every)) now passed) found
 
-  none-first : (direction : Direction) (after last every first count : ℕ) → first * every ≤ after → last ≤ (first + count) * every → Passed direction hit after last (border direction first count 0 * every)
+  none-first : (direction : Direction) (after last every first count : ℕ) → first * every ≤ after → last ≤ (first + count) * every → Passed direction hits after last (border direction first count 0 * every)
   none-first Forward after last every first count begins ends = λ q a b c.
       let same : first + 0 ≡ first = omega arith in
       let low : q ≤ first * every = subst (λ s. q ≤ s * every) same c in
@@ -101,7 +103,7 @@ module _ (hit : ℕ → Bool) where
       let high : (first + count) * every < q = subst (λ s. s * every < q) same c in
       absurd (omega arith)
 
-  none-last : (direction : Direction) (after last every first count : ℕ) → first * every ≤ after → last ≤ (first + count) * every → Passed direction hit after last (border direction first count count * every) → NoneHits hit (after + 1) (last + 1)
+  none-last : (direction : Direction) (after last every first count : ℕ) → first * every ≤ after → last ≤ (first + count) * every → Passed direction hits after last (border direction first count count * every) → NoneHits hits (after + 1) (last + 1)
   none-last Forward after last every first count begins ends passed =
       record { none = λ q a b. passed q (omega arith) (omega arith) (omega arith) }
   none-last Backward after last every first count begins ends passed =
@@ -109,20 +111,20 @@ module _ (hit : ℕ → Bool) where
       record { none = λ q a b. passed q (omega arith) (omega arith) (subst (λ s. s * every < q) same (omega arith)) }
 
   -- of no segments none hits
-  pub passed-first : (span : Span) → ArePassed span hit 0
+  pub passed-first : (span : Span) → ArePassed span hits 0
   passed-first span = none-first span.direction span.after span.last span.every span.first span.count span.begins span.ends
 
   -- one segment more, where nothing is found
-  pub passed-next : (span : Span) (k : ℕ) (found : Found) → k < span.count → is_hit found ≡ false → ArePassed span hit k → IsFoundIn span hit (nth_segment span.direction span.first span.count k) found → ArePassed span hit (k + 1)
+  pub passed-next : (span : Span) (k : ℕ) (found : Found) → k < span.count → is_hit found ≡ false → ArePassed span hits k → IsFoundIn span hits (nth_segment span.direction span.first span.count k) found → ArePassed span hits (k + 1)
   passed-next span k Nothing below miss passed found = next-passed span.direction span.after span.last span.every span.first span.count k below passed found
   passed-next span k (Hit p) below miss passed found = cc
 
   -- and where there is a hit
-  pub passed-hit : (span : Span) (k : ℕ) (found : Found) → k < span.count → is_hit found ≡ true → ArePassed span hit k → IsFoundIn span hit (nth_segment span.direction span.first span.count k) found → IsFound span.direction hit (span.after + 1) (span.last + 1) found
-  passed-hit span k Nothing below hits passed found = cc
-  passed-hit span k (Hit p) below hits passed found = next-hit span.direction span.after span.last span.every span.first span.count k p below passed found
+  pub passed-hit : (span : Span) (k : ℕ) (found : Found) → k < span.count → is_hit found ≡ true → ArePassed span hits k → IsFoundIn span hits (nth_segment span.direction span.first span.count k) found → IsFound span.direction hits (span.after + 1) (span.last + 1) found
+  passed-hit span k Nothing below hit passed found = cc
+  passed-hit span k (Hit h) below hit passed found = next-hit span.direction span.after span.last span.every span.first span.count k h.position h.marks.items below passed found
 
   -- all segments are passed
-  pub passed-all : (span : Span) (k : ℕ) → k ≡ span.count → ArePassed span hit k → IsFound span.direction hit (span.after + 1) (span.last + 1) Nothing
+  pub passed-all : (span : Span) (k : ℕ) → k ≡ span.count → ArePassed span hits k → IsFound span.direction hits (span.after + 1) (span.last + 1) Nothing
   passed-all span k all passed =
-      none-last span.direction span.after span.last span.every span.first span.count span.begins span.ends (subst (ArePassed span hit) all passed)
+      none-last span.direction span.after span.last span.every span.first span.count span.begins span.ends (subst (ArePassed span hits) all passed)

@@ -9,16 +9,18 @@ use Rattle.nr_search.specs.declared.slot.Slot.{Slot}
 use Rattle.nr_search.specs.declared.slot.Slot.TheVariants.{Unknown, Refused, Searched}
 
 -- what is found is the nearest hit of the segment
-abbrev pub IsFoundIn : Span → (ℕ → Bool) → ℕ → Found → Type 0
-IsFoundIn span hit s found = IsFound span.direction hit (from_of span.after span.every s + 1) (to_of span.last span.every s + 1) found
+abbrev pub IsFoundIn : Span → (ℕ → List ℕ) → ℕ → Found → Type 0
+IsFoundIn span hits s found =
+    IsFound span.direction hits (from_of span.after span.every s + 1)
+    (to_of span.last span.every s + 1) found
 
 -- what is said of a segment is true: where it is said to be searched, this is found there
-pub record IsTrue (span : Span) (hit : ℕ → Bool) (s : ℕ) (slot : Slot) : Type 0 where
-  pub found : (found : Found) → slot ≡ Searched found → IsFoundIn span hit s found
+pub record IsTrue (span : Span) (hits : ℕ → List ℕ) (s : ℕ) (slot : Slot) : Type 0 where
+  pub found : (found : Found) → slot ≡ Searched found → IsFoundIn span hits s found
 
--- so is what is said of each, by its number
-pub record AreTrue (span : Span) (hit : ℕ → Bool) (slots : List Slot) : Type 0 where
-  pub each : (s : ℕ) (slot : Slot) → slice_get slots s ≡ Some slot → IsTrue span hit s slot
+-- so is what is known of each
+pub record AreTrue (span : Span) (hits : ℕ → List ℕ) (known : ℕ → Slot) : Type 0 where
+  pub each : (s : ℕ) → IsTrue span hits s (known s)
 
 -- what is known of a segment, by its number: nothing where there is no such slot
 abbrev pub or_unknown : Option Slot → Slot
@@ -27,6 +29,12 @@ or_unknown None = Unknown
 
 abbrev pub slot_of : List Slot → ℕ → Slot
 slot_of slots s = or_unknown (slice_get slots s)
+
+-- something is known of the segment
+abbrev pub is_known : Slot → Bool
+is_known (Searched found) = true
+is_known Refused = true
+is_known Unknown = false
 
 -- the segment is searched
 abbrev pub is_searched : Slot → Bool
@@ -46,9 +54,14 @@ Agrees (Searched known) found = found ≡ known
 Agrees Refused found = Unit {0}
 Agrees Unknown found = Unit {0}
 
--- What is known leaves the search open: a segment on the way isn't searched, and no nearer one is known to have a hit.
-pub record IsLeftOpen (span : Span) (slots : List Slot) : Type 0 where
+-- the segment that comes behind k others on the way
+abbrev pub nth_of : Span → ℕ → ℕ
+nth_of span k = nth_segment span.direction span.first span.count k
+
+-- What is known leaves the search open: a segment on the way isn't searched, and no nearer one is
+-- known to have a hit.
+pub record IsLeftOpen (span : Span) (known : ℕ → Slot) : Type 0 where
   pub place : ℕ
   pub within : place < span.count
-  pub unsearched : is_searched (slot_of slots (nth_segment span.direction span.first span.count place)) ≡ false
-  pub nearer : (k : ℕ) → k < place → has_hit (slot_of slots (nth_segment span.direction span.first span.count k)) ≡ false
+  pub unsearched : is_searched (known (nth_of span place)) ≡ false
+  pub nearer : (k : ℕ) → k < place → has_hit (known (nth_of span k)) ≡ false

@@ -1,4 +1,5 @@
 pub mod Known
 pub mod Nearest
+pub mod Reports
 pub mod Search
 pub mod Segments

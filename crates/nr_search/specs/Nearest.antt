@@ -1,49 +1,62 @@
 -- The nearest hit: the least above a position, or the greatest below it.
-use Rattle.std.specs.Prelude.{◌≡◌, ℕ, zero, suc, ◌+◌, ◌-◌, ◌<◌, ◌≤◌, Bool, true, false, List, length, if◌then◌else◌}
+use Rattle.std.specs.Prelude.{◌≡◌, ℕ, zero, suc, ◌+◌, ◌-◌, ◌<◌, ◌≤◌, List, [], ◌∷◌, length}
 use Rattle.nr_rev.specs.Run.{Recording}
-use Rattle.nr_marks.specs.Hit.{is_hit_at}
+use Rattle.nr_marks.specs.Hit.{hits_at}
 use Rattle.nr_marks.specs.Marks.{NumberedMark}
+use Rattle.nr_marks.specs.Numbered.{RisesWithin}
 use Rattle.nr_search.specs.declared.direction.Direction.{Direction}
 use Rattle.nr_search.specs.declared.direction.Direction.TheVariants.{Forward, Backward}
 use Rattle.nr_search.specs.declared.found.Found.{Found}
 use Rattle.nr_search.specs.declared.found.Found.TheVariants.{Hit, Nothing}
 
--- the first of so many positions from p on that hits
-abbrev pub first_of : (ℕ → Bool) → ℕ → ℕ → Found
-first_of hit zero p = Nothing
-first_of hit (suc count) p = if hit p then Hit p else first_of hit count (p + 1)
+-- What is found after a look at position p, where the marks of these numbers hit: without one, what
+-- was found before.
+abbrev pub found_after : Found → ℕ → List ℕ → Found
+found_after found p [] = found
+found_after found p (m ∷ ms) = Hit (record { position = p; marks = record { items = m ∷ ms } })
 
--- the last position below n that hits
-abbrev pub last_below : (ℕ → Bool) → ℕ → Found
-last_below hit zero = Nothing
-last_below hit (suc n) = if hit n then Hit n else last_below hit n
+-- the first of so many positions from p on where a mark hits, by which marks hit at each
+abbrev pub first_of : (ℕ → List ℕ) → ℕ → ℕ → Found
+first_of hits zero p = Nothing
+first_of hits (suc count) p = found_after (first_of hits count (p + 1)) p (hits p)
 
--- The nearest hit from position n. Forwards: the first of the positions behind n, up to the end of the recording.
--- Backwards: the last of those before it.
+-- the last position below n where a mark hits
+abbrev pub last_below : (ℕ → List ℕ) → ℕ → Found
+last_below hits zero = Nothing
+last_below hits (suc n) = found_after (last_below hits n) n (hits n)
+
+-- The nearest hit from position n, with the numbers of the marks that hit there. Forwards: the first
+-- of the positions behind n, up to the end of the recording. Backwards: the last of those before it.
 abbrev pub nearest_hit : Direction → Recording → List NumberedMark → ℕ → Found
-nearest_hit Forward r marks n = first_of (is_hit_at r marks) (length r.steps - n) (n + 1)
-nearest_hit Backward r marks n = last_below (is_hit_at r marks) n
+nearest_hit Forward r marks n = first_of (hits_at r marks) (length r.steps - n) (n + 1)
+nearest_hit Backward r marks n = last_below (hits_at r marks) n
 
 -- q is nearer than p
 abbrev pub Nearer : Direction → ℕ → ℕ → Type 0
 Nearer Forward q p = q < p
 Nearer Backward q p = p < q
 
--- p hits, and none from low to below high does that is nearer
-pub record IsNearest (direction : Direction) (hit : ℕ → Bool) (low high p : ℕ) : Type 0 where
+-- These marks hit at p, some at least, and none hits from low to below high where that is nearer.
+pub record IsNearest (way : Direction) (hits : ℕ → List ℕ) (low high p : ℕ) (ms : List ℕ) : Type 0 where
   pub above : low ≤ p
   pub below : p < high
-  pub hits : hit p ≡ true
-  pub nearest : (q : ℕ) → low ≤ q → q < high → Nearer direction q p → hit q ≡ false
+  pub told : ms ≡ hits p
+  pub some : 0 < length ms
+  pub nearest : (q : ℕ) → low ≤ q → q < high → Nearer way q p → hits q ≡ []
 
--- none from low to below high hits
-pub record NoneHits (hit : ℕ → Bool) (low high : ℕ) : Type 0 where
-  pub none : (q : ℕ) → low ≤ q → q < high → hit q ≡ false
+-- no mark hits from low to below high
+pub record NoneHits (hits : ℕ → List ℕ) (low high : ℕ) : Type 0 where
+  pub none : (q : ℕ) → low ≤ q → q < high → hits q ≡ []
 
 -- what is found is the nearest hit from low to below high, and nothing only where none hits
-abbrev pub IsFound : Direction → (ℕ → Bool) → ℕ → ℕ → Found → Type 0
-IsFound direction hit low high (Hit p) = IsNearest direction hit low high p
-IsFound direction hit low high Nothing = NoneHits hit low high
+abbrev pub IsFound : Direction → (ℕ → List ℕ) → ℕ → ℕ → Found → Type 0
+IsFound direction hits low high (Hit h) = IsNearest direction hits low high h.position h.marks.items
+IsFound direction hits low high Nothing = NoneHits hits low high
+
+-- the numbers that are told rise, and are those of marks that were made, so many at most
+abbrev pub Rises : ℕ → Found → Type 0
+Rises made (Hit h) = RisesWithin 0 h.marks.items made
+Rises made Nothing = Unit {0}
 
 -- A copy of a world is led that way: a position other than the start lies there.
 abbrev pub NeedsCopy : Direction → Recording → ℕ → Type 0

@@ -1,38 +1,26 @@
 -- How a search goes on from one position to the next.
 use Rattle.std.specs.Prelude.{◌≡◌, ℕ, Bool, true, false, List, slice_get, Some}
-use Rattle.nr_rev.specs.Cell.{cell}
 use Rattle.nr_rev.specs.World.{World}
 use Rattle.nr_rev.specs.declared.cell_value.CellValue.{CellValue}
-use Rattle.nr_rev.specs.declared.cell_value.CellValue.TheVariants.{Absent}
-use Rattle.nr_marks.specs.declared.mark.Mark.{Mark}
-use Rattle.nr_marks.specs.declared.mark.Mark.TheVariants.{Break, Watch}
+use Rattle.nr_marks.specs.Hit.{watched}
 use Rattle.nr_marks.specs.Marks.{NumberedMark}
 use Rattle.nr_search.specs.declared.direction.Direction.{Direction}
 use Rattle.nr_search.specs.declared.direction.Direction.TheVariants.{Forward, Backward}
 use Rattle.nr_search.specs.declared.found.Found.{Found}
 use Rattle.nr_search.specs.declared.found.Found.TheVariants.{Hit, Nothing}
 
--- what is found after a look at position p
-abbrev pub found_after : Found → ℕ → Bool → Found
-found_after found p true = Hit p
-found_after found p false = found
-
 -- something is found
 abbrev pub is_hit : Found → Bool
-is_hit (Hit p) = true
+is_hit (Hit h) = true
 is_hit Nothing = false
 
 -- no position farther forward is nearer
 abbrev pub is_settled : Direction → Found → Bool
-is_settled Forward (Hit p) = true
+is_settled Forward (Hit h) = true
 is_settled Forward Nothing = false
 is_settled Backward found = false
 
--- the value that a mark watches; a break watches none
-abbrev pub watched : World → Mark → CellValue
-watched w (Break wanted) = Absent
-watched w (Watch c) = cell w c
-
 -- The values, place by place, are those that the marks watch in the world.
 pub record Remembers (w : World) (marks : List NumberedMark) (values : List CellValue) : Type 0 where
-  pub each : (i : ℕ) (m : NumberedMark) → slice_get marks i ≡ Some m → slice_get values i ≡ Some (watched w m.item)
+  pub each : (i : ℕ) (m : NumberedMark) → slice_get marks i ≡ Some m
+      → slice_get values i ≡ Some (watched w m.item)

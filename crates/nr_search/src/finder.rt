@@ -1,8 +1,8 @@
 //! The nearest hit.
 
-ghost use Rattle.std.specs.Prelude.{◌≡◌, ◌<◌, ◌≤◌, ◌+◌, length, IfOk, OnErr};
-ghost use Rattle.nr_marks.specs.Hit.{is_hit_at};
-ghost use Rattle.nr_search.specs.Nearest.{NeedsCopy, IsFound, nearest_hit};
+ghost use Rattle.std.specs.Prelude.{◌≡◌, ℕ, ◌<◌, ◌≤◌, ◌+◌, length, IfNone, IfOk, IfSome, OnErr};
+ghost use Rattle.nr_marks.specs.Hit.{hits_at};
+ghost use Rattle.nr_search.specs.Nearest.{NeedsCopy, IsFound, Rises, nearest_hit};
 ghost use Rattle.nr_search.specs.declared.direction.Direction.TheVariants.{Forward, Backward};
 
 use crate::direction::Direction;
@@ -27,8 +27,13 @@ pub trait Finder {
     /// What is told who searches.
     type Gate: Gate + Sync;
 
+    /// How many workers search: 1 where the caller's thread searches alone.
+    ghost count: { Self → ℕ };
+
     /// The workers; `None` where the caller's thread searches alone.
-    fn workers(&self) -> Option<&ManyWorkers<Self::Runtime, Self::Gate>>;
+    fn workers(&self) -> Option<&ManyWorkers<Self::Runtime, Self::Gate>>
+        ensures many { IfSome result (λ many. many.now ≡ count self.now) }
+        ensures alone { IfNone result (count self.now ≡ 1) };
 
     /// What they are told as a search begins. Whatever it is, they find the same.
     fn claims(&self) -> Claims;
@@ -54,6 +59,8 @@ impl<R: Threads + Sync> Finder for OneWorker<R> {
 
     type Gate = Open;
 
+    ghost count = { λ _. 1 };
+
     fn workers(&self) -> Option<&ManyWorkers<R, Open>> {
         None
     }
@@ -67,6 +74,8 @@ impl<R: Threads + Sync, G: Gate + Sync> Finder for ManyWorkers<R, G> {
     type Runtime = R;
 
     type Gate = G;
+
+    ghost count = { λ many. many };
 
     fn workers(&self) -> Option<&ManyWorkers<R, G>> {
         Some(self)
@@ -82,6 +91,8 @@ impl<F: Finder> Finder for &F {
 
     type Gate = F::Gate;
 
+    ghost count = { λ finder. F.count finder.now };
+
     fn workers(&self) -> Option<&ManyWorkers<F::Runtime, F::Gate>> {
         (**self).workers()
     }
@@ -91,8 +102,8 @@ impl<F: Finder> Finder for &F {
     }
 }
 
-/// The nearest position from n where a mark hits: forwards the least above n, up to the end; backwards the greatest
-/// below n. Memory is wanted for copies of the film's worlds, and for what several workers report; for nothing where no
+/// The nearest position from n where a mark hits, with the numbers of the marks that hit there: forwards the least above
+/// n, up to the end; backwards the greatest below n. Memory is wanted for copies of the film's worlds, and for what several workers report; for nothing where no
 /// mark stands, or where no position but the start lies that way.
 pub fn nearest_hit<W: Worlds + Drop + Sync, F: Finder>(
     finder: &F,
@@ -104,10 +115,11 @@ pub fn nearest_hit<W: Worlds + Drop + Sync, F: Finder>(
     requires { n ≤ length film.now.recording.steps }
     ensures found { IfOk result (λ found. found
         ≡ nearest_hit direction film.now.recording marks.now.standing n) }
+    ensures rising { IfOk result (Rises marks.now.made) }
     ensures copy { OnErr result (NeedsCopy direction film.now.recording n) }
     ensures marks { OnErr result (0 < length marks.now.standing) }
 {
-    if marks.len() == 0 {
+    if marks.as_slice().is_empty() {
         return Ok(Found::Nothing);
     }
     match direction {
@@ -127,17 +139,17 @@ fn last_below<W: Worlds + Drop + Sync, F: Finder>(
 ) -> Result<Found, AllocError>
     requires { n ≤ length film.now.recording.steps }
     ensures found { IfOk result
-        (IsFound Backward (is_hit_at film.now.recording marks.now.standing) 0 n) }
+        (IsFound Backward (hits_at film.now.recording marks.now.standing) 0 n) }
     ensures copy { OnErr result (1 < n) }
 {
     if n == 0 {
         return Ok(Found::Nothing);
     }
-    let found = search_between(finder, film, marks, Direction::Backward, 0, n - 1)?;
-    if found.is_hit() {
-        return Ok(found);
+    let mut found = search_between(finder, film, marks, Direction::Backward, 0, n - 1)?;
+    if !found.is_hit() {
+        found.look_at(0, &hits_at_start(film, marks));
     }
-    Ok(found.after(0, hits_at_start(film, marks)))
+    Ok(found)
 }
 
 // The nearest hit of those behind position `after` and up to position `last`, by one worker or by several.
@@ -152,7 +164,7 @@ fn search_between<W: Worlds + Drop + Sync, F: Finder>(
     requires order { after ≤ last }
     requires within { last ≤ length film.now.recording.steps }
     ensures found { IfOk result
-        (IsFound direction (is_hit_at film.now.recording marks.now.standing)
+        (IsFound direction (hits_at film.now.recording marks.now.standing)
         (after + 1) (last + 1)) }
     ensures copy { OnErr result (after < last) }
 {

@@ -1,11 +1,10 @@
-//! Searching a film for the nearest position where a mark hits, forwards and backwards; and which marks hit there.
+//! Searching a film for the nearest position where a mark hits, forwards and backwards, and for which marks hit there.
 #![tactic(auto)]
 
 mod direction;
 mod finder;
 mod found;
 mod gate;
-mod hits;
 pub mod laws;
 mod search;
 mod segments;
@@ -16,7 +15,6 @@ mod workers;
 
 pub use direction::Direction;
 pub use finder::{Finder, OneWorker, nearest_hit};
-pub use found::Found;
+pub use found::{Found, Hit};
 pub use gate::{Gate, Open};
-pub use hits::hits_at;
 pub use workers::{Claims, LEAST_WORKERS, MOST_WORKERS, ManyWorkers};

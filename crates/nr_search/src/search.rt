@@ -1,15 +1,17 @@
 //! A search through a film, segment by segment.
 
-ghost use Rattle.std.specs.Prelude.{◌≡◌, ◌<◌, ◌≤◌, ◌+◌, false, length, IfOk, IfSome, OnErr};
-ghost use Rattle.nr_marks.specs.Hit.{is_hit_at};
+ghost use Rattle.std.specs.Prelude.{◌≡◌, ◌<◌, ◌≤◌, ◌+◌, false, All, length, map, replicate, IfOk, IfSome, OnErr};
+ghost use Rattle.nr_marks.specs.Hit.{hits_at};
 ghost use Rattle.nr_search.specs.Known.{Agrees, AreTrue, IsFoundIn, IsLeftOpen, is_searched, slot_of};
 ghost use Rattle.nr_search.specs.Nearest.{IsFound};
+ghost use Rattle.nr_search.specs.Reports.{IsReport, noted};
+ghost use Rattle.nr_search.specs.declared.slot.Slot.TheVariants.{Unknown};
 ghost use Rattle.nr_snaps.specs.Film.{IsFrame};
 
 use crate::direction::Direction;
 use crate::found::Found;
 use crate::segments::Span;
-use crate::slot::{Slot, slot_at};
+use crate::slot::{Report, Slot, note_all, slot_at};
 use crate::stretch::{Standing, search_stretch, world_at};
 use nr_marks::Marks;
 use nr_rev::Worlds;
@@ -44,6 +46,7 @@ impl<'a, W: Worlds + Drop> Search<'a, W> {
         ensures after { result.span.after ≡ after }
         ensures last { result.span.last ≡ last }
     {
+        // A film's length is bounded, so `last` and the steps of a segment have a sum.
         let _ = film.len();
         Search {
             film,
@@ -64,7 +67,7 @@ impl<'a, W: Worlds + Drop> Search<'a, W> {
         requires held { IfSome held.old (λ h.
             IsFrame W.is_well_formed W.world W.steps self.now.film.now h.position h.world) }
         ensures found { IfOk result (IsFoundIn self.now.span
-            (is_hit_at self.now.film.now.recording self.now.marks.now.standing) s) }
+            (hits_at self.now.film.now.recording self.now.marks.now.standing) s) }
         ensures held { IfSome held.new (λ h.
             IsFrame W.is_well_formed W.world W.steps self.now.film.now h.position h.world) }
     {
@@ -91,11 +94,11 @@ impl<'a, W: Worlds + Drop> Search<'a, W> {
         requires first { self.now.span.first ≤ s }
         requires last { s < self.now.span.first + self.now.span.count }
         requires known { AreTrue self.now.span
-            (is_hit_at self.now.film.now.recording self.now.marks.now.standing) known.now }
+            (hits_at self.now.film.now.recording self.now.marks.now.standing) (slot_of known.now) }
         requires held { IfSome held.old (λ h.
             IsFrame W.is_well_formed W.world W.steps self.now.film.now h.position h.world) }
         ensures found { IfOk result (IsFoundIn self.now.span
-            (is_hit_at self.now.film.now.recording self.now.marks.now.standing) s) }
+            (hits_at self.now.film.now.recording self.now.marks.now.standing) s) }
         ensures agrees { IfOk result (Agrees (slot_of known.now s)) }
         ensures searched { OnErr result (is_searched (slot_of known.now s) ≡ false) }
         ensures held { IfSome held.new (λ h.
@@ -112,11 +115,11 @@ impl<'a, W: Worlds + Drop> Search<'a, W> {
     /// segment with a hit decides: memory that was refused for others changes nothing then.
     pub fn settle(&self, known: &[Slot]) -> Result<Found, AllocError>
         requires { AreTrue self.now.span
-            (is_hit_at self.now.film.now.recording self.now.marks.now.standing) known.now }
+            (hits_at self.now.film.now.recording self.now.marks.now.standing) (slot_of known.now) }
         ensures found { IfOk result (IsFound self.now.span.direction
-            (is_hit_at self.now.film.now.recording self.now.marks.now.standing)
+            (hits_at self.now.film.now.recording self.now.marks.now.standing)
             (self.now.span.after + 1) (self.now.span.last + 1)) }
-        ensures open { OnErr result (IsLeftOpen self.now.span known.now) }
+        ensures open { OnErr result (IsLeftOpen self.now.span (slot_of known.now)) }
     {
         let mut held = None;
         for k in 0..self.span.count {
@@ -127,5 +130,25 @@ impl<'a, W: Worlds + Drop> Search<'a, W> {
             }
         }
         Ok(Found::Nothing)
+    }
+
+    /// The nearest hit, by what the workers report, a row for each worker. Of a segment the first report counts; where
+    /// there is none, it is searched here. Want of memory is told only where a segment on the way isn't searched by the
+    /// report that counts, and none before it has a hit. The table has a slot for each segment, where nothing is known yet.
+    pub fn settle_by(&self, rows: &[Vec<Report>], table: &mut [Slot]) -> Result<Found, AllocError>
+        requires table { table.old
+            ≡ replicate (self.now.span.first + self.now.span.count) Unknown }
+        requires reports { All (λ row. All (IsReport self.now.span
+            (hits_at self.now.film.now.recording self.now.marks.now.standing)) row.items) rows.now }
+        ensures found { IfOk result (IsFound self.now.span.direction
+            (hits_at self.now.film.now.recording self.now.marks.now.standing)
+            (self.now.span.after + 1) (self.now.span.last + 1)) }
+        ensures open { OnErr result (IsLeftOpen self.now.span
+            (noted (map (λ row. row.items) rows.now))) }
+    {
+        for reports in rows {
+            note_all(table, reports.as_slice());
+        }
+        self.settle(table)
     }
 }

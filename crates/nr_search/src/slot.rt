@@ -1,15 +1,15 @@
 //! What is known of segments.
 
-ghost use Rattle.std.specs.Prelude.{◌≡◌, ℕ, Bool, All, replicate, IfOk};
-ghost use Rattle.nr_search.specs.Known.{AreTrue, IsTrue, slot_of};
-ghost use Rattle.nr_search.specs.declared.segments.Span.{Span};
+ghost use Rattle.std.specs.Prelude.{◌≡◌, ◌≤◌, true, length, replicate, IfOk};
+ghost use Rattle.nr_search.specs.Known.{is_known, slot_of};
+ghost use Rattle.nr_search.specs.Reports.{AddsTo, said_by, said_in, slot_from};
 ghost use Rattle.nr_search.specs.declared.slot.Slot.TheVariants.{Unknown};
 
 use crate::found::Found;
 use std::alloc::{AllocError, Global};
 
 /// What is known of a segment.
-#[derive(Clone, Copy, Debug, PartialEq, Eq)]
+#[derive(Debug, Drop)]
 pub(crate) enum Slot {
     /// Nothing: it was skipped, or the report of it was lost.
     Unknown,
@@ -19,8 +19,31 @@ pub(crate) enum Slot {
     Searched(Found),
 }
 
+impl Slot {
+    /// What a search of a segment makes known of it.
+    pub fn from_search(searched: Result<Found, AllocError>) -> Slot
+        ensures { result ≡ slot_from searched }
+    {
+        match searched {
+            Ok(found) => Slot::Searched(found),
+            Err(AllocError) => Slot::Refused,
+        }
+    }
+
+    // The same, in room of its own.
+    fn copy(&self) -> Slot
+        ensures { result ≡ self.now }
+    {
+        match self {
+            Slot::Searched(found) => Slot::Searched(found.copy()),
+            Slot::Refused => Slot::Refused,
+            Slot::Unknown => Slot::Unknown,
+        }
+    }
+}
+
 /// A worker's report of a segment.
-#[derive(Clone, Copy, Debug)]
+#[derive(Debug, Drop)]
 pub(crate) struct Report {
     pub segment: usize,
     pub slot: Slot,
@@ -42,28 +65,29 @@ pub(crate) fn slot_at(known: &[Slot], s: usize) -> Slot
     ensures { result ≡ slot_of known.now s }
 {
     match known.get(s) {
-        Some(slot) => *slot,
+        Some(slot) => slot.copy(),
         None => Slot::Unknown,
     }
 }
 
-// Notes a report by the number of its segment. One of a segment that isn't there, and a second one of a segment, is
-// refused.
-fn note(known: &mut [Slot], report: Report)
-    ensures { (span : Span) (hit : ℕ → Bool) → AreTrue span hit known.old
-        → IsTrue span hit report.segment report.slot → AreTrue span hit known.new }
+// Notes a report by the number of its segment. A second one of a segment, and one of a segment that isn't there, change
+// nothing.
+fn note(known: &mut [Slot], report: &Report)
+    ensures noted { AddsTo known.old (said_by report.now) known.new }
+    ensures second { is_known (slot_of known.old report.now.segment) ≡ true
+        → known.new ≡ known.old }
+    ensures absent { length known.old ≤ report.now.segment → known.new ≡ known.old }
 {
-    if report.segment < known.len() && known[report.segment] == Slot::Unknown {
-        known[report.segment] = report.slot;
+    if let Some(Slot::Unknown) = known.get(report.segment) {
+        known[report.segment] = report.slot.copy();
     }
 }
 
 /// Notes a worker's reports, each by the number of its segment.
 pub(crate) fn note_all(known: &mut [Slot], reports: &[Report])
-    ensures { (span : Span) (hit : ℕ → Bool) → AreTrue span hit known.old
-        → All (λ r. IsTrue span hit r.segment r.slot) reports.now → AreTrue span hit known.new }
+    ensures { AddsTo known.old (said_in reports.now) known.new }
 {
     for report in reports {
-        note(known, *report);
+        note(known, report);
     }
 }

@@ -1,15 +1,16 @@
 //! A stretch of a film, searched position by position.
 
 ghost use Rattle.std.specs.Prelude.{◌≡◌, ◌<◌, ◌≤◌, ◌+◌, length, slice_get, false, IfOk, IfSome};
-ghost use Rattle.nr_marks.specs.Hit.{is_hit_at, numbered};
+ghost use Rattle.nr_marks.specs.Hit.{hits_at, numbered};
 ghost use Rattle.nr_search.specs.Nearest.{IsFound};
 ghost use Rattle.nr_search.specs.Search.{Remembers, is_settled};
 ghost use Rattle.nr_marks.specs.declared.marks.TheConstants.{MOST_MARKS};
 ghost use Rattle.nr_snaps.specs.Film.{IsFrame};
 
 use crate::direction::Direction;
-use crate::found::Found;
+use crate::found::{Found, Numbers};
 use crate::watched::look;
+use arrayvec::ArrayVec;
 use nr_marks::{MOST_MARKS, Marks, NextStep, NumberedMark};
 use nr_rev::{CellValue, Worlds};
 use nr_snaps::Film;
@@ -17,35 +18,38 @@ use std::alloc::AllocError;
 
 // The step that comes next at position n.
 #[inline(always)]
-pub(crate) fn next_step<W: Worlds + Drop>(film: &Film<W>, n: usize) -> Option<NextStep>
+fn next_step<W: Worlds + Drop>(film: &Film<W>, n: usize) -> Option<NextStep>
     requires { n ≤ length film.now.recording.steps }
     ensures { result ≡ numbered n (slice_get film.now.recording.steps n) }
 {
+    // A film's length is bounded, so n + 1 is a number of a step.
     let _ = film.len();
     NextStep::at(n, film.step(n))
 }
 
-// Leads the world from position n to the next one, and tells whether a mark hits there. The values are those that the
-// marks watch at position n, and then at the next one.
+// Leads the world from position n to the next one, and gives the numbers of the marks that hit there. The values are those
+// that the marks watch at position n, and then at the next one.
 #[inline(always)]
 fn go_on<W: Worlds + Drop>(
     film: &Film<W>,
     marks: &[NumberedMark],
     values: &mut [CellValue; MOST_MARKS],
+    hits: &mut Numbers,
     world: &mut W,
     n: usize,
-) -> bool
+)
     requires frame { IsFrame W.is_well_formed W.world W.steps film.now n world.old }
     requires below { n < length film.now.recording.steps }
     requires few { length marks.now ≤ MOST_MARKS }
     requires values { Remembers (W.world world.old) marks.now values.old }
-    ensures hits { result ≡ is_hit_at film.now.recording marks.now (n + 1) }
+    ensures hits { hits.new.items ≡ hits_at film.now.recording marks.now (n + 1) }
     ensures frame { IsFrame W.is_well_formed W.world W.steps film.now (n + 1) world.new }
     ensures values { Remembers (W.world world.new) marks.now values.new }
 {
+    // A film's length is bounded, so n + 1 is a position.
     let _ = film.len();
     film.advance(world, n);
-    look(marks, values, world, next_step(film, n + 1))
+    look(marks, values, hits, world, next_step(film, n + 1));
 }
 
 /// The nearest hit of those behind position `at` and up to position `to`. The world stands at `at` and is led on: to `to`,
@@ -61,18 +65,19 @@ pub(crate) fn search_stretch<W: Worlds + Drop>(
     requires frame { IsFrame W.is_well_formed W.world W.steps film.now at world.old }
     requires order { at ≤ to }
     requires within { to ≤ length film.now.recording.steps }
-    ensures found { IsFound direction (is_hit_at film.now.recording marks.now.standing)
+    ensures found { IsFound direction (hits_at film.now.recording marks.now.standing)
         (at + 1) (to + 1) result }
     ensures led { is_settled direction result ≡ false
         → IsFrame W.is_well_formed W.world W.steps film.now to world.new }
 {
     let marks = marks.as_slice();
     let mut values = [CellValue::Absent; MOST_MARKS];
-    look(marks, &mut values, world, None);
+    let mut hits = ArrayVec::new();
+    look(marks, &mut values, &mut hits, world, None);
     let mut found = Found::Nothing;
     for n in at..to {
-        let hits = go_on(film, marks, &mut values, world, n);
-        found = found.after(n + 1, hits);
+        go_on(film, marks, &mut values, &mut hits, world, n);
+        found.look_at(n + 1, &hits);
         if found.is_settled(direction) {
             return found;
         }
@@ -119,8 +124,8 @@ pub(crate) fn world_at<W: Worlds + Drop>(
     }
 }
 
-/// A copy of the world at position n, led on from the film's copy below.
-pub(crate) fn copy_at<W: Worlds + Drop>(film: &Film<W>, n: usize) -> Result<W, AllocError>
+// A copy of the world at position n, led on from the film's copy below.
+fn copy_at<W: Worlds + Drop>(film: &Film<W>, n: usize) -> Result<W, AllocError>
     requires { n ≤ length film.now.recording.steps }
     ensures { IfOk result (λ world. IsFrame W.is_well_formed W.world W.steps film.now n world) }
 {
@@ -135,10 +140,10 @@ pub(crate) fn copy_at<W: Worlds + Drop>(film: &Film<W>, n: usize) -> Result<W, A
     Ok(below.lead_to(film, n))
 }
 
-/// Whether a mark hits at position 0.
-pub(crate) fn hits_at_start<W: Worlds + Drop>(film: &Film<W>, marks: &Marks) -> bool
-    ensures { result ≡ is_hit_at film.now.recording marks.now.standing 0 }
+/// The numbers of the marks that hit at position 0, rising.
+pub(crate) fn hits_at_start<W: Worlds + Drop>(film: &Film<W>, marks: &Marks) -> Numbers
+    ensures { result.items ≡ hits_at film.now.recording marks.now.standing 0 }
 {
     let start = film.snap_below(0);
-    !marks.hits(start, start, next_step(film, 0)).is_empty()
+    marks.hits(start, start, next_step(film, 0))
 }

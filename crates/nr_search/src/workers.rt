@@ -1,17 +1,18 @@
 //! A search by several workers, each in a thread of its own.
 
-ghost use Rattle.std.specs.Prelude.{◌≡◌, ◌<◌, ◌≤◌, ◌+◌, All, IfOk, IfSome};
+ghost use Rattle.std.specs.Prelude.{◌≡◌, ◌<◌, ◌≤◌, ◌+◌, true, All, IfOk, IfSome};
 ghost use Rattle.std.specs.Thread.{IsSync};
-ghost use Rattle.nr_marks.specs.Hit.{is_hit_at};
-ghost use Rattle.nr_search.specs.Known.{IsTrue};
+ghost use Rattle.nr_marks.specs.Hit.{hits_at};
+ghost use Rattle.nr_search.specs.Known.{IsTrue, is_known};
 ghost use Rattle.nr_search.specs.Nearest.{IsFound};
+ghost use Rattle.nr_search.specs.Reports.{IsReport};
 ghost use Rattle.nr_search.specs.declared.workers.TheConstants.{LEAST_WORKERS, MOST_WORKERS};
 ghost use Rattle.nr_snaps.specs.Film.{IsFrame};
 
 use crate::found::Found;
 use crate::gate::Gate;
 use crate::search::Search;
-use crate::slot::{Report, Slot, note_all, unknown};
+use crate::slot::{Report, Slot, unknown};
 use crate::stretch::Standing;
 use nr_rev::Worlds;
 use std::alloc::{AllocError, Global};
@@ -107,14 +108,14 @@ impl Claims {
     }
 
     // Tells the others of a hit at a place on the way.
-    fn tell(&self, k: usize, slot: Slot) {
+    fn tell(&self, k: usize, slot: &Slot) {
         if let Slot::Searched(Found::Hit(_)) = slot {
             self.hint.fetch_min(k, Ordering::SeqCst);
         }
     }
 }
 
-// What a worker's search of a segment comes to.
+// What a worker's search of a segment comes to: it is said to be searched, or to be refused memory.
 fn searched<W: Worlds + Drop>(
     search: &Search<'_, W>,
     s: usize,
@@ -124,15 +125,13 @@ fn searched<W: Worlds + Drop>(
     requires last { s < search.now.span.first + search.now.span.count }
     requires held { IfSome held.old (λ h.
         IsFrame W.is_well_formed W.world W.steps search.now.film.now h.position h.world) }
+    ensures known { is_known result ≡ true }
     ensures is { IsTrue search.now.span
-        (is_hit_at search.now.film.now.recording search.now.marks.now.standing) s result }
+        (hits_at search.now.film.now.recording search.now.marks.now.standing) s result }
     ensures held { IfSome held.new (λ h.
         IsFrame W.is_well_formed W.world W.steps search.now.film.now h.position h.world) }
 {
-    match search.search_segment(s, held) {
-        Ok(found) => Slot::Searched(found),
-        Err(AllocError) => Slot::Refused,
-    }
+    Slot::from_search(search.search_segment(s, held))
 }
 
 // Searches the segments that it claims, and reports each.
@@ -143,9 +142,8 @@ fn work<W: Worlds + Drop, G: Gate>(
     gate: &G,
     worker: usize,
 ) -> Vec<Report>
-    ensures { All (λ r. IsTrue search.now.span
-        (is_hit_at search.now.film.now.recording search.now.marks.now.standing)
-        r.segment r.slot) result.items }
+    ensures { All (IsReport search.now.span
+        (hits_at search.now.film.now.recording search.now.marks.now.standing)) result.items }
 {
     let mut reports = Vec::new(alloc);
     let mut held = None;
@@ -157,7 +155,7 @@ fn work<W: Worlds + Drop, G: Gate>(
         gate.enter(worker);
         let slot = searched(search, segment, &mut held);
         gate.leave(worker);
-        claims.tell(k, slot);
+        claims.tell(k, &slot);
         // A report that finds no room is lost, and nothing is known of the segment.
         let _ = reports.push(Report { segment, slot });
     }
@@ -170,17 +168,17 @@ fn gather<W: Worlds + Drop + Sync, R: Threads + Sync, G: Gate + Sync>(
     search: &Search<'_, W>,
     claims: &Claims,
 ) -> Result<Vec<Vec<Report>>, AllocError>
-    ensures { IfOk result (λ rows. All (λ row. All (λ r. IsTrue search.now.span
-        (is_hit_at search.now.film.now.recording search.now.marks.now.standing)
-        r.segment r.slot) row.items) rows.items) }
+    ensures { IfOk result (λ rows. All (λ row. All (IsReport search.now.span
+        (hits_at search.now.film.now.recording search.now.marks.now.standing))
+        row.items) rows.items) }
 {
     let alloc = many.alloc;
     let gate = &many.gate;
     let worker = |i: usize| -> Vec<Report>
         requires { IsSync W.row × IsSync G.row × (i < MOST_WORKERS) }
-        ensures { All (λ r. IsTrue search.entry.now.span
-            (is_hit_at search.entry.now.film.now.recording search.entry.now.marks.now.standing)
-            r.segment r.slot) result.items }
+        ensures { All (IsReport search.entry.now.span
+            (hits_at search.entry.now.film.now.recording search.entry.now.marks.now.standing))
+            result.items }
     { work(search, alloc, claims, gate, i + 1) };
     map_indices(&many.rt, alloc, many.workers, &worker)
 }
@@ -192,13 +190,10 @@ pub(crate) fn search_by<W: Worlds + Drop + Sync, R: Threads + Sync, G: Gate + Sy
     claims: &Claims,
 ) -> Result<Found, AllocError>
     ensures { IfOk result (IsFound search.now.span.direction
-        (is_hit_at search.now.film.now.recording search.now.marks.now.standing)
+        (hits_at search.now.film.now.recording search.now.marks.now.standing)
         (search.now.span.after + 1) (search.now.span.last + 1)) }
 {
+    let mut table = unknown(many.alloc, search.span.first + search.span.count)?;
     let rows = gather(many, search, claims)?;
-    let mut known = unknown(many.alloc, search.span.first + search.span.count)?;
-    for reports in &rows {
-        note_all(known.as_mut_slice(), reports.as_slice());
-    }
-    search.settle(known.as_slice())
+    search.settle_by(rows.as_slice(), table.as_mut_slice())
 }

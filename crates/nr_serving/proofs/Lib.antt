@@ -1,3 +1,5 @@
-pub mod BufferedLemmas
+pub mod HistoryLemmas
+pub mod ReadAwayLemmas
 pub mod ServingLemmas
 pub mod SessionLemmas
+pub mod TagLemmas

@@ -1,5 +1,5 @@
 -- What becomes of a front that is served.
-use Rattle.std.specs.Prelude.{◌≡◌, ℕ, Bool, ◌||◌, List, [], ◌∷◌, ◌++◌, Option, Result, is_err}
+use Rattle.std.specs.Prelude.{◌≡◌, Bool, ◌||◌, List, [], ◌∷◌, ◌++◌, None, Result, is_err}
 use Rattle.std.specs.List.{list_any}
 use Rattle.nr_front.specs.Desk.{Desk, pass_of}
 use Rattle.nr_lines.specs.Engine as engine
@@ -7,13 +7,10 @@ use Rattle.nr_lines.specs.declared.ending.End.{End}
 use Rattle.nr_lines.specs.declared.ending.LineEnd.{LineEnd}
 use Rattle.nr_serving.specs.declared.fronts.Done.{Done}
 
--- A front that stood as d served a caller and stands as d' then. Of the bytes that went to and fro nothing is known.
-pub record Serves (ending : Result End LineEnd) (d d' : Desk) : Type 0 where
-  pub from : Option (List ℕ)
-  pub left : Option (List ℕ)
-  pub old : Option (List ℕ)
-  pub new : Option (List ℕ)
-  pub serves : engine.Serves from left old new d d' ending
+-- A front that stood as d served a caller and stands as d' then: it answered some lines, as this ending says. Of a
+-- connection no bytes are known, and so neither are the lines.
+abbrev pub Serves : Result End LineEnd → Desk → Desk → Type 0
+Serves ending d d' = engine.Serves None None None None d d' ending
 
 -- Callers are served one after the other: with each the front goes on where it stood, and this is how serving each of
 -- them ended.

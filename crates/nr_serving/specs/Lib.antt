@@ -1,3 +1,2 @@
-pub mod Buffered
 pub mod Fronts
 pub mod Session

@@ -1,9 +1,17 @@
 //! Callers of a front, one after the other.
 
-ghost use Rattle.std.specs.Prelude.{◌≤◌, length, IfOk, None};
+ghost use Rattle.std.specs.Prelude.{◌≤◌, ◌*◌, ℕ, List, length, IfOk, None};
+ghost use Rattle.std.specs.Io.KnownBytes.{Consumes};
+ghost use Rattle.nr_serving.specs.declared.connection.TheConstants.{AT_ONCE, MOST_READS};
 
 use std::io;
 use std::io::{Read, Write};
+
+/// How many bytes are read away at once.
+const AT_ONCE: usize = 512;
+
+/// How often is read at most for that.
+const MOST_READS: usize = 64;
 
 /// A caller, who is read and written through a shared reference.
 pub trait Connection {
@@ -14,6 +22,12 @@ pub trait Connection {
     /// Writes some of the bytes, and says how many.
     fn write(&self, bytes: &[u8]) -> io::Result<usize>
         ensures { IfOk result (λ n. n ≤ length bytes.now) };
+
+    /// Says that no reply comes any more: the caller reads an end behind the last one. From then on a read waits for a
+    /// moment at most, and fails where nothing comes. Where this fails, nothing more is read.
+    fn end_replies(&self) -> io::Result<()> {
+        Ok(())
+    }
 }
 
 /// What a front does next.
@@ -68,4 +82,19 @@ pub trait Ports {
 
     /// The callers of the front of this number, counted from 0. Where they can't be had, the first `next` says so.
     fn open(&mut self, front: usize) -> Self::Callers;
+}
+
+/// Reads on, and lets go what comes, until no more does or a read fails, but no more than 64 times 512 bytes.
+pub fn read_away<R: Read>(reader: &mut R)
+    ensures { (bytes : List ℕ) × Consumes (R.remaining reader.old) (R.remaining reader.new) bytes
+        × (length bytes ≤ MOST_READS * AT_ONCE) }
+{
+    let mut chunk = [0u8; AT_ONCE];
+    let mut reads = 0;
+    while reads < MOST_READS {
+        match reader.read(&mut chunk) {
+            Ok(count) if count > 0 => reads += 1,
+            _ => return,
+        }
+    }
 }

@@ -1,18 +1,19 @@
-//! A thread for each front.
+//! Serving the callers of each front, in a thread of its own.
 
 ghost use Rattle.std.specs.Prelude.{◌≡◌, ◌+◌, ◌≤◌, ◌∷◌, ◌++◌, [], map, vec_len, vec_capacity, IfSome, IfNone};
 ghost use Rattle.std.specs.List.{All};
-ghost use Rattle.nr_serving.specs.Fronts.{Adds, IsServed};
+ghost use Rattle.nr_lines.specs.Engine as engine;
+ghost use Rattle.nr_serving.specs.Fronts.{Adds, IsServed, Serves};
 ghost use denote.Param.Send.{IsSend, IsSync};
 
-use crate::buffered::Buffered;
-use crate::connection::{Connections, Next, Reader, Writer};
-use nr_command::Sink;
+use crate::connection::{Connection, Connections, Next, Reader, Writer, read_away};
 use nr_front::Front;
 use nr_journal::{Journal, Pass};
-use nr_lines::{Source, serve};
+use nr_lines::{End, LineEnd, serve};
 use nr_rev::Worlds;
 use nr_search::Finder;
+use nr_text::{Sink, Source};
+use std::io::{Read, Write};
 use std::sync::Wait;
 use std::thread::{Threads, join};
 
@@ -22,6 +23,72 @@ pub struct Done {
     pub pass: Pass,
     /// Its callers couldn't be had any more, or a read or a write failed.
     pub failed: bool,
+}
+
+/// How a caller was served, and its streams.
+#[derive(Drop)]
+pub struct Served<I: Read + Drop, O: Write + Drop> {
+    pub ending: Result<End, LineEnd>,
+    pub reader: I,
+    pub writer: O,
+}
+
+/// Answers the lines of a reader by a front, up to the first `quit`, and sends each reply in one piece.
+///
+/// It ends as `nr_lines` says. The reader may be read past the last line that was run.
+pub fn converse<R, I, O, W, F>(
+    rt: &R,
+    reader: I,
+    writer: O,
+    front: &mut Front<'_, W, F>,
+    journal: &Journal,
+) -> Served<I, O>
+where
+    R: Wait,
+    I: Read + Drop,
+    O: Write + Drop,
+    W: Worlds + Drop + Sync,
+    W::Delta: Drop,
+    F: Finder,
+    requires { front.old.table ≡ journal.now }
+    ensures table { front.new.table ≡ front.old.table }
+    ensures serves { engine.Serves (I.remaining reader) (I.remaining result.reader)
+        (O.contents writer) (O.contents result.writer)
+        front.old front.new result.ending }
+{
+    let mut source = Source::new(reader);
+    let mut sink = Sink::new(writer);
+    let ending = serve(rt, &mut source, &mut sink, front, journal);
+    Served {
+        ending,
+        reader: source.into_inner(),
+        writer: sink.into_inner(),
+    }
+}
+
+// Serves a caller. What it sends behind `quit` is read away, since closing a connection with unread bytes may lose the
+// last reply on its way.
+fn serve_caller<R, W, F, C>(
+    rt: &R,
+    connection: &C,
+    front: &mut Front<'_, W, F>,
+    journal: &Journal,
+) -> Result<End, LineEnd>
+where
+    R: Wait,
+    W: Worlds + Drop + Sync,
+    W::Delta: Drop,
+    F: Finder,
+    C: Connection,
+    requires { front.old.table ≡ journal.now }
+    ensures table { front.new.table ≡ front.old.table }
+    ensures serves { Serves result front.old front.new }
+{
+    let mut served = converse(rt, Reader(connection), Writer(connection), front, journal);
+    if matches!(served.ending, Ok(End::Quit)) && connection.end_replies().is_ok() {
+        read_away(&mut served.reader);
+    }
+    served.ending
 }
 
 // Serves a front's callers one after the other, and gives its pass back.
@@ -44,9 +111,7 @@ where
     for _ in rt.forever() {
         match connections.next() {
             Next::Serve(connection) => {
-                let mut source = Source::new(Reader(&connection));
-                let mut sink = Sink::new(Buffered::new(Writer(&connection)));
-                let ending = serve(rt, &mut source, &mut sink, &mut front, journal);
+                let ending = serve_caller(rt, &connection, &mut front, journal);
                 failed = failed | ending.is_err();
             }
             Next::Ended => {

@@ -1,17 +1,17 @@
 //! A session that several people share.
 
-ghost use Rattle.std.specs.Prelude.{◌≡◌, ◌≤◌, ◌+◌, ◌++◌, ◌∷◌, [], vec_len, vec_capacity, IfOk, IfSome, IfNone, OnOk};
-ghost use Rattle.std.specs.List.{All};
+ghost use Rattle.std.specs.Prelude.{◌≡◌, ◌≢◌, ◌≤◌, ◌<◌, ◌+◌, ◌++◌, ◌∷◌, [], map, vec_len, vec_capacity, IfOk, IfSome, IfNone, OnOk};
+ghost use Rattle.std.specs.List.{All, AllPairs};
 ghost use Rattle.nr_walker.specs.declared.walker.TheConstants.{LEAST_DEPTH, MOST_DEPTH};
 ghost use Rattle.nr_journal.specs.declared.rule.TheConstants.{MOST_WORDS};
 ghost use Rattle.nr_serving.specs.declared.session.Unshared.TheVariants as unshared;
-ghost use Rattle.nr_journal.specs.Rule.{StartsWith};
-ghost use Rattle.nr_serving.specs.Session.{HoldsAll, IsFresh, IsShared, TakesIn, any_failed};
+ghost use Rattle.nr_journal.specs.Rule.{entering, room_of};
+ghost use Rattle.nr_serving.specs.Session.{HasOwn, IsFresh, IsHistory, IsSeenBy, IsShared, any_failed, words_of};
 
 use crate::connection::{Connections, Ports};
 use crate::fronts::{Done, serve_each};
 use nr_front::Front;
-use nr_journal::{Journal, Seat};
+use nr_journal::{Journal, Pass, Seat};
 use nr_rev::Worlds;
 use nr_search::Finder;
 use nr_snaps::Film;
@@ -22,8 +22,8 @@ use std::thread::Threads;
 /// What a session leaves that is over.
 #[derive(Drop)]
 pub struct Ended {
-    /// The words of the commands that were placed, in their order.
-    pub history: Vec<u64>,
+    /// The words of the commands that were placed, in their order, unless memory was refused for them.
+    pub history: Result<Vec<u64>, AllocError>,
     /// A front had no callers any more before its time, or a read or a write failed.
     pub failed: bool,
 }
@@ -39,7 +39,7 @@ pub struct Shape {
     pub depth: usize,
 }
 
-/// Why a session wasn't shared, or its history isn't there.
+/// Why a session wasn't shared.
 #[derive(Clone, Copy, Debug, PartialEq, Eq)]
 pub enum Unshared {
     /// There was no memory.
@@ -56,11 +56,31 @@ impl From<AllocError> for Unshared {
     }
 }
 
-// Opens a front over the film.
+// Enters with the first tag that nobody has. It is greater than those of all who entered before.
+fn enter(journal: &Journal, seat: &mut Seat, least: &mut u8) -> Result<Pass, Unshared>
+    requires { seat.old.table ≡ journal.now }
+    ensures table { seat.new.table ≡ journal.now }
+    ensures entered { IfOk result (λ pass. (pass.table ≡ journal.now) × (pass.stand ≡ entering pass.stand.tag)) }
+    ensures rises { IfOk result (λ pass. (least.old ≤ pass.stand.tag) × (pass.stand.tag < least.new)) }
+{
+    let Ok(pass) = journal.enter(journal.split(seat)) else {
+        return Err(Unshared::NoTag);
+    };
+    let tag = pass.tag();
+    // never so: tags are drawn from the least on
+    if tag < *least {
+        return Err(Unshared::NoTag);
+    }
+    *least = tag + 1;
+    Ok(pass)
+}
+
+// Opens a front over the film, with a greater tag than those before.
 fn open_front<'f, W: Worlds + Drop + Sync, F: Finder + Drop>(
     alloc: Global,
     journal: &Journal,
     seat: &mut Seat,
+    least: &mut u8,
     film: &'f Film<W>,
     finder: F,
     depth: usize,
@@ -70,11 +90,10 @@ where
     requires table { seat.old.table ≡ journal.now }
     requires depth { (LEAST_DEPTH ≤ depth) × (depth ≤ MOST_DEPTH) }
     ensures table { seat.new.table ≡ journal.now }
-    ensures fresh { IfOk result (IsFresh journal.now film.now.recording) }
+    ensures fresh { IfOk result (IsFresh journal.now film.now.recording depth (F.count finder)) }
+    ensures rises { IfOk result (λ front. (least.old ≤ front.stand.tag) × (front.stand.tag < least.new)) }
 {
-    let Ok(pass) = journal.enter(journal.split(seat)) else {
-        return Err(Unshared::NoTag);
-    };
+    let pass = enter(journal, seat, least)?;
     match Front::new(alloc, pass, film, finder, depth) {
         Ok(front) => Ok(front),
         Err(_) => Err(Unshared::Memory),
@@ -96,57 +115,66 @@ where
     requires table { seat.table ≡ journal.now }
     requires depth { (LEAST_DEPTH ≤ shape.depth) × (shape.depth ≤ MOST_DEPTH) }
     ensures fresh { IfOk result (λ fronts.
-        All (λ f. IsFresh journal.now film.now.recording f.0) fronts.items) }
+        All (λ f. IsFresh journal.now film.now.recording shape.depth (F.count finder) f.0)
+        fronts.items) }
     ensures count { IfOk result (λ fronts. vec_len fronts ≡ shape.fronts) }
+    ensures apart { IfOk result (λ fronts.
+        AllPairs (λ one other. one ≢ other) (map (λ f. f.0.stand.tag) fronts.items)) }
 {
     let mut fronts = Vec::with_capacity(alloc, shape.fronts)?;
+    let mut least = 0;
     for number in 0..shape.fronts {
-        let front = open_front(alloc, journal, &mut seat, film, finder, shape.depth)?;
+        let front = open_front(
+            alloc,
+            journal,
+            &mut seat,
+            &mut least,
+            film,
+            finder,
+            shape.depth,
+        )?;
         fronts.push_reserved((front, ports.open(number)));
     }
     Ok(fronts)
 }
 
-// Gives the ended fronts' history, all words that one of them had seen and any that nobody had, and whether one failed.
-fn finish(alloc: Global, journal: &Journal, mut done: Vec<Done>) -> Result<Ended, AllocError>
+// Gives the history of the fronts that ended, and whether one failed.
+fn finish(alloc: Global, journal: &Journal, mut done: Vec<Done>) -> Ended
     requires { All (λ d. d.pass.table ≡ journal.now) done.items }
-    ensures history { IfOk result (λ ended. HoldsAll done.items ended.history.items) }
-    ensures failed { IfOk result (λ ended. ended.failed ≡ any_failed done.items) }
+    ensures history { IfSome (words_of result.history)
+        (IsHistory (room_of journal.now) (map (λ d. d.pass.stand) done.items)) }
+    ensures failed { result.failed ≡ any_failed done.items }
 {
-    let Some(mut one) = take_done(journal, &mut done) else {
-        return Ok(Ended {
-            history: Vec::new(alloc),
-            failed: false,
-        });
+    let failed = done.as_slice().iter().any(|one| one.failed);
+    let history = match take_done(journal, &mut done) {
+        Some(mut last) => collect(alloc, journal, &mut last.pass, done),
+        None => Ok(Vec::new(alloc)),
     };
-    while let Some(other) = take_done(journal, &mut done) {
-        take_in(journal, &mut one, other);
-    }
-    conclude(alloc, journal, one)
+    Ended { history, failed }
 }
 
-// Lets one front see all that another had seen, and tell its failure.
-fn take_in(journal: &Journal, one: &mut Done, mut other: Done)
-    requires one { one.old.pass.table ≡ journal.now }
-    requires other { other.pass.table ≡ journal.now }
-    ensures table { one.new.pass.table ≡ journal.now }
-    ensures takes { TakesIn one.old other one.new }
+// Lets a pass see all that those of the others had seen, and then on until there is nothing; gives what it has seen then;
+// and lets each of the others see that too, which shows that no word among it that it hadn't seen is its own.
+fn collect(
+    alloc: Global,
+    journal: &Journal,
+    last: &mut Pass,
+    mut done: Vec<Done>,
+) -> Result<Vec<u64>, AllocError>
+    requires last { last.old.table ≡ journal.now }
+    requires done { All (λ d. d.pass.table ≡ journal.now) done.items }
+    ensures table { last.new.table ≡ last.old.table }
+    ensures seen { IfOk result (λ words. words.items ≡ last.new.stand.seen) }
+    ensures last { IfOk result (λ words. IsSeenBy (room_of journal.now) words.items last.old.stand) }
+    ensures others { IfOk result (λ words. All (λ d. HasOwn words.items d.pass.stand) done.items) }
 {
-    journal.see_all_of(&mut one.pass, &mut other.pass);
-    one.failed = other.failed | one.failed;
-}
-
-// Gives the words that a front had seen, and any that nobody had.
-fn conclude(alloc: Global, journal: &Journal, mut one: Done) -> Result<Ended, AllocError>
-    requires { one.pass.table ≡ journal.now }
-    ensures history { IfOk result (λ ended. StartsWith ended.history.items one.pass.stand.seen) }
-    ensures failed { IfOk result (λ ended. ended.failed ≡ one.failed) }
-{
-    let history = journal.finish(alloc, &mut one.pass)?;
-    Ok(Ended {
-        history,
-        failed: one.failed,
-    })
+    let Some(mut other) = take_done(journal, &mut done) else {
+        return journal.finish(alloc, last);
+    };
+    journal.see_all_of(last, &mut other.pass);
+    let history = collect(alloc, journal, last, done);
+    journal.see_all_of(&mut other.pass, last);
+    history
 }
 
 // Takes the last of the fronts that ended.
@@ -164,8 +192,9 @@ fn take_done(journal: &Journal, done: &mut Vec<Done>) -> Option<Done>
 /// Opens the fronts, each with a debugger of its own over the film, serves each in a thread of its own until its callers
 /// end, and gives the history that they placed.
 ///
-/// `Memory` comes before any caller is served, or where the history is collected behind them. `NoTag` means that the
-/// journal had no tag left for a front: it has `MOST_PASSES`. The contract doesn't say when an error comes.
+/// An error comes before any caller is served. `NoTag` means that the journal had no tag left for a front: it has
+/// `MOST_PASSES`. The contract doesn't say when an error comes. Memory that is refused for the history behind the last
+/// caller is told in its place.
 pub fn share<W, F, R, P>(
     rt: &R,
     alloc: Global,
@@ -183,12 +212,11 @@ where
     requires room { (1 ≤ shape.room) × (shape.room ≤ MOST_WORDS) }
     requires depth { (LEAST_DEPTH ≤ shape.depth) × (shape.depth ≤ MOST_DEPTH) }
     ensures { IfOk result (λ ended. IsShared film.now.recording shape.room shape.fronts
-        ended.history.items ended.failed) }
+        shape.depth (F.count finder) (words_of ended.history) ended.failed) }
 {
     let (journal, seat) = Journal::new(alloc, shape.room)?;
     let fronts = open_fronts(alloc, &journal, seat, film, finder, shape, ports)?;
     let done = Vec::with_capacity(alloc, fronts.len())?;
     let done = serve_each(rt, &journal, fronts, done);
-    let ended = finish(alloc, &journal, done)?;
-    Ok(ended)
+    Ok(finish(alloc, &journal, done))
 }

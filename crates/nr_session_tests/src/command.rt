@@ -2,11 +2,13 @@
 
 use arrayvec::ArrayVec;
 use nr_command::{
-    Checkpoint, CheckpointFault, Checkpoints, Command, Line, LineFault, Query, Reply, Sink,
+    Checkpoint, CheckpointFault, Checkpoints, Command, Line, LineFault, Query, Reply,
 };
 use nr_marks::{Break, Mark, NumberedMark};
-use nr_rev::{Cell, Kind};
+use nr_replay_tests::Counted;
+use nr_rev::{Bytes, Cell, Kind, Side};
 use nr_search::Direction;
+use nr_text::Sink;
 use std::num::NonZeroU32;
 use std::test::Fail;
 
@@ -132,18 +134,16 @@ fn lists_are_printed_line_by_line(rt: HostRuntime) -> Result<(), Fail> {
     hits.push(3);
     let mut out = Sink::new(Vec::new(rt.alloc()));
     let printed = [
-        Reply::Marks(marks).print(&mut out),
-        Reply::AtHit {
+        out.print(&Reply::Marks(marks)),
+        out.print(&Reply::AtHit {
             position: 5,
             marks: hits,
-        }
-        .print(&mut out),
-        Reply::Position {
+        }),
+        out.print(&Reply::Position {
             position: 5,
             last: 12,
             direction: Direction::Backward,
-        }
-        .print(&mut out),
+        }),
     ];
     for told in printed {
         assert_eq!(rt; told, Ok(()));
@@ -152,6 +152,35 @@ fn lists_are_printed_line_by_line(rt: HostRuntime) -> Result<(), Fail> {
         b"marks 3\n1 break rwlock\n2 break @7\n3 watch rg 0\nat 5 by 1 3\nat 5 of 12 reverse\n";
     assert!(rt; !out.has_failed());
     assert_eq!(rt; out.into_inner().as_slice(), text.as_slice());
+    Ok(())
+}
+
+/// How long a reply's text is, and in how many writes it goes out.
+fn length_and_writes(rt: &HostRuntime, reply: &Reply) -> Result<(usize, usize), Fail> {
+    let mut out = Sink::new(Counted {
+        held: Vec::new(rt.alloc()),
+        calls: 0,
+    });
+    if out.print(reply).is_err() {
+        return Err("a write failed".into());
+    }
+    let taken = out.into_inner();
+    Ok((taken.held.len(), taken.calls))
+}
+
+#[test]
+fn a_reply_goes_out_in_writes_of_512_bytes(rt: HostRuntime) -> Result<(), Fail> {
+    assert_eq!(rt; length_and_writes(&rt, &Reply::At(2))?, (5, 1));
+    let mut items = Vec::with_capacity(rt.alloc(), 65_536)?;
+    for _ in 0..65_536 {
+        items.push(0xab)?;
+    }
+    let reply = Reply::Bytes {
+        side: Side::Read,
+        socket: 0,
+        bytes: Some(Bytes::new(items)),
+    };
+    assert_eq!(rt; length_and_writes(&rt, &reply)?, (131_080, 257));
     Ok(())
 }
 

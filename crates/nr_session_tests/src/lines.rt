@@ -3,10 +3,10 @@
 ghost use Rattle.std.specs.Prelude.{◌≡◌, ◌≤◌};
 
 use crate::sharing::{Lone, share};
-use nr_command::Sink;
 use nr_journal::Journal;
-use nr_lines::{End, LineEnd, Source, serve};
+use nr_lines::{End, LineEnd, serve};
 use nr_replay_tests::{Cup, Drip, Observed, Stutter, ticking};
+use nr_text::{Sink, Source};
 use std::alloc::Global;
 use std::sync::Wait;
 use std::test::*;
@@ -137,7 +137,7 @@ fn a_reply_is_owed(rt: HostRuntime) -> Result<(), Fail> {
         text: "b @3\nc\nsi\nprint clock\nresume\nresume\nresume\nc\n",
         left: 300,
         room: 300,
-        refused: 0b10011,
+        refused: 0b1011,
     };
     let text =
         "mark 1\nfault 302 memory, placed 2\nfault 302 memory, placed 2\nfault 302 memory, placed 2\nfault 302 memory, placed 2\nat 2 by 1\nnothing owed\nfault 302 memory, placed 3\n";

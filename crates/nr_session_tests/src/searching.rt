@@ -1,11 +1,12 @@
 //! Searches by one worker and by several.
 
+use arrayvec::ArrayVec;
 use nr_marks::{Break, Marks};
 use nr_plain::PlainWorld;
 use nr_replay_tests::{OPEN, add_ticks, film_of};
 use nr_rev::{Cell, Kind, Mode, Side, Step};
 use nr_search::{
-    Claims, Direction, Finder, Found, Gate, ManyWorkers, OneWorker, Open, nearest_hit,
+    Claims, Direction, Finder, Found, Gate, Hit, ManyWorkers, OneWorker, Open, nearest_hit,
 };
 use nr_snaps::Film;
 use std::alloc::{AllocError, Global};
@@ -35,7 +36,7 @@ fn ticking(alloc: Global) -> Option<Film<PlainWorld>> {
     film_of(alloc, steps)
 }
 
-/// Watches the descriptor's word for reading, and breaks at a step, unless it is 0.
+/// By its first mark watches the descriptor's word for reading, and by its second breaks at a step, unless it is 0.
 fn marks(step: u32) -> Marks {
     let mut marks = Marks::new();
     let _ = marks.add_watch(Cell::ReadWord(0));
@@ -62,6 +63,13 @@ fn find<F: Finder>(
         return None;
     }
     nearest_hit(finder, film, marks, direction, n).ok()
+}
+
+/// A hit of one mark.
+fn hit(position: usize, mark: u32) -> Found {
+    let mut marks = ArrayVec::new();
+    marks.push(mark);
+    Found::Hit(Hit { position, marks })
 }
 
 /// Holds one worker, until another one has searched a segment.
@@ -104,7 +112,7 @@ fn two_workers_search_at_once(rt: HostRuntime) -> Result<(), Fail> {
         };
         let many = ManyWorkers::new(&rt, rt.alloc(), &gate, 2);
         let found = find(&many, &film, &marks(0), Direction::Backward, 192);
-        assert_eq!(rt; found, Some(Found::Hit(2)));
+        assert_eq!(rt; found, Some(hit(2, 1)));
         assert!(rt; gate.other_has_left.load(SeqCst) && !gate.gave_up.load(SeqCst));
     }
     Ok(())
@@ -121,21 +129,24 @@ fn four<F: Finder>(finder: &F, film: &Film<PlainWorld>) -> [Option<Found>; 4] {
     ]
 }
 
-const FOUR: [Option<Found>; 4] = [
-    Some(Found::Hit(99)),
-    Some(Found::Hit(2)),
-    Some(Found::Hit(99)),
-    Some(Found::Nothing),
-];
+/// What these are to be.
+fn four_hits() -> [Option<Found>; 4] {
+    [
+        Some(hit(99, 2)),
+        Some(hit(2, 1)),
+        Some(hit(99, 2)),
+        Some(Found::Nothing),
+    ]
+}
 
 #[test]
 fn any_number_of_workers_finds_the_same(rt: HostRuntime) -> Result<(), Fail> {
     let film = ticking(rt.alloc()).ok_or("no film")?;
-    assert_eq!(rt; four(&OneWorker::<&HostRuntime>::new(), &film), FOUR);
+    assert_eq!(rt; four(&OneWorker::<&HostRuntime>::new(), &film), four_hits());
     for workers in [1, 2, 3, 16] {
         let many = crew(&rt, rt.alloc(), workers);
         assert_eq!(rt; many.workers(), workers);
-        assert_eq!(rt; four(&many, &film), FOUR, "{workers} workers");
+        assert_eq!(rt; four(&many, &film), four_hits(), "{workers} workers");
     }
     Ok(())
 }
@@ -152,6 +163,8 @@ impl<R: Threads + Sync> Finder for Misled<R> {
     type Runtime = R;
 
     type Gate = Open;
+
+    ghost count = { λ misled. misled.many };
 
     fn workers(&self) -> Option<&ManyWorkers<R, Open>> {
         Some(&self.many)
@@ -172,7 +185,11 @@ fn a_wrong_hint_changes_nothing(rt: HostRuntime) -> Result<(), Fail> {
                 claimed,
                 hint,
             };
-            assert_eq!(rt; four(&misled, &film), FOUR, "told {claimed} and {hint}");
+            assert_eq!(rt;
+                four(&misled, &film),
+                four_hits(),
+                "told {claimed} and {hint}"
+            );
         }
     }
     Ok(())
@@ -299,15 +316,16 @@ fn refused_memory_once_a_search_can_be_done_again(rt: HostRuntime) -> Result<(),
             continue;
         };
         let many = crew(&rt, rt.alloc(), 3);
-        for (direction, n, hit) in [
-            (Direction::Backward, 192, Found::Hit(99)),
-            (Direction::Backward, 99, Found::Hit(2)),
-            (Direction::Forward, 2, Found::Hit(99)),
-            (Direction::Forward, 99, Found::Nothing),
+        for (direction, n, position, mark) in [
+            (Direction::Backward, 192, 99, 2),
+            (Direction::Backward, 99, 2, 1),
+            (Direction::Forward, 2, 99, 2),
         ] {
             let found = find_at_last(&many, &film, direction, n, &mut refusals);
-            assert_eq!(rt; found, Some(hit));
+            assert_eq!(rt; found, Some(hit(position, mark)));
         }
+        let found = find_at_last(&many, &film, Direction::Forward, 99, &mut refusals);
+        assert_eq!(rt; found, Some(Found::Nothing));
         break;
     }
     assert!(rt; refusals <= 1);

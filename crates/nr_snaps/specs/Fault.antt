@@ -1,5 +1,6 @@
 -- Why a recording is not loaded.
 use Rattle.std.specs.Prelude.{◌≢◌, ℕ, ◌-◌, ◌<◌, List, ◌++◌, codes, decimal}
+use Rattle.nr_recording.specs.Faults.{memory_text}
 use Rattle.nr_rev.specs.Refusing.{refusal_number}
 use Rattle.nr_rev.specs.Run.{Recording, IsRefusedAt}
 use Rattle.nr_rev.specs.declared.refusal.Refusal.TheVariants.{Memory}
@@ -19,5 +20,9 @@ IsLoadFault r (fault.Refused step reason) = IsStepFault r (fault.Refused step re
 
 -- the text that a fault is printed as
 abbrev pub load_fault_text : LoadFault → List ℕ
-load_fault_text (fault.Refused step reason) = codes "step " ++ decimal step ++ codes ": fault 107 reason " ++ decimal (refusal_number reason)
-load_fault_text fault.Memory = codes "fault 108 memory"
+load_fault_text (fault.Refused step reason) =
+    codes "step " ++ decimal step ++ codes ": fault 107 reason " ++ decimal (refusal_number reason)
+load_fault_text fault.Memory = memory_text
+
+abbrev pub load_fault_line : LoadFault → List ℕ
+load_fault_line f = load_fault_text f ++ codes "\n"

@@ -1,17 +1,19 @@
 //! Why a recording is not loaded.
 
 ghost use Rattle.std.specs.Prelude.{◌≡◌, Some};
-ghost use Rattle.nr_snaps.specs.Fault.{load_fault_text};
+ghost use Rattle.nr_snaps.specs.Fault.{load_fault_line, load_fault_text};
 ghost use Rattle.nr_snaps.specs.declared.fault.LoadFault.TheVariants as faults;
 
+use nr_recording::OutOfMemory;
 use nr_rev::Refusal;
+use nr_text::{Buffered, Text, Token, WriteFailed, send_all};
 use std::alloc::AllocError;
 use std::error::Error;
 use std::fmt;
-use std::fmt::{Display, Formatter, Write};
+use std::fmt::{Display, Formatter};
+use std::io::Write;
 
-/// Why a recording is not loaded. Prints as `step 5: fault 107 reason 2`, where the reason is the
-/// number of the refusal, or as `fault 108 memory`.
+/// Why a recording is not loaded.
 #[derive(Clone, Copy, Debug, PartialEq, Eq)]
 pub enum LoadFault {
     /// The step of this number, counted from 1, does not apply after the ones before it.
@@ -21,10 +23,31 @@ pub enum LoadFault {
     Memory,
 }
 
+/// It is a line, as `step 5: fault 107 reason 2`, where the reason is the number of the refusal, or `fault 108 memory`.
+impl Text for LoadFault {
+    ghost text = { load_fault_line };
+
+    fn send<W: Write>(&self, w: &mut Buffered<W>) -> Result<(), WriteFailed> {
+        match self {
+            LoadFault::Refused { step, reason } => {
+                let parts = [
+                    Token::Text(b"step "),
+                    Token::Number(*step as u64),
+                    Token::Text(b": fault 107 reason "),
+                    Token::Number(u64::from(reason.number())),
+                    Token::Text(b"\n"),
+                ];
+                send_all(&parts, w)
+            }
+            LoadFault::Memory => OutOfMemory.send(w),
+        }
+    }
+}
+
 impl Display for LoadFault {
     ghost output = { λ fault. Some (load_fault_text fault) };
 
-    fn fmt<W: Write>(&self, f: &mut Formatter<W>) -> fmt::Result {
+    fn fmt<W: fmt::Write>(&self, f: &mut Formatter<W>) -> fmt::Result {
         match self {
             LoadFault::Refused { step, reason } => {
                 write!(f, "step {step}: fault 107 reason {}", reason.number())

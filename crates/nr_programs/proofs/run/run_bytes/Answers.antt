@@ -1,6 +1,17 @@
-use Rattle.std.proofs.Common.{◌≡◌, inr, refl}
+use Rattle.std.proofs.Common.{◌≡◌, inl, inr, refl}
+use Rattle.nr_snaps.specs.declared.fault.LoadFault.TheVariants.{Memory}
+use Rattle.nr_programs.specs.Run.{Runs}
+use Rattle.nr_programs.specs.declared.opening.OpenFault.TheVariants.{Load}
 use Rattle.nr_programs.proofs.OpeningLemmas.{one_recording, tells_memory}
 use Rattle.nr_programs.proofs.run.run_bytes.Goals as goal
+
+-- it is walked; or what is told of memory is a fault of loading
+pub returns-in-Ok-clause-runs : goal.returns-in-Ok-clause-runs
+returns-in-Ok-clause-runs g c =
+    elim c.walk.ensures as (λ _. Runs c.args.bytes.now c.args.input.now c.walk.new.input c.args.output.now c.walk.new.output c.walk.result) [
+      | inl walks ↦ inl (c.in-Ok.film.recording, c.in-Ok.ensures.film, walks)
+      | inr tells ↦ inr (Load Memory, tt, tells)
+    ]
 
 pub returns-in-Ok-clause-good : goal.returns-in-Ok-clause-good
 returns-in-Ok-clause-good g c = λ r text good.

@@ -9,4 +9,4 @@ returns-in-Ok-clause-good g c = λ r text good.
 
 pub returns-in-Err-clause-good : goal.returns-in-Err-clause-good
 returns-in-Err-clause-good g c = λ r text good.
-    inr (tells_memory _ _ _ _ _ _ c.in-Err.ensures.fault text good c.refuse.ensures)
+    inr (inr (tells_memory _ _ _ _ _ _ c.in-Err.ensures.fault text good c.refuse.ensures))

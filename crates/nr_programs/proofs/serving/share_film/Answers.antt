@@ -1,5 +1,5 @@
-use Rattle.std.proofs.Common.{rules}
+use Rattle.nr_programs.proofs.ServingLemmas.{shares}
 use Rattle.nr_programs.proofs.serving.share_film.Goals as goal
 
-pub returns-in-Ok : goal.returns-in-Ok
-returns-in-Ok g c = search rules
+pub returns : goal.returns
+returns g c = shares _ c.args.sharing _ _ _ _ c.share_among-shared.ensures c.tell.ensures

@@ -1,5 +1,5 @@
 use Rattle.std.proofs.Common.{◌+◌, sym, ◌∙◌, subst, arith}
-use Rattle.nr_marks.specs.Hit.{is_hit_at}
+use Rattle.nr_marks.specs.Hit.{hits_at}
 use Rattle.nr_search.specs.Nearest.{IsFound}
 use Rattle.nr_search.proofs.NearestLemmas.{found-settled, found-then, found-whole}
 use Rattle.nr_search.proofs.stretch.search_stretch.Goals as goal
@@ -8,27 +8,27 @@ use Rattle.nr_search.proofs.stretch.search_stretch.Goals as goal
 pub returns-then-is_settled-clause-found : goal.returns-then-is_settled-clause-found
 returns-then-is_settled-clause-found g c =
     let r = c.args.film.now.recording in
-    let hit = is_hit_at r c.as_slice-marks.result.now in
+    let hits = hits_at r c.as_slice-marks.result.now in
     let low = c.args.at + 1 in
     let here = c.loop-n.n + 1 in
     let i = c.loop-n.invariant in
-    let found = found-then hit c.args.direction low here c.loop-n.found c.after-found.result c.go_on-hits.result i.unsettled (omega arith) c.go_on-hits.ensures.hits i.found c.after-found.ensures in
-    subst (λ ms. IsFound c.args.direction (is_hit_at r ms) low (c.args.to + 1) c.after-found.result) c.as_slice-marks.ensures.marks
-    (found-settled hit c.args.direction low (here + 1) (c.args.to + 1) c.after-found.result (sym c.is_settled.ensures ∙ c.if-is_settled.true) (omega arith) found)
+    let found = found-then hits c.args.direction low here c.loop-n.found c.look_at.new.self c.go_on.new.hits.items i.unsettled (omega arith) c.go_on.ensures.hits i.found c.look_at.ensures in
+    subst (λ ms. IsFound c.args.direction (hits_at r ms) low (c.args.to + 1) c.look_at.new.self) c.as_slice-marks.ensures.marks
+    (found-settled hits c.args.direction low (here + 1) (c.args.to + 1) c.look_at.new.self (sym c.is_settled.ensures ∙ c.if-is_settled.true) (omega arith) found)
 
 pub loop-n-preserved : goal.loop-n-preserved
 loop-n-preserved g c =
-    let hit = is_hit_at c.args.film.now.recording c.as_slice-marks.result.now in
+    let hits = hits_at c.args.film.now.recording c.as_slice-marks.result.now in
     let i = c.loop-n.invariant in
     record {
-      frame = c.go_on-hits.ensures.frame;
-      remembers = c.go_on-hits.ensures.values;
-      found = found-then hit c.args.direction (c.args.at + 1) (c.loop-n.n + 1) c.loop-n.found c.after-found.result c.go_on-hits.result i.unsettled (omega arith) c.go_on-hits.ensures.hits i.found c.after-found.ensures;
+      frame = c.go_on.ensures.frame;
+      remembers = c.go_on.ensures.values;
+      found = found-then hits c.args.direction (c.args.at + 1) (c.loop-n.n + 1) c.loop-n.found c.look_at.new.self c.go_on.new.hits.items i.unsettled (omega arith) c.go_on.ensures.hits i.found c.look_at.ensures;
       unsettled = sym c.is_settled.ensures ∙ c.if-is_settled.false;
     }
 
 pub returns-clause-found : goal.returns-clause-found
 returns-clause-found g c =
     let r = c.args.film.now.recording in
-    subst (λ ms. IsFound c.args.direction (is_hit_at r ms) (c.args.at + 1) (c.args.to + 1) c.loop-n.found) c.as_slice-marks.ensures.marks
-    (found-whole (is_hit_at r c.as_slice-marks.result.now) c.args.direction (c.args.at + 1) (c.loop-n.n + 1) (c.args.to + 1) c.loop-n.found (omega arith) c.loop-n.invariant.found)
+    subst (λ ms. IsFound c.args.direction (hits_at r ms) (c.args.at + 1) (c.args.to + 1) c.loop-n.found) c.as_slice-marks.ensures.marks
+    (found-whole (hits_at r c.as_slice-marks.result.now) c.args.direction (c.args.at + 1) (c.loop-n.n + 1) (c.args.to + 1) c.loop-n.found (omega arith) c.loop-n.invariant.found)

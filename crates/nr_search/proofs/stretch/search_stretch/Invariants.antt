@@ -1,5 +1,5 @@
 use Rattle.std.proofs.Common.{◌≡◌, ◌+◌, false}
-use Rattle.nr_marks.specs.Hit.{is_hit_at}
+use Rattle.nr_marks.specs.Hit.{hits_at}
 use Rattle.nr_search.specs.Nearest.{IsFound}
 use Rattle.nr_search.specs.Search.{Remembers, is_settled}
 use Rattle.nr_snaps.specs.Film.{IsFrame}
@@ -11,6 +11,6 @@ invariant-loop-n g l =
     record {
       frame : IsFrame g.W.Reversible.is_well_formed g.W.Worlds.world g.W.Reversible.steps l.film l.n l.world;
       remembers : Remembers (g.W.Worlds.world l.world) l.marks l.values;
-      found : IsFound l.direction (is_hit_at l.film.recording l.marks) (l.at + 1) (l.n + 1) l.found;
+      found : IsFound l.direction (hits_at l.film.recording l.marks) (l.at + 1) (l.n + 1) l.found;
       unsettled : is_settled l.direction l.found ≡ false;
     }

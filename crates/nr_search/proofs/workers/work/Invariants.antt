@@ -1,7 +1,7 @@
 use Rattle.std.proofs.Common.{All}
 use Rattle.std.specs.Prelude.{IfSome}
-use Rattle.nr_marks.specs.Hit.{is_hit_at}
-use Rattle.nr_search.specs.Known.{IsTrue}
+use Rattle.nr_marks.specs.Hit.{hits_at}
+use Rattle.nr_search.specs.Reports.{IsReport}
 use Rattle.nr_snaps.specs.Film.{IsFrame}
 use Rattle.nr_search.proofs.workers.work.Given as goal
 
@@ -9,6 +9,6 @@ use Rattle.nr_search.proofs.workers.work.Given as goal
 abbrev pub invariant-loop : goal.invariant-loop
 invariant-loop g l =
     record {
-      reports : All (λ r. IsTrue l.search.span (is_hit_at l.search.film.now.recording l.search.marks.now.standing) r.segment r.slot) l.reports.items;
+      reports : All (IsReport l.search.span (hits_at l.search.film.now.recording l.search.marks.now.standing)) l.reports.items;
       held : IfSome l.held (λ h. IsFrame g.W.Reversible.is_well_formed g.W.Worlds.world g.W.Reversible.steps l.search.film.now h.position h.world);
     }

@@ -6,13 +6,13 @@ use Rattle.nr_serving.proofs.fronts.serve_one.Goals as goal
 pub loop-preserved : goal.loop-preserved
 loop-preserved g c =
     let i = c.loop.invariant in
-    let ending = c.serve-ending.result in (
+    let ending = c.serve_caller-ending.result in (
       tt,
       tt,
-      c.serve-ending.ensures.table ∙ i.2,
+      c.serve_caller-ending.ensures.table ∙ i.2,
       (
         i.3.0 ++ ending ∷ [],
-        serving_more i.3.0 c.args.front c.loop.front c.serve-ending.new.front ending i.3.1 (record { from = _; left = _; old = _; new = _; serves = c.serve-ending.ensures.serves }),
+        serving_more i.3.0 c.args.front c.loop.front c.serve_caller-ending.new.front ending i.3.1 c.serve_caller-ending.ensures.serves,
         told_more i.3.0 ending c.loop.failed _ i.3.2 (search rules),
       ),
     )

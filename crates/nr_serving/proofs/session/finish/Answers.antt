@@ -1,27 +1,21 @@
-use Rattle.std.proofs.Common.{rules}
-use Rattle.nr_serving.proofs.SessionLemmas.{all_told, gathered_all, gathered_first, gathered_more}
+use Rattle.std.proofs.Common.{ℕ, Result, map, subst, sym, rules}
+use Rattle.std.specs.Prelude.{IfSome}
+use Rattle.std.specs.Global.{Vec}
+use Rattle.std.specs.declared.alloc.AllocError.{AllocError}
+use Rattle.nr_journal.specs.Rule.{room_of}
+use Rattle.nr_serving.specs.Session.{IsHistory, words_of}
+use Rattle.nr_serving.proofs.HistoryLemmas.{history_of, no_history}
 use Rattle.nr_serving.proofs.session.finish.Goals as goal
+use Rattle.nr_serving.proofs.session.finish.Goals.{in-Some, in-None}
 
-pub loop-other-init : goal.loop-other-init
-loop-other-init c = record {
-  table = c.in-Some.ensures.one;
-  tables = c.in-Some.ensures.rest;
-  gathered = gathered_first c.in-Some.ensures.last;
-}
-
-pub loop-other-preserved : goal.loop-other-preserved
-loop-other-preserved c =
-    let taken = c.in-Some-take_done.ensures in
-    record {
-      table = search rules;
-      tables = taken.rest;
-      gathered = gathered_more c.loop-other.invariant.gathered taken.last (search rules);
-    }
-
+-- one pass collected the others' words, or there was none
 pub returns-clause-history : goal.returns-clause-history
 returns-clause-history c =
-    gathered_all _ c.loop-other.invariant.gathered c.in_default-take_done.ensures.none (search rules)
-
-pub returns-clause-failed : goal.returns-clause-failed
-returns-clause-failed c =
-    all_told _ c.loop-other.invariant.gathered c.in_default-take_done.ensures.none (search rules)
+    let room = room_of c.args.journal.now in
+    let done = c.args.done.items in
+    elim c.match-take_done.branch [
+      | in-Some w ↦ subst (λ (h : Result (Vec ℕ) AllocError). IfSome (words_of h) (IsHistory room (map (λ d. d.pass.stand) done))) (sym w.history-is)
+          (history_of room w.collect-history.result c.take_done.new.done.items done w.in-Some.last w.in-Some.ensures.last w.collect-history.ensures.last w.collect-history.ensures.others)
+      | in-None w ↦ subst (λ (h : Result (Vec ℕ) AllocError). IfSome (words_of h) (IsHistory room (map (λ d. d.pass.stand) done))) (sym w.history-is)
+          (no_history room done w.new.result.items w.in-None.ensures.none (search rules))
+    ]

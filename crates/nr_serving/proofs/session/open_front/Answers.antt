@@ -1,5 +1,5 @@
 use Rattle.std.proofs.Common.{rules}
 use Rattle.nr_serving.proofs.session.open_front.Goals as goal
 
-pub returns-in-Ok-new-clause-fresh : goal.returns-in-Ok-new-clause-fresh
-returns-in-Ok-new-clause-fresh g c = search rules
+pub returns-in-Ok-clause-fresh : goal.returns-in-Ok-clause-fresh
+returns-in-Ok-clause-fresh g c = search rules

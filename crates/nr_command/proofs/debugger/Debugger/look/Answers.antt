@@ -3,6 +3,3 @@ use Rattle.nr_command.proofs.debugger.Debugger.look.Goals as goal
 
 pub returns-in_ok-bytes-in-DumpBytes-clause-ok : goal.returns-in_ok-bytes-in-DumpBytes-clause-ok
 returns-in_ok-bytes-in-DumpBytes-clause-ok g c = search rules
-
-pub returns-in-Breakpoints-clause-ok : goal.returns-in-Breakpoints-clause-ok
-returns-in-Breakpoints-clause-ok g c = search rules

@@ -12,6 +12,6 @@ invariant_of-self g c =
 pub returns-in-Some : goal.returns-in-Some
 returns-in-Some g c = (
   c.in-Some.word,
-  sees_word _ _ _ _ _ c.self.view_is c.requires.table (record { table = c.next.ensures.table; recording = refl })
+  sees_word _ _ _ _ _ c.self.view_is c.requires.table (record { table = c.next.ensures.table; recording = refl; workers = refl; footing = refl })
       c.in-Some.ensures.some.0 c.in-Some.ensures.some.2 c.in-Some.ensures.room c.at-self-inside.ensures,
 )

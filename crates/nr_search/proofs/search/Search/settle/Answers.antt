@@ -1,5 +1,5 @@
 use Rattle.std.proofs.Common.{sym, ◌∙◌, subst, arith}
-use Rattle.nr_marks.specs.Hit.{is_hit_at}
+use Rattle.nr_marks.specs.Hit.{hits_at}
 use Rattle.nr_search.specs.Known.{Agrees, IsFoundIn, slot_of}
 use Rattle.nr_search.specs.Segments.{nth_segment}
 use Rattle.nr_search.proofs.KnownLemmas.{nearer-next}
@@ -9,18 +9,18 @@ use Rattle.nr_search.proofs.search.Search.settle.Goals as goal
 pub returns-then-is_hit-clause-found : goal.returns-then-is_hit-clause-found
 returns-then-is_hit-clause-found g c =
     let search = c.args.self.now in
-    let hit = is_hit_at search.film.now.recording search.marks.now.standing in
-    passed-hit hit search.span c.loop-k.k c.in_ok-found.found c.loop-k-test.true (sym c.is_hit.ensures ∙ c.if-is_hit.true) c.loop-k.invariant.passed
-    (subst (λ s. IsFoundIn search.span hit s c.in_ok-found.found) c.nth-s.ensures c.in_ok-found.ensures.found)
+    let hits = hits_at search.film.now.recording search.marks.now.standing in
+    passed-hit hits search.span c.loop-k.k c.in_ok-found.found c.loop-k-test.true (sym c.is_hit.ensures ∙ c.if-is_hit.true) c.loop-k.invariant.passed
+    (subst (λ s. IsFoundIn search.span hits s c.in_ok-found.found) c.nth-s.ensures c.in_ok-found.ensures.found)
 
 pub loop-k-preserved : goal.loop-k-preserved
 loop-k-preserved g c =
     let search = c.args.self.now in
-    let hit = is_hit_at search.film.now.recording search.marks.now.standing in
+    let hits = hits_at search.film.now.recording search.marks.now.standing in
     record {
-      passed = passed-next hit search.span c.loop-k.k c.in_ok-found.found c.loop-k-test.true (sym c.is_hit.ensures ∙ c.if-is_hit.false) c.loop-k.invariant.passed
-          (subst (λ s. IsFoundIn search.span hit s c.in_ok-found.found) c.nth-s.ensures c.in_ok-found.ensures.found);
-      nearer = nearer-next c.args.known.now (nth_segment search.span.direction search.span.first search.span.count) c.loop-k.k c.in_ok-found.found c.loop-k.invariant.nearer
+      passed = passed-next hits search.span c.loop-k.k c.in_ok-found.found c.loop-k-test.true (sym c.is_hit.ensures ∙ c.if-is_hit.false) c.loop-k.invariant.passed
+          (subst (λ s. IsFoundIn search.span hits s c.in_ok-found.found) c.nth-s.ensures c.in_ok-found.ensures.found);
+      nearer = nearer-next (slot_of c.args.known.now) (nth_segment search.span.direction search.span.first search.span.count) c.loop-k.k c.in_ok-found.found c.loop-k.invariant.nearer
           (subst (λ s. Agrees (slot_of c.args.known.now s) c.in_ok-found.found) c.nth-s.ensures c.in_ok-found.ensures.agrees) (sym c.is_hit.ensures ∙ c.if-is_hit.false);
       held = c.settle_segment.ensures.held;
     }
@@ -28,5 +28,5 @@ loop-k-preserved g c =
 pub returns-clause-found : goal.returns-clause-found
 returns-clause-found g c =
     let search = c.args.self.now in
-    let hit = is_hit_at search.film.now.recording search.marks.now.standing in
-    passed-all hit search.span c.loop-k.k (omega arith) c.loop-k.invariant.passed
+    let hits = hits_at search.film.now.recording search.marks.now.standing in
+    passed-all hits search.span c.loop-k.k (omega arith) c.loop-k.invariant.passed

@@ -1,0 +1,6 @@
+use Rattle.std.proofs.Common.{refl}
+use Rattle.netrev.proofs.starting.play.Goals as goal
+
+-- `serve` reads no input
+pub returns-in-Serve : goal.returns-in-Serve
+returns-in-Serve g c = rw c.in-Serve.is (refl, c.serve_bytes.ensures.serves)

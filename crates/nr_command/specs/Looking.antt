@@ -1,0 +1,13 @@
+-- Which looks are at the world.
+use Rattle.std.specs.Prelude.{Bool, true, false}
+use Rattle.nr_command.specs.declared.command.Query.{Query}
+use Rattle.nr_command.specs.declared.command.Query.TheVariants as queries
+
+-- the look shows something of the world; the others show what the debugger keeps
+abbrev pub is_at_world : Query → Bool
+is_at_world (queries.Print c) = true
+is_at_world (queries.DumpBytes side s) = true
+is_at_world (queries.DumpQueue side s) = true
+is_at_world queries.Position = false
+is_at_world queries.Breakpoints = false
+is_at_world queries.Checkpoints = false

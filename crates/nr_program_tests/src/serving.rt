@@ -1,0 +1,304 @@
+//! The program `serve` over callers in memory.
+use crate::playing::{HEADER, Played, record};
+use crate::programs::READ;
+use nr_plain::PlainWorld as World;
+use nr_programs::{ExitStatus, Sharing, serve_bytes};
+use nr_serving::{Connection, Connections, Next, Ports};
+use nr_text::Sink;
+use std::alloc::{AllocError, Global};
+use std::io;
+use std::io::ErrorKind;
+use std::process::Abort;
+use std::sync::Wait;
+use std::sync::atomic::AtomicU32;
+use std::sync::atomic::Ordering::SeqCst;
+use std::test::*;
+use std::thread::Threads;
+
+/// What comes of a caller behind its lines.
+#[derive(Clone, Copy)]
+enum Then {
+    /// No more.
+    Ends,
+    /// Its reads fail.
+    Fails,
+    /// Bytes without end.
+    GoesOn,
+    /// Bytes without end, but it can't be told that no reply comes any more.
+    IsGone,
+}
+
+/// A caller's lines, what it does then, and the replies that are expected.
+struct Part {
+    lines: &'static str,
+    then: Then,
+    replies: &'static str,
+}
+
+/// What was seen of a caller.
+#[derive(Drop)]
+struct Seen {
+    reads: AtomicU32,
+    /// How many bytes of the expected replies came. Others aren't counted, and none behind them.
+    right: AtomicU32,
+    written: AtomicU32,
+}
+
+impl Seen {
+    fn new() -> Seen {
+        Seen {
+            reads: AtomicU32::new(0),
+            right: AtomicU32::new(0),
+            written: AtomicU32::new(0),
+        }
+    }
+
+    /// So often it was read, and all these replies came, and no others.
+    fn assert(&self, rt: &impl Abort, part: &Part, reads: u32) {
+        assert_eq!(rt; self.reads.load(SeqCst), reads, "reads of {}", part.lines);
+        let replies = u32::try_from(part.replies.len()).unwrap_or(u32::MAX);
+        assert_eq!(rt;
+            self.right.load(SeqCst),
+            replies,
+            "replies to {}",
+            part.lines
+        );
+        assert_eq!(rt;
+            self.written.load(SeqCst),
+            replies,
+            "replies to {}",
+            part.lines
+        );
+    }
+}
+
+/// A caller who plays a part.
+#[derive(Drop)]
+struct Caller<'a> {
+    part: &'a Part,
+    seen: &'a Seen,
+}
+
+impl Connection for Caller<'_> {
+    fn read(&self, buf: &mut [u8]) -> io::Result<usize> {
+        let lines = self.part.lines.as_bytes();
+        if self.seen.reads.fetch_add(1, SeqCst) == 0 && lines.len() <= buf.len() {
+            buf[..lines.len()].copy_from_slice(lines);
+            return Ok(lines.len());
+        }
+        match self.part.then {
+            Then::Ends => Ok(0),
+            Then::Fails => Err(ErrorKind::Other.into()),
+            Then::GoesOn | Then::IsGone => Ok(buf.len()),
+        }
+    }
+
+    fn write(&self, bytes: &[u8]) -> io::Result<usize> {
+        let count = u32::try_from(bytes.len()).unwrap_or(u32::MAX);
+        let before = self.seen.written.fetch_add(count, SeqCst) as usize;
+        let expected = self.part.replies.as_bytes().get(before..);
+        if expected.is_some_and(|replies| replies.starts_with(bytes)) {
+            let _ = self.seen.right.fetch_add(count, SeqCst);
+        }
+        Ok(bytes.len())
+    }
+
+    fn end_replies(&self) -> io::Result<()> {
+        match self.part.then {
+            Then::IsGone => Err(ErrorKind::Other.into()),
+            Then::Ends | Then::Fails | Then::GoesOn => Ok(()),
+        }
+    }
+}
+
+/// The callers of a front.
+#[derive(Drop)]
+struct Callers<'a> {
+    parts: &'a [Part],
+    seen: &'a [Seen],
+}
+
+impl<'a> Connections for Callers<'a> {
+    type Connection = Caller<'a>;
+
+    fn next(&mut self) -> Next<Caller<'a>> {
+        let Some((part, parts)) = self.parts.split_first() else {
+            return Next::Ended;
+        };
+        let Some((seen, rest)) = self.seen.split_first() else {
+            return Next::Failed;
+        };
+        self.parts = parts;
+        self.seen = rest;
+        Next::Serve(Caller { part, seen })
+    }
+}
+
+/// As many callers at each front as are said, one front's behind the other's.
+#[derive(Drop)]
+struct Switchboard<'a> {
+    each: usize,
+    parts: &'a [Part],
+    seen: &'a [Seen],
+}
+
+impl<'a> Ports for Switchboard<'a> {
+    type Callers = Callers<'a>;
+
+    fn open(&mut self, _front: usize) -> Callers<'a> {
+        let each = self.each.min(self.parts.len()).min(self.seen.len());
+        let (parts, more) = self.parts.split_at(each);
+        let (seen, rest) = self.seen.split_at(each);
+        self.parts = more;
+        self.seen = rest;
+        Callers { parts, seen }
+    }
+}
+
+/// Serves a recording of twelve steps to these callers, so many at each front.
+fn serve<R: Wait + Threads + Sync>(
+    rt: &R,
+    alloc: Global,
+    each: usize,
+    parts: &[Part],
+    seen: &[Seen],
+) -> Result<Played, AllocError> {
+    let recording = record(alloc, HEADER, READ)?;
+    let sharing = Sharing {
+        port: 1,
+        fronts: (parts.len() / each.max(1)).clamp(1, 64) as u32,
+        workers: 1,
+        journal: 16,
+        connections: None,
+    };
+    let mut ports = Switchboard { each, parts, seen };
+    let mut output = Sink::new(Vec::new(alloc));
+    let bytes = recording.as_bytes();
+    let status = serve_bytes::<World, R, _, _>(rt, alloc, bytes, sharing, &mut ports, &mut output);
+    Ok(Played {
+        status,
+        text: output.into_inner(),
+    })
+}
+
+static FAILING: [Part; 2] = [
+    Part {
+        lines: "stepi 2\nstepi",
+        then: Then::Fails,
+        replies: "at 2\n",
+    },
+    Part {
+        lines: "print waiters\nquit\n",
+        then: Then::Ends,
+        replies: "waiters = 0\nbye\n",
+    },
+];
+
+#[test]
+fn a_caller_who_fails_is_told_by_the_status(rt: HostRuntime) -> Result<(), AllocError> {
+    let seen = [Seen::new(), Seen::new()];
+    let played = serve(&rt, rt.alloc(), 1, FAILING.as_slice(), seen.as_slice())?;
+    played.assert(&rt, ExitStatus::StreamFailed, "placed 1\n");
+    for (part, seen) in FAILING.iter().zip(seen.iter()) {
+        seen.assert(&rt, part, 2);
+    }
+    Ok(())
+}
+
+static LEAVING: [Part; 6] = [
+    Part {
+        lines: "",
+        then: Then::Ends,
+        replies: "",
+    },
+    Part {
+        lines: "resume",
+        then: Then::Ends,
+        replies: "nothing owed\n",
+    },
+    Part {
+        lines: "quit\n",
+        then: Then::Ends,
+        replies: "bye\n",
+    },
+    Part {
+        lines: "stepi 5\ncheckpoint\n",
+        then: Then::Ends,
+        replies: "at 5\ncheckpoint 1 at 5\n",
+    },
+    Part {
+        lines: "info position\nreverse-stepi",
+        then: Then::Ends,
+        replies: "at 5 of 12 forward\nat 4\n",
+    },
+    Part {
+        lines: "restart 1\nquit\nstepi\n",
+        then: Then::Ends,
+        replies: "at 5\nbye\n",
+    },
+];
+
+#[test]
+fn callers_who_leave_hold_up_nobody(rt: HostRuntime) -> Result<(), AllocError> {
+    let seen = [
+        Seen::new(),
+        Seen::new(),
+        Seen::new(),
+        Seen::new(),
+        Seen::new(),
+        Seen::new(),
+    ];
+    let played = serve(&rt, rt.alloc(), 3, LEAVING.as_slice(), seen.as_slice())?;
+    played.assert(&rt, ExitStatus::Done, "placed 4\n");
+    for (number, (part, seen)) in LEAVING.iter().zip(seen.iter()).enumerate() {
+        seen.assert(&rt, part, if number == 0 { 1 } else { 2 });
+    }
+    Ok(())
+}
+
+static QUITTING: [(Part, u32); 4] = [
+    (
+        Part {
+            lines: "quit\n",
+            then: Then::GoesOn,
+            replies: "bye\n",
+        },
+        65,
+    ),
+    (
+        Part {
+            lines: "quit\nstepi",
+            then: Then::Fails,
+            replies: "bye\n",
+        },
+        2,
+    ),
+    (
+        Part {
+            lines: "quit",
+            then: Then::Ends,
+            replies: "bye\n",
+        },
+        3,
+    ),
+    (
+        Part {
+            lines: "quit\n",
+            then: Then::IsGone,
+            replies: "bye\n",
+        },
+        1,
+    ),
+];
+
+#[test]
+fn what_comes_behind_quit_is_read_away(rt: HostRuntime) -> Result<(), AllocError> {
+    for (part, reads) in QUITTING.iter() {
+        let seen = [Seen::new()];
+        let parts = std::slice::from_ref(part);
+        let played = serve(&rt, rt.alloc(), 1, parts, seen.as_slice())?;
+        played.assert(&rt, ExitStatus::Done, "placed 0\n");
+        seen[0].assert(&rt, part, *reads);
+    }
+    Ok(())
+}

@@ -1,0 +1,44 @@
+-- What workers report of segments, and what is noted of that.
+use Rattle.std.specs.Prelude.{◌≡◌, ℕ, ◌<◌, ◌==◌, true, List, [], ◌∷◌, length, Result, Ok, Err, if◌then◌else◌}
+use Rattle.nr_search.specs.Known.{IsTrue, is_known, slot_of}
+use Rattle.nr_search.specs.declared.found.Found.{Found}
+use Rattle.nr_search.specs.declared.segments.Span.{Span}
+use Rattle.nr_search.specs.declared.slot.Report.{Report}
+use Rattle.nr_search.specs.declared.slot.Slot.{Slot}
+use Rattle.nr_search.specs.declared.slot.Slot.TheVariants.{Unknown, Refused, Searched}
+
+-- what a search of a segment makes known of it
+abbrev pub slot_from : {E : Type 0} → Result Found E → Slot
+slot_from (Ok found) = Searched found
+slot_from (Err e) = Refused
+
+-- a report says something of its segment, and that is true
+pub record IsReport (span : Span) (hits : ℕ → List ℕ) (report : Report) : Type 0 where
+  pub known : is_known report.slot ≡ true
+  pub holds : IsTrue span hits report.segment report.slot
+
+-- what is known already, or else what is said then
+abbrev pub or_else : Slot → Slot → Slot
+or_else (Searched found) said = Searched found
+or_else Refused said = Refused
+or_else Unknown said = said
+
+-- what a report says of segment s
+abbrev pub said_by : Report → ℕ → Slot
+said_by report s = if report.segment == s then report.slot else Unknown
+
+-- What one worker's reports say of segment s: what the first report of it says.
+abbrev pub said_in : List Report → ℕ → Slot
+said_in [] s = Unknown
+said_in (report ∷ reports) s = or_else (said_by report s) (said_in reports s)
+
+-- What is noted of segment s by the reports of all workers, a row for each: what the first report of
+-- it says, in the rows' order.
+abbrev pub noted : List (List Report) → ℕ → Slot
+noted [] s = Unknown
+noted (row ∷ rows) s = or_else (said_in row s) (noted rows s)
+
+-- Of each segment is known what was known, or else what is said of it.
+pub record AddsTo (slots : List Slot) (said : ℕ → Slot) (slots' : List Slot) : Type 0 where
+  pub each : (s : ℕ) → s < length slots → slot_of slots' s ≡ or_else (slot_of slots s) (said s)
+  pub count : length slots' ≡ length slots

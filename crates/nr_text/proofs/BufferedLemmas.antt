@@ -1,0 +1,120 @@
+-- What is out and what is held of a text that goes out in pieces.
+use Rattle.std.proofs.Common.{◌≡◌, ℕ, ◌<◌, ◌≤◌, List, [], ◌++◌, arith, length, take, drop, refl, sym, ap, subst, ◌∙◌, append-nil, append_assoc, take-append-drop, length-append, length-drop, Option, None, Some, Ok, Err, Result}
+use Rattle.std.proofs.lemmas.List.{length-take-le}
+use Rattle.std.proofs.Math.Seq.{take-length}
+use Rattle.std.proofs.KnownBytes.{Appends-trans}
+use Rattle.std.specs.Io.KnownBytes.{Appends}
+use Rattle.std.specs.Prelude.{OnErr, OnOk}
+use Rattle.std.specs.Result.{IsErr}
+use Rattle.nr_text.specs.Buffered.{Buffering, HasSent, IsCut, IsOut, Stands, Writes}
+use Rattle.nr_text.specs.Streams.{saturating_count}
+use Rattle.nr_text.specs.declared.buffered.WriteFailed.{WriteFailed}
+
+-- a piece is held behind what is held
+pub holds : (start : Option (List ℕ)) (sent piece : List ℕ) (b : Buffering) → HasSent start sent b → HasSent start (sent ++ piece) (record b { held = b.held ++ piece })
+holds start sent piece b has = record {
+  out = has.out;
+  split = ap (λ s. s ++ piece) has.split ∙ append_assoc has.out b.held piece;
+  written = has.written;
+  count = has.count;
+}
+
+-- behind what is out some more bytes are put out, and counted
+behind : (start c c' : Option (List ℕ)) (out bytes : List ℕ) (n o o' : ℕ) → n ≤ length bytes → Appends start c out → o ≡ saturating_count (length out) → IsOut bytes n c c' o o'
+    → Appends start c' (out ++ take n bytes) × (o' ≡ saturating_count (length (out ++ take n bytes)))
+behind start c c' out bytes n o o' within before count more = (Appends-trans start c c' out (take n bytes) before more.written, omega (arith, count, more.count, length-append out (take n bytes), length-take-le n bytes within))
+
+-- all that was held is put out
+pub puts_all : (start c' : Option (List ℕ)) (sent : List ℕ) (b : Buffering) (o' : ℕ) → HasSent start sent b → IsOut b.held (length b.held) b.contents c' b.out o'
+    → HasSent start (sent ++ []) (record { contents = c'; held = []; out = o' })
+puts_all start c' sent b o' has all =
+    let more = behind start b.contents c' has.out b.held (length b.held) b.out o' (omega arith) has.written has.count all in
+    let whole = take-length b.held in
+    record {
+      out = has.out ++ take (length b.held) b.held;
+      split = ap (λ s. s ++ []) (has.split ∙ ap (λ t. has.out ++ t) (sym whole));
+      written = more.0;
+      count = more.1;
+    }
+
+-- some of what was held is put out, and then a write fails
+pub puts_some : (start c' : Option (List ℕ)) (sent : List ℕ) (b : Buffering) (n o' : ℕ) → HasSent start sent b → n < length b.held → IsOut b.held n b.contents c' b.out o'
+    → IsCut start (sent ++ []) (record { contents = c'; held = []; out = o' })
+puts_some start c' sent b n o' has within some =
+    let more = behind start b.contents c' has.out b.held n b.out o' (omega (arith, within)) has.written has.count some in
+    record {
+      out = has.out ++ take n b.held;
+      left = drop n b.held;
+      split = append-nil sent ∙ has.split ∙ ap (λ t. has.out ++ t) (sym (take-append-drop n b.held)) ∙ sym (append_assoc has.out (take n b.held) (drop n b.held));
+      short = omega (arith, within, length-drop n b.held);
+      written = more.0;
+      count = more.1;
+      dropped = refl;
+    }
+
+-- where a write failed, it failed for whatever was to follow too
+cut_before : (start : Option (List ℕ)) (sent more : List ℕ) (b : Buffering) → IsCut start sent b → IsCut start (sent ++ more) b
+cut_before start sent more b cut = record {
+  out = cut.out;
+  left = cut.left ++ more;
+  split = ap (λ s. s ++ more) cut.split ∙ append_assoc cut.out cut.left more;
+  short = omega (arith, cut.short, length-append cut.left more);
+  written = cut.written;
+  count = cut.count;
+  dropped = cut.dropped;
+}
+
+-- a piece behind another is a longer piece
+pub writes_then : (u v w : Buffering) (one two : List ℕ) (result : Result Unit WriteFailed) → Writes u v one (Ok tt) → Writes v w two result → Writes u w (one ++ two) result
+writes_then u v w one two result first then = record {
+  behind = λ start sent has. subst (λ s. Stands start s w result) (append_assoc sent one two) (then.behind start (sent ++ one) (first.behind start sent has));
+}
+
+-- a write that failed in a piece failed in a longer one
+pub writes_cut : (u v : Buffering) (one two : List ℕ) (e : WriteFailed) (result : Result Unit WriteFailed) → IsErr result → Writes u v one (Err e) → Writes u v (one ++ two) result
+writes_cut u v one two e (Ok _) fails cut = absurd (grind (arith, fails))
+writes_cut u v one two e (Err _) fails cut = record {
+  behind = λ start sent has. subst (λ s. IsCut start s v) (append_assoc sent one two) (cut_before start (sent ++ one) two v (cut.behind start sent has));
+}
+
+-- what is held is put out, or a write fails
+pub puts : (start c' : Option (List ℕ)) (sent : List ℕ) (b : Buffering) (o' : ℕ) (result : Result Unit WriteFailed) → HasSent start sent b
+    → OnOk result (IsOut b.held (length b.held) b.contents c' b.out o')
+    → OnErr result ((n : ℕ) × (n < length b.held) × IsOut b.held n b.contents c' b.out o')
+    → Stands start (sent ++ []) (record { contents = c'; held = []; out = o' }) result
+puts start c' sent b o' (Ok _) has ok err = puts_all start c' sent b o' has ok
+puts start c' sent b o' (Err _) has ok err = puts_some start c' sent b err.0 o' has err.1 err.2
+
+-- a piece is put out where nothing is held, or a write fails
+pub puts_directly : (start c' : Option (List ℕ)) (sent piece held : List ℕ) (b : Buffering) (o' : ℕ) (result : Result Unit WriteFailed) → b.held ≡ [] → held ≡ [] → HasSent start sent b
+    → OnOk result (IsOut piece (length piece) b.contents c' b.out o')
+    → OnErr result ((n : ℕ) × (n < length piece) × IsOut piece n b.contents c' b.out o')
+    → Stands start (sent ++ piece) (record { contents = c'; held = held; out = o' }) result
+puts_directly start c' sent piece held b o' result none still has ok err =
+    let behind = subst (λ h. HasSent start (sent ++ piece) (record b { held = h })) (ap (λ h. h ++ piece) none) (holds start sent piece b has) in
+    let done = puts start c' (sent ++ piece) (record b { held = piece }) o' result behind ok err in
+    subst (λ h. Stands start (sent ++ piece) (record { contents = c'; held = h; out = o' }) result) (sym still)
+    (subst (λ s. Stands start s (record { contents = c'; held = []; out = o' }) result) (append-nil (sent ++ piece)) done)
+
+appends_none : (known : Option (List ℕ)) → Appends known known []
+appends_none None = tt
+appends_none (Some xs) = sym (append-nil xs)
+
+-- a text is begun where nothing is held
+begins : (b : Buffering) → b.held ≡ [] → b.out ≡ 0 → HasSent b.contents [] b
+begins b none no_count = record {
+  out = [];
+  split = sym none;
+  written = appends_none b.contents;
+  count = no_count;
+}
+
+-- a write failed, whatever the error says
+pub cut_is_told : (start : Option (List ℕ)) (sent : List ℕ) (b : Buffering) (result : Result Unit WriteFailed) → IsErr result → IsCut start sent b → Stands start sent b result
+cut_is_told start sent b (Ok _) fails cut = absurd (grind (arith, fails))
+cut_is_told start sent b (Err _) fails cut = cut
+
+-- a text that was begun at this writer, and of which a piece was sent
+pub from_begun : (b b' begun : Buffering) (piece : List ℕ) (result : Result Unit WriteFailed) → begun ≡ record b { out = 0 } → b.held ≡ [] → Writes begun b' piece result → Stands b.contents piece b' result
+from_begun b b' begun piece result is none writes =
+    writes.behind b.contents [] (subst (HasSent b.contents []) (sym is) (begins (record b { out = 0 }) none refl))

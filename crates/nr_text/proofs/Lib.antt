@@ -1,0 +1,2 @@
+pub mod BufferedLemmas
+pub mod TextLemmas

@@ -1,0 +1,6 @@
+-- Each try so far was interrupted, and nothing has changed.
+use Rattle.std.specs.Io.KnownBytes.{Keeps}
+use Rattle.nr_text.proofs.buffered.write_some.Given as goal
+
+abbrev pub invariant-loop : goal.invariant-loop
+invariant-loop g l = Keeps (g.W.Write.contents l.fn.writer) (g.W.Write.contents l.writer)

@@ -1,0 +1,15 @@
+//! Streams and texts: a reader and a writer that remember whether they failed, and texts that are written piece by piece.
+#![tactic(auto)]
+
+mod buffered;
+pub mod laws;
+mod sink;
+mod source;
+mod text;
+mod token;
+
+pub use buffered::{Buffered, WriteFailed};
+pub use sink::{CutShort, Sink};
+pub use source::{ReadFailed, Source};
+pub use text::{Parts, Text, send_all};
+pub use token::Token;

@@ -1,0 +1,74 @@
+//! A writer of whole texts that remembers whether a write failed.
+
+ghost use Rattle.std.specs.Prelude.{◌≡◌, false};
+ghost use Rattle.nr_text.specs.Streams.{Prints};
+
+use crate::buffered::{Buffered, WriteFailed};
+use crate::text::Text;
+use std::io::Write;
+use std::marker::Model;
+
+/// A writer of whole texts that remembers whether a write failed, or took nothing of the bytes that there were. The pieces of
+/// a text are joined, so a text of up to 512 bytes goes out in one write. Contracts see the bytes that the writer has, where
+/// they are known, and whether a write failed.
+#[derive(Drop)]
+pub struct Sink<W: Write> {
+    writer: Buffered<W>,
+    failed: bool,
+}
+
+impl<W: Write> Model for Sink<W> {
+    ghost use Rattle.std.specs.Prelude.{◌≡◌, []};
+    ghost use Rattle.nr_text.specs.Streams.{Outgoing};
+
+    ghost Value = { Outgoing };
+
+    ghost view = { λ s. record { contents = s.writer.contents; failed = s.failed } };
+
+    ghost invariant = { λ s. s.writer.held ≡ [] };
+}
+
+/// A write failed, or took nothing, when exactly so many bytes of the text were out. The count stays at `u64::MAX`.
+#[derive(Clone, Copy, Debug, PartialEq, Eq)]
+pub struct CutShort(pub u64);
+
+impl<W: Write> Sink<W> {
+    /// The writer, of which no write has failed.
+    pub fn new(writer: W) -> Sink<W>
+        ensures { result ≡ record { contents = W.contents writer; failed = false } }
+    {
+        Sink {
+            writer: Buffered::new(writer),
+            failed: false,
+        }
+    }
+
+    /// The writer. Every text that was written whole is out.
+    pub fn into_inner(self) -> W
+        ensures { W.contents result ≡ self.contents }
+    {
+        let Sink { writer, failed: _ } = self;
+        writer.into_inner()
+    }
+
+    /// Whether a write failed, or took nothing of the bytes that there were.
+    pub fn has_failed(&self) -> bool
+        ensures { result ≡ self.now.failed }
+    {
+        self.failed
+    }
+
+    /// Writes a text whole. Where a write fails or takes nothing, `CutShort` says how many bytes of the text are out, and no
+    /// more are written. A write that is interrupted is tried again. It takes no memory.
+    pub fn print<T: Text>(&mut self, text: &T) -> Result<(), CutShort>
+        ensures { Prints self.old self.new (T.text text.now) result }
+    {
+        match self.writer.print(text) {
+            Ok(()) => Ok(()),
+            Err(WriteFailed) => {
+                self.failed = true;
+                Err(CutShort(self.writer.out()))
+            }
+        }
+    }
+}

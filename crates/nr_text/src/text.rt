@@ -1,0 +1,73 @@
+//! What has a text, and is written piece by piece.
+
+ghost use Rattle.std.specs.Prelude.{ℕ, List};
+ghost use Rattle.nr_text.specs.Buffered.{Writes};
+ghost use Rattle.nr_text.specs.Text.{hex_pair, next_number, text_of_parts};
+
+use crate::buffered::{Buffered, WriteFailed};
+use itoa::Buffer;
+use std::io::Write;
+
+/// What has a text, and is written piece by piece.
+pub trait Text {
+    /// Its text.
+    ghost text: { Self → List ℕ };
+
+    /// Sends the text to a writer that joins pieces.
+    fn send<W: Write>(&self, w: &mut Buffered<W>) -> Result<(), WriteFailed>
+        ensures { Writes w.old w.new (text self.now) result };
+}
+
+/// A byte is two hexadecimal digits.
+impl Text for u8 {
+    ghost text = { hex_pair };
+
+    fn send<W: Write>(&self, w: &mut Buffered<W>) -> Result<(), WriteFailed> {
+        let digits = b"0123456789abcdef";
+        let high = digits[usize::from(*self / 16)];
+        let low = digits[usize::from(*self % 16)];
+        w.send(&[high, low])
+    }
+}
+
+/// A number in a row of numbers stands behind a space.
+impl Text for u32 {
+    ghost text = { next_number };
+
+    fn send<W: Write>(&self, w: &mut Buffered<W>) -> Result<(), WriteFailed> {
+        let mut digits = Buffer::new();
+        let digits = digits.format(*self).as_bytes();
+        send_all(&[b" ".as_slice(), digits], w)
+    }
+}
+
+/// Bytes are sent as they are.
+impl Text for &[u8] {
+    ghost text = { λ bytes. bytes.now };
+
+    fn send<W: Write>(&self, w: &mut Buffered<W>) -> Result<(), WriteFailed> {
+        w.send(self)
+    }
+}
+
+/// Parts of a text, one after the other.
+#[derive(Clone, Copy)]
+pub struct Parts<'a, P: Text>(pub &'a [P]);
+
+impl<P: Text> Text for Parts<'_, P> {
+    ghost text = { λ parts. text_of_parts P.text parts.0.now };
+
+    fn send<W: Write>(&self, w: &mut Buffered<W>) -> Result<(), WriteFailed> {
+        send_all(self.0, w)
+    }
+}
+
+/// Sends the parts one after the other.
+pub fn send_all<P: Text, W: Write>(parts: &[P], w: &mut Buffered<W>) -> Result<(), WriteFailed>
+    ensures { Writes w.old w.new (text_of_parts P.text parts.now) result }
+{
+    for part in parts {
+        part.send(w)?;
+    }
+    Ok(())
+}

@@ -1,0 +1,38 @@
+//! The parts that texts are made of.
+
+ghost use Rattle.nr_text.specs.Text.{token_text};
+
+use crate::buffered::{Buffered, WriteFailed};
+use crate::text::{Text, send_all};
+use itoa::Buffer;
+use std::io::Write;
+
+/// A part of a text.
+#[derive(Clone, Copy)]
+pub enum Token<'a> {
+    /// It stands as it is.
+    Text(&'static [u8]),
+    /// In decimal digits.
+    Number(u64),
+    /// In decimal digits, behind a sign where it is below 0.
+    Time(i64),
+    /// Each byte as two digits.
+    Hex(&'a [u8]),
+    /// Each number behind a space.
+    Numbers(&'a [u32]),
+}
+
+impl Text for Token<'_> {
+    ghost text = { token_text };
+
+    fn send<W: Write>(&self, w: &mut Buffered<W>) -> Result<(), WriteFailed> {
+        let mut digits = Buffer::new();
+        match self {
+            Token::Text(text) => w.send(text),
+            Token::Number(number) => w.send(digits.format(*number).as_bytes()),
+            Token::Time(time) => w.send(digits.format(*time).as_bytes()),
+            Token::Hex(bytes) => send_all(bytes, w),
+            Token::Numbers(numbers) => send_all(numbers, w),
+        }
+    }
+}
