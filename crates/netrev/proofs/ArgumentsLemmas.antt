@@ -5,12 +5,14 @@ use Rattle.netrev.specs.Arguments.{Ask, IsPlain, asked_in, asked_on}
 use Rattle.clap.proofs.OnLiterals.{clap_on_literals}
 
 -- two views of what is there, as a pair
-pub both_views : {B X Y : Type 0} (f : B → X) (g : B → Y) (o : Option B) (x : X) (y : Y) → Some x ≡ option_map f o → Some y ≡ option_map (λ (p : X × Y). p.1) (option_map {U = X × Y} (λ b. (f b, g b)) o) → option_map {U = X × Y} (λ b. (f b, g b)) o ≡ Some (x, y)
+pub both_views : {B X Y : Type 0} (f : B → X) (g : B → Y) (o : Option B) (x : X) (y : Y) → Some x ≡ option_map f o
+    → Some y ≡ option_map (λ (p : X × Y). p.1) (option_map {U = X × Y} (λ b. (f b, g b)) o) → option_map {U = X × Y} (λ b. (f b, g b)) o ≡ Some (x, y)
 both_views f g None x y e h = cc
 both_views f g (Some b) x y e h = cc
 
 -- a name with its file
-pub asked_in-file : (found : Option (Text × List Row)) (name : Text) (rows : List Row) (file : Text) → found ≡ Some (name, rows) → Some file ≡ first_of (codes "file") rows → asked_in found ≡ asked_on name rows file
+pub asked_in-file : (found : Option (Text × List Row)) (name : Text) (rows : List Row) (file : Text) → found ≡ Some (name, rows) → Some file ≡ first_of (codes "file") rows
+    → asked_in found ≡ asked_on name rows file
 asked_in-file found name rows file is read = ap asked_in is ∙ ap (option_and_then (asked_on name rows)) (sym read)
 
 -- and without one

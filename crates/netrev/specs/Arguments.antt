@@ -41,16 +41,19 @@ netrev = with_subcommand (with_subcommand (with_subcommand (on_top (λ s. record
   disable_help_flag = true;
   disable_help_subcommand = true;
   subcommand_required = true;
-}) (new_app (codes "netrev"))) (file_program (codes "run")).top) (file_program (codes "check")).top) serve_program.top
+}) (new_app (codes "netrev"))) (file_program (codes "run")).top) (file_program (codes "check")).top)
+    serve_program.top
 
 -- the number of an option: that of its text, or where it isn't there this one
 abbrev pub number_or : Option ℕ → Option Text → Option ℕ
 number_or usual None = usual
 number_or usual (Some text) = result_ok (number_of text)
 
+-- the number that rows give an option, or the usual one where they don't name it
 abbrev pub number_in : Text → Option ℕ → List Row → Option ℕ
 number_in name usual rows = number_or usual (first_of name rows)
 
+-- the sharing, none where one of its numbers is out of range
 abbrev pub if_in_range : Sharing → Option Sharing
 if_in_range s = if is_in_range s then Some s else None
 
@@ -78,9 +81,11 @@ sharing_in rows =
 abbrev pub Asked : Type 0
 Asked = Text × Text × Option Sharing
 
+-- what a subcommand asks of a file; for `serve` its rows have to give a sharing in range
 abbrev pub asked_on : Text → List Row → Text → Option Asked
 asked_on name rows file =
-    if bytes_eq name (codes "serve") then option_map (λ sharing. (name, file, Some sharing)) (sharing_in rows) else Some (name, file, None)
+    if bytes_eq name (codes "serve") then option_map (λ sharing. (name, file, Some sharing))
+    (sharing_in rows) else Some (name, file, None)
 
 -- what is asked for by a program's name and its arguments
 abbrev pub asked_in : Option (Text × List Row) → Option Asked
@@ -107,12 +112,12 @@ file_of (program.Run file) = file.now
 file_of (program.Check file) = file.now
 file_of (program.Serve file sharing) = file.now
 
--- memory where the error is want of it, and usage where it is any other
+-- `Memory` where the error is out of memory, and `Usage` where it is any other
 abbrev pub fault_of_kind : ErrorKind → ArgumentsFault
 fault_of_kind kind.OutOfMemory = fault.Memory
 fault_of_kind _ = fault.Usage
 
--- usage is told only of arguments that ask for no program
+-- usage is reported only of arguments that ask for no program
 abbrev pub IsArgumentsFault : List Text → ArgumentsFault → Type 0
 IsArgumentsFault arguments fault.Usage = (program : Program) → ¬ Asks arguments program
 IsArgumentsFault arguments fault.Memory = Unit {0}

@@ -1,11 +1,11 @@
--- What a program does over its file, and what is told where none runs.
+-- What a program does over its file, and what is printed where none runs.
 use Rattle.std.specs.Prelude.{◌≡◌, ℕ, true, List, take, codes}
 use Rattle.std.specs.Io.KnownBytes.{Appends}
 use Rattle.std.specs.declared.io.ErrorKind.{ErrorKind}
 use Rattle.std.specs.declared.io.ErrorKind.TheVariants as kind
 use Rattle.nr_text.specs.Streams.{Incoming, Outgoing}
 use Rattle.nr_recording.specs.Faults.{memory_line}
-use Rattle.nr_programs.specs.Run.{Checks, Prints, Runs}
+use Rattle.nr_programs.specs.Run.{Checks, EndsPrinting, Runs}
 use Rattle.nr_programs.specs.Serving.{ServesAll}
 use Rattle.nr_programs.specs.Sharing.{is_in_range}
 use Rattle.nr_programs.specs.declared.run.ExitStatus.{ExitStatus}
@@ -22,14 +22,16 @@ abbrev pub unstarted_of_arguments : ArgumentsFault → Unstarted
 unstarted_of_arguments arguments.Usage = unstarted.Usage
 unstarted_of_arguments arguments.Memory = unstarted.Memory
 
--- memory where the error is want of it, and the other reason where it is any other
+-- `Memory` where the error is out of memory, and the other reason where it is any other
 abbrev pub unstarted_by : ErrorKind → Unstarted → Unstarted
 unstarted_by kind.OutOfMemory other = unstarted.Memory
 unstarted_by _ other = other
 
 -- how netrev is called
 abbrev pub usage_text : List ℕ
-usage_text = codes "usage: netrev run FILE\n       netrev check FILE\n       netrev serve FILE --port P [--fronts N] [--workers W] [--journal H] [--connections C]\n"
+usage_text =
+    codes
+    "usage: netrev run FILE\n       netrev check FILE\n       netrev serve FILE --port P [--fronts N] [--workers W] [--journal H] [--connections C]\n"
 
 -- the numbers that a program is asked for with are in their ranges
 abbrev pub IsInRange : Program → Type 0
@@ -38,17 +40,22 @@ IsInRange (program.Check file) = Unit {0}
 IsInRange (program.Serve file sharing) = is_in_range sharing ≡ true
 
 -- What a program does over the bytes of its file. `check` and `serve` read no input.
-abbrev pub Plays : Program → List ℕ → Incoming → Incoming → Outgoing → Outgoing → ExitStatus → Type 0
+abbrev pub Plays : Program → List ℕ → Incoming → Incoming → Outgoing → Outgoing → ExitStatus
+    → Type 0
 Plays (program.Run file) bytes input left old new status = Runs bytes input left old new status
-Plays (program.Check file) bytes input left old new status = (left ≡ input) × Checks bytes old new status
-Plays (program.Serve file sharing) bytes input left old new status = (left ≡ input) × ServesAll bytes sharing old new status
+Plays (program.Check file) bytes input left old new status =
+    (left ≡ input) × Checks bytes old new status
+Plays (program.Serve file sharing) bytes input left old new status =
+    (left ≡ input) × ServesAll bytes sharing old new status
 
--- What is told where no program runs: a first part of how netrev is called, on the second stream; want of memory,
--- on the first; nothing.
-abbrev pub Tells : Unstarted → Outgoing → Outgoing → Outgoing → Outgoing → ExitStatus → Type 0
-Tells unstarted.Usage old new before after status =
-    (status ≡ statuses.Usage) × (new ≡ old) × ((n : ℕ) × Appends before.contents after.contents (take n usage_text))
-Tells unstarted.Memory old new before after status =
-    Prints memory_line statuses.Refused old new status × (after ≡ before)
-Tells unstarted.File old new before after status =
+-- What is printed where no program runs: a prefix of how netrev is called, on the second stream;
+-- out of memory, on the first; nothing.
+abbrev pub PrintsUnstarted : Unstarted → Outgoing → Outgoing → Outgoing → Outgoing → ExitStatus
+    → Type 0
+PrintsUnstarted unstarted.Usage old new before after status =
+    (status ≡ statuses.Usage) × (new ≡ old)
+    × ((n : ℕ) × Appends before.contents after.contents (take n usage_text))
+PrintsUnstarted unstarted.Memory old new before after status =
+    EndsPrinting memory_line statuses.Refused old new status × (after ≡ before)
+PrintsUnstarted unstarted.File old new before after status =
     (status ≡ statuses.StreamFailed) × (new ≡ old) × (after ≡ before)

@@ -124,7 +124,7 @@ fn command<'a>(alloc: Global) -> Result<Command<'a>, AllocError>
         .subcommand(serve)
 }
 
-// A number that stands behind an option, or where the option isn't there this one.
+// The number behind an option, or where the option isn't there this one.
 fn number_in(matches: &ArgMatches<'_>, name: &str, usual: Option<u32>) -> Option<u32>
     ensures { result ≡ number_in name.now usual (rows_of (found_of matches.now)) }
 {
@@ -281,7 +281,7 @@ mod tests {
     }
 
     #[test]
-    fn programs_are_told(rt: HostRuntime) {
+    fn programs_are_reported(rt: HostRuntime) {
         let alloc = rt.alloc();
         assert!(rt; asks_for(alloc, RUN.as_slice(), Program::Run { file: "a.jsonl" }));
         assert!(rt; asks_for(alloc, CHECK.as_slice(), Program::Check { file: "" }));

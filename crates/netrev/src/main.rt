@@ -1,7 +1,7 @@
 //! Walks a recorded schedule of goroutines, sockets and timers forwards and backwards.
 //!
-//! `netrev run FILE` reads commands from standard input and replies on standard output;
-//! `netrev check FILE` says whether the recording can be walked;
+//! `netrev run FILE` reads commands from standard input and replies on standard output.
+//! `netrev check FILE` says whether the recording can be walked.
 //! `netrev serve FILE --port P` answers the commands of several people, who share one session, over the loopback.
 #![tactic(auto)]
 

@@ -2,7 +2,7 @@
 
 ghost use Rattle.std.specs.Prelude.{◌≡◌, false, IfOk, IfErr};
 ghost use Rattle.std.specs.IoError.{error_kind};
-ghost use Rattle.netrev.specs.Starting.{IsInRange, Plays, Tells, unstarted_of_arguments, unstarted_by};
+ghost use Rattle.netrev.specs.Starting.{IsInRange, Plays, PrintsUnstarted, unstarted_of_arguments, unstarted_by};
 ghost use Rattle.nr_programs.specs.declared.run.ExitStatus.{ExitStatus as Status};
 ghost use Rattle.netrev.specs.declared.starting.Unstarted.TheVariants as reasons;
 
@@ -49,7 +49,7 @@ impl From<AllocError> for Unstarted {
 }
 
 impl Unstarted {
-    /// What an error of this kind is told as: as want of memory where it is that, and else as
+    /// What an error of this kind is reported as: as out of memory where it is that, and else as
     /// `other`.
     pub fn of_kind(kind: ErrorKind, other: Unstarted) -> Unstarted
         ensures { result ≡ unstarted_by kind other }
@@ -60,13 +60,13 @@ impl Unstarted {
         }
     }
 
-    /// Says why no program ran: how netrev is called goes to `errors`, want of memory to the
-    /// output as `fault 108 memory`, and of a file nothing is said.
+    /// Says why no program ran: how netrev is called goes to `errors`, out of memory to the output
+    /// as `fault 108 memory`, and of a file nothing is said.
     ///
-    /// `Usage`, also where not all of that text could be written; `Refused` for want of memory;
+    /// `Usage`, also where not all of that text could be written; `Refused` out of memory;
     /// `StreamFailed` for a file, or where the write to the output failed.
     pub fn tell<O: Write, E: Write>(self, output: &mut Sink<O>, errors: &mut Sink<E>) -> ExitStatus
-        ensures { Tells self output.old output.new errors.old errors.new result }
+        ensures { PrintsUnstarted self output.old output.new errors.old errors.new result }
     {
         match self {
             Unstarted::Usage => {

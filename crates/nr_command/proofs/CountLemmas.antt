@@ -1,4 +1,4 @@
--- Numbers from 1 on are told apart by their values.
+-- Numbers from 1 on differ by their values.
 use Rattle.std.proofs.Common.{◌≡◌, ℕ, zero, suc, ◌<◌, Option, Some, None, arith, refl, sym, ap, subst}
 use Rattle.std.proofs.Math.Bridge.{le_prop}
 use Rattle.std.specs.Prelude.{MatchOption}

@@ -58,11 +58,11 @@ named_again Cell.Clock = refl
 named_again _ = refl
 
 pub cell_again : (cell : Cell) → IfSome (cell_index cell) (λ n. n < 2 ^ 32) → cell_of (words (cell_text cell)) ≡ Ok cell
-cell_again cell = told (cell_index cell) (named_again cell)
+cell_again cell = read_back (cell_index cell) (named_again cell)
   where
-    told : (index : Option ℕ) → cell_named (cell_name cell) index ≡ Some cell → IfSome index (λ n. n < 2 ^ 32) → cell_of (words (text_with (cell_name cell) index)) ≡ Ok cell
-    told None is small = ap cell_of (only_name cell) ∙ ap (λ found. ok_or found BadArgument) is
-    told (Some n) is small =
+    read_back : (index : Option ℕ) → cell_named (cell_name cell) index ≡ Some cell → IfSome index (λ n. n < 2 ^ 32) → cell_of (words (text_with (cell_name cell) index)) ≡ Ok cell
+    read_back None is small = ap cell_of (only_name cell) ∙ ap (λ found. ok_or found BadArgument) is
+    read_back (Some n) is small =
         ap cell_of (name_word cell (decimal n))
         ∙ ap (λ ws. cell_of (cell_name cell ∷ ws)) (words-decimal n small)
         ∙ ap (λ number. number >>= λ i. ok_or (cell_named (cell_name cell) (Some i)) BadArgument) (number_of-decimal n small)

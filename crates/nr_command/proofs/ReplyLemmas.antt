@@ -7,13 +7,13 @@ use Rattle.nr_command.specs.declared.reply.Fault.{Fault}
 use Rattle.nr_command.specs.declared.reply.Fault.TheVariants as faults
 use Rattle.nr_command.specs.declared.reply.Reply.{Reply}
 use Rattle.nr_command.specs.declared.reply.Reply.TheVariants as replies
-use Rattle.nr_command.specs.Reply.{fault_text, text_of}
+use Rattle.nr_command.specs.Reply.{reply_fault_text, text_of}
 use Rattle.nr_marks.specs.declared.marks.MarkFault.TheVariants.{NoSuchMark, MarksFull}
 
 some_behind : (a b : List ℕ) → 0 < length b → 0 < length (a ++ b)
 some_behind a b h = omega (arith, length-append a b)
 
-some_fault : (fault : Fault) → 0 < length (fault_text fault)
+some_fault : (fault : Fault) → 0 < length (reply_fault_text fault)
 some_fault (faults.Line UnknownCommand) = omega arith
 some_fault (faults.Line BadArgument) = omega arith
 some_fault (faults.Line TooLong) = omega arith

@@ -4,7 +4,7 @@ use Rattle.std.specs.Prelude.{All, IfOk, OnErr, option_map}
 use Rattle.std.proofs.lemmas.Bool.{ltb-false}
 use Rattle.std.proofs.lemmas.List.Elements.{All-head, All-tail, All-filter}
 use Rattle.nr_rev.specs.Run.{Recording}
-use Rattle.nr_marks.specs.Marks.{deletion, next_number}
+use Rattle.nr_marks.specs.Marks.{mark_deletion, next_number}
 use Rattle.nr_marks.specs.Numbered.{item_of}
 use Rattle.nr_marks.proofs.NumberedLemmas.{with_item-All}
 use Rattle.nr_marks.specs.declared.mark.Mark.{Mark}
@@ -17,7 +17,7 @@ use Rattle.nr_search.specs.declared.found.Found.{Found}
 use Rattle.nr_search.specs.declared.found.Found.TheVariants.{Hit, Nothing}
 use Rattle.nr_command.specs.Checkpoints.{Checkpoint}
 use Rattle.nr_command.specs.Checkpoints as checkpoints
-use Rattle.nr_command.specs.Debugger.{IsWithin, Ran, after_tagged, after_words, arrive, at, checkpoint_deleted, continue, mark_deleted, mark_made, opening, position_kept, restarted, run, step, to_end}
+use Rattle.nr_command.specs.Debugger.{IsWithin, Ran, after_tagged, after_words, stop_at, moved_to, checkpoint_deleted, continue, mark_deleted, mark_made, opening, position_kept, restarted, run, step, to_end}
 use Rattle.nr_command.specs.Word.{command_of}
 use Rattle.nr_command.specs.declared.checkpoint.CheckpointFault.{CheckpointFault}
 use Rattle.nr_command.specs.declared.command.Command.{Command}
@@ -39,21 +39,21 @@ either_within last true x y first second = first refl
 either_within last false x y first second = second refl
 
 module _ (last : ℕ) (d : Debugger) (w : IsWithin last d) where
-  at-within : (p : ℕ) → p ≤ last → IsWithin last (at p d)
-  at-within p within = record { position = within; kept = w.kept }
+  moved_to-within : (p : ℕ) → p ≤ last → IsWithin last (moved_to p d)
+  moved_to-within p within = record { position = within; kept = w.kept }
 
   to_end-within : (way : Direction) → IsWithin last (to_end way last d).1
-  to_end-within Forward = at-within last (omega arith)
-  to_end-within Backward = at-within 0 (omega arith)
+  to_end-within Forward = moved_to-within last (omega arith)
+  to_end-within Backward = moved_to-within 0 (omega arith)
 
   step-within : (way : Direction) (n : ℕ) → IsWithin last (step way n last d).1
   step-within Forward n =
       let there = d.position + n in
-      either_within last (nat_lt last there) (to_end Forward last d) (replies.At there, at there d) (λ far. to_end-within Forward) (λ near. at-within there (ltb-false last there near))
+      either_within last (nat_lt last there) (to_end Forward last d) (replies.At there, moved_to there d) (λ far. to_end-within Forward) (λ near. moved_to-within there (ltb-false last there near))
   step-within Backward n =
       let there = d.position - n in
       let here = w.position in
-      either_within last (nat_lt d.position n) (to_end Backward last d) (replies.At there, at there d) (λ far. to_end-within Backward) (λ near. at-within there (omega (arith, here)))
+      either_within last (nat_lt d.position n) (to_end Backward last d) (replies.At there, moved_to there d) (λ far. to_end-within Backward) (λ near. moved_to-within there (omega (arith, here)))
 
   marked-within : (mark : Mark) (made : Result ℕ MarkFault) → IsWithin last (mark_made mark d made).1
   marked-within mark (Ok number) = record { position = w.position; kept = w.kept }
@@ -67,21 +67,21 @@ module _ (last : ℕ) (d : Debugger) (w : IsWithin last d) where
   kept-within (Ok made) = record { position = w.position; kept = with_item-All (λ c. c.item ≤ last) d.position d.checkpoints w.kept w.position }
   kept-within (Err fault) = w
 
-  restarted-within : (number : ℕ) (found : Option Checkpoint) → find (λ c. c.number == number) d.checkpoints.standing ≡ found → IsWithin last (restarted d (option_map (λ c. c.item) found)).1
+  restarted-within : (number : ℕ) (found : Option Checkpoint) → find (λ c. c.number == number) d.checkpoints.present ≡ found → IsWithin last (restarted d (option_map (λ c. c.item) found)).1
   restarted-within number None is = w
-  restarted-within number (Some c) is = at-within c.item (found_kept (λ c. c.item ≤ last) (λ c. c.number == number) d.checkpoints.standing c w.kept is)
+  restarted-within number (Some c) is = moved_to-within c.item (found_kept (λ c. c.item ≤ last) (λ c. c.number == number) d.checkpoints.present c w.kept is)
 
   unkept-within : (number : ℕ) (gone : Result (Unit {0}) CheckpointFault) → IsWithin last (checkpoint_deleted number d gone).1
-  unkept-within number (Ok _) = record { position = w.position; kept = All-filter (λ c. not (c.number == number)) (λ c. c.item ≤ last) d.checkpoints.standing w.kept }
+  unkept-within number (Ok _) = record { position = w.position; kept = All-filter (λ c. not (c.number == number)) (λ c. c.item ≤ last) d.checkpoints.present w.kept }
   unkept-within number (Err fault) = w
 
 module _ (r : Recording) (d : Debugger) (w : IsWithin (length r.steps) d) where
-  arrive-within : (way : Direction) (found : Found) → found ≡ nearest_hit way r d.marks.standing d.position → IsWithin (length r.steps) (arrive way r d found).1
-  arrive-within way (Hit h) is = at-within (length r.steps) d w h.position (found_within way r d.marks.standing d.position (Hit h) w.position is)
-  arrive-within way Nothing is = to_end-within (length r.steps) d w way
+  stop_at-within : (way : Direction) (found : Found) → found ≡ nearest_hit way r d.marks.present d.position → IsWithin (length r.steps) (stop_at way r d found).1
+  stop_at-within way (Hit h) is = moved_to-within (length r.steps) d w h.position (found_within way r d.marks.present d.position (Hit h) w.position is)
+  stop_at-within way Nothing is = to_end-within (length r.steps) d w way
 
   continue-within : (way : Direction) → IsWithin (length r.steps) (continue way r d).1
-  continue-within way = arrive-within way (nearest_hit way r d.marks.standing d.position) refl
+  continue-within way = stop_at-within way (nearest_hit way r d.marks.present d.position) refl
 
   pub run-within : (command : Command) → IsWithin (length r.steps) (run r command d).1
   run-within (commands.Step count) = step-within (length r.steps) d w d.direction count.value
@@ -91,16 +91,17 @@ module _ (r : Recording) (d : Debugger) (w : IsWithin (length r.steps) d) where
   run-within (commands.SetDirection way) = record { position = w.position; kept = w.kept }
   run-within (commands.Break wanted) = marked-within (length r.steps) d w (marks.Break wanted) (next_number d.marks)
   run-within (commands.Watch c) = marked-within (length r.steps) d w (marks.Watch c) (next_number d.marks)
-  run-within (commands.Delete number) = deleted-within (length r.steps) d w number (deletion number d.marks)
+  run-within (commands.Delete number) = deleted-within (length r.steps) d w number (mark_deletion number d.marks)
   run-within commands.Checkpoint = kept-within (length r.steps) d w (checkpoints.next_checkpoint d.position d.checkpoints)
   run-within (commands.Restart number) =
-      either_within (length r.steps) (number == 0) (replies.At 0, at 0 d) (restarted d (item_of number d.checkpoints))
-      (λ start. at-within (length r.steps) d w 0 (omega arith))
-      (λ other. restarted-within (length r.steps) d w number (find (λ c. c.number == number) d.checkpoints.standing) refl)
-  run-within (commands.DeleteCheckpoint number) = unkept-within (length r.steps) d w number (checkpoints.deletion number d.checkpoints)
+      either_within (length r.steps) (number == 0) (replies.At 0, moved_to 0 d) (restarted d (item_of number d.checkpoints))
+      (λ start. moved_to-within (length r.steps) d w 0 (omega arith))
+      (λ other. restarted-within (length r.steps) d w number (find (λ c. c.number == number) d.checkpoints.present) refl)
+  run-within (commands.DeleteCheckpoint number) = unkept-within (length r.steps) d w number (checkpoints.checkpoint_deletion number d.checkpoints)
 
 -- after a command that was run, or that was refused memory
-pub exec-within : {E : Type 0} (r : Recording) (command : Command) (old new : Debugger) (result : Result Reply E) → IsWithin (length r.steps) old → IfOk result (λ reply. (reply, new) ≡ run r command old) → OnErr result (new ≡ old) → IsWithin (length r.steps) new
+pub exec-within : {E : Type 0} (r : Recording) (command : Command) (old new : Debugger) (result : Result Reply E) → IsWithin (length r.steps) old
+    → IfOk result (λ reply. (reply, new) ≡ run r command old) → OnErr result (new ≡ old) → IsWithin (length r.steps) new
 exec-within r command old new (Ok reply) w ran same = subst (IsWithin (length r.steps)) (sym (ap (λ (x : Ran). x.1) ran)) (run-within r old w command)
 exec-within r command old new (Err e) w ran same = subst (IsWithin (length r.steps)) (sym same) w
 

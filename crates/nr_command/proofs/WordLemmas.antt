@@ -8,7 +8,7 @@ use Rattle.nr_rev.specs.declared.cell.Cell.{Cell}
 use Rattle.nr_rev.specs.declared.kind.Kind.{Kind}
 use Rattle.nr_rev.specs.CellName.{cell_index, cell_number, cell_numbered, cells_at}
 use Rattle.nr_rev.specs.Kind.{kind_number, kind_numbered, kinds}
-use Rattle.nr_rev.proofs.FoundNames.{found_numbered, found_at}
+use Rattle.nr_rev.proofs.NameLookupLemmas.{found_numbered, found_at}
 use Rattle.nr_command.specs.Count.{from_one}
 use Rattle.nr_marks.specs.declared.mark.Break.{Break}
 use Rattle.nr_marks.specs.declared.mark.Break.TheVariants as breaks
@@ -17,7 +17,7 @@ use Rattle.nr_search.specs.declared.direction.Direction.TheVariants.{Forward, Ba
 use Rattle.nr_command.specs.declared.command.Command.{Command}
 use Rattle.nr_command.specs.declared.command.Command.TheVariants.{Step, ReverseStep, Continue, ReverseContinue, SetDirection, Watch, Delete, Checkpoint, Restart, DeleteCheckpoint}
 use Rattle.nr_command.specs.declared.command.Command.TheVariants as commands
-use Rattle.nr_command.specs.Word.{IsTyped, ◌>>=◌, argument_of, break_numbered, cell_at, command_of, command_with, direction_numbered, from_one_below, index_or_0, only_without, opcode_of, small, watch_at, word_of}
+use Rattle.nr_command.specs.Word.{HasTypedNumbers, ◌>>=◌, argument_of, break_numbered, cell_at, command_of, command_with, direction_numbered, from_one_below, index_or_0, only_without, opcode_of, small, watch_at, word_of}
 use Rattle.nr_command.proofs.CountLemmas.{from_one_is}
 
 -- a word's lowest byte, its next one, and the rest
@@ -60,13 +60,13 @@ kind_number_small _ = omega arith
 
 -- a number that is no byte is no kind's
 pub no_kind : (n : ℕ) → 256 ≤ n → kind_numbered n ≡ None
-no_kind n big = told (kind_numbered n) refl
+no_kind n big = read_back (kind_numbered n) refl
   where
-    told : (found : Option Kind) → kind_numbered n ≡ found → found ≡ None
-    told None e = refl
-    told (Some kind) e = let number = found_numbered kind_number kinds n kind e in let low = kind_number_small kind in absurd (omega (arith, number, low, big))
+    read_back : (found : Option Kind) → kind_numbered n ≡ found → found ≡ None
+    read_back None e = refl
+    read_back (Some kind) e = let number = found_numbered kind_number kinds n kind e in let low = kind_number_small kind in absurd (omega (arith, number, low, big))
 
-break_again : (at : Break) → IsTyped (commands.Break at) → break_numbered (argument_of (commands.Break at)) ≡ Some at
+break_again : (at : Break) → HasTypedNumbers (commands.Break at) → break_numbered (argument_of (commands.Break at)) ≡ Some at
 break_again (breaks.Kind kind) h =
     let k = kind_number kind in
     let high : (256 * k) / 256 ≡ k = omega arith in
@@ -92,10 +92,10 @@ cell_number_small : (cell : Cell) → cell_number cell < 256
 cell_number_small Cell.Clock = omega arith
 cell_number_small _ = omega arith
 
-index_small : (cell : Cell) → IsTyped (Watch cell) → index_or_0 (cell_index cell) < 2 ^ 32
+index_small : (cell : Cell) → HasTypedNumbers (Watch cell) → index_or_0 (cell_index cell) < 2 ^ 32
 index_small cell h = elim (cell_index cell) as (λ (i : Option ℕ). IfSome i (λ i. i < 2 ^ 32) → index_or_0 i < 2 ^ 32) [ None ↦ λ h. omega arith | Some i ↦ λ h. h ] h
 
-watch_again : (cell : Cell) → IsTyped (Watch cell) → watch_at (argument_of (Watch cell)) ≡ Some cell
+watch_again : (cell : Cell) → HasTypedNumbers (Watch cell) → watch_at (argument_of (Watch cell)) ≡ Some cell
 watch_again cell h =
     let n = cell_number cell in
     let i = index_or_0 (cell_index cell) in
@@ -108,7 +108,7 @@ watch_again cell h =
     ∙ cell_at_again cell
 
 -- a command's opcode and argument make it again
-made_again : (command : Command) → IsTyped command → command_with (opcode_of command) (argument_of command) ≡ Some command
+made_again : (command : Command) → HasTypedNumbers command → command_with (opcode_of command) (argument_of command) ≡ Some command
 made_again (Step count) h = ap (option_map Step) (count_again count h)
 made_again (ReverseStep count) h = ap (option_map ReverseStep) (count_again count h)
 made_again Continue h = refl
@@ -122,7 +122,7 @@ made_again Checkpoint h = refl
 made_again (Restart n) h = ap (option_map Restart) (small_again n h)
 made_again (DeleteCheckpoint n) h = ap (option_map DeleteCheckpoint) (small_again n h)
 
-pub read_again : (tag : ℕ) (command : Command) → tag < 256 → IsTyped command → command_of (word_of tag command) ≡ Some (tag, command)
+pub read_again : (tag : ℕ) (command : Command) → tag < 256 → HasTypedNumbers command → command_of (word_of tag command) ≡ Some (tag, command)
 read_again tag command fits typed =
     let o = opcode_of command in
     let a = argument_of command in
@@ -134,7 +134,7 @@ read_again tag command fits typed =
 
 -- what a command was read from
 abbrev Reads : ℕ → ℕ → Command → Type 0
-Reads o a command = (o ≡ opcode_of command) × (a ≡ argument_of command) × IsTyped command
+Reads o a command = (o ≡ opcode_of command) × (a ≡ argument_of command) × HasTypedNumbers command
 
 branch : {A : Type 0} (b : Bool) (x y : Option A) (c : A) (P : Type 0) → (b ≡ true → x ≡ Some c → P) → (y ≡ Some c → P) → cond b x y ≡ Some c → P
 branch true x y c P first second e = first refl e
@@ -167,24 +167,24 @@ count_read a count e =
     let is = one_read found.0 count found.2 in
     (fits.0 ∙ is, omega (arith, fits.0, fits.1, is))
 
-break_read : (a : ℕ) (at : Break) → break_numbered a ≡ Some at → (a ≡ argument_of (commands.Break at)) × IsTyped (commands.Break at)
+break_read : (a : ℕ) (at : Break) → break_numbered a ≡ Some at → (a ≡ argument_of (commands.Break at)) × HasTypedNumbers (commands.Break at)
 break_read a at =
     branch (nat_eq (a % 256) 0) _ _ at _
     (λ low e. of_kind (eqb-true (a % 256) 0 low) (mapped breaks.Kind (kind_numbered (a / 256)) at e))
     (branch (nat_eq (a % 256) 1) _ _ at _ (λ low e. of_step (eqb-true (a % 256) 1 low) (mapped breaks.Step (from_one_below (a / 256)) at e)) (λ e. cc))
   where
-    of_kind : a % 256 ≡ 0 → (kind : Kind) × (kind_numbered (a / 256) ≡ Some kind) × (breaks.Kind kind ≡ at) → (a ≡ argument_of (commands.Break at)) × IsTyped (commands.Break at)
+    of_kind : a % 256 ≡ 0 → (kind : Kind) × (kind_numbered (a / 256) ≡ Some kind) × (breaks.Kind kind ≡ at) → (a ≡ argument_of (commands.Break at)) × HasTypedNumbers (commands.Break at)
     of_kind low found =
         let number = found_numbered kind_number kinds (a / 256) found.0 found.1 in
         let is : a ≡ 256 * kind_number found.0 = omega (arith, low, number) in
-        subst (λ b. (a ≡ argument_of (commands.Break b)) × IsTyped (commands.Break b)) found.2 (is, tt)
+        subst (λ b. (a ≡ argument_of (commands.Break b)) × HasTypedNumbers (commands.Break b)) found.2 (is, tt)
 
-    of_step : a % 256 ≡ 1 → (step : NonZeroU32) × (from_one_below (a / 256) ≡ Some step) × (breaks.Step step ≡ at) → (a ≡ argument_of (commands.Break at)) × IsTyped (commands.Break at)
+    of_step : a % 256 ≡ 1 → (step : NonZeroU32) × (from_one_below (a / 256) ≡ Some step) × (breaks.Step step ≡ at) → (a ≡ argument_of (commands.Break at)) × HasTypedNumbers (commands.Break at)
     of_step low found =
         let number = count_read (a / 256) found.0 found.1 in
         let same = number.0 in
         let is : a ≡ 1 + 256 * found.0.value = omega (arith, low, same) in
-        subst (λ b. (a ≡ argument_of (commands.Break b)) × IsTyped (commands.Break b)) found.2 (is, number.1)
+        subst (λ b. (a ≡ argument_of (commands.Break b)) × HasTypedNumbers (commands.Break b)) found.2 (is, number.1)
 
 direction_read : (a : ℕ) (direction : Direction) → direction_numbered a ≡ Some direction → a ≡ argument_of (SetDirection direction)
 direction_read a direction =
@@ -204,13 +204,13 @@ either_read (Some x) y c P first second e = first e
 
 -- a cell that was found by a number and an index
 numbered_read : (n : ℕ) (index : Option ℕ) (cell : Cell) → IfSome index (λ i. i < 2 ^ 32) → cell_numbered n index ≡ Some cell
-    → (n + 256 * index_or_0 index ≡ argument_of (Watch cell)) × IsTyped (Watch cell)
+    → (n + 256 * index_or_0 index ≡ argument_of (Watch cell)) × HasTypedNumbers (Watch cell)
 numbered_read n index cell fits e =
     let number = found_numbered cell_number (cells_at index) n cell e in
     let at = found_at _ index cell e in
     (ap (λ k. k + 256 * index_or_0 index) number ∙ ap (λ i. cell_number cell + 256 * index_or_0 i) at, subst (λ i. IfSome i (λ i. i < 2 ^ 32)) at fits)
 
-watch_read : (a : ℕ) (cell : Cell) → watch_at a ≡ Some cell → (a ≡ argument_of (Watch cell)) × IsTyped (Watch cell)
+watch_read : (a : ℕ) (cell : Cell) → watch_at a ≡ Some cell → (a ≡ argument_of (Watch cell)) × HasTypedNumbers (Watch cell)
 watch_read a cell e =
     let found = then_read (small (a / 256)) (cell_at (a % 256)) cell e in
     let fits = small_read (a / 256) found.0 found.1 in
@@ -218,9 +218,9 @@ watch_read a cell e =
     let i = found.0 in
     let below : i < 2 ^ 32 = omega (arith, high, fits.1) in
     let whole : a ≡ a % 256 + 256 * i = omega (arith, high) in
-    let with_index : cell_numbered (a % 256) (Some i) ≡ Some cell → (a ≡ argument_of (Watch cell)) × IsTyped (Watch cell) =
+    let with_index : cell_numbered (a % 256) (Some i) ≡ Some cell → (a ≡ argument_of (Watch cell)) × HasTypedNumbers (Watch cell) =
     λ is. (let read = numbered_read (a % 256) (Some i) cell below is in (whole ∙ read.0, read.1)) in
-    let without : i ≡ 0 → cell_numbered (a % 256) None ≡ Some cell → (a ≡ argument_of (Watch cell)) × IsTyped (Watch cell) =
+    let without : i ≡ 0 → cell_numbered (a % 256) None ≡ Some cell → (a ≡ argument_of (Watch cell)) × HasTypedNumbers (Watch cell) =
     λ zero is. (let read = numbered_read (a % 256) None cell tt is in (whole ∙ ap (λ j. a % 256 + 256 * j) zero ∙ read.0, read.1)) in
     branch (nat_eq i 0) _ _ cell _ (λ zero o. either_read _ _ cell _ (without (eqb-true i 0 zero)) with_index o) with_index found.2
 
@@ -279,7 +279,7 @@ module _ (o a : ℕ) (c : Command) where
       (branch (nat_eq o 11) _ _ c _ (λ k. let is = eqb-true o 11 k in number_with DeleteCheckpoint (λ n h. (is, refl, h)))
       (λ e. cc)))))))))))
 
-pub word_read : (n tag : ℕ) (command : Command) → command_of n ≡ Some (tag, command) → (n ≡ word_of tag command) × (tag < 256) × IsTyped command
+pub word_read : (n tag : ℕ) (command : Command) → command_of n ≡ Some (tag, command) → (n ≡ word_of tag command) × (tag < 256) × HasTypedNumbers command
 word_read n tag command e =
     let found = mapped (λ c. (n / 256 % 256, c)) (command_with (n % 256) (n / 65536)) (tag, command) e in
     let same : found.0 ≡ command = ap (λ p. p.1) found.2 in

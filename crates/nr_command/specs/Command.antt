@@ -27,7 +27,8 @@ use Rattle.nr_command.specs.declared.command.LineFault.TheVariants.{UnknownComma
 
 infixl 10 ◌>>=◌
 -- what follows from a value, or the fault where there is none
-abbrev pub ◌>>=◌ : {A B : Type 0} → Result A LineFault → (A → Result B LineFault) → Result B LineFault
+abbrev pub ◌>>=◌ : {A B : Type 0} → Result A LineFault → (A → Result B LineFault)
+    → Result B LineFault
 (Ok x) >>= f = f x
 (Err e) >>= f = Err e
 
@@ -42,7 +43,8 @@ words bs = filter (λ word. nat_lt 0 (length word)) (slice_split (λ b. b == 32)
 -- a number below 2 ^ 32 in decimal digits, with leading zeros or not
 abbrev pub number_of : List ℕ → Result ℕ LineFault
 number_of ds =
-    if nat_lt 0 (length ds) && list_all is_ascii_digit ds && nat_lt (digits_value 10 ds) (2 ^ 32) then Ok (digits_value 10 ds)
+    if nat_lt 0 (length ds) && list_all is_ascii_digit ds && nat_lt (digits_value 10 ds) (2 ^ 32)
+    then Ok (digits_value 10 ds)
     else Err BadArgument
 
 -- a number that has to be at least 1
@@ -69,19 +71,23 @@ direction_of way =
 
 -- the way is all that can be set
 abbrev pub way_of : List ℕ → List ℕ → Result Direction LineFault
-way_of what way = if bytes_eq what (codes "exec-direction") then direction_of way else Err BadArgument
+way_of what way =
+    if bytes_eq what (codes "exec-direction") then direction_of way else Err BadArgument
 
+-- the direction of `set exec-direction WAY`, from the words behind `set`
 abbrev pub setting_of : List (List ℕ) → Result Direction LineFault
 setting_of (what ∷ way ∷ []) = way_of what way
 setting_of _ = Err BadArgument
 
--- where a break stops: before the step of a number, which stands behind @, or before each step of a kind
+-- where a break stops: before the step of a number, which is behind @, or before each step of a
+-- kind
 abbrev pub break_at : List ℕ → Result Break LineFault
 break_at [] = Err BadArgument
 break_at (b ∷ bs) =
     if b == 64 then (number_of bs >>= λ n. at_least_one n >>= λ step. Ok (breaks.Step step))
     else ok_or (option_map breaks.Kind (kind_named (b ∷ bs))) BadArgument
 
+-- where a `break` stops: one word says it
 abbrev pub break_of : List (List ℕ) → Result Break LineFault
 break_of (word ∷ []) = break_at word
 break_of _ = Err BadArgument
@@ -96,7 +102,8 @@ cell_of _ = Err BadArgument
 abbrev pub deletion_of : List (List ℕ) → Result Command LineFault
 deletion_of (word ∷ []) = number_of word >>= λ n. Ok (commands.Delete n)
 deletion_of (what ∷ word ∷ []) =
-    if bytes_eq what (codes "checkpoint") then (number_of word >>= λ n. Ok (commands.DeleteCheckpoint n)) else Err BadArgument
+    if bytes_eq what (codes "checkpoint")
+    then (number_of word >>= λ n. Ok (commands.DeleteCheckpoint n)) else Err BadArgument
 deletion_of _ = Err BadArgument
 
 -- what of a socket is dumped
@@ -113,7 +120,7 @@ abbrev pub dump_of : List (List ℕ) → Result Query LineFault
 dump_of (kind ∷ word ∷ []) = number_of word >>= λ s. buffer_or_queue kind s
 dump_of _ = Err BadArgument
 
--- what is told of the session
+-- what is asked of the session
 abbrev pub topic_of : List ℕ → Result Query LineFault
 topic_of topic =
     if bytes_eq topic (codes "position") then Ok queries.Position
@@ -121,6 +128,7 @@ topic_of topic =
     else if bytes_eq topic (codes "checkpoints") then Ok queries.Checkpoints
     else Err BadArgument
 
+-- what an `info` asks for: one word says it
 abbrev pub info_of : List (List ℕ) → Result Query LineFault
 info_of (topic ∷ []) = topic_of topic
 info_of _ = Err BadArgument
@@ -134,17 +142,25 @@ alone line _ = Err BadArgument
 abbrev pub meaning_of_words : List (List ℕ) → Result Line LineFault
 meaning_of_words [] = Ok Empty
 meaning_of_words (verb ∷ rest) =
-    if bytes_eq verb (codes "stepi") || bytes_eq verb (codes "si") then (count_of rest >>= λ n. Ok (Run (commands.Step n)))
-    else if bytes_eq verb (codes "reverse-stepi") || bytes_eq verb (codes "rsi") then (count_of rest >>= λ n. Ok (Run (commands.ReverseStep n)))
-    else if bytes_eq verb (codes "continue") || bytes_eq verb (codes "c") then alone (Run commands.Continue) rest
-    else if bytes_eq verb (codes "reverse-continue") || bytes_eq verb (codes "rc") then alone (Run commands.ReverseContinue) rest
-    else if bytes_eq verb (codes "set") then (setting_of rest >>= λ way. Ok (Run (commands.SetDirection way)))
-    else if bytes_eq verb (codes "break") || bytes_eq verb (codes "b") then (break_of rest >>= λ at. Ok (Run (commands.Break at)))
+    if bytes_eq verb (codes "stepi") || bytes_eq verb (codes "si")
+    then (count_of rest >>= λ n. Ok (Run (commands.Step n)))
+    else if bytes_eq verb (codes "reverse-stepi") || bytes_eq verb (codes "rsi")
+    then (count_of rest >>= λ n. Ok (Run (commands.ReverseStep n)))
+    else if bytes_eq verb (codes "continue") || bytes_eq verb (codes "c")
+    then alone (Run commands.Continue) rest
+    else if bytes_eq verb (codes "reverse-continue") || bytes_eq verb (codes "rc")
+    then alone (Run commands.ReverseContinue) rest
+    else if bytes_eq verb (codes "set")
+    then (setting_of rest >>= λ way. Ok (Run (commands.SetDirection way)))
+    else if bytes_eq verb (codes "break") || bytes_eq verb (codes "b")
+    then (break_of rest >>= λ at. Ok (Run (commands.Break at)))
     else if bytes_eq verb (codes "watch") then (cell_of rest >>= λ c. Ok (Run (commands.Watch c)))
     else if bytes_eq verb (codes "delete") then (deletion_of rest >>= λ d. Ok (Run d))
     else if bytes_eq verb (codes "checkpoint") then alone (Run commands.Checkpoint) rest
-    else if bytes_eq verb (codes "restart") then (only_number rest >>= λ n. Ok (Run (commands.Restart n)))
-    else if bytes_eq verb (codes "print") || bytes_eq verb (codes "p") then (cell_of rest >>= λ c. Ok (Look (queries.Print c)))
+    else if bytes_eq verb (codes "restart")
+    then (only_number rest >>= λ n. Ok (Run (commands.Restart n)))
+    else if bytes_eq verb (codes "print") || bytes_eq verb (codes "p")
+    then (cell_of rest >>= λ c. Ok (Look (queries.Print c)))
     else if bytes_eq verb (codes "dump") then (dump_of rest >>= λ q. Ok (Look q))
     else if bytes_eq verb (codes "info") then (info_of rest >>= λ q. Ok (Look q))
     else if bytes_eq verb (codes "resume") then alone Resume rest
@@ -153,4 +169,5 @@ meaning_of_words (verb ∷ rest) =
 
 -- what a line asks for, without its line feed
 abbrev pub meaning_of : List ℕ → Result Line LineFault
-meaning_of bytes = if nat_lt MAX_LINE (length bytes) then Err TooLong else meaning_of_words (words (without_return bytes))
+meaning_of bytes = if nat_lt MAX_LINE (length bytes) then Err TooLong
+    else meaning_of_words (words (without_return bytes))

@@ -3,7 +3,7 @@ use Rattle.std.specs.Prelude.{ℕ, ◌+◌, ◌-◌, ◌<◌, ◌≤◌, ◌==�
 use Rattle.nr_rev.specs.Cell.{cell, bytes_of, queue_of}
 use Rattle.nr_rev.specs.Run.{Recording, world_at}
 use Rattle.nr_rev.specs.Worlds.{HasItems}
-use Rattle.nr_marks.specs.Marks.{deletion, next_number}
+use Rattle.nr_marks.specs.Marks.{mark_deletion, next_number}
 use Rattle.nr_marks.specs.Numbered.{empty, item_of, with_item, without_item}
 use Rattle.nr_marks.specs.declared.mark.Mark.{Mark}
 use Rattle.nr_marks.specs.declared.mark.Mark.TheVariants as marks
@@ -36,70 +36,83 @@ abbrev pub Ran : Type 0
 Ran = Reply × Debugger
 
 -- the debugger at another position
-abbrev pub at : ℕ → Debugger → Debugger
-at p d = record d { position = p }
+abbrev pub moved_to : ℕ → Debugger → Debugger
+moved_to p d = record d { position = p }
 
 -- it goes to where the recording ends that way, and says so
 abbrev pub to_end : Direction → ℕ → Debugger → Ran
-to_end Forward last d = (replies.AtEnd last, at last d)
-to_end Backward last d = (replies.AtStart, at 0 d)
+to_end Forward last d = (replies.AtEnd last, moved_to last d)
+to_end Backward last d = (replies.AtStart, moved_to 0 d)
 
 -- it goes so many steps that way, or to the end there
 abbrev pub step : Direction → ℕ → ℕ → Debugger → Ran
-step Forward n last d = if nat_lt last (d.position + n) then to_end Forward last d else (replies.At (d.position + n), at (d.position + n) d)
-step Backward n last d = if nat_lt d.position n then to_end Backward last d else (replies.At (d.position - n), at (d.position - n) d)
+step Forward n last d = if nat_lt last (d.position + n) then to_end Forward last d
+    else (replies.At (d.position + n), moved_to (d.position + n) d)
+step Backward n last d = if nat_lt d.position n then to_end Backward last d
+    else (replies.At (d.position - n), moved_to (d.position - n) d)
 
--- it goes to what was found, and tells which marks hit there; where nothing was, to the end that way
-abbrev pub arrive : Direction → Recording → Debugger → Found → Ran
-arrive way r d (Hit h) = (replies.AtHit h.position h.marks, at h.position d)
-arrive way r d Nothing = to_end way (length r.steps) d
+-- it goes to what was found, and says which marks hit there; where nothing was, to the end that way
+abbrev pub stop_at : Direction → Recording → Debugger → Found → Ran
+stop_at way r d (Hit h) = (replies.AtHit h.position h.marks, moved_to h.position d)
+stop_at way r d Nothing = to_end way (length r.steps) d
 
 -- it goes to the nearest hit that way
 abbrev pub continue : Direction → Recording → Debugger → Ran
-continue way r d = arrive way r d (nearest_hit way r d.marks.standing d.position)
+continue way r d = stop_at way r d (nearest_hit way r d.marks.present d.position)
 
 -- it makes a mark
 abbrev pub mark_made : Mark → Debugger → Result ℕ MarkFault → Ran
-mark_made mark d (Ok number) = (replies.MarkMade number, record d { marks = with_item mark d.marks })
+mark_made mark d (Ok number) =
+    (replies.MarkMade number, record d { marks = with_item mark d.marks })
 mark_made mark d (Err fault) = (replies.Fault (faults.Mark fault), d)
 
+-- it makes a mark with the next number, or says why there is none
 abbrev pub make_mark : Mark → Debugger → Ran
 make_mark mark d = mark_made mark d (next_number d.marks)
 
 -- it deletes a mark
 abbrev pub mark_deleted : ℕ → Debugger → Result (Unit {0}) MarkFault → Ran
-mark_deleted number d (Ok _) = (replies.MarkDeleted number, record d { marks = without_item number d.marks })
+mark_deleted number d (Ok _) =
+    (replies.MarkDeleted number, record d { marks = without_item number d.marks })
 mark_deleted number d (Err fault) = (replies.Fault (faults.Mark fault), d)
 
+-- it deletes the mark with this number, or says why it can't
 abbrev pub delete_mark : ℕ → Debugger → Ran
-delete_mark number d = mark_deleted number d (deletion number d.marks)
+delete_mark number d = mark_deleted number d (mark_deletion number d.marks)
 
 -- it keeps its position
 abbrev pub position_kept : Debugger → Result Checkpoint CheckpointFault → Ran
-position_kept d (Ok made) = (replies.CheckpointMade made, record d { checkpoints = with_item d.position d.checkpoints })
+position_kept d (Ok made) =
+    (replies.CheckpointMade made, record d { checkpoints = with_item d.position d.checkpoints })
 position_kept d (Err fault) = (replies.Fault (faults.Checkpoint fault), d)
 
+-- it keeps its position as the next checkpoint, or says why it can't
 abbrev pub keep_position : Debugger → Ran
 keep_position d = position_kept d (next_checkpoint d.position d.checkpoints)
 
 -- it goes to a position that was kept
 abbrev pub restarted : Debugger → Option ℕ → Ran
-restarted d (Some p) = (replies.At p, at p d)
+restarted d (Some p) = (replies.At p, moved_to p d)
 restarted d None = (replies.Fault (faults.Checkpoint NoSuchCheckpoint), d)
 
--- checkpoint 0 stands for the start
+-- checkpoint 0 is the start
 abbrev pub restart : ℕ → Debugger → Ran
-restart number d = if number == 0 then (replies.At 0, at 0 d) else restarted d (item_of number d.checkpoints)
+restart number d =
+    if number == 0 then (replies.At 0, moved_to 0 d) else restarted d (item_of number d.checkpoints)
 
 -- it deletes a checkpoint
 abbrev pub checkpoint_deleted : ℕ → Debugger → Result (Unit {0}) CheckpointFault → Ran
-checkpoint_deleted number d (Ok _) = (replies.CheckpointDeleted number, record d { checkpoints = without_item number d.checkpoints })
+checkpoint_deleted number d (Ok _) =
+    (replies.CheckpointDeleted number, record d { checkpoints = without_item number d.checkpoints })
 checkpoint_deleted number d (Err fault) = (replies.Fault (faults.Checkpoint fault), d)
 
+-- it deletes the checkpoint with this number, or says why it can't
 abbrev pub delete_checkpoint : ℕ → Debugger → Ran
-delete_checkpoint number d = checkpoint_deleted number d (checkpoints.deletion number d.checkpoints)
+delete_checkpoint number d =
+    checkpoint_deleted number d (checkpoints.checkpoint_deletion number d.checkpoints)
 
--- What a command does. `stepi` and `continue` go the way that is set, those whose names begin with `reverse` backwards.
+-- What a command does. `stepi` and `continue` go the way that is set, those whose names begin with
+-- `reverse` backwards.
 abbrev pub run : Recording → Command → Debugger → Ran
 run r (commands.Step count) d = step d.direction count.value (length r.steps) d
 run r (commands.ReverseStep count) d = step Backward count.value (length r.steps) d
@@ -113,16 +126,17 @@ run r commands.Checkpoint d = keep_position d
 run r (commands.Restart number) d = restart number d
 run r (commands.DeleteCheckpoint number) d = delete_checkpoint number d
 
--- it stands in the recording, and so do the positions that it keeps
+-- its position is in the recording, and so are the positions that it keeps
 pub record IsWithin (last : ℕ) (d : Debugger) : Type 0 where
   pub position : d.position ≤ last
-  pub kept : All (λ c. c.item ≤ last) d.checkpoints.standing
+  pub kept : All (λ c. c.item ≤ last) d.checkpoints.present
 
+-- a search this way goes over worlds: there are marks, and a copy of the world is needed
 abbrev pub NeedsWorlds : Direction → Recording → Debugger → Type 0
-NeedsWorlds way r d = (0 < length d.marks.standing) × NeedsCopy way r d.position
+NeedsWorlds way r d = (0 < length d.marks.present) × NeedsCopy way r d.position
 
--- The command searches the recording, by copies of its worlds: it continues, marks stand, and a position other than the
--- start lies that way.
+-- The command searches the recording, by copies of its worlds: it continues, there are marks, and a
+-- position other than the start lies that way.
 abbrev pub Searches : Recording → Command → Debugger → Type 0
 Searches r commands.Continue d = NeedsWorlds d.direction r d
 Searches r commands.ReverseContinue d = NeedsWorlds Backward r d
@@ -143,15 +157,18 @@ abbrev pub reply_behind : Recording → List ℕ → Command → Reply
 reply_behind r words command = (run r command (after_words r opening words)).0
 
 -- what a look shows: the world of the position, or what the debugger keeps
-abbrev pub shown : Recording → Debugger → Query → Reply
-shown r d (queries.Print c) = replies.Printed c (cell (world_at r d.position) c)
-shown r d (queries.DumpBytes side s) = replies.Bytes side s (bytes_of (world_at r d.position) s side)
-shown r d (queries.DumpQueue side s) = replies.Queue side s (queue_of (world_at r d.position) s side)
-shown r d queries.Position = replies.Position d.position (length r.steps) d.direction
-shown r d queries.Breakpoints = replies.Marks (record { items = d.marks.standing })
-shown r d queries.Checkpoints = replies.Checkpoints (record { items = d.checkpoints.standing })
+abbrev pub query_reply : Recording → Debugger → Query → Reply
+query_reply r d (queries.Print c) = replies.Printed c (cell (world_at r d.position) c)
+query_reply r d (queries.DumpBytes side s) =
+    replies.Bytes side s (bytes_of (world_at r d.position) s side)
+query_reply r d (queries.DumpQueue side s) =
+    replies.Queue side s (queue_of (world_at r d.position) s side)
+query_reply r d queries.Position = replies.Position d.position (length r.steps) d.direction
+query_reply r d queries.Breakpoints = replies.Marks (record { items = d.marks.present })
+query_reply r d queries.Checkpoints = replies.Checkpoints (record { items = d.checkpoints.present })
 
--- a look copies what it shows of the world: a dump does, where there are bytes or goroutines to show
+-- a look copies what it shows of the world: a dump does, where there are bytes or goroutines to
+-- show
 abbrev pub Copies : Recording → Debugger → Query → Type 0
 Copies r d (queries.DumpBytes side s) = HasItems (bytes_of (world_at r d.position) s side)
 Copies r d (queries.DumpQueue side s) = HasItems (queue_of (world_at r d.position) s side)

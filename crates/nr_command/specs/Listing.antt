@@ -26,11 +26,13 @@ checkpoint_line c = decimal c.number ++ codes " at " ++ decimal c.item ++ codes 
 
 -- the list of marks: how many, and a line for each
 abbrev pub marks_text : List NumberedMark → List ℕ
-marks_text marks = codes "marks " ++ decimal (length marks) ++ codes "\n" ++ flat_map mark_line marks
+marks_text marks =
+    codes "marks " ++ decimal (length marks) ++ codes "\n" ++ flat_map mark_line marks
 
 -- the list of checkpoints
 abbrev pub checkpoints_text : List Checkpoint → List ℕ
-checkpoints_text checkpoints = codes "checkpoints " ++ decimal (length checkpoints) ++ codes "\n" ++ flat_map checkpoint_line checkpoints
+checkpoints_text checkpoints = codes "checkpoints " ++ decimal (length checkpoints) ++ codes "\n"
+    ++ flat_map checkpoint_line checkpoints
 
 -- a part of a list
 abbrev pub listing_text : Listing → List ℕ

@@ -2,7 +2,7 @@
 use Rattle.std.specs.Prelude.{ℕ, List, [], ◌∷◌, ◌++◌, flat_map, Option, Some, None, codes, decimal}
 use Rattle.nr_rev.specs.declared.sides.Side.{Side}
 use Rattle.nr_rev.specs.declared.sides.Side.TheVariants.{Read, Write}
-use Rattle.nr_text.specs.Text.{hex_pair, next_number}
+use Rattle.nr_text.specs.Text.{hex_pair, spaced_number}
 use Rattle.nr_command.specs.Value.{cell_text, value_text}
 use Rattle.nr_command.specs.Listing.{checkpoints_text, marks_text}
 use Rattle.nr_command.specs.declared.checkpoint.CheckpointFault.TheVariants.{NoSuchCheckpoint, CheckpointsFull}
@@ -16,17 +16,18 @@ use Rattle.nr_command.specs.declared.reply.Reply.{Reply}
 use Rattle.nr_command.specs.declared.reply.Reply.TheVariants as replies
 
 -- why nothing was done: a number, and what it means
-abbrev pub fault_text : Fault → List ℕ
-fault_text (faults.Line UnknownCommand) = codes "fault 201 unknown command\n"
-fault_text (faults.Line BadArgument) = codes "fault 202 bad argument\n"
-fault_text (faults.Line TooLong) = codes "fault 203 line too long\n"
-fault_text faults.Memory = codes "fault 301 memory\n"
-fault_text (faults.Placed place) = codes "fault 302 memory, placed " ++ decimal place ++ codes "\n"
-fault_text faults.JournalFull = codes "fault 303 journal full\n"
-fault_text (faults.Mark NoSuchMark) = codes "fault 401 no such mark\n"
-fault_text (faults.Mark MarksFull) = codes "fault 402 marks full\n"
-fault_text (faults.Checkpoint NoSuchCheckpoint) = codes "fault 403 no such checkpoint\n"
-fault_text (faults.Checkpoint CheckpointsFull) = codes "fault 404 checkpoints full\n"
+abbrev pub reply_fault_text : Fault → List ℕ
+reply_fault_text (faults.Line UnknownCommand) = codes "fault 201 unknown command\n"
+reply_fault_text (faults.Line BadArgument) = codes "fault 202 bad argument\n"
+reply_fault_text (faults.Line TooLong) = codes "fault 203 line too long\n"
+reply_fault_text faults.Memory = codes "fault 301 memory\n"
+reply_fault_text (faults.Placed place) =
+    codes "fault 302 memory, placed " ++ decimal place ++ codes "\n"
+reply_fault_text faults.JournalFull = codes "fault 303 journal full\n"
+reply_fault_text (faults.Mark NoSuchMark) = codes "fault 401 no such mark\n"
+reply_fault_text (faults.Mark MarksFull) = codes "fault 402 marks full\n"
+reply_fault_text (faults.Checkpoint NoSuchCheckpoint) = codes "fault 403 no such checkpoint\n"
+reply_fault_text (faults.Checkpoint CheckpointsFull) = codes "fault 404 checkpoints full\n"
 
 -- which way
 abbrev pub direction_text : Direction → List ℕ
@@ -43,7 +44,7 @@ bytes_text (Some (b ∷ bs)) = flat_map hex_pair (b ∷ bs)
 abbrev pub queue_text : Option (List ℕ) → List ℕ
 queue_text None = codes " absent"
 queue_text (Some []) = codes " -"
-queue_text (Some (g ∷ gs)) = flat_map next_number (g ∷ gs)
+queue_text (Some (g ∷ gs)) = flat_map spaced_number (g ∷ gs)
 
 -- what a buffer is called
 abbrev pub buffer_name : Side → List ℕ
@@ -60,19 +61,25 @@ abbrev pub text_of : Reply → List ℕ
 text_of (replies.At p) = codes "at " ++ decimal p ++ codes "\n"
 text_of (replies.AtEnd p) = codes "at " ++ decimal p ++ codes " end\n"
 text_of replies.AtStart = codes "at 0 start\n"
-text_of (replies.AtHit p marks) = codes "at " ++ decimal p ++ codes " by" ++ flat_map next_number marks.items ++ codes "\n"
+text_of (replies.AtHit p marks) =
+    codes "at " ++ decimal p ++ codes " by" ++ flat_map spaced_number marks.items ++ codes "\n"
 text_of (replies.Direction direction) = codes "direction " ++ direction_text direction ++ codes "\n"
 text_of (replies.MarkMade n) = codes "mark " ++ decimal n ++ codes "\n"
 text_of (replies.MarkDeleted n) = codes "deleted mark " ++ decimal n ++ codes "\n"
-text_of (replies.CheckpointMade c) = codes "checkpoint " ++ decimal c.number ++ codes " at " ++ decimal c.item ++ codes "\n"
+text_of (replies.CheckpointMade c) =
+    codes "checkpoint " ++ decimal c.number ++ codes " at " ++ decimal c.item ++ codes "\n"
 text_of (replies.CheckpointDeleted n) = codes "deleted checkpoint " ++ decimal n ++ codes "\n"
-text_of (replies.Printed cell value) = cell_text cell ++ codes " = " ++ value_text value ++ codes "\n"
-text_of (replies.Bytes side s bytes) = buffer_name side ++ decimal s ++ codes " = " ++ bytes_text bytes ++ codes "\n"
-text_of (replies.Queue side s queue) = queue_name side ++ decimal s ++ codes " =" ++ queue_text queue ++ codes "\n"
+text_of (replies.Printed cell value) =
+    cell_text cell ++ codes " = " ++ value_text value ++ codes "\n"
+text_of (replies.Bytes side s bytes) =
+    buffer_name side ++ decimal s ++ codes " = " ++ bytes_text bytes ++ codes "\n"
+text_of (replies.Queue side s queue) =
+    queue_name side ++ decimal s ++ codes " =" ++ queue_text queue ++ codes "\n"
 text_of (replies.Position p last direction) =
-    codes "at " ++ decimal p ++ codes " of " ++ decimal last ++ codes " " ++ direction_text direction ++ codes "\n"
+    codes "at " ++ decimal p ++ codes " of " ++ decimal last ++ codes " "
+    ++ direction_text direction ++ codes "\n"
 text_of (replies.Marks marks) = marks_text marks.items
 text_of (replies.Checkpoints checkpoints) = checkpoints_text checkpoints.items
 text_of replies.NothingOwed = codes "nothing owed\n"
 text_of replies.Bye = codes "bye\n"
-text_of (replies.Fault fault) = fault_text fault
+text_of (replies.Fault fault) = reply_fault_text fault

@@ -5,8 +5,8 @@ use Rattle.nr_rev.specs.declared.cell.Cell.{Cell}
 use Rattle.nr_rev.specs.CellName.{cell_index, cell_name}
 use Rattle.nr_rev.specs.declared.cell_value.CellValue.{CellValue}
 use Rattle.nr_rev.specs.declared.cell_value.CellValue.TheVariants as values
-use Rattle.nr_rev.specs.declared.descriptor.Word.{Word}
-use Rattle.nr_rev.specs.declared.descriptor.Word.TheVariants.{Nil, Ready, Wait, Held}
+use Rattle.nr_rev.specs.declared.descriptor.WaitWord.{WaitWord}
+use Rattle.nr_rev.specs.declared.descriptor.WaitWord.TheVariants.{Nil, Ready, Wait, Held}
 use Rattle.nr_rev.specs.declared.status.Status.{Status}
 use Rattle.nr_rev.specs.declared.status.Status.TheVariants.{Idle, Acquiring, Queued, Relock, Owing, Entering, Armed, Parking, Parked, Swapping, Checking, Gone}
 use Rattle.nr_command.specs.declared.value.Piece.{Piece}
@@ -24,11 +24,11 @@ abbrev pub cell_text : Cell → List ℕ
 cell_text cell = text_with (cell_name cell) (cell_index cell)
 
 -- a word of a descriptor
-abbrev pub word_text : Word → List ℕ
-word_text Nil = codes "nil"
-word_text Ready = codes "ready"
-word_text Wait = codes "wait"
-word_text (Held g) = codes "g" ++ decimal g
+abbrev pub wait_word_text : WaitWord → List ℕ
+wait_word_text Nil = codes "nil"
+wait_word_text Ready = codes "ready"
+wait_word_text Wait = codes "wait"
+wait_word_text (Held g) = codes "g" ++ decimal g
 
 -- which side, behind what is on it
 abbrev pub side_text : Side → List ℕ
@@ -41,7 +41,8 @@ status_text Idle = codes "idle"
 status_text (Acquiring s side) = codes "acquiring " ++ decimal s ++ side_text side
 status_text (Queued s side) = codes "queued " ++ decimal s ++ side_text side
 status_text (Relock s side) = codes "relock " ++ decimal s ++ side_text side
-status_text (Owing s reads writes) = codes "owing " ++ decimal s ++ codes " " ++ decimal reads ++ codes " " ++ decimal writes
+status_text (Owing s reads writes) =
+    codes "owing " ++ decimal s ++ codes " " ++ decimal reads ++ codes " " ++ decimal writes
 status_text (Entering d side) = codes "entering " ++ decimal d ++ side_text side
 status_text (Armed d side) = codes "armed " ++ decimal d ++ side_text side
 status_text (Parking d side) = codes "parking " ++ decimal d ++ side_text side
@@ -55,7 +56,7 @@ abbrev pub value_text : CellValue → List ℕ
 value_text values.Absent = codes "absent"
 value_text (values.Number n) = decimal n
 value_text (values.Time t) = signed_decimal t
-value_text (values.Word word) = word_text word
+value_text (values.WaitWord word) = wait_word_text word
 value_text (values.Status status) = status_text status
 
 -- a part of a text that shows a cell

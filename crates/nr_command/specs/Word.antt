@@ -52,15 +52,15 @@ abbrev pub word_of : ℕ → Command → ℕ
 word_of tag command = opcode_of command + 256 * tag + 65536 * argument_of command
 
 -- the numbers that a command holds have 32 bits, as its type says
-abbrev pub IsTyped : Command → Type 0
-IsTyped (Step count) = count.value < 2 ^ 32
-IsTyped (ReverseStep count) = count.value < 2 ^ 32
-IsTyped (commands.Break (breaks.Step step)) = step.value < 2 ^ 32
-IsTyped (Watch cell) = IfSome (cell_index cell) (λ index. index < 2 ^ 32)
-IsTyped (Delete number) = number < 2 ^ 32
-IsTyped (Restart number) = number < 2 ^ 32
-IsTyped (DeleteCheckpoint number) = number < 2 ^ 32
-IsTyped _ = ⊤
+abbrev pub HasTypedNumbers : Command → Type 0
+HasTypedNumbers (Step count) = count.value < 2 ^ 32
+HasTypedNumbers (ReverseStep count) = count.value < 2 ^ 32
+HasTypedNumbers (commands.Break (breaks.Step step)) = step.value < 2 ^ 32
+HasTypedNumbers (Watch cell) = IfSome (cell_index cell) (λ index. index < 2 ^ 32)
+HasTypedNumbers (Delete number) = number < 2 ^ 32
+HasTypedNumbers (Restart number) = number < 2 ^ 32
+HasTypedNumbers (DeleteCheckpoint number) = number < 2 ^ 32
+HasTypedNumbers _ = ⊤
 
 infixl 10 ◌>>=◌
 -- what follows from a value, if there is one
@@ -80,9 +80,12 @@ from_one_below n = small n >>= from_one
 abbrev pub only_without : ℕ → Command → Option Command
 only_without argument command = if argument == 0 then Some command else None
 
+-- the direction that a word's argument names
 abbrev pub direction_numbered : ℕ → Option Direction
-direction_numbered argument = if argument == 0 then Some Forward else if argument == 1 then Some Backward else None
+direction_numbered argument =
+    if argument == 0 then Some Forward else if argument == 1 then Some Backward else None
 
+-- the break that a word's argument names: its low byte says of which sort, the rest which one
 abbrev pub break_numbered : ℕ → Option Break
 break_numbered argument =
     if argument % 256 == 0 then option_map breaks.Kind (kind_numbered (argument / 256))
@@ -92,8 +95,10 @@ break_numbered argument =
 -- the cell of a number and an index, which is 0 where there is one such cell
 abbrev pub cell_at : ℕ → ℕ → Option Cell
 cell_at number index =
-    if index == 0 then option_or (cell_numbered number None) (cell_numbered number (Some index)) else cell_numbered number (Some index)
+    if index == 0 then option_or (cell_numbered number None) (cell_numbered number (Some index))
+    else cell_numbered number (Some index)
 
+-- the cell that a word's argument names: its low byte says of which sort, the rest which one
 abbrev pub watch_at : ℕ → Option Cell
 watch_at argument = small (argument / 256) >>= cell_at (argument % 256)
 
@@ -115,4 +120,5 @@ command_with opcode argument =
 
 -- the tag and the command of a word, if it is a command's
 abbrev pub command_of : ℕ → Option (ℕ × Command)
-command_of word = option_map (λ command. (word / 256 % 256, command)) (command_with (word % 256) (word / 65536))
+command_of word =
+    option_map (λ command. (word / 256 % 256, command)) (command_with (word % 256) (word / 65536))

@@ -2,13 +2,13 @@
 
 ghost use Rattle.std.specs.Prelude.{◌≡◌, ◌≤◌, length, OnErr};
 ghost use Rattle.nr_marks.specs.Numbered.{empty, item_of, with_item, without_item};
-ghost use Rattle.nr_command.specs.Checkpoints.{deletion, next_checkpoint};
+ghost use Rattle.nr_command.specs.Checkpoints.{checkpoint_deletion, next_checkpoint};
 ghost use Rattle.nr_command.specs.declared.checkpoint.TheConstants.{MOST_CHECKPOINTS};
 
 use nr_marks::{MOST_NUMBERED, Numbered, NumberedList};
 use std::marker::Model;
 
-/// The most checkpoints that stand at once.
+/// The most checkpoints at once.
 pub const MOST_CHECKPOINTS: usize = MOST_NUMBERED;
 
 /// A position that is kept, with its number.
@@ -17,9 +17,9 @@ pub type Checkpoint = Numbered<usize>;
 /// Why the checkpoints stay as they are.
 #[derive(Clone, Copy, Debug, PartialEq, Eq)]
 pub enum CheckpointFault {
-    /// No checkpoint of this number stands.
+    /// There is no checkpoint of this number.
     NoSuchCheckpoint,
-    /// No checkpoint can be made: 64 stand, or the numbers up to 4,294,967,295 are used up.
+    /// No checkpoint can be made: there are 64, or the numbers up to 4,294,967,295 are used up.
     CheckpointsFull,
 }
 
@@ -31,9 +31,9 @@ pub struct Checkpoints {
 }
 
 impl Model for Checkpoints {
-    ghost use Rattle.nr_command.specs.Checkpoints.{CheckpointTable};
+    ghost use Rattle.nr_command.specs.Checkpoints.{CheckpointList};
 
-    ghost Value = { CheckpointTable };
+    ghost Value = { CheckpointList };
 
     ghost view = { λ c. c.list };
 }
@@ -48,7 +48,7 @@ impl Checkpoints {
         }
     }
 
-    /// Keeps a position under the next number. Where 64 checkpoints stand or the numbers are used up, it is refused and
+    /// Keeps a position under the next number. Where there are 64 checkpoints or the numbers are used up, it is refused and
     /// nothing changes.
     pub fn make(&mut self, position: usize) -> Result<Checkpoint, CheckpointFault>
         ensures answer { result ≡ next_checkpoint position self.old }
@@ -61,17 +61,17 @@ impl Checkpoints {
         }
     }
 
-    /// The position of the checkpoint of this number, if one stands.
+    /// The position of the checkpoint of this number, if there is one.
     pub fn position_of(&self, number: u32) -> Option<usize>
         ensures { result ≡ item_of number self.now }
     {
         self.list.find(number)
     }
 
-    /// Deletes the checkpoint of this number. The others keep theirs. Where none of this number stands, it is refused
+    /// Deletes the checkpoint of this number. The others keep theirs. Where there is none of this number, it is refused
     /// and nothing changes.
     pub fn delete(&mut self, number: u32) -> Result<(), CheckpointFault>
-        ensures answer { result ≡ deletion number self.old }
+        ensures answer { result ≡ checkpoint_deletion number self.old }
         ensures gone { self.new ≡ without_item number self.old }
         ensures unchanged { OnErr result (self.new ≡ self.old) }
     {
@@ -82,9 +82,9 @@ impl Checkpoints {
         }
     }
 
-    /// The checkpoints that stand, rising by number.
+    /// The checkpoints, rising by number.
     pub fn as_slice(&self) -> &[Checkpoint]
-        ensures checkpoints { result.now ≡ self.now.standing }
+        ensures checkpoints { result.now ≡ self.now.present }
         ensures few { length result.now ≤ MOST_CHECKPOINTS }
     {
         self.list.as_slice()

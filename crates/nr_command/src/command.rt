@@ -42,7 +42,7 @@ pub enum Query {
     DumpBytes { side: Side, socket: u32 },
     /// The goroutines queued at a socket's semaphore.
     DumpQueue { side: Side, socket: u32 },
-    /// Where the debugger stands, and which way it goes.
+    /// The debugger's position, and which way it goes.
     Position,
     /// The marks.
     Breakpoints,

@@ -1,7 +1,7 @@
-//! A debugger: where it stands in a film, what it keeps, and what it answers.
+//! A debugger, a state machine: its position in a film, what it keeps, and what it answers.
 
 ghost use Rattle.std.specs.Prelude.{◌≡◌, ◌<◌, ◌≤◌, ◌^◌, length, IfOk, OnErr};
-ghost use Rattle.nr_command.specs.Debugger.{IsWithin, NeedsWorlds, Searches, arrive, continue, delete_checkpoint, delete_mark, keep_position, make_mark, opening, restart, run, step, to_end};
+ghost use Rattle.nr_command.specs.Debugger.{IsWithin, NeedsWorlds, Searches, stop_at, continue, delete_checkpoint, delete_mark, keep_position, make_mark, opening, restart, run, step, to_end};
 
 use crate::checkpoint::{CheckpointFault, Checkpoints};
 use crate::command::Command;
@@ -12,7 +12,7 @@ use nr_search::{Direction, Finder, Found, nearest_hit};
 use nr_snaps::Film;
 use std::alloc::AllocError;
 
-/// Stands at a position of a film, and keeps marks and checkpoints. It has no world: commands move the position alone.
+/// A position of a film, with marks and checkpoints. It has no world: commands move the position alone.
 #[derive(Debug, Drop)]
 pub struct Debugger {
     /// How many steps lie behind it.
@@ -24,7 +24,7 @@ pub struct Debugger {
 }
 
 impl Debugger {
-    /// Stands at position 0 and goes forwards; there are no marks and no checkpoints.
+    /// At position 0, going forwards; there are no marks and no checkpoints.
     pub fn new() -> Debugger
         ensures { result ≡ opening }
     {
@@ -43,10 +43,10 @@ impl Debugger {
         self.position
     }
 
-    /// Runs a command: what it answers and leaves is what `run` of the definitions is.
+    /// Runs a command: what it returns and leaves is what `run` of the definitions says.
     ///
-    /// Memory is wanted by `continue` and `reverse-continue` alone, for copies of the film's worlds, and only where
-    /// marks stand and a position other than the start lies that way. Refused it, nothing has changed.
+    /// Only `continue` and `reverse-continue` take memory, for copies of the film's worlds, and only where there
+    /// are marks and a position other than the start lies that way. Out of memory, nothing has changed.
     pub fn exec<W: Worlds + Drop + Sync, F: Finder>(
         &mut self,
         film: &Film<W>,

@@ -7,17 +7,17 @@ ghost use Rattle.nr_rev.specs.declared.cell.Cell.{Cell};
 ghost use Rattle.nr_command.specs.Command.{cell_of, words};
 ghost use Rattle.nr_command.specs.Debugger.{IsWithin, after_words, opening};
 ghost use Rattle.nr_command.specs.Value.{cell_text};
-ghost use Rattle.nr_command.specs.Word.{IsTyped, command_of, word_of};
+ghost use Rattle.nr_command.specs.Word.{HasTypedNumbers, command_of, word_of};
 ghost use Rattle.nr_command.specs.declared.command.Command.{Command};
 ghost use Rattle.nr_command.specs.declared.checkpoint.TheConstants.{MOST_CHECKPOINTS};
 ghost use Rattle.nr_command.specs.declared.parsing.TheConstants.{MAX_LINE};
 
 /// Each command with each tag is read from its word; and whatever is read from a number, the number is its word.
 pub fn commands_are_read_from_their_words()
-    ensures read { (tag : ℕ) (command : Command) → tag < 256 → IsTyped command
+    ensures read { (tag : ℕ) (command : Command) → tag < 256 → HasTypedNumbers command
         → command_of (word_of tag command) ≡ Some (tag, command) }
     ensures word { (n tag : ℕ) (command : Command) → command_of n ≡ Some (tag, command)
-        → (n ≡ word_of tag command) × (tag < 256) × IsTyped command }
+        → (n ≡ word_of tag command) × (tag < 256) × HasTypedNumbers command }
 {}
 
 /// What a cell is printed as is read as that cell.
@@ -26,14 +26,14 @@ pub fn printed_cells_are_read()
         → cell_of (words (cell_text cell)) ≡ Ok cell }
 {}
 
-/// After any history, whose words need not be commands', the debugger stands in the recording, and so do its
+/// After any history, whose words need not be commands', the debugger is in the recording, and so are its
 /// checkpoints.
 pub fn histories_stay_in_the_recording()
     ensures { (r : Recording) (words : List ℕ)
         → IsWithin (length r.steps) (after_words r opening words) }
 {}
 
-/// A line of commands has at most 256 bytes, and at most 64 checkpoints stand at once.
+/// A line of commands has at most 256 bytes, and there are at most 64 checkpoints at once.
 pub fn the_numbers()
     ensures line { MAX_LINE ≡ 256 }
     ensures checkpoints { MOST_CHECKPOINTS ≡ 64 }

@@ -1,8 +1,8 @@
 //! What a look shows.
 
 ghost use Rattle.std.specs.Prelude.{◌≡◌, ◌≤◌, length, true, false, IfNone, IfOk, IfSome, OnErr, OnSome};
-ghost use Rattle.nr_rev.specs.Run.{Stands};
-ghost use Rattle.nr_command.specs.Debugger.{Copies, shown};
+ghost use Rattle.nr_rev.specs.Run.{IsWorldAt};
+ghost use Rattle.nr_command.specs.Debugger.{Copies, query_reply};
 ghost use Rattle.nr_command.specs.Looking.{is_at_world};
 
 use crate::command::Query;
@@ -17,15 +17,15 @@ impl Debugger {
     /// What a look shows: of the world, which is that of the debugger's position, or of what the debugger keeps. It
     /// changes nothing.
     ///
-    /// Only a dump takes memory, for the bytes or goroutines that it shows, so one that shows none isn't refused it.
+    /// Only a dump takes memory, for the bytes or goroutines that it prints, so one that prints none never runs out of it.
     pub fn look<W: Worlds + Drop>(
         &self,
         film: &Film<W>,
         world: &W,
         query: Query,
     ) -> Result<Reply, AllocError>
-        requires { Stands W.is_well_formed W.world film.now.recording self.now.position world.now }
-        ensures ok { IfOk result (λ reply. reply ≡ shown film.now.recording self.now query) }
+        requires { IsWorldAt W.is_well_formed W.world film.now.recording self.now.position world.now }
+        ensures ok { IfOk result (λ reply. reply ≡ query_reply film.now.recording self.now query) }
         ensures err { OnErr result (Copies film.now.recording self.now query) }
     {
         if let Some(reply) = self.look_within(film, query) {
@@ -59,7 +59,7 @@ impl Debugger {
     /// What a look shows that is at the debugger alone: it needs no world, and takes no memory. `None`: the look is at the
     /// world, as a value and the dumps are.
     pub fn look_within<W: Worlds + Drop>(&self, film: &Film<W>, query: Query) -> Option<Reply>
-        ensures some { IfSome result (λ reply. reply ≡ shown film.now.recording self.now query) }
+        ensures some { IfSome result (λ reply. reply ≡ query_reply film.now.recording self.now query) }
         ensures within { OnSome result (is_at_world query ≡ false) }
         ensures at_world { IfNone result (is_at_world query ≡ true) }
     {

@@ -22,9 +22,10 @@ impl Command {
     /// What a line asks for, given without its line feed. Takes no memory.
     ///
     /// The words are those of GDB's manual, chapters "Running Programs Backward" and "Setting a Bookmark to Return to
-    /// Later": `stepi` and `reverse-stepi` with how often, `continue`, `reverse-continue`, `set exec-direction`,
-    /// `break` with a kind of step or `@` and a step's number, `watch` with a cell, `delete` and `delete checkpoint`,
-    /// `checkpoint`, `restart`; and the looks `print`, `dump` and `info`; and `resume` and `quit`.
+    /// Later". Commands are `stepi` and `reverse-stepi` with how often, `continue`, `reverse-continue`,
+    /// `set exec-direction`, `break` with a kind of step or `@` and a step's number, `watch` with a cell, `delete` and
+    /// `delete checkpoint`, `checkpoint`, `restart`. Looks are `print`, `dump` and `info`. Besides, there are `resume` and
+    /// `quit`.
     ///
     /// Words are separated by spaces. One carriage return at the end of the line is left out. A line of more than 256
     /// bytes is too long whatever it holds. Where the first word is none of these that is the fault, else any other
@@ -85,7 +86,7 @@ fn trim_return(line: &[u8]) -> &[u8]
     }
 }
 
-/// The first words of a line, as many as tell what it asks for.
+/// The first words of a line, as many as decide what it asks for.
 fn first_words(line: &[u8]) -> ArrayVec<&[u8], MAX_WORDS>
     ensures { map (λ word. word.now) result.items ≡ take MAX_WORDS (words line.now) }
 {
@@ -243,7 +244,7 @@ fn buffer_or_queue(kind: &[u8], socket: u32) -> Result<Query, LineFault>
     }
 }
 
-/// What is told of the session.
+/// What is asked of the session.
 fn info(words: &[&[u8]]) -> Result<Query, LineFault>
     ensures { result ≡ info_of (map (λ word. word.now) words.now) }
 {

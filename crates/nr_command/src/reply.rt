@@ -3,7 +3,7 @@
 ghost use Rattle.std.specs.Prelude.{◌≡◌, ◌++◌, codes, decimal};
 ghost use Rattle.nr_command.specs.declared.reply.Fault.TheVariants as faults;
 ghost use Rattle.nr_command.specs.declared.reply.Reply.TheVariants as replies;
-ghost use Rattle.nr_command.specs.Reply.{direction_text, fault_text, text_of};
+ghost use Rattle.nr_command.specs.Reply.{direction_text, reply_fault_text, text_of};
 ghost use Rattle.nr_text.specs.Buffered.{Writes};
 ghost use Rattle.nr_text.specs.Text.{token_text};
 
@@ -21,13 +21,13 @@ use std::io::Write;
 /// What a line is answered.
 #[derive(Drop)]
 pub enum Reply {
-    /// It stands at a position.
+    /// It is at a position.
     At(usize),
-    /// It stands at the last position, and was to go further.
+    /// It is at the last position, and was to go further.
     AtEnd(usize),
-    /// It stands at position 0, and was to go further back.
+    /// It is at position 0, and was to go further back.
     AtStart,
-    /// It stands at a position where marks hit: their numbers, rising.
+    /// It is at a position where marks hit: their numbers, rising.
     AtHit {
         position: usize,
         marks: ArrayVec<u32, MOST_MARKS>,
@@ -59,15 +59,15 @@ pub enum Reply {
         socket: u32,
         queue: Option<Queue>,
     },
-    /// Where it stands, of how many positions, and which way commands go.
+    /// Its position, how many there are, and which way commands go.
     Position {
         position: usize,
         last: usize,
         direction: Direction,
     },
-    /// The marks that stand, rising by number.
+    /// The marks, rising by number.
     Marks(ArrayVec<NumberedMark, MOST_MARKS>),
-    /// The checkpoints that stand, rising by number.
+    /// The checkpoints, rising by number.
     Checkpoints(ArrayVec<Checkpoint, MOST_CHECKPOINTS>),
     /// No reply is owed.
     NothingOwed,
@@ -84,9 +84,9 @@ pub enum Fault {
     Line(LineFault),
     /// There was no memory for it.
     Memory,
-    /// There was no memory for a command that stands at this place of the journal, from 1. Its reply is owed.
+    /// A command at this index of the journal, from 1, ran out of memory. Its reply is owed.
     Placed(usize),
-    /// Every place of the journal is taken.
+    /// The journal is full.
     JournalFull,
     Mark(MarkFault),
     Checkpoint(CheckpointFault),
@@ -236,12 +236,12 @@ fn send_bytes<W: Write>(
         Side::Read => b"in ".as_slice(),
         Side::Write => b"out ".as_slice(),
     };
-    let shown = match bytes {
+    let query_reply = match bytes {
         None => Token::Text(b"absent"),
         Some(bytes) if bytes.is_empty() => Token::Text(b"-"),
         Some(bytes) => Token::Hex(bytes.as_slice()),
     };
-    send_dump(name, socket, b" = ", shown, w)
+    send_dump(name, socket, b" = ", query_reply, w)
 }
 
 fn send_queue<W: Write>(
@@ -257,29 +257,29 @@ fn send_queue<W: Write>(
         Side::Read => b"rq ".as_slice(),
         Side::Write => b"wq ".as_slice(),
     };
-    let shown = match queue {
+    let query_reply = match queue {
         None => Token::Text(b" absent"),
         Some(queue) if queue.as_slice().is_empty() => Token::Text(b" -"),
         Some(queue) => Token::Numbers(queue.as_slice()),
     };
-    send_dump(name, socket, b" =", shown, w)
+    send_dump(name, socket, b" =", query_reply, w)
 }
 
 fn send_dump<W: Write>(
     name: &'static [u8],
     socket: u32,
     equals: &'static [u8],
-    shown: Token<'_>,
+    query_reply: Token<'_>,
     w: &mut Buffered<W>,
 ) -> Result<(), WriteFailed>
     ensures { Writes w.old w.new
-        (name.now ++ decimal socket ++ equals.now ++ token_text shown.entry ++ codes "\n") result }
+        (name.now ++ decimal socket ++ equals.now ++ token_text query_reply.entry ++ codes "\n") result }
 {
     let tokens = [
         Token::Text(name),
         Token::Number(u64::from(socket)),
         Token::Text(equals),
-        shown,
+        query_reply,
         Token::Text(b"\n"),
     ];
     send_all(&tokens, w)
@@ -307,7 +307,7 @@ fn send_place<W: Write>(
 }
 
 fn send_fault<W: Write>(fault: Fault, w: &mut Buffered<W>) -> Result<(), WriteFailed>
-    ensures { Writes w.old w.new (fault_text fault) result }
+    ensures { Writes w.old w.new (reply_fault_text fault) result }
 {
     match fault {
         Fault::Line(fault) => w.send(line_fault(fault)),
@@ -320,7 +320,7 @@ fn send_fault<W: Write>(fault: Fault, w: &mut Buffered<W>) -> Result<(), WriteFa
 }
 
 fn line_fault(fault: LineFault) -> &'static [u8]
-    ensures { result.now ≡ fault_text (faults.Line fault) }
+    ensures { result.now ≡ reply_fault_text (faults.Line fault) }
 {
     match fault {
         LineFault::UnknownCommand => b"fault 201 unknown command\n",
@@ -330,7 +330,7 @@ fn line_fault(fault: LineFault) -> &'static [u8]
 }
 
 fn send_placed<W: Write>(place: usize, w: &mut Buffered<W>) -> Result<(), WriteFailed>
-    ensures { Writes w.old w.new (fault_text (faults.Placed place)) result }
+    ensures { Writes w.old w.new (reply_fault_text (faults.Placed place)) result }
 {
     let tokens = [
         Token::Text(b"fault 302 memory, placed "),
@@ -341,7 +341,7 @@ fn send_placed<W: Write>(place: usize, w: &mut Buffered<W>) -> Result<(), WriteF
 }
 
 fn mark_fault(fault: MarkFault) -> &'static [u8]
-    ensures { result.now ≡ fault_text (faults.Mark fault) }
+    ensures { result.now ≡ reply_fault_text (faults.Mark fault) }
 {
     match fault {
         MarkFault::NoSuchMark => b"fault 401 no such mark\n",
@@ -350,7 +350,7 @@ fn mark_fault(fault: MarkFault) -> &'static [u8]
 }
 
 fn checkpoint_fault(fault: CheckpointFault) -> &'static [u8]
-    ensures { result.now ≡ fault_text (faults.Checkpoint fault) }
+    ensures { result.now ≡ reply_fault_text (faults.Checkpoint fault) }
 {
     match fault {
         CheckpointFault::NoSuchCheckpoint => b"fault 403 no such checkpoint\n",

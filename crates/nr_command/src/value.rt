@@ -3,9 +3,9 @@
 ghost use Rattle.std.specs.Prelude.{◌++◌, decimal};
 ghost use Rattle.nr_rev.specs.declared.status.Status.TheVariants.{Owing};
 ghost use Rattle.nr_text.specs.Buffered.{Writes};
-ghost use Rattle.nr_command.specs.Value.{cell_text, piece_text, side_text, status_text, value_text, word_text};
+ghost use Rattle.nr_command.specs.Value.{cell_text, piece_text, side_text, status_text, value_text, wait_word_text};
 
-use nr_rev::{Cell, CellValue, Side, Status, Word};
+use nr_rev::{Cell, CellValue, Side, Status, WaitWord};
 use nr_text::{Buffered, Text, Token, WriteFailed, send_all};
 use std::io::Write;
 
@@ -29,19 +29,19 @@ pub(crate) fn send_value<W: Write>(value: CellValue, w: &mut Buffered<W>) -> Res
         CellValue::Absent => w.send(b"absent"),
         CellValue::Number(number) => Token::Number(number).send(w),
         CellValue::Time(time) => Token::Time(time).send(w),
-        CellValue::Word(word) => send_word(word, w),
+        CellValue::WaitWord(word) => send_wait_word(word, w),
         CellValue::Status(status) => send_status(status, w),
     }
 }
 
-fn send_word<W: Write>(word: Word, w: &mut Buffered<W>) -> Result<(), WriteFailed>
-    ensures { Writes w.old w.new (word_text word) result }
+fn send_wait_word<W: Write>(word: WaitWord, w: &mut Buffered<W>) -> Result<(), WriteFailed>
+    ensures { Writes w.old w.new (wait_word_text word) result }
 {
     match word {
-        Word::Nil => w.send(b"nil"),
-        Word::Ready => w.send(b"ready"),
-        Word::Wait => w.send(b"wait"),
-        Word::Held(goroutine) => send_named(b"g", goroutine, w),
+        WaitWord::Nil => w.send(b"nil"),
+        WaitWord::Ready => w.send(b"ready"),
+        WaitWord::Wait => w.send(b"wait"),
+        WaitWord::Held(goroutine) => send_named(b"g", goroutine, w),
     }
 }
 

@@ -1,8 +1,9 @@
 //! Commands as words: each command with a tag is one number of 64 bits, and is read from it.
 
-ghost use Rattle.std.specs.Prelude.{◌≡◌, ◌<◌, ◌≤◌, ◌/◌, ◌%◌, ◌^◌, Some};
+ghost use Rattle.std.specs.Prelude.{◌≡◌, ◌<◌, ◌/◌, ◌%◌, ◌^◌, Some};
 ghost use Rattle.nr_rev.specs.Kind.{kind_numbered};
-ghost use Rattle.nr_command.specs.Word.{IsTyped, argument_of, break_numbered, cell_at, command_of, command_with, direction_numbered, from_one_below, only_without, opcode_of, small, watch_at, word_of};
+ghost use Rattle.nr_journal.specs.Rule.{HasOpcode};
+ghost use Rattle.nr_command.specs.Word.{HasTypedNumbers, argument_of, break_numbered, cell_at, command_of, command_with, direction_numbered, from_one_below, only_without, opcode_of, small, watch_at, word_of};
 
 use crate::command::Command;
 use crate::count::from_one;
@@ -12,12 +13,12 @@ use nr_search::Direction;
 use std::num::NonZeroU32;
 
 impl Command {
-    /// The command and the tag as one number: the command's opcode, from 1 to 11, and 256 times the tag, and 65,536
-    /// times what is asked of it.
+    /// The command and the tag as one number: the command's opcode, and 256 times the tag, and 65,536 times what is
+    /// asked of it. The opcode is one that words of a journal have.
     pub fn to_word(self, tag: u8) -> u64
         ensures word { result ≡ word_of tag self }
         ensures back { command_of result ≡ Some (tag, self) }
-        ensures opcode { (1 ≤ result % 256) × (result % 256 ≤ 11) }
+        ensures opcode { HasOpcode result }
         ensures tag { result / 256 % 256 ≡ tag }
     {
         u64::from(self.opcode()) + 256 * u64::from(tag) + 65536 * self.argument()
@@ -54,7 +55,7 @@ impl Command {
     fn argument(self) -> u64
         ensures value { result ≡ argument_of self }
         ensures fits { result < 2 ^ 48 }
-        ensures typed { IsTyped self }
+        ensures typed { HasTypedNumbers self }
     {
         match self {
             Command::Step(count) | Command::ReverseStep(count) => u64::from(count.get()),
@@ -124,7 +125,7 @@ fn direction_numbered(argument: u64) -> Option<Direction>
     }
 }
 
-/// A break by a kind's number or by a step's, which is told by the lowest byte.
+/// A break by a kind's number or by a step's, which the lowest byte says.
 fn break_numbered(argument: u64) -> Option<Break>
     ensures { result ≡ break_numbered argument }
 {

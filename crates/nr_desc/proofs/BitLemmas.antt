@@ -2,7 +2,7 @@
 use Rattle.std.proofs.Common.{◌≡◌, ℕ, ◌+◌, ◌*◌, ◌/◌, ◌%◌, ◌<◌, bit_and, bit_or, arith}
 use Rattle.std.proofs.lemmas.Nat.Bits.{and_pow}
 use Rattle.std.proofs.lemmas.Bool.Decides.{nat_tests}
-use Rattle.nr_rev.proofs.Bits.{and_2, and_4, and_not_pow, or_1, or_2, or_4, or_pow}
+use Rattle.nr_rev.proofs.BitLemmas.{and_2, and_4, and_not_pow, or_1, or_2, or_4, or_pow}
 
 pub and_8 : (w : ℕ) → bit_and w 8 ≡ w / 8 % 2 * 8
 and_8 w = and_pow w 3

@@ -1,17 +1,17 @@
 -- A word has one code, and marks have one byte.
 use Rattle.std.proofs.Common.{◌≡◌, ℕ, ◌/◌, ◌%◌, ◌<◌, ◌==◌, refl, arith}
 use Rattle.std.proofs.lemmas.Bool.Decides.{nat_tests}
-use Rattle.nr_rev.specs.declared.descriptor.Word.{Word}
-use Rattle.nr_rev.specs.declared.descriptor.Word.TheVariants.{Nil, Ready, Wait, Held}
-use Rattle.nr_rev.proofs.Bits.{bit_small, test_of}
-use Rattle.nr_desc.specs.Code.{code_of, word_of}
+use Rattle.nr_rev.specs.declared.descriptor.WaitWord.{WaitWord}
+use Rattle.nr_rev.specs.declared.descriptor.WaitWord.TheVariants.{Nil, Ready, Wait, Held}
+use Rattle.nr_rev.proofs.BitLemmas.{bit_small, test_of}
+use Rattle.nr_desc.specs.Code.{code_of, wait_word_of}
 use Rattle.nr_desc.specs.Marks.{DescMarks, marks_number, marks_of}
 
-pub word_of-code_of : (word : Word) → word_of (code_of word) ≡ word
-word_of-code_of Nil = refl
-word_of-code_of Ready = refl
-word_of-code_of Wait = refl
-word_of-code_of (Held g) = grind (arith, nat_tests)
+pub wait_word_of-code_of : (word : WaitWord) → wait_word_of (code_of word) ≡ word
+wait_word_of-code_of Nil = refl
+wait_word_of-code_of Ready = refl
+wait_word_of-code_of Wait = refl
+wait_word_of-code_of (Held g) = grind (arith, nat_tests)
 
 pub marks_of-marks_number : (marks : DescMarks) → marks_of (marks_number marks) ≡ marks
 marks_of-marks_number marks =

@@ -1,8 +1,8 @@
 -- Who is woken: whom a word held and holds no longer.
 use Rattle.std.proofs.Common.{◌≡◌, ◌∙◌, ℕ, None, Some, ap, refl, sym}
 use Rattle.std.proofs.lemmas.Option.{same_Some}
-use Rattle.nr_rev.specs.declared.descriptor.Word.{Word}
-use Rattle.nr_rev.specs.declared.descriptor.Word.TheVariants.{Nil, Ready, Wait, Held}
+use Rattle.nr_rev.specs.declared.descriptor.WaitWord.{WaitWord}
+use Rattle.nr_rev.specs.declared.descriptor.WaitWord.TheVariants.{Nil, Ready, Wait, Held}
 use Rattle.nr_rev.specs.declared.descriptor.Descriptor.{Descriptor}
 use Rattle.nr_rev.specs.declared.sides.Side.{Side}
 use Rattle.nr_rev.specs.declared.sides.Side.TheVariants.{Read, Write}
@@ -15,29 +15,29 @@ use Rattle.nr_desc.specs.declared.op.DescOp.{DescOp}
 use Rattle.nr_desc.specs.declared.op.DescOp.TheVariants as op
 
 -- a word that stays lets nobody go
-pub let_go_same : (word : Word) → let_go word word ≡ None
+pub let_go_same : (word : WaitWord) → let_go word word ≡ None
 let_go_same Nil = refl
 let_go_same Ready = refl
 let_go_same Wait = refl
 let_go_same (Held g) = refl
 
 -- words that stay let nobody go
-pub none_let_go : (words : Sides Word) → twice None ≡ both_let_go words words
+pub none_let_go : (words : Sides WaitWord) → twice None ≡ both_let_go words words
 none_let_go words =
     let read = let_go_same words.read in
     let write = let_go_same words.write in
     cc
 
-held : (before after : Word) (g : ℕ) → let_go before after ≡ Some g → before ≡ Held g
+held : (before after : WaitWord) (g : ℕ) → let_go before after ≡ Some g → before ≡ Held g
 held (Held h) (Held k) g is = cc
 held (Held h) after g is = ap Held (same_Some h g is)
 held before after g is = cc
 
-side_held : (side : Side) (old new : Sides Word) (g : ℕ) → of_side side (both_let_go old new) ≡ Some g → of_side side old ≡ Held g
+side_held : (side : Side) (old new : Sides WaitWord) (g : ℕ) → of_side side (both_let_go old new) ≡ Some g → of_side side old ≡ Held g
 side_held Read old new g is = held old.read new.read g is
 side_held Write old new g is = held old.write new.write g is
 
-none_held : (side : Side) (word : Word) (g : ℕ) → of_side side (twice None) ≡ Some g → word ≡ Held g
+none_held : (side : Side) (word : WaitWord) (g : ℕ) → of_side side (twice None) ≡ Some g → word ≡ Held g
 none_held Read word g is = cc
 none_held Write word g is = cc
 

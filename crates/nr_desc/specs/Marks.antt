@@ -3,7 +3,7 @@ use Rattle.std.specs.Prelude.{◌≡◌, ℕ, ◌+◌, ◌*◌, ◌/◌, ◌%◌
 use Rattle.std.proofs.Common.{arith}
 use Rattle.nr_rev.specs.declared.sides.Sides.{Sides}
 use Rattle.nr_rev.specs.Lock.{bit}
-use Rattle.nr_rev.proofs.Bits.{bit_of}
+use Rattle.nr_rev.proofs.BitLemmas.{bit_of}
 
 -- what is marked of a descriptor
 pub record DescMarks : Type 0 where
@@ -13,7 +13,8 @@ pub record DescMarks : Type 0 where
 
 -- bit 0 closing, 1 event error, 2 the read timer runs, 3 the write timer runs
 abbrev pub marks_number : DescMarks → ℕ
-marks_number marks = bit marks.closing + 2 * bit marks.event_error + 4 * bit marks.running.read + 8 * bit marks.running.write
+marks_number marks = bit marks.closing + 2 * bit marks.event_error + 4 * bit marks.running.read
+    + 8 * bit marks.running.write
 
 -- the marks that a byte means
 abbrev pub marks_of : ℕ → DescMarks
@@ -26,4 +27,5 @@ marks_of n =
 
 -- a byte below 16 is the number of the marks that it means
 pub marks_number-marks_of : (n : ℕ) → n < 16 → marks_number (marks_of n) ≡ n
-marks_number-marks_of n small = omega (arith, bit_of n, bit_of (n / 2), bit_of (n / 4), bit_of (n / 8))
+marks_number-marks_of n small =
+    omega (arith, bit_of n, bit_of (n / 2), bit_of (n / 4), bit_of (n / 8))

@@ -3,12 +3,12 @@ use Rattle.std.specs.Prelude.{◌≡◌, ℕ, ◌&&◌, ◌||◌, ◌==◌, if�
 use Rattle.nr_rev.specs.declared.answer.Answer.{Answer}
 use Rattle.nr_rev.specs.declared.answer.Answer.TheVariants.{Code, Done, Stale, Yes, No}
 use Rattle.nr_rev.specs.declared.descriptor.Descriptor.{Descriptor}
-use Rattle.nr_rev.specs.declared.descriptor.Word.{Word}
-use Rattle.nr_rev.specs.declared.descriptor.Word.TheVariants.{Nil, Ready, Wait, Held}
+use Rattle.nr_rev.specs.declared.descriptor.WaitWord.{WaitWord}
+use Rattle.nr_rev.specs.declared.descriptor.WaitWord.TheVariants.{Nil, Ready, Wait, Held}
 use Rattle.nr_rev.specs.declared.refusal.Refusal.{Refusal}
 use Rattle.nr_rev.specs.declared.refusal.Refusal.TheVariants.{CloseWithoutUnblock, DoubleWait, WaiterInside}
 use Rattle.nr_rev.specs.declared.sides.Side.{Side}
-use Rattle.nr_rev.specs.Descriptor.{Change, quiet, check, opened_for, closed, with_word, change_by_deadline, change_by_evict, change_by_event, change_by_firing}
+use Rattle.nr_rev.specs.Descriptor.{Change, quiet, check, opened_for, closed, with_wait_word, change_by_deadline, change_by_evict, change_by_event, change_by_firing}
 use Rattle.nr_rev.specs.Refusing.{◌>>=◌, ◌>>◌, refused_if, refused_unless}
 use Rattle.nr_rev.specs.Sides.{of_side, twice}
 use Rattle.nr_rev.specs.declared.sides.Sides.{Sides}
@@ -22,6 +22,7 @@ use Rattle.nr_desc.specs.declared.op.DescOp.TheVariants as op
 abbrev pub Outcome : Type 0
 Outcome = Result (Answer × Change) Refusal
 
+-- opening for a socket, as an operation
 abbrev pub opened : ℕ → Descriptor → Outcome
 opened socket d = do
   left ← opened_for socket d
@@ -34,38 +35,47 @@ closed_by_words d = do
   refused_if (is_awaited d.words.read || is_awaited d.words.write) WaiterInside
   closed d
 
+-- closing, as an operation
 abbrev pub close : Descriptor → Outcome
 close d = do
   left ← closed_by_words d
   Ok (Done, quiet left)
 
+-- making a side ready for the next wait: the check's code is the answer, and the word is nil where
+-- it is 0
 abbrev pub reset : Side → Descriptor → Outcome
 reset side d = do
   refused_if ((check side d == 0) && is_awaited (of_side side d.words)) WaiterInside
-  Ok (Code (check side d), quiet (if check side d == 0 then with_word side Nil d else d))
+  Ok (Code (check side d), quiet (if check side d == 0 then with_wait_word side Nil d else d))
 
-abbrev pub armed_by : Side → Word → Descriptor → Outcome
-armed_by side Nil d = Ok (Answer.Wait, quiet (with_word side Wait d))
-armed_by side Ready d = Ok (Code 0, quiet (with_word side Nil d))
+-- arming a side, by its word: it waits, or was ready already
+abbrev pub armed_by : Side → WaitWord → Descriptor → Outcome
+armed_by side Nil d = Ok (Answer.Wait, quiet (with_wait_word side Wait d))
+armed_by side Ready d = Ok (Code 0, quiet (with_wait_word side Nil d))
 armed_by side _ d = Err DoubleWait
 
-abbrev pub committed_by : Side → ℕ → Word → Descriptor → Answer × Change
-committed_by side g Wait d = (Yes, quiet (with_word side (Held g) d))
+-- committing goroutine g to its wait: the side's word holds g if it still waits
+abbrev pub committed_by : Side → ℕ → WaitWord → Descriptor → Answer × Change
+committed_by side g Wait d = (Yes, quiet (with_wait_word side (Held g) d))
 committed_by side g _ d = (No, quiet d)
 
-abbrev pub swapped_by : Side → Word → Descriptor → Answer × Change
-swapped_by side Ready d = (Yes, quiet (with_word side Nil d))
-swapped_by side _ d = (No, quiet (with_word side Nil d))
+-- the end of a wait: whether the side's word was ready. It is nil then
+abbrev pub swapped_by : Side → WaitWord → Descriptor → Answer × Change
+swapped_by side Ready d = (Yes, quiet (with_wait_word side Nil d))
+swapped_by side _ d = (No, quiet (with_wait_word side Nil d))
 
+-- a change that answers nothing but that it is done
 abbrev pub done : Result Change Refusal → Outcome
 done changed = do
   change ← changed
   Ok (Done, change)
 
+-- what a firing comes to: a stale one changes nothing
 abbrev pub fired : Option Change → Descriptor → Answer × Change
 fired None d = (Stale, quiet d)
 fired (Some change) d = (Done, change)
 
+-- the same, of a firing that may be refused
 abbrev pub fire_by : Result (Option Change) Refusal → Descriptor → Outcome
 fire_by firing d = do
   change ← firing
@@ -83,11 +93,13 @@ outcome d (op.Swap side) = Ok (swapped_by side (of_side side d.words) d)
 outcome d (op.SetDeadline clock mode t) = done (change_by_deadline clock mode t d)
 outcome d op.Evict = done (change_by_evict d)
 outcome d (op.Fire function sequence) = fire_by (change_by_firing function sequence d) d
-outcome d (op.Event tag mode error) = Ok (if tag == d.fdseq then (Done, change_by_event mode error d) else (Stale, quiet d))
+outcome d (op.Event tag mode error) =
+    Ok (if tag == d.fdseq then (Done, change_by_event mode error d) else (Stale, quiet d))
 
 -- what an answer and a descriptor come to
 abbrev pub left : DescAnswer → Descriptor → Answer × Change
-left answer d = (answer.answer, record { descriptor = d; orders = answer.orders; woken = listed answer.woken })
+left answer d =
+    (answer.answer, record { descriptor = d; orders = answer.orders; woken = listed answer.woken })
 
 -- who is woken of each side: whom its word held before, where the operation unblocks words
 abbrev pub woken_by : DescOp → Descriptor → Descriptor → Sides (Option ℕ)
@@ -98,9 +110,10 @@ woken_by (op.Event tag mode error) old new = both_let_go old.words new.words
 woken_by _ old new = twice None
 
 -- an operation that applies, by its answer and the descriptor afterwards
-pub record StepTo (old : Descriptor) (op : DescOp) (answer : DescAnswer) (new : Descriptor) : Type 0 where
-  pub defined : outcome old op ≡ Ok (left answer new)
-  pub woken : answer.woken ≡ woken_by op old new
+pub record StepTo (old : Descriptor) (op : DescOp) (answer : DescAnswer) (new : Descriptor) : Type 0
+  where
+    pub defined : outcome old op ≡ Ok (left answer new)
+    pub woken : answer.woken ≡ woken_by op old new
 
 -- the reason, where it does not apply
 abbrev pub refusal_of : Outcome → Option Refusal

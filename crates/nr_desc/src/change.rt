@@ -4,7 +4,7 @@
 ghost use Rattle.std.specs.Prelude.{◌≡◌, IsTrue, None};
 ghost use Rattle.nr_rev.specs.Descriptor as spec;
 ghost use Rattle.nr_rev.specs.Sides as sides;
-ghost use Rattle.nr_desc.specs.Change.{both_let_go, change_shown, let_go};
+ghost use Rattle.nr_desc.specs.Change.{both_let_go, change_view, let_go};
 
 use crate::desc::Desc;
 use nr_rev::{Mode, Side, Sides, TimerOrder};
@@ -27,7 +27,7 @@ pub(crate) struct Followed {
 /// A descriptor with no order and nobody woken.
 #[inline(always)]
 pub(crate) fn quiet(desc: Desc) -> DescChange
-    ensures shown { change_shown result ≡ spec.quiet desc }
+    ensures viewed { change_view result ≡ spec.quiet desc }
     ensures orders { result.orders ≡ sides.twice None }
     ensures woken { result.woken ≡ sides.twice None }
 {
@@ -45,13 +45,13 @@ pub(crate) fn quiet(desc: Desc) -> DescChange
 }
 
 impl DescChange {
-    /// A side unblocked. Reading comes before writing, so that those woken stand in that order.
+    /// A side unblocked. Reading comes before writing, and those woken are in that order.
     #[inline(always)]
     pub(crate) fn unblock(self, side: Side, ioready: bool) -> DescChange
         requires none { sides.of_side side self.woken ≡ None }
         requires first { self.woken.write ≡ None }
-        ensures shown { change_shown result
-            ≡ spec.and_then (change_shown self) (spec.unblocked ioready side) }
+        ensures viewed { change_view result
+            ≡ spec.and_then (change_view self) (spec.unblocked ioready side) }
         ensures rest { IsTrue (sides.is_read side) → result.woken.write ≡ None }
         ensures woken { result.woken ≡ sides.with_side side
             (let_go (sides.of_side side self.desc.words) (sides.of_side side result.desc.words)) self.woken }
@@ -59,7 +59,7 @@ impl DescChange {
         let desc = self.desc;
         let left = desc.words.of(side).unblocked(ioready);
         DescChange {
-            desc: desc.with_word(side, left.word),
+            desc: desc.with_wait_word(side, left.word),
             orders: self.orders,
             woken: self.woken.with(side, left.woken),
         }
@@ -70,7 +70,7 @@ impl DescChange {
 /// are ready.
 #[inline(always)]
 pub(crate) fn change_by_event(mode: Mode, error: bool, desc: Desc) -> DescChange
-    ensures shown { change_shown result ≡ spec.change_by_event mode error desc }
+    ensures viewed { change_view result ≡ spec.change_by_event mode error desc }
     ensures woken { result.woken ≡ both_let_go desc.words result.desc.words }
 {
     let mut change = quiet(Desc {

@@ -2,11 +2,11 @@
 
 ghost use Rattle.std.specs.Prelude.{◌≡◌, ◌+◌, ◌<◌, ◌^◌, option_to_list};
 ghost use Rattle.nr_rev.specs.Descriptor as spec;
-ghost use Rattle.nr_rev.specs.declared.descriptor.Word.TheVariants.{Nil, Ready, Wait, Held};
-ghost use Rattle.nr_desc.specs.Change.{let_go, unblocked_shown};
+ghost use Rattle.nr_rev.specs.declared.descriptor.WaitWord.TheVariants.{Nil, Ready, Wait, Held};
+ghost use Rattle.nr_desc.specs.Change.{let_go, unblocked_view};
 ghost use Rattle.nr_desc.specs.Code.{code_of, is_awaited};
 
-use nr_rev::Word;
+use nr_rev::WaitWord;
 use std::marker::Model;
 
 /// A poll word as a number, seen in contracts as the word.
@@ -14,17 +14,17 @@ use std::marker::Model;
 pub(crate) struct WordCode(u32);
 
 impl Model for WordCode {
-    ghost use Rattle.nr_rev.specs.declared.descriptor.Word.{Word};
+    ghost use Rattle.nr_rev.specs.declared.descriptor.WaitWord.{WaitWord};
 
-    ghost Value = { Word };
+    ghost Value = { WaitWord };
 
-    ghost use Rattle.nr_desc.specs.Code.{code_of, code_of-word_of, word_of};
+    ghost use Rattle.nr_desc.specs.Code.{code_of, code_of-wait_word_of, wait_word_of};
 
-    ghost view = { λ c. word_of c.0 };
+    ghost view = { λ c. wait_word_of c.0 };
 
     ghost inverse = { λ word. record { 0 = code_of word } };
 
-    ghost inverse_ok = { λ c h. let same = code_of-word_of c.0 in λ i. record { 0 = same i } };
+    ghost inverse_ok = { λ c h. let same = code_of-wait_word_of c.0 in λ i. record { 0 = same i } };
 }
 
 impl WordCode {
@@ -63,14 +63,14 @@ impl WordCode {
 
     /// The word.
     #[inline(always)]
-    pub(crate) fn word(self) -> Word
+    pub(crate) fn word(self) -> WaitWord
         ensures { result ≡ self }
     {
         match self.0 {
-            0 => Word::Nil,
-            1 => Word::Ready,
-            2 => Word::Wait,
-            code => Word::Held(code - 3),
+            0 => WaitWord::Nil,
+            1 => WaitWord::Ready,
+            2 => WaitWord::Wait,
+            code => WaitWord::Held(code - 3),
         }
     }
 
@@ -93,7 +93,7 @@ impl WordCode {
     /// The word unblocked, and the goroutine that it held (Go's `netpollunblock`).
     #[inline(always)]
     pub(crate) fn unblocked(self, ioready: bool) -> Unblocked
-        ensures shown { unblocked_shown result ≡ spec.unblock self ioready }
+        ensures viewed { unblocked_view result ≡ spec.unblock self ioready }
         ensures woken { result.woken ≡ let_go self result.word }
     {
         let woken = if self.0 > 2 { Some(self.0 - 3) } else { None };

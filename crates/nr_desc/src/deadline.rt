@@ -1,12 +1,11 @@
 //! Deadlines, and the timers that follow them.
 
-ghost use Rattle.std.specs.Prelude.{◌≡◌, ◌==◌, ◌&&◌, IfOk, None};
+ghost use Rattle.std.specs.Prelude.{◌≡◌, ◌&&◌, IfOk, None};
 ghost use Rattle.std.specs.Ordering.{int_eq};
 ghost use Rattle.nr_rev.specs.Descriptor as spec;
-ghost use Rattle.nr_rev.specs.Lock as lock;
 ghost use Rattle.nr_rev.specs.Sides as sides;
 ghost use Rattle.nr_rev.specs.Refusing.{Gives};
-ghost use Rattle.nr_desc.specs.Change.{both_let_go, change_shown, followed_shown};
+ghost use Rattle.nr_desc.specs.Change.{both_let_go, change_view, followed_view};
 
 use crate::change::{DescChange, Followed, quiet};
 use crate::desc::Desc;
@@ -35,7 +34,7 @@ fn with_deadlines(mode: Mode, deadline: i64, desc: Desc) -> Desc
     }
 }
 
-/// The descriptor with a deadline, told from now, at the sides that a mode names.
+/// The descriptor with a deadline, counted from now, at the sides that a mode names.
 #[inline(always)]
 fn with_deadlines_from(clock: i64, mode: Mode, time: i64, desc: Desc) -> Desc
     ensures { result ≡ spec.with_deadlines mode (spec.deadline_from clock time) desc }
@@ -43,7 +42,7 @@ fn with_deadlines_from(clock: i64, mode: Mode, time: i64, desc: Desc) -> Desc
     with_deadlines(mode, deadline_from(clock, time), desc)
 }
 
-/// Whether a side's deadline wants a timer of its own: one for writing isn't armed under combo.
+/// Whether a side's deadline needs a timer of its own: one for writing isn't armed under combo.
 #[inline(always)]
 fn wants_timer(side: Side, desc: Desc) -> bool
     ensures { result ≡ spec.wants_timer side desc }
@@ -69,7 +68,7 @@ fn timer_function(side: Side, desc: Desc) -> TimerFunction
 /// The descriptor with a side's timer armed at its deadline, or stopped.
 #[inline(always)]
 fn timer_reset(side: Side, desc: Desc) -> Followed
-    ensures { followed_shown result ≡ spec.timer_reset side desc }
+    ensures { followed_view result ≡ spec.timer_reset side desc }
 {
     let wanted = wants_timer(side, desc);
     let order = if wanted {
@@ -99,7 +98,7 @@ fn is_same_time(time: i64, other: i64) -> bool
 /// Whether two marks are the same.
 #[inline(always)]
 fn is_same_mark(mark: bool, other: bool) -> bool
-    ensures { result ≡ (lock.bit mark == lock.bit other) }
+    ensures { result ≡ spec.same_bool mark other }
 {
     mark == other
 }
@@ -109,7 +108,7 @@ fn is_same_mark(mark: bool, other: bool) -> bool
 fn is_unmoved(side: Side, old: Desc, desc: Desc) -> bool
     ensures { result
         ≡ (int_eq (sides.of_side side old.deadlines) (sides.of_side side desc.deadlines)
-        && (lock.bit (spec.is_combo old) == lock.bit (spec.is_combo desc))) }
+        && spec.same_bool (spec.is_combo old) (spec.is_combo desc)) }
 {
     is_same_time(old.deadline(side), desc.deadline(side))
         && is_same_mark(old.is_combo(), desc.is_combo())
@@ -118,7 +117,7 @@ fn is_unmoved(side: Side, old: Desc, desc: Desc) -> bool
 /// A side's timer after the deadlines of `old` became those of the descriptor.
 #[inline(always)]
 fn timer_follows(side: Side, old: Desc, desc: Desc) -> Result<Followed, Refusal>
-    ensures shown { Gives followed_shown result (spec.timer_follows side old desc) }
+    ensures viewed { Gives followed_view result (spec.timer_follows side old desc) }
     ensures words { IfOk result (λ followed. followed.desc.words ≡ desc.words) }
 {
     let stays = Followed { desc, order: None };
@@ -146,7 +145,7 @@ impl DescChange {
     #[inline(always)]
     fn unblock_expired(self) -> DescChange
         requires { self.woken ≡ sides.twice None }
-        ensures shown { change_shown result ≡ spec.expired_unblocked (change_shown self) }
+        ensures viewed { change_view result ≡ spec.expired_unblocked (change_view self) }
         ensures woken { result.woken ≡ both_let_go self.desc.words result.desc.words }
     {
         let mut change = self;
@@ -163,7 +162,7 @@ impl DescChange {
 /// Both timers after the deadlines of `old` became those of the descriptor, reading first.
 #[inline(always)]
 fn both_follow(old: Desc, desc: Desc) -> Result<DescChange, Refusal>
-    ensures shown { Gives change_shown result (spec.both_follow old desc) }
+    ensures viewed { Gives change_view result (spec.both_follow old desc) }
     ensures woken { IfOk result (λ change. change.woken ≡ sides.twice None) }
     ensures words { IfOk result (λ change. change.desc.words ≡ desc.words) }
 {
@@ -191,7 +190,7 @@ pub(crate) fn change_by_deadline(
     time: i64,
     old: Desc,
 ) -> Result<DescChange, Refusal>
-    ensures shown { Gives change_shown result (spec.change_by_deadline clock mode time old) }
+    ensures viewed { Gives change_view result (spec.change_by_deadline clock mode time old) }
     ensures woken { IfOk result (λ change. change.woken ≡ both_let_go old.words change.desc.words) }
 {
     if old.marks.closing() {

@@ -1,4 +1,4 @@
-//! A descriptor, what it tells, and its fields changed.
+//! A descriptor, what it returns, and its fields changed.
 
 ghost use Rattle.std.specs.Prelude.{◌≡◌, ◌==◌, ◌<◌, ◌^◌, pos};
 ghost use Rattle.nr_rev.specs.Descriptor as spec;
@@ -8,7 +8,7 @@ ghost use Rattle.nr_desc.specs.Desc.{DescFits, marks_number_of};
 
 use crate::code::WordCode;
 use crate::marks::Marks;
-use nr_rev::{Descriptor, Side, Sides, Word};
+use nr_rev::{Descriptor, Side, Sides, WaitWord};
 use std::marker::Model;
 
 /// A poll descriptor, seen in contracts as the record of its fields.
@@ -93,7 +93,7 @@ impl Desc {
 
     /// A side's word.
     #[inline(always)]
-    pub fn word(&self, side: Side) -> Word
+    pub fn word(&self, side: Side) -> WaitWord
         ensures { result ≡ sides.of_side side self.now.words }
     {
         self.words.of(side).word()
@@ -123,7 +123,7 @@ impl Desc {
         self.marks.closing()
     }
 
-    /// Whether the last event told of an error.
+    /// Whether the last event had an error.
     #[inline(always)]
     pub fn event_error(&self) -> bool
         ensures { result ≡ self.now.event_error }
@@ -182,7 +182,7 @@ impl Desc {
             + 8 * u64::from(self.is_expired(Side::Write))
     }
 
-    /// What stands against waiting: 1 closing, 2 the deadline is past, 3 an event error, for reading; else 0.
+    /// What hinders a wait: 1 closing, 2 the deadline is past, 3 an event error, for reading; else 0.
     #[inline(always)]
     pub fn check(&self, side: Side) -> u32
         ensures { result ≡ spec.check side self.now }
@@ -216,8 +216,8 @@ impl Desc {
 
     /// With another word at a side.
     #[inline(always)]
-    pub(crate) fn with_word(self, side: Side, word: WordCode) -> Desc
-        ensures { result ≡ spec.with_word side word self }
+    pub(crate) fn with_wait_word(self, side: Side, word: WordCode) -> Desc
+        ensures { result ≡ spec.with_wait_word side word self }
     {
         Desc {
             words: self.words.with(side, word),

@@ -5,7 +5,7 @@ ghost use Rattle.nr_rev.specs.Descriptor as spec;
 ghost use Rattle.nr_rev.specs.Sides as sides;
 ghost use Rattle.nr_rev.specs.declared.sides.Side.TheVariants.{Read, Write};
 ghost use Rattle.nr_rev.specs.Refusing.{Gives};
-ghost use Rattle.nr_desc.specs.Change.{both_let_go, change_shown};
+ghost use Rattle.nr_desc.specs.Change.{both_let_go, change_view};
 
 use crate::change::{DescChange, quiet};
 use crate::desc::Desc;
@@ -30,9 +30,9 @@ impl DescChange {
     fn expire(self, function: TimerFunction) -> DescChange
         requires { self.woken ≡ sides.twice None }
         ensures woken { result.woken ≡ both_let_go self.desc.words result.desc.words }
-        ensures shown { change_shown result
-            ≡ spec.and_if (sides.covers_side function Write) (spec.expire Write)
-            (spec.and_if (sides.covers_side function Read) (spec.expire Read) (change_shown self)) }
+        ensures viewed { change_view result
+            ≡ spec.then_if (spec.then_if (change_view self) (sides.covers_side function Read) (spec.expire Read))
+            (sides.covers_side function Write) (spec.expire Write) }
     {
         let mut change = self;
         if function.covers(Side::Read) {
@@ -67,7 +67,7 @@ pub(crate) fn change_by_firing(
     sequence: u64,
     desc: Desc,
 ) -> Result<Option<DescChange>, Refusal>
-    ensures shown { Gives (option_map change_shown) result
+    ensures viewed { Gives (option_map change_view) result
         (spec.change_by_firing function sequence desc) }
     ensures woken { IfOk result (λ firing. IfSome firing (λ change.
         change.woken ≡ both_let_go desc.words change.desc.words)) }

@@ -3,10 +3,10 @@
 ghost use Rattle.std.specs.Prelude.{◌≡◌, ◌<◌, ℕ, Some};
 ghost use Rattle.nr_rev.specs.Sides.{of_side};
 ghost use Rattle.nr_rev.specs.declared.descriptor.Descriptor.{Descriptor};
-ghost use Rattle.nr_rev.specs.declared.descriptor.Word.{Word};
-ghost use Rattle.nr_rev.specs.declared.descriptor.Word.TheVariants.{Held};
+ghost use Rattle.nr_rev.specs.declared.descriptor.WaitWord.{WaitWord};
+ghost use Rattle.nr_rev.specs.declared.descriptor.WaitWord.TheVariants.{Held};
 ghost use Rattle.nr_rev.specs.declared.sides.Side.{Side};
-ghost use Rattle.nr_desc.specs.Code.{code_of, word_of};
+ghost use Rattle.nr_desc.specs.Code.{code_of, wait_word_of};
 ghost use Rattle.nr_desc.specs.Marks.{DescMarks, marks_of, marks_number};
 ghost use Rattle.nr_desc.specs.Op.{StepTo};
 ghost use Rattle.nr_desc.specs.declared.op.DescAnswer.{DescAnswer};
@@ -23,8 +23,8 @@ pub fn the_woken_were_held()
 
 /// Each number is the code of one word, and each word has one code. Bytes below 16 and marks are as much one to one.
 pub fn numbers_are_words_and_marks()
-    ensures code { (n : ℕ) → code_of (word_of n) ≡ n }
-    ensures word { (word : Word) → word_of (code_of word) ≡ word }
+    ensures code { (n : ℕ) → code_of (wait_word_of n) ≡ n }
+    ensures word { (word : WaitWord) → wait_word_of (code_of word) ≡ word }
     ensures byte { (n : ℕ) → n < 16 → marks_number (marks_of n) ≡ n }
     ensures marks { (marks : DescMarks) → marks_of (marks_number marks) ≡ marks }
     ensures small { (marks : DescMarks) → marks_number marks < 16 }

@@ -52,9 +52,9 @@ pub enum DescOp {
     },
     /// Closes it (Go's `poll_runtime_pollClose`): its tag becomes another. Answers `Done`.
     Close,
-    /// Makes a side's word nil, if nothing stands against waiting (Go's `poll_runtime_pollReset`). Answers `Code`.
+    /// Makes a side's word nil, if nothing hinders a wait (Go's `poll_runtime_pollReset`). Answers `Code`.
     Reset(Side),
-    /// Looks what stands against waiting (Go's `netpollcheckerr`). Answers `Code`.
+    /// Looks what hinders a wait (Go's `netpollcheckerr`). Answers `Code`.
     Check(Side),
     /// Makes a side's word wait, or takes it up where it is ready (the first half of Go's `netpollblock`). Answers `Wait`,
     /// or `Code(0)` where it was ready.
@@ -89,7 +89,7 @@ pub enum DescOp {
         tag: u64,
         /// The sides that are ready.
         mode: Mode,
-        /// Whether it tells of an error.
+        /// Whether it has an error.
         error: bool,
     },
 }

@@ -3,7 +3,7 @@
 ghost use Rattle.std.specs.Prelude.{◌≡◌, IfOk, option_to_list};
 ghost use Rattle.nr_rev.specs.Descriptor as spec;
 ghost use Rattle.nr_rev.specs.Refusing.{Gives};
-ghost use Rattle.nr_desc.specs.Change.{both_let_go, change_shown, shown_as_it_is};
+ghost use Rattle.nr_desc.specs.Change.{both_let_go, change_view, viewed_as_it_is};
 ghost use Rattle.nr_desc.specs.Op.{closed_by_words};
 
 use crate::change::DescChange;
@@ -27,7 +27,7 @@ impl Desc {
     /// Opened for a socket (Go's `poll_runtime_pollOpen`).
     #[inline(always)]
     pub(crate) fn opened_for(self, socket: u32) -> Result<Desc, Refusal>
-        ensures { Gives shown_as_it_is result (spec.opened_for socket self) }
+        ensures { Gives viewed_as_it_is result (spec.opened_for socket self) }
     {
         let sequences = both_raised(self.sequences)?;
         Ok(Desc {
@@ -46,7 +46,7 @@ impl Desc {
     /// Closed (Go's `poll_runtime_pollClose`), by its marks and words alone.
     #[inline(always)]
     pub(crate) fn closed(self) -> Result<Desc, Refusal>
-        ensures { Gives shown_as_it_is result (closed_by_words self) }
+        ensures { Gives viewed_as_it_is result (closed_by_words self) }
     {
         if !self.marks.closing() {
             return Err(Refusal::CloseWithoutUnblock);
@@ -64,7 +64,7 @@ impl Desc {
 /// unblocked.
 #[inline(always)]
 pub(crate) fn change_by_evict(desc: Desc) -> Result<DescChange, Refusal>
-    ensures shown { Gives change_shown result (spec.change_by_evict desc) }
+    ensures viewed { Gives change_view result (spec.change_by_evict desc) }
     ensures woken { IfOk result (λ change. change.woken ≡ both_let_go desc.words change.desc.words) }
 {
     if desc.marks.closing() {

@@ -2,7 +2,7 @@
 
 ghost use Rattle.std.specs.Prelude.{◌≡◌, IfOk, None};
 ghost use Rattle.nr_rev.specs.Refusing.{Gives};
-ghost use Rattle.nr_desc.specs.Change.{made_shown};
+ghost use Rattle.nr_desc.specs.Change.{made_view};
 ghost use Rattle.nr_desc.specs.Op.{outcome, woken_by};
 ghost use Rattle.nr_rev.specs.Sides as sides;
 ghost use Rattle.nr_rev.specs.Descriptor as spec;
@@ -43,7 +43,7 @@ pub(crate) struct Made {
 /// An answer with which nothing is ordered and nobody woken.
 #[inline(always)]
 fn made_quiet(answer: Answer, desc: Desc) -> Made
-    ensures shown { made_shown result ≡ (answer, spec.quiet desc) }
+    ensures viewed { made_view result ≡ (answer, spec.quiet desc) }
     ensures woken { result.change.woken ≡ sides.twice None }
     ensures desc { result.change.desc ≡ desc }
 {
@@ -57,7 +57,7 @@ impl Desc {
     /// What an operation comes to.
     #[inline(always)]
     fn made(self, op: DescOp) -> Result<Made, Refusal>
-        ensures shown { Gives made_shown result (outcome self op) }
+        ensures viewed { Gives made_view result (outcome self op) }
         ensures woken { IfOk result (λ made. made.change.woken ≡ woken_by op self made.change.desc) }
     {
         match op {
@@ -127,9 +127,9 @@ impl Desc {
 /// Each operation writes a few numbers, and the way back is the numbers before.
 impl Reversible for Desc {
     ghost use Rattle.nr_desc.specs.declared.reversible.TheConstants.{MOST_WORDS};
-    ghost use Rattle.nr_desc.specs.Delta.{DescBack, delta_words};
+    ghost use Rattle.nr_desc.specs.Delta.{DescBack, delta_weight};
     ghost use Rattle.nr_desc.specs.Desc.{DescFits};
-    ghost use Rattle.nr_desc.specs.Laws.{DescBack-unique, memory_is_no_reason, refused_has_no_step, steps_unique, words_are_within};
+    ghost use Rattle.nr_desc.specs.Laws.{DescBack-unique, memory_is_no_reason, refused_has_no_step, steps_unique, weight_is_within};
     ghost use Rattle.nr_desc.specs.Op.{StepTo, desc_reason};
 
     type Op = DescOp;
@@ -152,7 +152,7 @@ impl Reversible for Desc {
 
     ghost back = { DescBack };
 
-    ghost weight = { delta_words };
+    ghost weight = { delta_weight };
 
     ghost allowance = { λ _. MOST_WORDS };
 
@@ -189,5 +189,5 @@ impl Reversible for Desc {
 
     ghost steps_unique = { steps_unique };
 
-    ghost allowance_is_within = { words_are_within };
+    ghost allowance_is_within = { weight_is_within };
 }

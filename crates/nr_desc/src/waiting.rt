@@ -3,12 +3,12 @@
 ghost use Rattle.std.specs.Prelude.{◌≡◌, ◌+◌, ◌<◌, ◌^◌};
 ghost use Rattle.nr_rev.specs.Sides as sides;
 ghost use Rattle.nr_rev.specs.Refusing.{Gives};
-ghost use Rattle.nr_desc.specs.Change.{answered_shown};
+ghost use Rattle.nr_desc.specs.Change.{answered_view};
 ghost use Rattle.nr_desc.specs.Op as spec;
 
 use crate::code::WordCode;
 use crate::desc::Desc;
-use nr_rev::{Answer, Refusal, Side, Word};
+use nr_rev::{Answer, Refusal, Side, WaitWord};
 
 /// What an operation on a word leaves: the answer, and the descriptor.
 #[derive(Clone, Copy)]
@@ -18,10 +18,10 @@ pub(crate) struct Answered {
 }
 
 impl Desc {
-    /// A side's word nil, if nothing stands against waiting (Go's `poll_runtime_pollReset`).
+    /// A side's word nil, if nothing hinders a wait (Go's `poll_runtime_pollReset`).
     #[inline(always)]
     pub(crate) fn reset(self, side: Side) -> Result<Answered, Refusal>
-        ensures { Gives answered_shown result (spec.reset side self) }
+        ensures { Gives answered_view result (spec.reset side self) }
     {
         let code = self.check(side);
         if code != 0 {
@@ -35,23 +35,23 @@ impl Desc {
         }
         Ok(Answered {
             answer: Answer::Code(0),
-            desc: self.with_word(side, WordCode::nil()),
+            desc: self.with_wait_word(side, WordCode::nil()),
         })
     }
 
     /// A side's word made wait, or taken up where it is ready (the first half of Go's `netpollblock`).
     #[inline(always)]
     pub(crate) fn arm(self, side: Side) -> Result<Answered, Refusal>
-        ensures { Gives answered_shown result (spec.armed_by side (sides.of_side side self.words) self) }
+        ensures { Gives answered_view result (spec.armed_by side (sides.of_side side self.words) self) }
     {
         match self.words.of(side).word() {
-            Word::Nil => Ok(Answered {
+            WaitWord::Nil => Ok(Answered {
                 answer: Answer::Wait,
-                desc: self.with_word(side, WordCode::wait()),
+                desc: self.with_wait_word(side, WordCode::wait()),
             }),
-            Word::Ready => Ok(Answered {
+            WaitWord::Ready => Ok(Answered {
                 answer: Answer::Code(0),
-                desc: self.with_word(side, WordCode::nil()),
+                desc: self.with_wait_word(side, WordCode::nil()),
             }),
             _ => Err(Refusal::DoubleWait),
         }
@@ -61,13 +61,13 @@ impl Desc {
     #[inline(always)]
     pub(crate) fn commit(self, side: Side, goroutine: u32) -> Answered
         requires { goroutine + 3 < 2 ^ 32 }
-        ensures { answered_shown result
+        ensures { answered_view result
             ≡ spec.committed_by side goroutine (sides.of_side side self.words) self }
     {
         match self.words.of(side).word() {
-            Word::Wait => Answered {
+            WaitWord::Wait => Answered {
                 answer: Answer::Yes,
-                desc: self.with_word(side, WordCode::held(goroutine)),
+                desc: self.with_wait_word(side, WordCode::held(goroutine)),
             },
             _ => Answered {
                 answer: Answer::No,
@@ -79,15 +79,15 @@ impl Desc {
     /// A side's word taken up (the second half of Go's `netpollblock`).
     #[inline(always)]
     pub(crate) fn swap(self, side: Side) -> Answered
-        ensures { answered_shown result ≡ spec.swapped_by side (sides.of_side side self.words) self }
+        ensures { answered_view result ≡ spec.swapped_by side (sides.of_side side self.words) self }
     {
         let answer = match self.words.of(side).word() {
-            Word::Ready => Answer::Yes,
+            WaitWord::Ready => Answer::Yes,
             _ => Answer::No,
         };
         Answered {
             answer,
-            desc: self.with_word(side, WordCode::nil()),
+            desc: self.with_wait_word(side, WordCode::nil()),
         }
     }
 }

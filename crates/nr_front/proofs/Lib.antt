@@ -1,3 +1,3 @@
-pub mod DeskLemmas
+pub mod FrontStateLemmas
 pub mod StepsLemmas
 pub mod FrontLemmas

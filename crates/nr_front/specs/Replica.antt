@@ -7,29 +7,28 @@ use Rattle.nr_command.specs.Looking.{is_at_world}
 use Rattle.nr_command.specs.declared.command.Query.{Query}
 use Rattle.nr_command.specs.declared.debugger.Debugger.{Debugger}
 
--- How a walker stands: its position, how many deltas it keeps and how many at most, and how many
--- steps lie between two copies of its film.
-pub record Footing : Type 0 where
+-- What is seen of a walker: its position, how many deltas it keeps and how many at most, and how
+-- many steps lie between two copies of its film.
+pub record WalkerState : Type 0 where
   pub position : ℕ
   pub kept : ℕ
   pub depth : ℕ
   pub every : ℕ
 
--- what is seen of a replica: its recording, how many workers search, its debugger, and how its
--- walker stands
-pub record Machine : Type 0 where
+-- what is seen of a replica: its recording, how many workers search, its debugger, and its walker
+pub record ReplicaState : Type 0 where
   pub recording : Recording
   pub workers : ℕ
   pub debugger : Debugger
-  pub footing : Footing
+  pub walker_state : WalkerState
 
--- how this walker stands
-abbrev pub footing_of : {State : Type 0} → Walk State → Footing
-footing_of w =
+-- what is seen of this walker
+abbrev pub walker_state_of : {State : Type 0} → Walk State → WalkerState
+walker_state_of w =
     record { position = w.position; kept = w.kept; depth = w.depth; every = w.film.every }
 
--- the walker that stands so over the recording, whatever its states are
-abbrev pub walk_of : Recording → Footing → Walk (Unit {0})
+-- the walker over the recording of which this is seen, whatever its states are
+abbrev pub walk_of : Recording → WalkerState → Walk (Unit {0})
 walk_of r f =
     record {
       film = record { recording = r; every = f.every; origin = tt };
@@ -38,30 +37,31 @@ walk_of r f =
       depth = f.depth;
     }
 
--- how one stands that hasn't walked
-abbrev pub at_start : ℕ → ℕ → Footing
+-- what is seen of one that hasn't walked
+abbrev pub at_start : ℕ → ℕ → WalkerState
 at_start every depth = record { position = 0; kept = 0; depth = depth; every = every }
 
--- how it stands that was led to position n, the way that walkers go there
-abbrev pub led_to : ℕ → Recording → Footing → Footing
-led_to n r f = footing_of (walk_by (route (walk_of r f) n) (walk_of r f) n)
+-- what is seen of one that was led to position n, the way that walkers go there
+abbrev pub led_to : ℕ → Recording → WalkerState → WalkerState
+led_to n r f = walker_state_of (walk_by (route (walk_of r f) n) (walk_of r f) n)
 
--- how it stands after a look: one at the world leads it to the debugger's position
-abbrev pub after_look : Query → Machine → Footing
+-- what is seen of it after a look: one at the world leads it to the debugger's position
+abbrev pub after_look : Query → ReplicaState → WalkerState
 after_look query m =
-    if is_at_world query then led_to m.debugger.position m.recording m.footing else m.footing
+    if is_at_world query then led_to m.debugger.position m.recording m.walker_state
+    else m.walker_state
 
--- It was refused memory on the way to position n, and stands so then: on a way that takes a copy,
--- or forward at a step that bytes leave a buffer at. Back over deltas none is wanted.
-abbrev pub IsRefusedOnTheWay : ℕ → Recording → Footing → Footing → Type 0
+-- It ran out of memory on the way to position n: at a copy, or forward at a step that bytes leave a
+-- buffer at. Going back over deltas takes none.
+abbrev pub IsRefusedOnTheWay : ℕ → Recording → WalkerState → WalkerState → Type 0
 IsRefusedOnTheWay n r old new =
     IsRefusedBy (route (walk_of r old) n) (walk_of r old) n (walk_of r new)
 
--- Why a look was refused memory: it is at the world, and the walker was refused it on the way to
--- the debugger's position, or is there and the look copies what it shows.
-pub record LookIsRefused (query : Query) (m : Machine) (new : Footing) : Type 0 where
+-- Why a look ran out of memory. It is at the world. The walker ran out of it on the way to the
+-- debugger's position, or is there and the look copies what it prints.
+pub record LookIsRefused (query : Query) (m : ReplicaState) (new : WalkerState) : Type 0 where
   pub at_world : is_at_world query ≡ true
   pub why :
-      IsRefusedOnTheWay m.debugger.position m.recording m.footing new
-      ⊎ ((new ≡ led_to m.debugger.position m.recording m.footing)
+      IsRefusedOnTheWay m.debugger.position m.recording m.walker_state new
+      ⊎ ((new ≡ led_to m.debugger.position m.recording m.walker_state)
       × Copies m.recording m.debugger query)

@@ -5,8 +5,8 @@
 pub enum FrontFault {
     /// There was no memory for another's command that comes first, or for the look. The call's command isn't placed.
     Memory,
-    /// There was no memory for a command that stands at this place of the journal, from 1. Its reply is owed.
+    /// A command at this index of the journal, from 1, ran out of memory. Its reply is owed.
     Placed(usize),
-    /// Every place of the journal is taken. The call's command isn't placed.
+    /// The journal is full. The call's command isn't placed.
     Full,
 }

@@ -2,12 +2,12 @@
 
 ghost use Rattle.std.specs.Prelude.{◌≡◌, ◌≤◌, [], IfOk, IfErr};
 ghost use Rattle.nr_walker.specs.declared.walker.TheConstants.{LEAST_DEPTH, MOST_DEPTH};
-ghost use Rattle.nr_front.specs.Desk.{opened, pass_of};
+ghost use Rattle.nr_front.specs.FrontState.{opened_front, pass_of};
 ghost use Rattle.nr_front.specs.Front.{Executes, IsSame, IsUnmoved, Looks, Resumes};
 ghost use Rattle.nr_front.specs.Replica.{at_start};
 
-use crate::due::Due;
 use crate::fault::FrontFault;
+use crate::pending::Pending;
 use crate::replica::Replica;
 use nr_command::{Command, Query, Reply};
 use nr_journal::{Journal, Pass};
@@ -17,56 +17,56 @@ use nr_snaps::Film;
 use std::alloc::{AllocError, Global};
 use std::marker::Model;
 
-/// A pass of the journal, and a machine that runs the words that the pass sees. Contracts see the journal, the
-/// recording, how many workers search, how the machine's walker stands, what the pass knows, and what the machine hasn't
-/// run yet.
+/// A pass of the journal, and a machine that runs the words that the pass sees: one user's replica. Contracts see the
+/// journal, the recording, how many workers search, the machine's walker, what the pass knows, and what the machine
+/// hasn't run yet.
 #[derive(Drop)]
 pub struct Front<'f, W: Worlds + Drop + Sync, F: Finder>
 where
     W::Delta: Drop,
 {
     pub(crate) pass: Pass,
-    pub(crate) machine: Replica<'f, W, F>,
-    pub(crate) due: Due,
+    pub(crate) replica: Replica<'f, W, F>,
+    pub(crate) pending: Pending,
 }
 
 impl<'f, W: Worlds + Drop + Sync, F: Finder> Model for Front<'f, W, F>
 where
     W::Delta: Drop,
 {
-    ghost use Rattle.nr_front.specs.Desk.{Desk, IsAt, command_due};
+    ghost use Rattle.nr_front.specs.FrontState.{FrontState, IsAt, pending_command};
 
-    ghost Value = { Desk };
+    ghost Value = { FrontState };
 
     ghost view = { λ f. record {
       table = f.pass.table;
-      recording = f.machine.recording;
-      workers = f.machine.workers;
-      footing = f.machine.footing;
-      stand = f.pass.stand;
-      due = f.due;
+      recording = f.replica.recording;
+      workers = f.replica.workers;
+      walker_state = f.replica.walker_state;
+      pass_state = f.pass.pass_state;
+      pending = f.pending;
     } };
 
-    ghost invariant = { λ f. IsAt f.machine.recording f.pass.stand.seen (command_due f.due)
-        f.machine.debugger };
+    ghost invariant = { λ f. IsAt f.replica.recording f.pass.pass_state.seen (pending_command f.pending)
+        f.replica.debugger };
 }
 
 impl<'f, W: Worlds + Drop + Sync, F: Finder> Front<'f, W, F>
 where
     W::Delta: Drop,
 {
-    /// Runs what others placed, places the command, and answers what it does at its place: the reply is that of a
+    /// Runs what others placed, places the command, and returns what it does at its index. The reply is that of a
     /// debugger that runs the words of the journal up to there.
     ///
-    /// Refused memory for another's command that searches, it answers `Memory`, and its own isn't placed. Refused memory
-    /// for its own, which stands in the journal then, it answers `Placed`: `resume` gives the reply. While a reply is
-    /// owed it does nothing but answer `Placed` again. Where no place is left it answers `Full`, and has run all words.
+    /// Where another's command that searches runs out of memory, it fails with `Memory`, and its own isn't placed. Where
+    /// its own does, which is in the journal then, it fails with `Placed`: `resume` returns the reply. While a reply is
+    /// owed it only fails with `Placed` again. Where the journal is full it fails with `Full`, and has run all words.
     pub fn exec(&mut self, journal: &Journal, command: Command) -> Result<Reply, FrontFault>
         requires { self.old.table ≡ journal.now }
         ensures same { IsUnmoved self.old self.new }
         ensures executes { Executes command self.old self.new result }
     {
-        if self.owed().is_some() {
+        if self.owed_command().is_some() {
             return Err(FrontFault::Placed(self.place()));
         }
         let Ok(()) = self.catch_up(journal) else {
@@ -83,16 +83,16 @@ where
 
     /// Runs what others placed, until it finds no word more, and then looks. No word is placed.
     ///
-    /// A look at the world, for a value or a dump, leads the walker to the debugger's position. It answers `Memory` where
-    /// another's command that searches was refused it, or the walker was on the way, as `Walker::goto` says, or a dump of
-    /// something; so a look at the debugger alone is never refused it for itself. It answers `Placed`, having done nothing,
-    /// while a reply is owed.
+    /// A look at the world, for a value or a dump, leads the walker to the debugger's position. It fails with `Memory`
+    /// where another's command that searches ran out of it, or the walker on the way, as `Walker::goto` says, or a dump of
+    /// something. So a look at the debugger alone never runs out of memory for itself. While a reply is owed it does
+    /// nothing and fails with `Placed`.
     pub fn look(&mut self, journal: &Journal, query: Query) -> Result<Reply, FrontFault>
         requires { self.old.table ≡ journal.now }
         ensures same { IsSame self.old self.new }
         ensures looks { Looks query self.old self.new result }
     {
-        if self.owed().is_some() {
+        if self.owed_command().is_some() {
             return Err(FrontFault::Placed(self.place()));
         }
         let Ok(()) = self.catch_up(journal) else {
@@ -104,13 +104,13 @@ where
         }
     }
 
-    /// Gives the reply that is owed, once; None where none is. Refused memory again, it answers `Placed` with the same
-    /// place, and the reply is still owed.
+    /// Returns the reply that is owed, once; None where none is. Where it runs out of memory again, it fails with
+    /// `Placed` and the same index, and the reply is still owed.
     pub fn resume(&mut self) -> Result<Option<Reply>, FrontFault>
         ensures same { IsUnmoved self.old self.new }
         ensures resumes { Resumes self.old self.new result }
     {
-        let Some(command) = self.owed() else {
+        let Some(command) = self.owed_command() else {
             return Ok(None);
         };
         let place = self.place();
@@ -126,7 +126,7 @@ where
     W::Delta: Drop,
 {
     /// A front over a film, at its first position, with a walker that keeps the way back over its last `depth` steps.
-    /// The pass has seen no word. Refused memory, the pass comes back.
+    /// The pass has seen no word. Where memory runs out, the pass comes back.
     pub fn new(
         alloc: Global,
         pass: Pass,
@@ -134,32 +134,32 @@ where
         finder: F,
         depth: usize,
     ) -> Result<Front<'f, W, F>, (Pass, AllocError)>
-        requires unseen { pass.stand.seen ≡ [] }
+        requires unseen { pass.pass_state.seen ≡ [] }
         requires least { LEAST_DEPTH ≤ depth }
         requires most { depth ≤ MOST_DEPTH }
         ensures ok { IfOk result (λ front. front
-            ≡ opened pass film.now.recording (F.count finder)
+            ≡ opened_front pass film.now.recording (F.count finder)
             (at_start film.now.every depth)) }
         ensures err { IfErr result (λ refused. refused.0 ≡ pass) }
     {
         match Replica::new(alloc, film, finder, depth) {
-            Ok(machine) => Ok(Front {
+            Ok(replica) => Ok(Front {
                 pass,
-                machine,
-                due: Due::Nothing,
+                replica,
+                pending: Pending::Nothing,
             }),
             Err(refused) => Err((pass, refused)),
         }
     }
 
-    /// Gives the pass back. A reply that is still owed is given up; its word stays in the journal.
+    /// Returns the pass. A reply that is still owed is dropped; its word stays in the journal.
     pub fn end(self) -> Pass
         ensures { result ≡ pass_of self.entry }
     {
         let Front {
             pass,
-            machine: _,
-            due: _,
+            replica: _,
+            pending: _,
         } = self;
         pass
     }

@@ -1,10 +1,10 @@
-//! One user's replica of the shared session: a pass of the journal, and a debugger that runs the words that the pass
-//! sees, its own and others', in the journal's order.
+//! One user's *replica* of the shared session. It has a pass of the journal, and a debugger that runs the words that
+//! the pass sees, its own and others', in the journal's order.
 #![tactic(auto)]
 
-mod due;
 mod fault;
 mod front;
+mod pending;
 mod replica;
 mod steps;
 

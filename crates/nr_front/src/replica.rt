@@ -1,7 +1,7 @@
-//! A replica: a debugger over a film, and the walker that is led to where it stands when somebody looks at the world.
+//! A replica: a debugger over a film, and the walker that is led to its position when somebody looks at the world.
 
 ghost use Rattle.std.specs.Prelude.{◌≡◌, ◌≤◌, IfOk, OnErr, OnOk};
-ghost use Rattle.nr_command.specs.Debugger.{Searches, opening, run, shown};
+ghost use Rattle.nr_command.specs.Debugger.{Searches, opening, run, query_reply};
 ghost use Rattle.nr_front.specs.Replica.{LookIsRefused, after_look, at_start};
 ghost use Rattle.nr_walker.specs.declared.walker.TheConstants.{LEAST_DEPTH, MOST_DEPTH};
 
@@ -14,7 +14,7 @@ use std::alloc::{AllocError, Global};
 use std::marker::Model;
 
 /// A debugger over a film, with a walker of its own. Contracts see the film's recording, how many workers search, the
-/// debugger, and how the walker stands.
+/// debugger and the walker.
 #[derive(Drop)]
 pub struct Replica<'f, W: Worlds + Drop + Sync, F: Finder>
 where
@@ -31,15 +31,15 @@ where
 {
     ghost use Rattle.std.specs.Prelude.{length};
     ghost use Rattle.nr_command.specs.Debugger.{IsWithin};
-    ghost use Rattle.nr_front.specs.Replica.{Machine, footing_of};
+    ghost use Rattle.nr_front.specs.Replica.{ReplicaState, walker_state_of};
 
-    ghost Value = { Machine };
+    ghost Value = { ReplicaState };
 
     ghost view = { λ s. record {
       recording = s.walker.film.recording;
       workers = F.count s.finder;
       debugger = s.debugger;
-      footing = footing_of s.walker;
+      walker_state = walker_state_of s.walker;
     } };
 
     ghost invariant = { λ s. IsWithin (length s.walker.film.recording.steps) s.debugger };
@@ -49,7 +49,7 @@ impl<'f, W: Worlds + Drop + Sync, F: Finder + Drop> Replica<'f, W, F>
 where
     W::Delta: Drop,
 {
-    /// Stands at position 0, and keeps the way back over the last `depth` steps that it walked. Takes memory for a copy
+    /// At position 0; it keeps the way back over the last `depth` steps that it walked. Takes memory for a copy
     /// of the film's first world, and for that way.
     pub fn new(
         alloc: Global,
@@ -63,7 +63,7 @@ where
           recording = film.now.recording;
           workers = F.count finder;
           debugger = opening;
-          footing = at_start film.now.every depth;
+          walker_state = at_start film.now.every depth;
         }) }
     {
         let walker = Walker::new(alloc, film, depth)?;
@@ -79,12 +79,12 @@ impl<'f, W: Worlds + Drop + Sync, F: Finder> Replica<'f, W, F>
 where
     W::Delta: Drop,
 {
-    /// Runs a command, and leaves the walker where it stands. Only a command that searches can be refused memory, and then
+    /// Runs a command, and leaves the walker where it is. Only a command that searches can run out of memory, and then
     /// nothing has changed.
     pub(crate) fn exec(&mut self, command: Command) -> Result<Reply, AllocError>
         ensures recording { self.new.recording ≡ self.old.recording }
         ensures workers { self.new.workers ≡ self.old.workers }
-        ensures footing { self.new.footing ≡ self.old.footing }
+        ensures walker_state { self.new.walker_state ≡ self.old.walker_state }
         ensures ok { IfOk result (λ reply. (reply, self.new.debugger)
             ≡ run self.old.recording command self.old.debugger) }
         ensures unchanged { OnErr result (self.new.debugger ≡ self.old.debugger) }
@@ -94,16 +94,16 @@ where
             .exec(self.walker.film(), &self.finder, command)
     }
 
-    /// Looks at what the debugger shows where it stands. A look at the world leads the walker there first; it is refused
-    /// memory on the way, or for a dump of something. Nothing else changes, also where it is refused.
+    /// Looks at what the debugger shows at its position. A look at the world leads the walker there first; it runs out
+    /// of memory on the way, or for a dump of something. Nothing else changes, also where it fails.
     pub(crate) fn look(&mut self, query: Query) -> Result<Reply, AllocError>
         ensures recording { self.new.recording ≡ self.old.recording }
         ensures workers { self.new.workers ≡ self.old.workers }
         ensures debugger { self.new.debugger ≡ self.old.debugger }
         ensures ok { IfOk result (λ reply. reply
-            ≡ shown self.old.recording self.old.debugger query) }
-        ensures led { OnOk result (self.new.footing ≡ after_look query self.old) }
-        ensures memory { OnErr result (LookIsRefused query self.old self.new.footing) }
+            ≡ query_reply self.old.recording self.old.debugger query) }
+        ensures led { OnOk result (self.new.walker_state ≡ after_look query self.old) }
+        ensures memory { OnErr result (LookIsRefused query self.old self.new.walker_state) }
     {
         if let Some(reply) = self.debugger.look_within(self.walker.film(), query) {
             return Ok(reply);

@@ -1,16 +1,16 @@
 //! The steps that the calls of a front are made of.
 
 ghost use Rattle.std.specs.Prelude.{◌≡◌, Some, None, IfOk, OnOk, OnErr};
-ghost use Rattle.nr_command.specs.Debugger.{shown};
-ghost use Rattle.nr_front.specs.Desk.{RepliesLast, SearchIsDue, command_due, machine_of, owed, place_of};
-ghost use Rattle.nr_front.specs.Front.{CatchesAll, IsRefused, settled, with_footing};
+ghost use Rattle.nr_command.specs.Debugger.{query_reply};
+ghost use Rattle.nr_front.specs.FrontState.{RepliesLast, SearchIsPending, pending_command, replica_of, owed_command, last_place};
+ghost use Rattle.nr_front.specs.Front.{CatchesAll, IsRefusedMemory, without_pending, with_walker_state};
 ghost use Rattle.nr_front.specs.Replica.{LookIsRefused, after_look};
-ghost use Rattle.nr_front.specs.Steps.{HasSeenAll, Offers, Placing, Sees};
-ghost use Rattle.nr_front.specs.declared.due.Due.TheVariants.{Nothing};
+ghost use Rattle.nr_front.specs.Steps.{HasSeenAll, OffersCommand, Placing, Sees};
+ghost use Rattle.nr_front.specs.declared.pending.Pending.TheVariants.{Nothing};
 
-use crate::due::Due;
 use crate::fault::FrontFault;
 use crate::front::Front;
+use crate::pending::Pending;
 use nr_command::{Command, Query, Reply};
 use nr_journal::{Journal, Offered};
 use nr_rev::Worlds;
@@ -22,39 +22,39 @@ where
     W::Delta: Drop,
 {
     /// The command whose reply is owed.
-    pub(crate) fn owed(&self) -> Option<Command>
-        ensures { result ≡ owed self.now }
+    pub(crate) fn owed_command(&self) -> Option<Command>
+        ensures { result ≡ owed_command self.now }
     {
-        self.due.own()
+        self.pending.own()
     }
 
-    /// The place of the last word seen, from 1.
+    /// The index of the last word seen, from 1.
     pub(crate) fn place(&self) -> usize
-        ensures { result ≡ place_of self.now }
+        ensures { result ≡ last_place self.now }
     {
         self.pass.seen()
     }
 
-    /// Runs the command that is due. Refused memory, nothing has changed.
+    /// Runs the command that is due. Out of memory, nothing has changed.
     pub(crate) fn run(&mut self, command: Command) -> Result<Reply, AllocError>
-        requires { command_due self.old.due ≡ Some command }
-        ensures settled { OnOk result (self.new ≡ settled self.old) }
+        requires { pending_command self.old.pending ≡ Some command }
+        ensures without_pending { OnOk result (self.new ≡ without_pending self.old) }
         ensures reply { IfOk result (RepliesLast self.old command) }
         ensures unchanged { OnErr result (self.new ≡ self.old) }
-        ensures memory { OnErr result (SearchIsDue self.old) }
+        ensures memory { OnErr result (SearchIsPending self.old) }
     {
-        let reply = self.machine.exec(command)?;
-        self.due = Due::Nothing;
+        let reply = self.replica.exec(command)?;
+        self.pending = Pending::Nothing;
         Ok(reply)
     }
 
-    /// Runs the command that is due, if one is. Refused memory, nothing has changed.
-    fn settle(&mut self) -> Result<(), AllocError>
-        ensures settled { OnOk result (self.new ≡ settled self.old) }
+    /// Runs the command that is due, if one is. Out of memory, nothing has changed.
+    fn run_pending(&mut self) -> Result<(), AllocError>
+        ensures without_pending { OnOk result (self.new ≡ without_pending self.old) }
         ensures unchanged { OnErr result (self.new ≡ self.old) }
-        ensures memory { OnErr result (SearchIsDue self.old) }
+        ensures memory { OnErr result (SearchIsPending self.old) }
     {
-        if let Some(command) = self.due.command() {
+        if let Some(command) = self.pending.command() {
             self.run(command)?;
         }
         Ok(())
@@ -62,25 +62,25 @@ where
 
     /// Shows the debugger of the words seen. Only the walker moves, and only for a look at the world.
     pub(crate) fn look_here(&mut self, query: Query) -> Result<Reply, AllocError>
-        requires { self.old.due ≡ Nothing }
-        ensures moved { self.new ≡ with_footing self.new.footing self.old }
+        requires { self.old.pending ≡ Nothing }
+        ensures moved { self.new ≡ with_walker_state self.new.walker_state self.old }
         ensures ok { IfOk result (λ reply. reply
-            ≡ shown self.old.recording (machine_of self.old).debugger query) }
-        ensures led { OnOk result (self.new.footing ≡ after_look query (machine_of self.old)) }
-        ensures memory { OnErr result (LookIsRefused query (machine_of self.old) self.new.footing) }
+            ≡ query_reply self.old.recording (replica_of self.old).debugger query) }
+        ensures led { OnOk result (self.new.walker_state ≡ after_look query (replica_of self.old)) }
+        ensures memory { OnErr result (LookIsRefused query (replica_of self.old) self.new.walker_state) }
     {
-        self.machine.look(query)
+        self.replica.look(query)
     }
 
     /// Sees one word more, if there is one: its command is due then.
     fn see(&mut self, journal: &Journal) -> bool
         requires table { self.old.table ≡ journal.now }
-        requires settled { self.old.due ≡ Nothing }
+        requires without_pending { self.old.pending ≡ Nothing }
         ensures { Sees self.old self.new result }
     {
         match journal.next(&mut self.pass) {
             Some(word) => {
-                self.due = Due::at(word);
+                self.pending = Pending::at(word);
                 true
             }
             None => false,
@@ -90,29 +90,29 @@ where
     /// Sees words and runs their commands, until a look finds none, or all words of the journal are seen.
     pub(crate) fn catch_up(&mut self, journal: &Journal) -> Result<(), AllocError>
         requires table { self.old.table ≡ journal.now }
-        requires unowed { owed self.old ≡ None }
+        requires unowed { owed_command self.old ≡ None }
         ensures ok { OnOk result (CatchesAll self.old self.new) }
-        ensures err { OnErr result (IsRefused self.old self.new) }
+        ensures err { OnErr result (IsRefusedMemory self.old self.new) }
     {
         loop {
-            self.settle()?;
+            self.run_pending()?;
             if !self.see(journal) {
                 return Ok(());
             }
         }
     }
 
-    /// Offers the command's word once. The command is due then, or that of the word that stood there.
+    /// Offers the command's word once. The command is due then, or that of the word that was there.
     fn offer(&mut self, journal: &Journal, command: Command) -> Offered
         requires table { self.old.table ≡ journal.now }
-        requires settled { self.old.due ≡ Nothing }
-        ensures { Offers command self.old self.new result }
+        requires without_pending { self.old.pending ≡ Nothing }
+        ensures { OffersCommand command self.old self.new result }
     {
         let word = command.to_word(self.pass.tag());
         let offered = journal.offer(&mut self.pass, word);
         match offered {
-            Offered::Placed => self.due = Due::Own(command),
-            Offered::Lost(word) => self.due = Due::at(word),
+            Offered::Placed => self.pending = Pending::Own(command),
+            Offered::Lost(word) => self.pending = Pending::at(word),
             Offered::Full => {}
         }
         offered
@@ -125,7 +125,7 @@ where
         command: Command,
     ) -> Result<(), FrontFault>
         requires table { self.old.table ≡ journal.now }
-        requires settled { self.old.due ≡ Nothing }
+        requires without_pending { self.old.pending ≡ Nothing }
         requires seen { HasSeenAll self.old }
         ensures { Placing command self.old self.new result }
     {
@@ -134,7 +134,7 @@ where
                 Offered::Placed => return Ok(()),
                 Offered::Full => return Err(FrontFault::Full),
                 Offered::Lost(_) => {
-                    let Ok(()) = self.settle() else {
+                    let Ok(()) = self.run_pending() else {
                         return Err(FrontFault::Memory);
                     };
                 }

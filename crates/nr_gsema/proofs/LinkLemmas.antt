@@ -4,12 +4,12 @@ use Rattle.std.proofs.lemmas.Option.{same_Some, none-some}
 use Rattle.std.specs.Prelude.{slice_get, ◌==◌, if◌then◌else◌}
 use Rattle.nr_rev.specs.declared.status.Status.{Status}
 use Rattle.nr_rev.specs.Lock.{bit}
-use Rattle.nr_rev.proofs.Numbers.{same_number, count_push, count_front, number_same}
+use Rattle.nr_rev.proofs.NumberLemmas.{same_number, count_push, count_front, number_same}
 use Rattle.nr_gsema.specs.declared.node.GoroutineNode.{GoroutineNode}
 use Rattle.nr_gsema.specs.Links.{IsLinked, chain, next_in, node_with}
 use Rattle.nr_gsema.specs.Relinking.{followed_by, preceded_by, or_else}
-use Rattle.nr_gsema.specs.Table.{before, behind, last_of}
-use Rattle.nr_rev.proofs.Counting.{times}
+use Rattle.nr_gsema.specs.Table.{before, behind, back_of}
+use Rattle.nr_rev.proofs.DistinctNumberLemmas.{times}
 use Rattle.nr_gsema.proofs.NodeLemmas.{Relinks}
 
 pub itself : (g : ℕ) (queue : List ℕ) → times g (g ∷ queue) ≡ 1 + times g queue
@@ -30,13 +30,15 @@ agree_from nodes new (g ∷ queue) same = (
   agree_from nodes new queue (λ h some. same h (let a = further g h queue in omega arith)),
 )
 
-pub IsLinked-kept : (nodes new : List GoroutineNode) (status : Status) (previous : Option ℕ) (queue : List ℕ) (first last : Option ℕ) → Agree nodes new queue → IsLinked nodes status previous queue first last → IsLinked new status previous queue first last
+pub IsLinked-kept : (nodes new : List GoroutineNode) (status : Status) (previous : Option ℕ) (queue : List ℕ) (first last : Option ℕ) → Agree nodes new queue
+    → IsLinked nodes status previous queue first last → IsLinked new status previous queue first last
 IsLinked-kept nodes new status previous [] first last same h = h
 IsLinked-kept nodes new status previous (g ∷ queue) first last same h =
     (h.0, (h.1.0, same.0 ∙ h.1.1, IsLinked-kept nodes new status (Some g) queue h.1.0 last same.1 h.1.2))
 
 -- following each to its next gives the queue
-pub chain-is : (n : ℕ) (nodes : List GoroutineNode) (status : Status) (previous : Option ℕ) (queue : List ℕ) (first last : Option ℕ) → IsLinked nodes status previous queue first last → length queue ≤ n → chain n nodes first ≡ queue
+pub chain-is : (n : ℕ) (nodes : List GoroutineNode) (status : Status) (previous : Option ℕ) (queue : List ℕ) (first last : Option ℕ) → IsLinked nodes status previous queue first last
+    → length queue ≤ n → chain n nodes first ≡ queue
 unfolding chain
 chain-is zero nodes status previous [] first last h short = refl
 chain-is zero nodes status previous (g ∷ queue) first last h short = absurd (omega arith)
@@ -46,23 +48,28 @@ chain-is (suc n) nodes status previous (g ∷ queue) first last h short =
     ∙ ap (λ (q : List ℕ). g ∷ q) (ap (λ (o : Option GoroutineNode). chain n nodes (next_in o)) h.1.1 ∙ chain-is n nodes status (Some g) queue h.1.0 last h.1.2 (omega arith))
 
 -- the first is the head
-pub first-is : (nodes : List GoroutineNode) (status : Status) (previous : Option ℕ) (queue : List ℕ) (first last : Option ℕ) → IsLinked nodes status previous queue first last → first ≡ slice_get queue 0
+pub first-is : (nodes : List GoroutineNode) (status : Status) (previous : Option ℕ) (queue : List ℕ) (first last : Option ℕ) → IsLinked nodes status previous queue first last
+    → first ≡ slice_get queue 0
 first-is nodes status previous [] first last h = h.0
 first-is nodes status previous (g ∷ queue) first last h = h.0
 
 -- who is in the queue has the status
-pub member : (nodes : List GoroutineNode) (status : Status) (previous : Option ℕ) (queue : List ℕ) (first last : Option ℕ) → IsLinked nodes status previous queue first last → (h : ℕ) → 0 < times h queue → (node : GoroutineNode) × (slice_get nodes h ≡ Some node) × (node.status ≡ status)
+pub member : (nodes : List GoroutineNode) (status : Status) (previous : Option ℕ) (queue : List ℕ) (first last : Option ℕ) → IsLinked nodes status previous queue first last → (h : ℕ)
+    → 0 < times h queue → (node : GoroutineNode) × (slice_get nodes h ≡ Some node) × (node.status ≡ status)
 member nodes status previous [] first last linked h some = absurd (omega arith)
 member nodes status previous (g ∷ queue) first last linked h some = go (g == h) refl (member nodes status (Some g) queue linked.1.0 last linked.1.2 h)
   where
-    go : (t : Bool) → (g == h) ≡ t → (0 < times h queue → (node : GoroutineNode) × (slice_get nodes h ≡ Some node) × (node.status ≡ status)) → (node : GoroutineNode) × (slice_get nodes h ≡ Some node) × (node.status ≡ status)
+    go : (t : Bool) → (g == h) ≡ t → (0 < times h queue → (node : GoroutineNode) × (slice_get nodes h ≡ Some node) × (node.status ≡ status))
+        → (node : GoroutineNode) × (slice_get nodes h ≡ Some node) × (node.status ≡ status)
     go true is behind_it = (node_with status linked.1.0 previous, ap (slice_get nodes) (sym (same_number g h is)) ∙ linked.1.1, refl)
     go false is behind_it = behind_it (let a = count_front g h queue in let b : bit (g == h) ≡ 0 = ap bit is in omega arith)
 
 -- the last one is in the queue
-pub last_member : (nodes : List GoroutineNode) (status : Status) (previous : Option ℕ) (x : ℕ) (queue : List ℕ) (first last : Option ℕ) → IsLinked nodes status previous (x ∷ queue) first last → (b : ℕ) → last ≡ Some b → 0 < times b (x ∷ queue)
+pub last_member : (nodes : List GoroutineNode) (status : Status) (previous : Option ℕ) (x : ℕ) (queue : List ℕ) (first last : Option ℕ) → IsLinked nodes status previous (x ∷ queue) first last
+    → (b : ℕ) → last ≡ Some b → 0 < times b (x ∷ queue)
 last_member nodes status previous x [] first last linked b is =
-    let same : x ≡ b = same_Some x b (sym linked.1.2.1 ∙ is) in
+    let rest = linked.1.2 in
+    let same : x ≡ b = same_Some x b (sym rest.1 ∙ is) in
     subst (λ (k : ℕ). 0 < times k (x ∷ [])) same (let a = itself x [] in omega arith)
 last_member nodes status previous x (y ∷ queue) first last linked b is =
     let a = last_member nodes status (Some x) y queue linked.1.0 last linked.1.2 b is in
@@ -70,12 +77,14 @@ last_member nodes status previous x (y ∷ queue) first last linked b is =
     omega arith
 
 -- whoever is last has a node
-pub last_within : (nodes : List GoroutineNode) (status : Status) (queue : List ℕ) (first last : Option ℕ) → IsLinked nodes status None queue first last → (b : ℕ) → last ≡ Some b → (node : GoroutineNode) × (slice_get nodes b ≡ Some node) × (node.status ≡ status)
+pub last_within : (nodes : List GoroutineNode) (status : Status) (queue : List ℕ) (first last : Option ℕ) → IsLinked nodes status None queue first last → (b : ℕ) → last ≡ Some b
+    → (node : GoroutineNode) × (slice_get nodes b ≡ Some node) × (node.status ≡ status)
 last_within nodes status [] first last linked b is = absurd (none-some b (sym linked.1 ∙ is))
 last_within nodes status (x ∷ queue) first last linked b is = member nodes status None (x ∷ queue) first last linked b (last_member nodes status None x queue first last linked b is)
 
 -- so has whoever is first
-pub first_within : (nodes : List GoroutineNode) (status : Status) (queue : List ℕ) (first last : Option ℕ) → IsLinked nodes status None queue first last → (f : ℕ) → first ≡ Some f → (node : GoroutineNode) × (slice_get nodes f ≡ Some node) × (node.status ≡ status)
+pub first_within : (nodes : List GoroutineNode) (status : Status) (queue : List ℕ) (first last : Option ℕ) → IsLinked nodes status None queue first last → (f : ℕ) → first ≡ Some f
+    → (node : GoroutineNode) × (slice_get nodes f ≡ Some node) × (node.status ≡ status)
 first_within nodes status [] first last linked f is = absurd (none-some f (sym linked.0 ∙ is))
 first_within nodes status (x ∷ queue) first last linked f is =
     (node_with status linked.1.0 None, ap (slice_get nodes) (same_Some f x (sym is ∙ linked.0)) ∙ linked.1.1, refl)
@@ -90,8 +99,9 @@ pub linked_back : (nodes new : List GoroutineNode) (status : Status) (g : ℕ) (
 linked_back nodes new status g last r previous [] first once none h =
     (ap (λ f. or_else f g) h.0, (None, r.here ∙ ap (λ p. Some (node_with status None p)) h.1, (refl, refl)))
 linked_back nodes new status g last r previous (x ∷ []) first once none h =
-    let at_end : last ≡ Some x = h.1.2.1 in
-    let no_next : h.1.0 ≡ None = h.1.2.0 in
+    let rest = h.1.2 in
+    let at_end : last ≡ Some x = rest.1 in
+    let no_next : h.1.0 ≡ None = rest.0 in
     let apart : x ≢ g = apart_from g x (x ∷ []) none (let a = itself x [] in omega arith) in (
       ap (λ f. or_else f g) h.0,
       (
@@ -101,7 +111,8 @@ linked_back nodes new status g last r previous (x ∷ []) first once none h =
       ),
     )
 linked_back nodes new status g last r previous (x ∷ (y ∷ queue)) first once none h =
-    let next_is : h.1.0 ≡ Some y = h.1.2.0 in
+    let rest = h.1.2 in
+    let next_is : h.1.0 ≡ Some y = rest.0 in
     let here_once = once x in
     let it = itself x (y ∷ queue) in
     let apart : x ≢ g = apart_from g x (x ∷ (y ∷ queue)) none (omega arith) in
@@ -120,10 +131,12 @@ linked_back nodes new status g last r previous (x ∷ (y ∷ queue)) first once 
     )
 
 -- the node of the last one, whose previous is the one before it or, where it is alone, `previous`
-last_node : (nodes : List GoroutineNode) (status : Status) (previous : Option ℕ) (g : ℕ) (first last : Option ℕ) (at : GoroutineNode) → slice_get nodes g ≡ Some at → IsLinked nodes status previous (g ∷ []) first last → at.previous ≡ previous
+last_node : (nodes : List GoroutineNode) (status : Status) (previous : Option ℕ) (g : ℕ) (first last : Option ℕ) (at : GoroutineNode) → slice_get nodes g ≡ Some at
+    → IsLinked nodes status previous (g ∷ []) first last → at.previous ≡ previous
 last_node nodes status previous g first last at is h = ap (λ (node : GoroutineNode). node.previous) (same_Some at (node_with status h.1.0 previous) (sym is ∙ h.1.1))
 
-pub before_member : (nodes : List GoroutineNode) (status : Status) (previous : Option ℕ) (x : ℕ) (queue : List ℕ) (g : ℕ) (first last : Option ℕ) (at : GoroutineNode) → slice_get nodes g ≡ Some at → IsLinked nodes status previous (x ∷ (queue ++ g ∷ [])) first last → (b : ℕ) → at.previous ≡ Some b → 0 < times b (x ∷ queue)
+pub before_member : (nodes : List GoroutineNode) (status : Status) (previous : Option ℕ) (x : ℕ) (queue : List ℕ) (g : ℕ) (first last : Option ℕ) (at : GoroutineNode) → slice_get nodes g ≡ Some at
+    → IsLinked nodes status previous (x ∷ (queue ++ g ∷ [])) first last → (b : ℕ) → at.previous ≡ Some b → 0 < times b (x ∷ queue)
 before_member nodes status previous x [] g first last at is h b before =
     let same : x ≡ b = same_Some x b (sym (last_node nodes status (Some x) g h.1.0 last at is h.1.2) ∙ before) in
     subst (λ (k : ℕ). 0 < times k (x ∷ [])) same (let a = itself x [] in omega arith)
@@ -151,7 +164,8 @@ unlinked_back nodes new status g at left is r previous (x ∷ []) first last onc
       ),
     )
 unlinked_back nodes new status g at left is r previous (x ∷ (y ∷ queue)) first last once h =
-    let next_is : h.1.0 ≡ Some y = h.1.2.0 in
+    let rest = h.1.2 in
+    let next_is : h.1.0 ≡ Some y = rest.0 in
     let a = once x in
     let b = itself x ((y ∷ queue) ++ g ∷ []) in
     let c = count_push g x (y ∷ queue) in
@@ -215,7 +229,8 @@ back_left [] last = None
 back_left (x ∷ queue) last = last
 
 -- g leaves at the front
-pub unlinked_front : (nodes new : List GoroutineNode) (status : Status) (g : ℕ) (at left : GoroutineNode) (queue : List ℕ) (first last : Option ℕ) → slice_get nodes g ≡ Some at → Relinks nodes new g left at.next (preceded_by None)
+pub unlinked_front : (nodes new : List GoroutineNode) (status : Status) (g : ℕ) (at left : GoroutineNode) (queue : List ℕ) (first last : Option ℕ) → slice_get nodes g ≡ Some at
+    → Relinks nodes new g left at.next (preceded_by None)
     → ((k : ℕ) → times k (g ∷ queue) ≤ 1)
     → IsLinked nodes status None (g ∷ queue) first last → IsLinked new status None queue at.next (back_left queue last)
 unlinked_front nodes new status g at left queue first last is r once h = go queue once h.1.2
@@ -249,7 +264,8 @@ unlinked_front nodes new status g at left queue first last is r once h = go queu
         )
 
 -- each has behind it whom the queue has there
-pub next-is : (nodes : List GoroutineNode) (status : Status) (previous : Option ℕ) (queue : List ℕ) (first last : Option ℕ) → IsLinked nodes status previous queue first last → (h : ℕ) (node : GoroutineNode) → slice_get nodes h ≡ Some node → 0 < times h queue → node.next ≡ behind h queue
+pub next-is : (nodes : List GoroutineNode) (status : Status) (previous : Option ℕ) (queue : List ℕ) (first last : Option ℕ) → IsLinked nodes status previous queue first last
+    → (h : ℕ) (node : GoroutineNode) → slice_get nodes h ≡ Some node → 0 < times h queue → node.next ≡ behind h queue
 next-is nodes status previous [] first last linked h node is some = absurd (omega arith)
 next-is nodes status previous (g ∷ queue) first last linked h node is some = go (g == h) refl (next-is nodes status (Some g) queue linked.1.0 last linked.1.2 h node is)
   where
@@ -261,7 +277,8 @@ next-is nodes status previous (g ∷ queue) first last linked h node is some = g
     go false other behind_it = behind_it (let a = count_front g h queue in let b : bit (g == h) ≡ 0 = ap bit other in omega arith)
 
 -- each has before it whom the queue has there
-pub previous-is : (nodes : List GoroutineNode) (status : Status) (previous : Option ℕ) (queue : List ℕ) (first last : Option ℕ) → IsLinked nodes status previous queue first last → (h : ℕ) (node : GoroutineNode) → slice_get nodes h ≡ Some node → 0 < times h queue → node.previous ≡ before h previous queue
+pub previous-is : (nodes : List GoroutineNode) (status : Status) (previous : Option ℕ) (queue : List ℕ) (first last : Option ℕ) → IsLinked nodes status previous queue first last
+    → (h : ℕ) (node : GoroutineNode) → slice_get nodes h ≡ Some node → 0 < times h queue → node.previous ≡ before h previous queue
 previous-is nodes status previous [] first last linked h node is some = absurd (omega arith)
 previous-is nodes status previous (g ∷ queue) first last linked h node is some = go (g == h) refl (previous-is nodes status (Some g) queue linked.1.0 last linked.1.2 h node is)
   where
@@ -272,11 +289,11 @@ previous-is nodes status previous (g ∷ queue) first last linked h node is some
     go false other behind_it = behind_it (let a = count_front g h queue in let b : bit (g == h) ≡ 0 = ap bit other in omega arith)
 
 -- the last is the list's
-pub last-is : (nodes : List GoroutineNode) (status : Status) (queue : List ℕ) (first last : Option ℕ) → IsLinked nodes status None queue first last → last ≡ last_of queue
+pub last-is : (nodes : List GoroutineNode) (status : Status) (queue : List ℕ) (first last : Option ℕ) → IsLinked nodes status None queue first last → last ≡ back_of queue
 last-is nodes status [] first last h = h.1
 last-is nodes status (g ∷ queue) first last h = go g queue h.1.0 h.1.2
   where
-    go : (x : ℕ) (rest : List ℕ) (next : Option ℕ) → IsLinked nodes status (Some x) rest next last → last ≡ last_of (x ∷ rest)
+    go : (x : ℕ) (rest : List ℕ) (next : Option ℕ) → IsLinked nodes status (Some x) rest next last → last ≡ back_of (x ∷ rest)
     go x [] next l = l.1
     go x (y ∷ rest) next l =
         let here : length (y ∷ rest) - 1 ≡ length rest = omega arith in

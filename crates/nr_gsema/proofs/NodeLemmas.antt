@@ -4,7 +4,7 @@ use Rattle.std.proofs.lemmas.List.{map-set}
 use Rattle.std.proofs.Math.Seq.{map-set_same}
 use Rattle.std.proofs.lemmas.Option.{same_Some, none-some, get_or_from_slice_get}
 use Rattle.std.specs.Prelude.{slice_get}
-use Rattle.nr_rev.proofs.Lists.{slice_get-set_cases, slice_get-set_here}
+use Rattle.nr_rev.proofs.ListUpdateLemmas.{slice_get-set_cases, slice_get-set_here}
 use Rattle.nr_gsema.specs.declared.node.GoroutineNode.{GoroutineNode}
 use Rattle.nr_gsema.specs.Links.{statuses}
 use Rattle.nr_gsema.specs.Relinking.{set_found, with_node}
@@ -17,7 +17,8 @@ pub record Relinks (nodes new : List GoroutineNode) (g : ℕ) (at : GoroutineNod
   pub size : length new ≡ length nodes
   pub moved : statuses new ≡ set (statuses nodes) g at.status
 
-module _ (nodes : List GoroutineNode) (g : ℕ) (old at : GoroutineNode) (change : GoroutineNode → GoroutineNode) (there : slice_get nodes g ≡ Some old) (keeps : (node : GoroutineNode) → (change node).status ≡ node.status) where
+module _ (nodes : List GoroutineNode) (g : ℕ) (old at : GoroutineNode) (change : GoroutineNode → GoroutineNode) (there : slice_get nodes g ≡ Some old)
+    (keeps : (node : GoroutineNode) → (change node).status ≡ node.status) where
   mid : List GoroutineNode
   mid = set nodes g at
 

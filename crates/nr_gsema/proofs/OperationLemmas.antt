@@ -12,15 +12,15 @@ use Rattle.nr_rev.specs.declared.sides.Side.TheVariants.{Read, Write}
 use Rattle.nr_rev.specs.declared.sides.Sides.{Sides}
 use Rattle.nr_rev.specs.Semaphore.{Semaphore}
 use Rattle.nr_rev.specs.Sides.{of_side, with_side}
-use Rattle.nr_rev.proofs.BothSides.{of_side-with_side_same}
-use Rattle.nr_rev.proofs.Found.{Ends-acquiring_of, Ends-owing_of}
-use Rattle.nr_rev.proofs.Semaphores.{front_queued}
+use Rattle.nr_rev.proofs.SideLemmas.{of_side-with_side_same}
+use Rattle.nr_rev.proofs.LookupLemmas.{Ends-acquiring_of, Ends-owing_of}
+use Rattle.nr_rev.proofs.SemaphoreStepLemmas.{front_queued}
 use Rattle.nr_gsema.proofs.ListLemmas.{first_split, set_back, last_pushed}
 use Rattle.nr_rev.specs.Refusing.{◌>>◌, refused_unless}
 use Rattle.nr_rev.specs.Step.{acquiring_of, alive, is_idle, owing, owing_of}
 use Rattle.nr_rev.specs.WellFormed.{socket_named}
-use Rattle.nr_rev.specs.Weight.{number_words, option_words, status_words}
-use Rattle.nr_rev.proofs.Lists.{slice_get-set_cases, slice_get-set_here}
+use Rattle.nr_rev.specs.Weight.{number_weight, option_weight, status_weight}
+use Rattle.nr_rev.proofs.ListUpdateLemmas.{slice_get-set_cases, slice_get-set_here}
 use Rattle.nr_gsema.specs.declared.operation.GOperation.TheVariants as operation
 use Rattle.nr_gsema.specs.declared.delta.GUndo.TheVariants as undo
 use Rattle.nr_gsema.specs.Applying.{AppliesBy, IsQueuedUp}
@@ -39,7 +39,8 @@ alive_is None status e = cc
 alive_is (Some Gone) status e = cc
 alive_is (Some st) status e = cc
 
-pub spawns : (t new : GoroutineTable) (made : ℕ) → made ≡ length t.goroutines → made < t.limit → new ≡ record t { goroutines = t.goroutines ++ Idle ∷ [] } → AppliesBy operation.Spawn t (Number made) undo.Spawned new
+pub spawns : (t new : GoroutineTable) (made : ℕ) → made ≡ length t.goroutines → made < t.limit → new ≡ record t { goroutines = t.goroutines ++ Idle ∷ [] }
+    → AppliesBy operation.Spawn t (Number made) undo.Spawned new
 spawns t new made is room after =
     let next : GoroutineTable = record t { goroutines = t.goroutines ++ Idle ∷ [] } in
     let fits : nat_lt (length t.goroutines) t.limit ≡ true = lt_true (length t.goroutines) t.limit (omega arith) in
@@ -53,7 +54,8 @@ spawns t new made is room after =
     }))
 
 -- what a change of a status owes
-status_back : (t : GoroutineTable) (g : ℕ) (status new : Status) → slice_get t.goroutines g ≡ Some status → is_waiting new ≡ false → IsOutside g (with_status g new t) × (t ≡ with_status g status (with_status g new t))
+status_back : (t : GoroutineTable) (g : ℕ) (status new : Status) → slice_get t.goroutines g ≡ Some status → is_waiting new ≡ false
+    → IsOutside g (with_status g new t) × (t ≡ with_status g status (with_status g new t))
 status_back t g status new at none =
     let table : List Status → GoroutineTable = λ gs. record t { goroutines = gs } in
     (ap (option_map is_waiting) (slice_get-set_here t.goroutines g status new at) ∙ ap Some none, ap table (set_back t.goroutines g status new at))
@@ -62,7 +64,8 @@ idle_is : (status : Status) → is_idle status ≡ true → status ≡ Idle
 idle_is Idle e = refl
 idle_is _ e = cc
 
-pub exits : (t new : GoroutineTable) (g : ℕ) (status : Status) → alive (slice_get t.goroutines g) ≡ Ok status → is_idle status ≡ true → new ≡ with_status g Gone t → AppliesBy (operation.Exit g) t Done (undo.Moved g status) new
+pub exits : (t new : GoroutineTable) (g : ℕ) (status : Status) → alive (slice_get t.goroutines g) ≡ Ok status → is_idle status ≡ true → new ≡ with_status g Gone t
+    → AppliesBy (operation.Exit g) t Done (undo.Moved g status) new
 exits t new g status found idle after =
     let next : GoroutineTable = with_status g Gone t in
     let b = status_back t g status Gone (alive_is (slice_get t.goroutines g) status found) refl in
@@ -70,30 +73,34 @@ exits t new g status found idle after =
     subst (λ (u : GoroutineTable). AppliesBy (operation.Exit g) t Done (undo.Moved g status) u) (sym after) (record {
       step = rw (found, idle);
       back = ((ap is_waiting is, b.0), b.1);
-      light = subst (λ (st : Status). 2 + status_words st ≤ 3) (sym is) (lit≤ tt);
+      light = subst (λ (st : Status). 2 + status_weight st ≤ 3) (sym is) (lit≤ tt);
     })
 
 movable_waits_not : (status : Status) → is_movable status ≡ true → is_waiting status ≡ false
 movable_waits_not (Queued s side) e = cc
 movable_waits_not _ e = refl
 
-pub moves : (t new : GoroutineTable) (g : ℕ) (status from to : Status) → alive (slice_get t.goroutines g) ≡ Ok status → (same_status status from && (is_movable from && is_movable to)) ≡ true → status ≡ from → (is_movable from ≡ true) × (is_movable to ≡ true) → names_within (length t.semaphores) (socket_named to) ≡ true → new ≡ with_status g to t → AppliesBy (operation.Move g from to) t Done (undo.Moved g status) new
+pub moves : (t new : GoroutineTable) (g : ℕ) (status from to : Status) → alive (slice_get t.goroutines g) ≡ Ok status → (same_status status from && (is_movable from && is_movable to)) ≡ true
+    → status ≡ from → (is_movable from ≡ true) × (is_movable to ≡ true) → names_within (length t.semaphores) (socket_named to) ≡ true → new ≡ with_status g to t
+    → AppliesBy (operation.Move g from to) t Done (undo.Moved g status) new
 moves t new g status from to found may same movable named after =
     let next : GoroutineTable = with_status g to t in
     let b = status_back t g status to (alive_is (slice_get t.goroutines g) status found) (movable_waits_not to movable.1) in
     subst (λ (u : GoroutineTable). AppliesBy (operation.Move g from to) t Done (undo.Moved g status) u) (sym after) (record {
       step = rw (found, may, named);
       back = ((ap is_waiting same ∙ movable_waits_not from movable.0, b.0), b.1);
-      light = subst (λ (st : Status). 2 + status_words st ≤ 2 + status_words from) (sym same) (omega arith);
+      light = subst (λ (st : Status). 2 + status_weight st ≤ 2 + status_weight from) (sym same) (omega arith);
     })
 
 -- the semaphores of both sides after a change of one is taken back
-sides_back : (side : Side) (both : Sides Semaphore) (y : Semaphore) (back : Semaphore → Semaphore) → back y ≡ of_side side both → with_side side (back (of_side side (with_side side y both))) (with_side side y both) ≡ both
+sides_back : (side : Side) (both : Sides Semaphore) (y : Semaphore) (back : Semaphore → Semaphore) → back y ≡ of_side side both
+    → with_side side (back (of_side side (with_side side y both))) (with_side side y both) ≡ both
 sides_back Read both y back e = ap (λ (x : Semaphore). record both { read = x }) e
 sides_back Write both y back e = ap (λ (x : Semaphore). record both { write = x }) e
 
 -- a goroutine and a semaphore that changed and were taken back
-back_over : (t : GoroutineTable) (g : ℕ) (status new : Status) (s : ℕ) (side : Side) (both : Sides Semaphore) (y : Semaphore) (back : Semaphore → Semaphore) → slice_get t.goroutines g ≡ Some status → slice_get t.semaphores s ≡ Some both → back y ≡ of_side side both
+back_over : (t : GoroutineTable) (g : ℕ) (status new : Status) (s : ℕ) (side : Side) (both : Sides Semaphore) (y : Semaphore) (back : Semaphore → Semaphore) → slice_get t.goroutines g ≡ Some status
+    → slice_get t.semaphores s ≡ Some both → back y ≡ of_side side both
     → t ≡ with_status g status (on_semaphore s side back (with_status g new (with_semaphore s side both y t)))
 back_over t g status new s side both y back at there e =
     let changed = with_side side y both in
@@ -103,7 +110,8 @@ back_over t g status new s side both y back at there e =
     ∙ ap (with_status g status) (sym (on_semaphore_is s side back next changed (slice_get-set_here t.semaphores s both changed there)))
 
 -- the semaphore that has a count
-pub count_found : (t : GoroutineTable) (s : ℕ) (side : Side) (count : ℕ) → count_at s side t ≡ Some count → (both : Sides Semaphore) × (slice_get t.semaphores s ≡ Some both) × ((of_side side both).count ≡ count)
+pub count_found : (t : GoroutineTable) (s : ℕ) (side : Side) (count : ℕ) → count_at s side t ≡ Some count
+    → (both : Sides Semaphore) × (slice_get t.semaphores s ≡ Some both) × ((of_side side both).count ≡ count)
 count_found t s side count is = go (slice_get t.semaphores s) refl
   where
     counted : Option (Sides Semaphore) → Option ℕ
@@ -117,11 +125,13 @@ acquiring_is : (status : Status) (s : ℕ) (side : Side) → acquiring_of status
 acquiring_is status s side e = (Ends-acquiring_of status).value (s, side) e
 
 -- a semaphore that was changed is there
-has_changed : (t : GoroutineTable) (g : ℕ) (new : Status) (s : ℕ) (side : Side) (both : Sides Semaphore) (y : Semaphore) (P : Semaphore → Type 0) → slice_get t.semaphores s ≡ Some both → P y → HasSemaphore s side P (with_status g new (with_semaphore s side both y t))
+has_changed : (t : GoroutineTable) (g : ℕ) (new : Status) (s : ℕ) (side : Side) (both : Sides Semaphore) (y : Semaphore) (P : Semaphore → Type 0) → slice_get t.semaphores s ≡ Some both → P y
+    → HasSemaphore s side P (with_status g new (with_semaphore s side both y t))
 has_changed t g new s side both y P there p =
     (with_side side y both, slice_get-set_here t.semaphores s both (with_side side y both) there, subst P (sym (of_side-with_side_same side y both)) p)
 
-pub takes : (t t1 t2 : GoroutineTable) (g s : ℕ) (side : Side) (status : Status) (count : ℕ) → alive (slice_get t.goroutines g) ≡ Ok status → acquiring_of status ≡ Ok (s, side) → count_at s side t ≡ Some count → 0 < count → count < 2 ^ 32 → t1 ≡ on_semaphore s side (with_count (count - 1)) t → t2 ≡ with_status g (Relock s side) t1
+pub takes : (t t1 t2 : GoroutineTable) (g s : ℕ) (side : Side) (status : Status) (count : ℕ) → alive (slice_get t.goroutines g) ≡ Ok status → acquiring_of status ≡ Ok (s, side)
+    → count_at s side t ≡ Some count → 0 < count → count < 2 ^ 32 → t1 ≡ on_semaphore s side (with_count (count - 1)) t → t2 ≡ with_status g (Relock s side) t1
     → AppliesBy (operation.Acquire g) t Yes (undo.Acquired g s side) t2
 takes t t1 t2 g s side status count found acquires counted some small first after =
     let b = count_found t s side count counted in
@@ -133,17 +143,22 @@ takes t t1 t2 g s side status count found acquires counted some small first afte
     let free : nat_lt 0 x.count ≡ true = lt_true 0 x.count (let e = b.2 in omega arith) in
     let at : slice_get t.goroutines g ≡ Some (Acquiring s side) = alive_is (slice_get t.goroutines g) status found ∙ ap Some (acquiring_is status s side acquires) in
     let is_next : t2 ≡ next =
-    after ∙ ap (with_status g (Relock s side)) (first ∙ on_semaphore_is s side (with_count (count - 1)) t both there ∙ ap (λ (n : ℕ). with_semaphore s side both (record x { count = n - 1 }) t) (sym b.2)) in
+    after ∙ ap (with_status g (Relock s side)) (first ∙ on_semaphore_is s side (with_count (count - 1)) t both there
+    ∙ ap (λ (n : ℕ). with_semaphore s side both (record x { count = n - 1 }) t) (sym b.2)) in
     subst (λ (u : GoroutineTable). AppliesBy (operation.Acquire g) t Yes (undo.Acquired g s side) u) (sym is_next) (record {
       step = rw (found, acquires, there, free);
       back = (
-        (ap (option_map is_waiting) (slice_get-set_here t.goroutines g (Acquiring s side) (Relock s side) at), has_changed t g (Relock s side) s side both y (λ (z : Semaphore). z.count + 1 < 2 ^ 32) there (let e = b.2 in omega arith)),
+        (
+          ap (option_map is_waiting) (slice_get-set_here t.goroutines g (Acquiring s side) (Relock s side) at),
+          has_changed t g (Relock s side) s side both y (λ (z : Semaphore). z.count + 1 < 2 ^ 32) there (let e = b.2 in omega arith),
+        ),
         back_over t g (Acquiring s side) (Relock s side) s side both y unacquired at there (let n : x.count - 1 + 1 ≡ x.count = let e = b.2 in omega arith in ap (λ (k : ℕ). record x { count = k }) n),
       );
       light = lit≤ tt;
     })
 
-pub queues_up : (t t2 : GoroutineTable) (g s : ℕ) (side : Side) (status : Status) (count : ℕ) → alive (slice_get t.goroutines g) ≡ Ok status → acquiring_of status ≡ Ok (s, side) → count_at s side t ≡ Some count → count ≡ 0 → t2 ≡ with_status g (Queued s side) (on_semaphore s side (with_last g) t)
+pub queues_up : (t t2 : GoroutineTable) (g s : ℕ) (side : Side) (status : Status) (count : ℕ) → alive (slice_get t.goroutines g) ≡ Ok status → acquiring_of status ≡ Ok (s, side)
+    → count_at s side t ≡ Some count → count ≡ 0 → t2 ≡ with_status g (Queued s side) (on_semaphore s side (with_last g) t)
     → AppliesBy (operation.Acquire g) t Wait (undo.Queued g s side) t2
 queues_up t t2 g s side status count found acquires counted none after =
     let b = count_found t s side count counted in
@@ -191,11 +206,12 @@ owing_waits_not s debt = go (debt.read + debt.write == 0)
     go true = refl
     go false = refl
 
-front_light : (front : Option ℕ) → 5 + option_words number_words front ≤ 7
+front_light : (front : Option ℕ) → 5 + option_weight number_weight front ≤ 7
 front_light None = lit≤ tt
 front_light (Some f) = lit≤ tt
 
-module _ (t : GoroutineTable) (h : IsQueuedUp t) (g s : ℕ) (debt : Sides ℕ) (side : Side) (side_is : side_owed debt ≡ side) (both : Sides Semaphore) (there : slice_get t.semaphores s ≡ Some both) (at : slice_get t.goroutines g ≡ Some (Owing s debt.read debt.write)) (new : Status) (none : is_waiting new ≡ false) where
+module _ (t : GoroutineTable) (h : IsQueuedUp t) (g s : ℕ) (debt : Sides ℕ) (side : Side) (side_is : side_owed debt ≡ side) (both : Sides Semaphore) (there : slice_get t.semaphores s ≡ Some both)
+    (at : slice_get t.goroutines g ≡ Some (Owing s debt.read debt.write)) (new : Status) (none : is_waiting new ≡ false) where
   left : Semaphore
   left = record { count = (of_side side both).count + 1; queue = drop 1 (of_side side both).queue }
 
@@ -204,7 +220,8 @@ module _ (t : GoroutineTable) (h : IsQueuedUp t) (g s : ℕ) (debt : Sides ℕ) 
 
   -- undoing leads back, whoever left the queue
   leads_back : (front : Option ℕ) → slice_get (of_side side both).queue 0 ≡ front
-      → Reverses (undo.Released g s debt.read debt.write front) (with_status g new (tries_again s side front (with_semaphore s side both (record { count = (of_side side both).count + 1; queue = drop 1 (of_side side both).queue }) t))) t
+      → Reverses (undo.Released g s debt.read debt.write front)
+      (with_status g new (tries_again s side front (with_semaphore s side both (record { count = (of_side side both).count + 1; queue = drop 1 (of_side side both).queue }) t))) t
   leads_back None front =
       let x : Semaphore = of_side side both in
       let y : Semaphore = record { count = x.count + 1; queue = drop 1 x.queue } in
@@ -213,8 +230,10 @@ module _ (t : GoroutineTable) (h : IsQueuedUp t) (g s : ℕ) (debt : Sides ℕ) 
       let sem : ℕ → List ℕ → Semaphore = λ n q. record { count = n; queue = q } in
       let unchanged : unreleased None y ≡ x = ap₂ sem count_back (drop_none x.queue front) in
       let outside : IsOutside g next = ap (option_map is_waiting) (slice_get-set_here t.goroutines g (Owing s debt.read debt.write) new at) ∙ ap Some none in
-      let undone_is : on_semaphore s side (unreleased None) next ≡ with_semaphore s side changed (unreleased None (of_side side changed)) next = on_semaphore_is s side (unreleased None) next changed (slice_get-set_here t.semaphores s both changed there) in
-      subst (λ (k : Side). (IsOutside g (released_back s k None next) × CanRequeue None next × HasSemaphore s k (λ z. 0 < z.count) next) × (t ≡ with_status g (Owing s debt.read debt.write) (released_back s k None next))) (sym side_is) (
+      let undone_is : on_semaphore s side (unreleased None) next ≡ with_semaphore s side changed (unreleased None (of_side side changed)) next =
+      on_semaphore_is s side (unreleased None) next changed (slice_get-set_here t.semaphores s both changed there) in
+      subst (λ (k : Side). (IsOutside g (released_back s k None next) × CanRequeue None next × HasSemaphore s k (λ z. 0 < z.count) next)
+      × (t ≡ with_status g (Owing s debt.read debt.write) (released_back s k None next))) (sym side_is) (
         (
           ap (λ (u : GoroutineTable). option_map is_waiting (slice_get u.goroutines g)) undone_is ∙ outside,
           tt,
@@ -232,8 +251,10 @@ module _ (t : GoroutineTable) (h : IsQueuedUp t) (g s : ℕ) (debt : Sides ℕ) 
       let mid : GoroutineTable = with_semaphore s side both y t in
       let next : GoroutineTable = with_status g new (with_status f (Acquiring s side) mid) in
       let changed = with_side side y both in
-      let was : slice_get t.goroutines f ≡ Some (Queued s side) = front_queued t.goroutines s f side (drop 1 x.queue) (λ k. ap (count_by (λ m. m == k)) (sym (first_split x.queue f front)) ∙ h.queued s side both there k) in
-      let apart : g ≢ f = λ e. let same : Owing s debt.read debt.write ≡ Queued s side = same_Some (Owing s debt.read debt.write) (Queued s side) (sym at ∙ ap (slice_get t.goroutines) e ∙ was) in cc in
+      let was : slice_get t.goroutines f ≡ Some (Queued s side) =
+      front_queued t.goroutines s f side (drop 1 x.queue) (λ k. ap (count_by (λ m. m == k)) (sym (first_split x.queue f front)) ∙ h.queued s side both there k) in
+      let apart : g ≢ f =
+      λ e. let same : Owing s debt.read debt.write ≡ Queued s side = same_Some (Owing s debt.read debt.write) (Queued s side) (sym at ∙ ap (slice_get t.goroutines) e ∙ was) in cc in
       let sem : ℕ → List ℕ → Semaphore = λ n q. record { count = n; queue = q } in
       let unchanged : unreleased (Some f) y ≡ x = ap₂ sem count_back (sym (first_split x.queue f front)) in
       let gs = t.goroutines in
@@ -241,14 +262,16 @@ module _ (t : GoroutineTable) (h : IsQueuedUp t) (g s : ℕ) (debt : Sides ℕ) 
       let q = Queued s side in
       let regone : set (set (set gs f a) g new) f q ≡ set gs g new =
       set_comm (set gs f a) g f new q apart ∙ ap (λ (l : List Status). set l g new) (sym (set_back gs f q a was)) in
-      let undone_is : on_semaphore s side (unreleased (Some f)) next ≡ with_semaphore s side changed (unreleased (Some f) (of_side side changed)) next = on_semaphore_is s side (unreleased (Some f)) next changed (slice_get-set_here t.semaphores s both changed there) in
+      let undone_is : on_semaphore s side (unreleased (Some f)) next ≡ with_semaphore s side changed (unreleased (Some f) (of_side side changed)) next =
+      on_semaphore_is s side (unreleased (Some f)) next changed (slice_get-set_here t.semaphores s both changed there) in
       let outside_f : IsOutside f next =
       elim (slice_get-set_cases (set gs f a) g (Owing s debt.read debt.write) new f (kept_at gs f g q a (Owing s debt.read debt.write) was at apart)) [
         | inl here ↦ absurd (apart (sym here.0))
         | inr beyond ↦ ap (option_map is_waiting) (beyond.1 ∙ slice_get-set_here gs f q a was)
       ] in
       let table : List Status → List (Sides Semaphore) → GoroutineTable = λ l ss. record { goroutines = l; semaphores = ss; limit = t.limit } in
-      subst (λ (k : Side). (IsOutside g (released_back s k (Some f) next) × CanRequeue (Some f) next × HasSemaphore s k (λ z. 0 < z.count) next) × (t ≡ with_status g (Owing s debt.read debt.write) (released_back s k (Some f) next))) (sym side_is) (
+      subst (λ (k : Side). (IsOutside g (released_back s k (Some f) next) × CanRequeue (Some f) next × HasSemaphore s k (λ z. 0 < z.count) next)
+      × (t ≡ with_status g (Owing s debt.read debt.write) (released_back s k (Some f) next))) (sym side_is) (
         (
           ap (λ (u : GoroutineTable). option_map is_waiting (slice_get (set u.goroutines f q) g)) undone_is
               ∙ ap (λ (l : List Status). option_map is_waiting (slice_get l g)) regone
@@ -266,8 +289,10 @@ module _ (t : GoroutineTable) (h : IsQueuedUp t) (g s : ℕ) (debt : Sides ℕ) 
       kept_at gs f k q a o was_f at_k ne =
           elim (slice_get-set_cases gs f q a k was_f) [ inl here ↦ absurd (ne here.0) | inr beyond ↦ beyond.1 ∙ at_k ]
 
-pub releases : (t t1 t2 : GoroutineTable) → IsQueuedUp t → (g s : ℕ) (debt : Sides ℕ) (status new : Status) (count : ℕ) (front : Option ℕ) → alive (slice_get t.goroutines g) ≡ Ok status → owing_of status ≡ Ok (s, debt) → count_at s (side_owed debt) t ≡ Some count → count + 1 < 2 ^ 32
-    → front ≡ slice_get (queue_at s (side_owed debt) t) 0 → t1 ≡ tries_again s (side_owed debt) front (on_semaphore s (side_owed debt) released_once t) → new ≡ owing s (with_side (side_owed debt) (of_side (side_owed debt) debt - 1) debt) → t2 ≡ with_status g new t1
+pub releases : (t t1 t2 : GoroutineTable) → IsQueuedUp t → (g s : ℕ) (debt : Sides ℕ) (status new : Status) (count : ℕ) (front : Option ℕ) → alive (slice_get t.goroutines g) ≡ Ok status
+    → owing_of status ≡ Ok (s, debt) → count_at s (side_owed debt) t ≡ Some count → count + 1 < 2 ^ 32
+    → front ≡ slice_get (queue_at s (side_owed debt) t) 0 → t1 ≡ tries_again s (side_owed debt) front (on_semaphore s (side_owed debt) released_once t)
+    → new ≡ owing s (with_side (side_owed debt) (of_side (side_owed debt) debt - 1) debt) → t2 ≡ with_status g new t1
     → AppliesBy (operation.Release g) t Done (undo.Released g s debt.read debt.write front) t2
 releases t t1 t2 h g s debt status new count front found owes counted small front_at first new_is after =
     let side = side_owed debt in
@@ -283,7 +308,8 @@ releases t t1 t2 h g s debt status new count front found owes counted small fron
     let fits : nat_lt x.count (2 ^ 32 - 1) ≡ true = lt_true x.count (2 ^ 32 - 1) (let e = b.2 in omega arith) in
     let at : slice_get t.goroutines g ≡ Some (Owing s debt.read debt.write) = alive_is (slice_get t.goroutines g) status found ∙ ap Some ((Ends-owing_of status).value (s, debt) owes) in
     let is_next : t2 ≡ next =
-    after ∙ ap (λ (st : Status). with_status g st t1) new_is ∙ ap (with_status g will) (first ∙ ap (tries_again s side front) (on_semaphore_is s side released_once t both there) ∙ ap (λ (o : Option ℕ). tries_again s side o mid) head) in
+    after ∙ ap (λ (st : Status). with_status g st t1) new_is ∙ ap (with_status g will) (first ∙ ap (tries_again s side front) (on_semaphore_is s side released_once t both there)
+    ∙ ap (λ (o : Option ℕ). tries_again s side o mid) head) in
     subst (λ (u : GoroutineTable). AppliesBy (operation.Release g) t Done (undo.Released g s debt.read debt.write front) u) (sym is_next)
     (subst (λ (o : Option ℕ). AppliesBy (operation.Release g) t Done (undo.Released g s debt.read debt.write o) next) (sym head) (record {
       step = rw (found, owes, there, fits);

@@ -9,9 +9,9 @@ use Rattle.nr_rev.specs.declared.status.Status.TheVariants.{Queued}
 use Rattle.nr_rev.specs.Lock.{bit}
 use Rattle.nr_rev.specs.Sides.{same_side}
 use Rattle.nr_rev.specs.WellFormed.{is_queued}
-use Rattle.nr_rev.proofs.BothSides.{other_side}
-use Rattle.nr_rev.proofs.Numbers.{same_number, number_same}
-use Rattle.nr_rev.proofs.Tests.{both_true, never_true}
+use Rattle.nr_rev.proofs.SideLemmas.{other_side}
+use Rattle.nr_rev.proofs.NumberLemmas.{same_number, number_same}
+use Rattle.nr_rev.proofs.BoolLemmas.{both_true, never_true}
 use Rattle.nr_gsema.specs.Links.{is_waiting}
 
 -- queued there, or nowhere

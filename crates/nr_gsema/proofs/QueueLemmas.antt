@@ -15,7 +15,7 @@ use Rattle.nr_rev.specs.WellFormed.{is_queued}
 use Rattle.nr_gsema.specs.declared.node.GoroutineNode.{GoroutineNode}
 use Rattle.nr_gsema.specs.declared.node.SemaphoreHead.{SemaphoreHead}
 use Rattle.nr_gsema.specs.Links.{AreQueues, IsLinked, chain, front_in, queue_from, queues_from, semaphores_from, statuses}
-use Rattle.nr_rev.proofs.Counting.{times, few_below}
+use Rattle.nr_rev.proofs.DistinctNumberLemmas.{times, few_below}
 use Rattle.nr_gsema.proofs.LinkLemmas.{chain-is}
 use Rattle.nr_gsema.proofs.PlaceLemmas.{bit_le}
 use Rattle.nr_gsema.proofs.ListLemmas.{there_is}
@@ -47,20 +47,23 @@ module _ (nodes : List GoroutineNode) (semaphores : List (Sides SemaphoreHead)) 
   pub AreQueues-from : AreQueues nodes semaphores (queues_from nodes semaphores)
   AreQueues-from =
       record {
-        linked = λ s side both at. subst (λ q. IsLinked nodes (Queued s side) None q (of_side side both).front (of_side side both).back) (sym (queue_found_is s side both at)) (h.linked s side both at);
+        linked =
+            λ s side both at. subst (λ q. IsLinked nodes (Queued s side) None q (of_side side both).front (of_side side both).back) (sym (queue_found_is s side both at)) (h.linked s side both at);
         queued = λ s side within g. let both = there_is semaphores s within in ap (times g) (queue_found_is s side both.0 both.1) ∙ h.queued s side within g;
         alone = h.alone;
         named = h.named;
       }
 
 -- the semaphores of both sides, as they were
-pub both_kept : (nodes new : List GoroutineNode) (x : Sides SemaphoreHead) → ((other : Side) → queue_from new (of_side other x) ≡ queue_from nodes (of_side other x)) → semaphores_from new x ≡ semaphores_from nodes x
+pub both_kept : (nodes new : List GoroutineNode) (x : Sides SemaphoreHead) → ((other : Side) → queue_from new (of_side other x) ≡ queue_from nodes (of_side other x))
+    → semaphores_from new x ≡ semaphores_from nodes x
 both_kept nodes new x same =
     let sides : List ℕ → List ℕ → Sides Semaphore = λ q r. record { read = record { count = x.read.count; queue = q }; write = record { count = x.write.count; queue = r } } in
     ap₂ sides (same Read) (same Write)
 
 -- the semaphores of both sides, of which one is new
-pub both_from : (nodes new : List GoroutineNode) (side : Side) (head : SemaphoreHead) (both : Sides SemaphoreHead) (queue : List ℕ) → queue_from new head ≡ queue → ((other : Side) → other ≢ side → queue_from new (of_side other both) ≡ queue_from nodes (of_side other both))
+pub both_from : (nodes new : List GoroutineNode) (side : Side) (head : SemaphoreHead) (both : Sides SemaphoreHead) (queue : List ℕ) → queue_from new head ≡ queue
+    → ((other : Side) → other ≢ side → queue_from new (of_side other both) ≡ queue_from nodes (of_side other both))
     → semaphores_from new (with_side side head both) ≡ with_side side (record { count = head.count; queue = queue }) (semaphores_from nodes both)
 both_from nodes new Read head both queue here others =
     let sides : List ℕ → List ℕ → Sides Semaphore = λ q r. record { read = record { count = head.count; queue = q }; write = record { count = both.write.count; queue = r } } in

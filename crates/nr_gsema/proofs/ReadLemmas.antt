@@ -11,10 +11,10 @@ use Rattle.nr_rev.specs.Sides.{of_side}
 use Rattle.nr_gsema.specs.declared.node.GoroutineNode.{GoroutineNode}
 use Rattle.nr_gsema.specs.declared.node.SemaphoreHead.{SemaphoreHead}
 use Rattle.nr_gsema.specs.Links.{IsLinked, is_waiting, queues_from, semaphores_from}
-use Rattle.nr_gsema.specs.Table.{GoroutineTable, before, behind, in_queue, last_of, next_of, previous_of, queue_at, queue_found}
+use Rattle.nr_gsema.specs.Table.{GoroutineTable, before, behind, in_queue, back_of, next_in_queue, previous_of, queue_at, queue_found}
 use Rattle.nr_rev.specs.WellFormed.{is_queued}
 use Rattle.nr_rev.specs.Lock.{bit}
-use Rattle.nr_rev.proofs.Counting.{times}
+use Rattle.nr_rev.proofs.DistinctNumberLemmas.{times}
 use Rattle.nr_rev.specs.declared.status.Status.TheVariants.{Queued}
 use Rattle.nr_gsema.proofs.LinkLemmas.{first-is, last-is, next-is, previous-is}
 use Rattle.nr_gsema.specs.Applying.{IsQueuedUp}
@@ -36,10 +36,10 @@ module _ {nodes : List GoroutineNode} {semaphores : List (Sides SemaphoreHead)} 
       ∙ ap (λ (q : List ℕ). slice_get q 0) (sym (queue_read s side x there))
 
   -- the back that it has
-  pub back_read : (s : ℕ) (side : Side) (x : Sides SemaphoreHead) → slice_get semaphores s ≡ Some x → (of_side side x).back ≡ last_of (queue_at s side t)
+  pub back_read : (s : ℕ) (side : Side) (x : Sides SemaphoreHead) → slice_get semaphores s ≡ Some x → (of_side side x).back ≡ back_of (queue_at s side t)
   back_read s side x there =
       last-is nodes (Queued s side) (queues_from nodes semaphores s side) (of_side side x).front (of_side side x).back (is.queues.linked s side x there)
-      ∙ ap last_of (sym (queue_read s side x there))
+      ∙ ap back_of (sym (queue_read s side x there))
 
   -- whom a node names: nobody outside every queue, and in one whom the queue has there
   neighbour_read : (g : ℕ) (node : GoroutineNode) (named : Option ℕ) (found : List ℕ → Option ℕ) → slice_get nodes g ≡ Some node
@@ -70,7 +70,7 @@ module _ {nodes : List GoroutineNode} {semaphores : List (Sides SemaphoreHead)} 
       go _ e = other _ e refl
 
   -- who is behind is whom the node names
-  pub next_read : (g : ℕ) (node : GoroutineNode) → slice_get nodes g ≡ Some node → node.next ≡ next_of g t
+  pub next_read : (g : ℕ) (node : GoroutineNode) → slice_get nodes g ≡ Some node → node.next ≡ next_in_queue g t
   next_read g node there =
       neighbour_read g node node.next (behind g) there (λ none. (is.queues.alone g node there none).0)
       (λ s side queue first last l some. next-is nodes (Queued s side) None queue first last l g node there some)

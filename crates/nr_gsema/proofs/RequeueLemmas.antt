@@ -11,15 +11,15 @@ use Rattle.nr_rev.specs.declared.status.Status.TheVariants.{Queued}
 use Rattle.nr_rev.specs.Lock.{bit}
 use Rattle.nr_rev.specs.Sides.{of_side, with_side, same_side}
 use Rattle.nr_rev.specs.WellFormed.{is_queued}
-use Rattle.nr_rev.proofs.BothSides.{other_side, of_side-with_side_same, of_side-with_side_other}
-use Rattle.nr_rev.proofs.Lists.{slice_get-set_cases, slice_get-set_unseen}
-use Rattle.nr_rev.proofs.Numbers.{number_same, count_push, count_front}
-use Rattle.nr_rev.proofs.Semaphores.{bits_moved}
+use Rattle.nr_rev.proofs.SideLemmas.{other_side, of_side-with_side_same, of_side-with_side_other}
+use Rattle.nr_rev.proofs.ListUpdateLemmas.{slice_get-set_cases, slice_get-set_unseen}
+use Rattle.nr_rev.proofs.NumberLemmas.{number_same, count_push, count_front}
+use Rattle.nr_rev.proofs.SemaphoreStepLemmas.{bits_moved}
 use Rattle.nr_gsema.specs.declared.node.GoroutineNode.{GoroutineNode}
 use Rattle.nr_gsema.specs.declared.node.SemaphoreHead.{SemaphoreHead}
 use Rattle.nr_gsema.specs.Links.{AreQueues, IsLinked, chain, front_in, is_waiting, queue_from, queues_from, node_with, semaphores_from, statuses}
 use Rattle.nr_gsema.specs.Relinking.{followed_by, preceded_by, with_next, with_previous, or_else, end_left}
-use Rattle.nr_rev.proofs.Counting.{times}
+use Rattle.nr_rev.proofs.DistinctNumberLemmas.{times}
 use Rattle.nr_gsema.proofs.NodeLemmas.{Relinks, relinks}
 use Rattle.nr_gsema.proofs.LinkLemmas.{IsLinked-kept, agree_from, back_left, before_member, first-is, first_within, itself, last_within, linked_back, linked_front, member, unlinked_back, unlinked_front}
 use Rattle.nr_gsema.proofs.PlaceLemmas.{Near, Apart, place_apart, place_same, place_cases, unqueued, not_elsewhere, queued_parts, differs, bit_false, bit_true, queued_here}
@@ -37,27 +37,36 @@ requeue_apart : (s : ℕ) (side : Side) (queue : List ℕ) (queues : ℕ → Sid
 requeue_apart s side queue queues k other apart = ap (λ t. if t then queue else queues k other) (place_apart s side k other apart)
 
 -- what a change leaves: linked queues, g's new status, and the one semaphore as the definitions have it
-pub record Requeues (nodes new : List GoroutineNode) (semaphores : List (Sides SemaphoreHead)) (s : ℕ) (side : Side) (both : Sides SemaphoreHead) (head : SemaphoreHead) (g : ℕ) (status : Status) (queue : List ℕ) : Type 0 where
+pub record Requeues (nodes new : List GoroutineNode) (semaphores : List (Sides SemaphoreHead)) (s : ℕ) (side : Side) (both : Sides SemaphoreHead) (head : SemaphoreHead) (g : ℕ) (status : Status)
+    (queue : List ℕ) : Type 0 where
   pub queues : AreQueues new (set semaphores s (with_side side head both)) (queues_from new (set semaphores s (with_side side head both)))
   pub moved : statuses new ≡ set (statuses nodes) g status
-  pub written : map (semaphores_from new) (set semaphores s (with_side side head both)) ≡ set (map (semaphores_from nodes) semaphores) s (with_side side (record { count = head.count; queue = queue }) (semaphores_from nodes both))
+  pub written : map (semaphores_from new) (set semaphores s (with_side side head both))
+      ≡ set (map (semaphores_from nodes) semaphores) s (with_side side (record { count = head.count; queue = queue }) (semaphores_from nodes both))
   pub size : length new ≡ length nodes
 
 -- a change of one queue, and of the status of the one who joins or leaves it
-module _ (nodes new : List GoroutineNode) (semaphores : List (Sides SemaphoreHead)) (queues : ℕ → Side → List ℕ) (s : ℕ) (side : Side) (both : Sides SemaphoreHead) (head : SemaphoreHead) (g : ℕ) (old at : GoroutineNode) (neighbour : Option ℕ) (change : GoroutineNode → GoroutineNode) (queue : List ℕ) (h : AreQueues nodes semaphores queues) (there : slice_get semaphores s ≡ Some both) (is : slice_get nodes g ≡ Some old) (r : Relinks nodes new g at neighbour change) (was_near : Near s side old.status) (near : Near s side at.status) (beside : (b : ℕ) → neighbour ≡ Some b → (x : GoroutineNode) × (slice_get nodes b ≡ Some x) × (x.status ≡ Queued s side)) (keeps : (x : GoroutineNode) → (change x).status ≡ x.status) (free : is_waiting at.status ≡ false → (at.next ≡ None) × (at.previous ≡ None)) (linked : IsLinked new (Queued s side) None queue head.front head.back) (counted : (k : ℕ) → times k queue + bit (is_queued s side (Some old.status) && (g == k)) ≡ times k (queues s side) + bit (is_queued s side (Some at.status) && (g == k))) where
+module _ (nodes new : List GoroutineNode) (semaphores : List (Sides SemaphoreHead)) (queues : ℕ → Side → List ℕ) (s : ℕ) (side : Side) (both : Sides SemaphoreHead) (head : SemaphoreHead) (g : ℕ)
+    (old at : GoroutineNode) (neighbour : Option ℕ) (change : GoroutineNode → GoroutineNode) (queue : List ℕ) (h : AreQueues nodes semaphores queues) (there : slice_get semaphores s ≡ Some both)
+    (is : slice_get nodes g ≡ Some old) (r : Relinks nodes new g at neighbour change) (was_near : Near s side old.status) (near : Near s side at.status)
+    (beside : (b : ℕ) → neighbour ≡ Some b → (x : GoroutineNode) × (slice_get nodes b ≡ Some x) × (x.status ≡ Queued s side)) (keeps : (x : GoroutineNode) → (change x).status ≡ x.status)
+    (free : is_waiting at.status ≡ false → (at.next ≡ None) × (at.previous ≡ None)) (linked : IsLinked new (Queued s side) None queue head.front head.back)
+    (counted : (k : ℕ) → times k queue + bit (is_queued s side (Some old.status) && (g == k)) ≡ times k (queues s side) + bit (is_queued s side (Some at.status) && (g == k))) where
   changed : Sides SemaphoreHead
   changed = with_side side head both
 
   within : s < length semaphores
   within = slice_get_within semaphores s both there
 
-  kept : (k : ℕ) (other : Side) → Apart s side k other → (x : Sides SemaphoreHead) → slice_get semaphores k ≡ Some x → IsLinked new (Queued k other) None (queues k other) (of_side other x).front (of_side other x).back
+  kept : (k : ℕ) (other : Side) → Apart s side k other → (x : Sides SemaphoreHead) → slice_get semaphores k ≡ Some x
+      → IsLinked new (Queued k other) None (queues k other) (of_side other x).front (of_side other x).back
   kept k other apart x at_k =
       let linked_k = h.linked k other x at_k in
       IsLinked-kept nodes new (Queued k other) None (queues k other) (of_side other x).front (of_side other x).back
       (agree_from nodes new (queues k other) (λ m some.
       let found = member nodes (Queued k other) None (queues k other) (of_side other x).front (of_side other x).back linked_k m some in
-      let m_apart : m ≢ g = λ e. differs s side k other old.status was_near apart (ap (λ (y : GoroutineNode). y.status) (same_Some old found.0 (sym is ∙ ap (slice_get nodes) (sym e) ∙ found.1)) ∙ found.2) in
+      let m_apart : m ≢ g =
+      λ e. differs s side k other old.status was_near apart (ap (λ (y : GoroutineNode). y.status) (same_Some old found.0 (sym is ∙ ap (slice_get nodes) (sym e) ∙ found.1)) ∙ found.2) in
       elim (r.beside m found.0 m_apart found.1) [
         | inl it ↦
             let b = beside m it.0 in
@@ -107,16 +116,20 @@ module _ (nodes new : List GoroutineNode) (semaphores : List (Sides SemaphoreHea
       let b = h.queued s side within m in
       let c = counted m in
       let d : times m (requeue s side queue queues s side) ≡ times m queue = ap (times m) (requeue_here s side queue queues) in
-      let e : bit (is_queued s side (slice_get (statuses new) m)) ≡ bit (is_queued s side (slice_get (set (statuses nodes) g at.status) m)) = ap (λ st. bit (is_queued s side (slice_get st m))) r.moved in
+      let e : bit (is_queued s side (slice_get (statuses new) m)) ≡ bit (is_queued s side (slice_get (set (statuses nodes) g at.status) m)) =
+      ap (λ st. bit (is_queued s side (slice_get st m))) r.moved in
       omega arith
 
-  counted_beyond : (k : ℕ) (other : Side) → Apart s side k other → k < length semaphores → (m : ℕ) → times m (requeue s side queue queues k other) ≡ bit (is_queued k other (slice_get (statuses new) m))
+  counted_beyond : (k : ℕ) (other : Side) → Apart s side k other → k < length semaphores → (m : ℕ)
+      → times m (requeue s side queue queues k other) ≡ bit (is_queued k other (slice_get (statuses new) m))
   counted_beyond k other apart k_within m =
       ap (times m) (requeue_apart s side queue queues k other apart) ∙ h.queued k other k_within m
-      ∙ ap bit (sym (slice_get-set_unseen (is_queued k other) (statuses nodes) g old.status at.status m (status_at nodes g old is) (not_elsewhere s side k other at.status near apart ∙ sym (not_elsewhere s side k other old.status was_near apart))))
+      ∙ ap bit (sym (slice_get-set_unseen (is_queued k other) (statuses nodes) g old.status at.status m (status_at nodes g old is)
+      (not_elsewhere s side k other at.status near apart ∙ sym (not_elsewhere s side k other old.status was_near apart))))
       ∙ ap (λ st. bit (is_queued k other (slice_get st m))) (sym r.moved)
 
-  counted_all : (k : ℕ) (other : Side) → k < length (set semaphores s (with_side side head both)) → (m : ℕ) → times m (requeue s side queue queues k other) ≡ bit (is_queued k other (slice_get (statuses new) m))
+  counted_all : (k : ℕ) (other : Side) → k < length (set semaphores s (with_side side head both)) → (m : ℕ)
+      → times m (requeue s side queue queues k other) ≡ bit (is_queued k other (slice_get (statuses new) m))
   counted_all k other k_within m =
       elim (place_cases s side k other) [
         | inl same ↦
@@ -166,11 +179,13 @@ module _ (nodes new : List GoroutineNode) (semaphores : List (Sides SemaphoreHea
   unfolding Linked
   requeued = record { linked = linked_all; queued = counted_all; alone = alone_all; named = named_all }
 
-  queue_new : (k : ℕ) (other : Side) (x : Sides SemaphoreHead) → slice_get (set semaphores s (with_side side head both)) k ≡ Some x → queue_from new (of_side other x) ≡ requeue s side queue queues k other
+  queue_new : (k : ℕ) (other : Side) (x : Sides SemaphoreHead) → slice_get (set semaphores s (with_side side head both)) k ≡ Some x
+      → queue_from new (of_side other x) ≡ requeue s side queue queues k other
   queue_new = queue_is new (set semaphores s (with_side side head both)) (requeue s side queue queues) requeued
 
   -- another queue is as it was
-  queue_kept : (k : ℕ) (other : Side) (x y : Sides SemaphoreHead) → Apart s side k other → slice_get (set semaphores s (with_side side head both)) k ≡ Some x → slice_get semaphores k ≡ Some y → of_side other x ≡ of_side other y → queue_from new (of_side other y) ≡ queue_from nodes (of_side other y)
+  queue_kept : (k : ℕ) (other : Side) (x y : Sides SemaphoreHead) → Apart s side k other → slice_get (set semaphores s (with_side side head both)) k ≡ Some x → slice_get semaphores k ≡ Some y
+      → of_side other x ≡ of_side other y → queue_from new (of_side other y) ≡ queue_from nodes (of_side other y)
   queue_kept k other x y apart at_x at_y same =
       ap (queue_from new) (sym same) ∙ queue_new k other x at_x ∙ requeue_apart s side queue queues k other apart ∙ sym (queue_is nodes semaphores queues h k other y at_y)
 
@@ -192,7 +207,8 @@ module _ (nodes new : List GoroutineNode) (semaphores : List (Sides SemaphoreHea
             map-set f semaphores s (with_side side head both)
             ∙ set_map_alike f was semaphores s (f (with_side side head both)) (λ k x ne at_k.
             both_kept nodes new x (λ other.
-            queue_kept k other x x (λ e _. ne e) (elim (slice_get-set_cases semaphores s both (with_side side head both) k there) [ inl here ↦ absurd (ne here.0) | inr beyond ↦ beyond.1 ∙ at_k ]) at_k refl))
+            queue_kept k other x x (λ e _. ne e) (elim (slice_get-set_cases semaphores s both (with_side side head both) k there) [ inl here ↦ absurd (ne here.0) | inr beyond ↦ beyond.1 ∙ at_k ]) at_k
+            refl))
             ∙ ap (set (map was semaphores) s)
             (both_from nodes new side head both queue queue_here (λ other ne.
             queue_kept s other (with_side side head both) both (λ _ e. ne e) at_s there (of_side-with_side_other other side head both ne)));
@@ -200,7 +216,8 @@ module _ (nodes new : List GoroutineNode) (semaphores : List (Sides SemaphoreHea
       }
 
 -- the four changes of a table's queues
-module _ (nodes : List GoroutineNode) (semaphores : List (Sides SemaphoreHead)) (h : AreQueues nodes semaphores (queues_from nodes semaphores)) (s : ℕ) (side : Side) (both : Sides SemaphoreHead) (there : slice_get semaphores s ≡ Some both) (g : ℕ) (old : GoroutineNode) (is : slice_get nodes g ≡ Some old) where
+module _ (nodes : List GoroutineNode) (semaphores : List (Sides SemaphoreHead)) (h : AreQueues nodes semaphores (queues_from nodes semaphores)) (s : ℕ) (side : Side) (both : Sides SemaphoreHead)
+    (there : slice_get semaphores s ≡ Some both) (g : ℕ) (old : GoroutineNode) (is : slice_get nodes g ≡ Some old) where
   queue : List ℕ
   queue = queue_from nodes (of_side side both)
 
@@ -227,7 +244,8 @@ module _ (nodes : List GoroutineNode) (semaphores : List (Sides SemaphoreHead)) 
       absurd (let t : true ≡ false = ap is_waiting (sym queued) ∙ ap (λ (x : GoroutineNode). is_waiting x.status) same ∙ none in cc)
 
   pub joins_back : (count : ℕ) → is_waiting old.status ≡ false
-      → Requeues nodes (with_next (of_side side both).back (Some g) (set nodes g (node_with (Queued s side) None (of_side side both).back))) semaphores s side both (record { count = count; front = or_else (of_side side both).front g; back = Some g }) g (Queued s side) (queue_from nodes (of_side side both) ++ g ∷ [])
+      → Requeues nodes (with_next (of_side side both).back (Some g) (set nodes g (node_with (Queued s side) None (of_side side both).back))) semaphores s side both
+      (record { count = count; front = or_else (of_side side both).front g; back = Some g }) g (Queued s side) (queue_from nodes (of_side side both) ++ g ∷ [])
   joins_back count none =
       let x = of_side side both in
       let q = queue_from nodes x in
@@ -245,7 +263,8 @@ module _ (nodes : List GoroutineNode) (semaphores : List (Sides SemaphoreHead)) 
       omega arith)
 
   pub joins_front : (count : ℕ) → is_waiting old.status ≡ false
-      → Requeues nodes (with_previous (of_side side both).front (Some g) (set nodes g (node_with (Queued s side) (of_side side both).front None))) semaphores s side both (record { count = count; front = Some g; back = or_else (of_side side both).back g }) g (Queued s side) (g ∷ queue_from nodes (of_side side both))
+      → Requeues nodes (with_previous (of_side side both).front (Some g) (set nodes g (node_with (Queued s side) (of_side side both).front None))) semaphores s side both
+      (record { count = count; front = Some g; back = or_else (of_side side both).back g }) g (Queued s side) (g ∷ queue_from nodes (of_side side both))
   joins_front count none =
       let x = of_side side both in
       let q = queue_from nodes x in
@@ -269,7 +288,8 @@ module _ (nodes : List GoroutineNode) (semaphores : List (Sides SemaphoreHead)) 
       ap (λ (x : GoroutineNode). x.status) (same_Some old found.0 (sym is ∙ found.1)) ∙ found.2
 
   pub leaves_front : (count : ℕ) (status : Status) (rest : List ℕ) → is_waiting status ≡ false → queue_from nodes (of_side side both) ≡ g ∷ rest
-      → Requeues nodes (with_previous old.next None (set nodes g (node_with status None None))) semaphores s side both (record { count = count; front = old.next; back = end_left old.next (of_side side both).back }) g status rest
+      → Requeues nodes (with_previous old.next None (set nodes g (node_with status None None))) semaphores s side both
+      (record { count = count; front = old.next; back = end_left old.next (of_side side both).back }) g status rest
   leaves_front count status rest outside whole =
       let x = of_side side both in
       let q = queue_from nodes x in
@@ -283,7 +303,8 @@ module _ (nodes : List GoroutineNode) (semaphores : List (Sides SemaphoreHead)) 
       let beside = λ (b : ℕ) (e : old.next ≡ Some b). member nodes (Queued s side) (Some g) rest l.1.0 x.back l.1.2 b (in_rest b e) in
       let r = relinks nodes g old at (preceded_by None) is (λ _. refl) old.next (λ e. let a = in_rest g e in let b = one g in let c = itself g rest in absurd (omega arith)) in
       requeues nodes (with_previous old.next None (set nodes g at)) semaphores (queues_from nodes semaphores) s side both
-      (record { count = count; front = old.next; back = end_left old.next x.back }) g old at old.next (preceded_by None) rest h there is r (inl was) (inr outside) beside (λ _. refl) (λ _. (refl, refl))
+      (record { count = count; front = old.next; back = end_left old.next x.back }) g old at old.next (preceded_by None) rest h there is r (inl was) (inr outside) beside (λ _. refl)
+      (λ _. (refl, refl))
       (subst (λ (e : Option ℕ). IsLinked (with_previous old.next None (set nodes g at)) (Queued s side) None rest old.next e) (back_is rest old.next x.back next_is)
       (unlinked_front nodes (with_previous old.next None (set nodes g at)) (Queued s side) g old at rest x.front x.back is r one l))
       (λ k.
@@ -302,7 +323,8 @@ module _ (nodes : List GoroutineNode) (semaphores : List (Sides SemaphoreHead)) 
       back_is (y ∷ ys) next end e = ap (λ n. end_left n end) (sym e)
 
   pub leaves_back : (count : ℕ) (status : Status) (rest : List ℕ) → is_waiting status ≡ false → queue_from nodes (of_side side both) ≡ rest ++ g ∷ []
-      → Requeues nodes (with_next old.previous None (set nodes g (node_with status None None))) semaphores s side both (record { count = count; front = end_left old.previous (of_side side both).front; back = old.previous }) g status rest
+      → Requeues nodes (with_next old.previous None (set nodes g (node_with status None None))) semaphores s side both
+      (record { count = count; front = end_left old.previous (of_side side both).front; back = old.previous }) g status rest
   leaves_back count status rest outside whole =
       let x = of_side side both in
       let q = queue_from nodes x in
@@ -322,8 +344,10 @@ module _ (nodes : List GoroutineNode) (semaphores : List (Sides SemaphoreHead)) 
       let r = relinks nodes g old at (followed_by None) is (λ _. refl) old.previous not_itself in
       let new_linked = unlinked_back nodes (with_next old.previous None (set nodes g at)) (Queued s side) g old at is r None rest x.front x.back one l in
       requeues nodes (with_next old.previous None (set nodes g at)) semaphores (queues_from nodes semaphores) s side both
-      (record { count = count; front = end_left old.previous x.front; back = old.previous }) g old at old.previous (followed_by None) rest h there is r (inl was) (inr outside) beside (λ _. refl) (λ _. (refl, refl))
-      (subst (λ (e : Option ℕ). IsLinked (with_next old.previous None (set nodes g at)) (Queued s side) None rest e old.previous) (front_is (with_next old.previous None (set nodes g at)) rest g x.front x.back old.previous l new_linked) new_linked)
+      (record { count = count; front = end_left old.previous x.front; back = old.previous }) g old at old.previous (followed_by None) rest h there is r (inl was) (inr outside) beside (λ _. refl)
+      (λ _. (refl, refl))
+      (subst (λ (e : Option ℕ). IsLinked (with_next old.previous None (set nodes g at)) (Queued s side) None rest e old.previous)
+      (front_is (with_next old.previous None (set nodes g at)) rest g x.front x.back old.previous l new_linked) new_linked)
       (λ k.
       let a = count_push g k rest in
       let b : times k (queues_from nodes semaphores s side) ≡ times k (rest ++ g ∷ []) = ap (times k) (is_queue ∙ whole) in
@@ -331,15 +355,18 @@ module _ (nodes : List GoroutineNode) (semaphores : List (Sides SemaphoreHead)) 
       let d = bit_false (is_queued s side (Some status)) (g == k) (unqueued status s side outside) in
       omega arith)
     where
-      before_is_in : (xs : List ℕ) (last : ℕ) (at : GoroutineNode) (first end : Option ℕ) → slice_get nodes last ≡ Some at → IsLinked nodes (Queued s side) None (xs ++ last ∷ []) first end → (b : ℕ) → at.previous ≡ Some b → 0 < times b xs
+      before_is_in : (xs : List ℕ) (last : ℕ) (at : GoroutineNode) (first end : Option ℕ) → slice_get nodes last ≡ Some at → IsLinked nodes (Queued s side) None (xs ++ last ∷ []) first end → (b : ℕ)
+          → at.previous ≡ Some b → 0 < times b xs
       before_is_in [] last at first end at_is l b e =
           absurd (none-some b (ap (λ (y : GoroutineNode). y.previous) (sym (same_Some at (node_with (Queued s side) l.1.0 None) (sym at_is ∙ l.1.1))) ∙ e))
       before_is_in (y ∷ ys) last at first end at_is l b e = before_member nodes (Queued s side) None y ys last first end at at_is l b e
 
-      member_kept : (xs : List ℕ) (last : ℕ) (first end : Option ℕ) → IsLinked nodes (Queued s side) None (xs ++ last ∷ []) first end → (b : ℕ) → 0 < times b xs → (node : GoroutineNode) × (slice_get nodes b ≡ Some node) × (node.status ≡ Queued s side)
+      member_kept : (xs : List ℕ) (last : ℕ) (first end : Option ℕ) → IsLinked nodes (Queued s side) None (xs ++ last ∷ []) first end → (b : ℕ) → 0 < times b xs
+          → (node : GoroutineNode) × (slice_get nodes b ≡ Some node) × (node.status ≡ Queued s side)
       member_kept xs last first end l b some = member nodes (Queued s side) None (xs ++ last ∷ []) first end l b (let a = count_push last b xs in omega arith)
 
-      front_is : (changed : List GoroutineNode) (xs : List ℕ) (last : ℕ) (first end previous : Option ℕ) → IsLinked nodes (Queued s side) None (xs ++ last ∷ []) first end → IsLinked changed (Queued s side) None xs (slice_get xs 0) previous → slice_get xs 0 ≡ end_left previous first
+      front_is : (changed : List GoroutineNode) (xs : List ℕ) (last : ℕ) (first end previous : Option ℕ) → IsLinked nodes (Queued s side) None (xs ++ last ∷ []) first end
+          → IsLinked changed (Queued s side) None xs (slice_get xs 0) previous → slice_get xs 0 ≡ end_left previous first
       front_is changed [] last first end previous l n = ap (λ p. end_left p first) (sym n.1)
       front_is changed (y ∷ ys) last first end previous l n = by_previous previous refl
         where

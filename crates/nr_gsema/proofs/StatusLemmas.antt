@@ -5,8 +5,8 @@ use Rattle.nr_rev.specs.declared.sides.Side.{Side}
 use Rattle.nr_rev.specs.declared.status.Status.{Status}
 use Rattle.nr_rev.specs.declared.status.Status.TheVariants.{Idle, Acquiring, Queued, Relock, Owing, Entering, Armed, Parking, Parked, Swapping, Checking, Gone}
 use Rattle.nr_rev.specs.Sides.{same_side}
-use Rattle.nr_rev.proofs.Numbers.{number_same, same_number}
-use Rattle.nr_rev.proofs.Tests.{both_true}
+use Rattle.nr_rev.proofs.NumberLemmas.{number_same, same_number}
+use Rattle.nr_rev.proofs.BoolLemmas.{both_true}
 use Rattle.nr_gsema.specs.Step.{same_place, same_status}
 use Rattle.nr_gsema.proofs.PlaceLemmas.{place_same, same_side_is}
 

@@ -12,7 +12,7 @@ use Rattle.nr_rev.specs.Sides.{of_side, twice, with_side}
 use Rattle.nr_gsema.specs.declared.node.GoroutineNode.{GoroutineNode}
 use Rattle.nr_gsema.specs.declared.node.SemaphoreHead.{SemaphoreHead}
 use Rattle.nr_gsema.specs.Links.{AreQueues, IsLinked, is_waiting, queue_from, queues_from, semaphores_from, statuses}
-use Rattle.nr_gsema.specs.Table.{GoroutineTable, last_of, on_found, on_semaphore, with_semaphore, with_status}
+use Rattle.nr_gsema.specs.Table.{GoroutineTable, back_of, on_found, on_semaphore, with_semaphore, with_status}
 use Rattle.nr_gsema.specs.SemaphoreChange.{with_count}
 use Rattle.nr_gsema.specs.Links.{chain}
 use Rattle.std.specs.Option.{IfSome}
@@ -43,18 +43,22 @@ pub record AreTable (nodes : List GoroutineNode) (semaphores : List (Sides Semap
   pub view : table_of nodes semaphores limit ≡ t
 
 -- so are lists that are equal to them
-pub AreTable-same : {nodes : List GoroutineNode} {semaphores : List (Sides SemaphoreHead)} {limit : ℕ} {t : GoroutineTable} (ys : List GoroutineNode) (zs : List (Sides SemaphoreHead)) → AreTable nodes semaphores limit t → ys ≡ nodes → zs ≡ semaphores → AreTable ys zs limit t
+pub AreTable-same : {nodes : List GoroutineNode} {semaphores : List (Sides SemaphoreHead)} {limit : ℕ} {t : GoroutineTable} (ys : List GoroutineNode) (zs : List (Sides SemaphoreHead))
+    → AreTable nodes semaphores limit t → ys ≡ nodes → zs ≡ semaphores → AreTable ys zs limit t
 AreTable-same {nodes} {semaphores} {limit} {t} ys zs is a b =
     subst (λ (r : List GoroutineNode). AreTable r zs limit t) (sym a) (subst (λ (s : List (Sides SemaphoreHead)). AreTable nodes s limit t) (sym b) is)
 
 -- a change of a semaphore that is there
-pub on_semaphore_is : (s : ℕ) (side : Side) (change : Semaphore → Semaphore) (t : GoroutineTable) (both : Sides Semaphore) → slice_get t.semaphores s ≡ Some both → on_semaphore s side change t ≡ with_semaphore s side both (change (of_side side both)) t
+pub on_semaphore_is : (s : ℕ) (side : Side) (change : Semaphore → Semaphore) (t : GoroutineTable) (both : Sides Semaphore) → slice_get t.semaphores s ≡ Some both
+    → on_semaphore s side change t ≡ with_semaphore s side both (change (of_side side both)) t
 on_semaphore_is s side change t both is = ap (λ (o : Option (Sides Semaphore)). on_found s side change o t) is
 
-pub semaphores_at : (nodes : List GoroutineNode) (semaphores : List (Sides SemaphoreHead)) (s : ℕ) (both : Sides SemaphoreHead) → slice_get semaphores s ≡ Some both → slice_get (map (semaphores_from nodes) semaphores) s ≡ Some (semaphores_from nodes both)
+pub semaphores_at : (nodes : List GoroutineNode) (semaphores : List (Sides SemaphoreHead)) (s : ℕ) (both : Sides SemaphoreHead) → slice_get semaphores s ≡ Some both
+    → slice_get (map (semaphores_from nodes) semaphores) s ≡ Some (semaphores_from nodes both)
 semaphores_at nodes semaphores s both is = slice_get-map (semaphores_from nodes) semaphores s ∙ ap (option_map (semaphores_from nodes)) is
 
-pub of_side-from : (nodes : List GoroutineNode) (side : Side) (both : Sides SemaphoreHead) → of_side side (semaphores_from nodes both) ≡ record { count = (of_side side both).count; queue = queue_from nodes (of_side side both) }
+pub of_side-from : (nodes : List GoroutineNode) (side : Side) (both : Sides SemaphoreHead)
+    → of_side side (semaphores_from nodes both) ≡ record { count = (of_side side both).count; queue = queue_from nodes (of_side side both) }
 of_side-from nodes Read both = refl
 of_side-from nodes Write both = refl
 
@@ -74,7 +78,8 @@ within_of None m n same h = tt
 within_of (Some b) m n same h = let below = h b refl in omega arith
 
 -- the table after it: `written` are the nodes that the code wrote, which are as many as before
-requeued_table : {nodes new : List GoroutineNode} {semaphores : List (Sides SemaphoreHead)} {limit s g : ℕ} {t : GoroutineTable} {side : Side} {x : Sides SemaphoreHead} {head : SemaphoreHead} {status : Status} {queue : List ℕ} → AreTable nodes semaphores limit t → Requeues nodes new semaphores s side x head g status queue → slice_get semaphores s ≡ Some x
+requeued_table : {nodes new : List GoroutineNode} {semaphores : List (Sides SemaphoreHead)} {limit s g : ℕ} {t : GoroutineTable} {side : Side} {x : Sides SemaphoreHead} {head : SemaphoreHead}
+    {status : Status} {queue : List ℕ} → AreTable nodes semaphores limit t → Requeues nodes new semaphores s side x head g status queue → slice_get semaphores s ≡ Some x
     → (change : Semaphore → Semaphore) → change (record { count = (of_side side x).count; queue = queue_from nodes (of_side side x) }) ≡ record { count = head.count; queue = queue }
     → (ys written : List GoroutineNode) (zs : List (Sides SemaphoreHead)) → (length written ≡ length nodes → ys ≡ written) → written ≡ new → zs ≡ set semaphores s (with_side side head x)
     → AreTable ys zs limit (with_status g status (on_semaphore s side change t))
@@ -120,13 +125,15 @@ module _ {nodes : List GoroutineNode} {semaphores : List (Sides SemaphoreHead)} 
   pub head_has : (s : ℕ) (side : Side) (P : Semaphore → Type 0) (x : Sides SemaphoreHead) → slice_get semaphores s ≡ Some x → HasSemaphore s side P t
       → P (record { count = (of_side side x).count; queue = queue_from nodes (of_side side x) })
   head_has s side P x there has =
-      let e : has.0 ≡ semaphores_from nodes x = same_Some has.0 (semaphores_from nodes x) (sym has.1 ∙ ap (λ (u : GoroutineTable). slice_get u.semaphores s) (sym is.view) ∙ semaphores_at nodes semaphores s x there) in
+      let e : has.0 ≡ semaphores_from nodes x =
+      same_Some has.0 (semaphores_from nodes x) (sym has.1 ∙ ap (λ (u : GoroutineTable). slice_get u.semaphores s) (sym is.view) ∙ semaphores_at nodes semaphores s x there) in
       subst P (ap (of_side side) e ∙ of_side-from nodes side x) has.2
 
   -- whoever is in a queue has a node
   pub member_within : (s : ℕ) (side : Side) (x : Sides SemaphoreHead) → slice_get semaphores s ≡ Some x → (i g : ℕ) → slice_get (queue_from nodes (of_side side x)) i ≡ Some g → g < length nodes
   member_within s side x there i g e =
-      go (queues_from nodes semaphores s side) None (of_side side x).front (is.queues.linked s side x there) i (ap (λ (q : List ℕ). slice_get q i) (sym (queue_is nodes semaphores (queues_from nodes semaphores) is.queues s side x there)) ∙ e)
+      go (queues_from nodes semaphores s side) None (of_side side x).front (is.queues.linked s side x there) i
+      (ap (λ (q : List ℕ). slice_get q i) (sym (queue_is nodes semaphores (queues_from nodes semaphores) is.queues s side x there)) ∙ e)
     where
       go : (q : List ℕ) (previous first : Option ℕ) → IsLinked nodes (Queued s side) previous q first (of_side side x).back → (k : ℕ) → slice_get q k ≡ Some g → g < length nodes
       go [] previous first l k f = absurd (none-some g f)
@@ -134,7 +141,8 @@ module _ {nodes : List GoroutineNode} {semaphores : List (Sides SemaphoreHead)} 
       go (y ∷ ys) previous first l (suc k) f = go ys (Some y) l.1.0 l.1.2 k f
 
   -- the ends of a queue have nodes
-  pub front_within : (s : ℕ) (side : Side) (x : Sides SemaphoreHead) (q : SemaphoreHead) → slice_get semaphores s ≡ Some x → q ≡ of_side side x → (n : ℕ) → n ≡ length nodes → IfSome q.front (λ g. g < n)
+  pub front_within : (s : ℕ) (side : Side) (x : Sides SemaphoreHead) (q : SemaphoreHead) → slice_get semaphores s ≡ Some x → q ≡ of_side side x → (n : ℕ) → n ≡ length nodes
+      → IfSome q.front (λ g. g < n)
   front_within s side x q there q_is n same =
       subst (λ (y : SemaphoreHead). IfSome y.front (λ g. g < n)) (sym q_is) (within_of (of_side side x).front (length nodes) n same (λ g e.
       let found = first_within nodes (Queued s side) (queues_from nodes semaphores s side) (of_side side x).front (of_side side x).back (is.queues.linked s side x there) g e in
@@ -147,66 +155,85 @@ module _ {nodes : List GoroutineNode} {semaphores : List (Sides SemaphoreHead)} 
       slice_get_within nodes g found.0 found.1))
 
   -- so have the neighbours of those at the ends
-  pub next_within : (s : ℕ) (side : Side) (x : Sides SemaphoreHead) → slice_get semaphores s ≡ Some x → (g : ℕ) (old : GoroutineNode) → slice_get nodes g ≡ Some old → slice_get (queue_from nodes (of_side side x)) 0 ≡ Some g → (n : ℕ) → n ≡ length nodes → IfSome old.next (λ k. k < n)
+  pub next_within : (s : ℕ) (side : Side) (x : Sides SemaphoreHead) → slice_get semaphores s ≡ Some x → (g : ℕ) (old : GoroutineNode) → slice_get nodes g ≡ Some old
+      → slice_get (queue_from nodes (of_side side x)) 0 ≡ Some g → (n : ℕ) → n ≡ length nodes → IfSome old.next (λ k. k < n)
   next_within s side x there g old at first n same =
       let queue = queue_from nodes (of_side side x) in
       within_of old.next (length nodes) n same (next_there nodes semaphores is.queues s side x there g old at (drop 1 queue) (first_split queue g first))
 
-  pub previous_within : (s : ℕ) (side : Side) (x : Sides SemaphoreHead) → slice_get semaphores s ≡ Some x → (g : ℕ) (old : GoroutineNode) → slice_get nodes g ≡ Some old → last_of (queue_from nodes (of_side side x)) ≡ Some g → (n : ℕ) → n ≡ length nodes → IfSome old.previous (λ k. k < n)
+  pub previous_within : (s : ℕ) (side : Side) (x : Sides SemaphoreHead) → slice_get semaphores s ≡ Some x → (g : ℕ) (old : GoroutineNode) → slice_get nodes g ≡ Some old
+      → back_of (queue_from nodes (of_side side x)) ≡ Some g → (n : ℕ) → n ≡ length nodes → IfSome old.previous (λ k. k < n)
   previous_within s side x there g old at last n same =
       let queue = queue_from nodes (of_side side x) in
       within_of old.previous (length nodes) n same (previous_there nodes semaphores is.queues s side x there g old at (take (length queue - 1) queue) (last_split queue g last))
 
   -- one who is in no queue goes to the back of one
   pub joined_back : (s : ℕ) (side : Side) (g : ℕ) (x : Sides SemaphoreHead) (q : SemaphoreHead) → slice_get semaphores s ≡ Some x → q ≡ of_side side x → IsOutside g t
-      → (ys written : List GoroutineNode) (zs : List (Sides SemaphoreHead)) → (length written ≡ length nodes → ys ≡ written) → written ≡ with_next q.back (Some g) (set nodes g (node_with (Queued s side) None q.back))
+      → (ys written : List GoroutineNode) (zs : List (Sides SemaphoreHead)) → (length written ≡ length nodes → ys ≡ written)
+      → written ≡ with_next q.back (Some g) (set nodes g (node_with (Queued s side) None q.back))
       → zs ≡ set semaphores s (with_side side (record { count = q.count; front = or_else q.front g; back = Some g }) x)
       → AreTable ys zs limit (with_status g (Queued s side) (on_semaphore s side (with_last g) t))
   joined_back s side g x q there q_is outside =
       let old = outside_node g outside in
       subst
-      (λ (y : SemaphoreHead). (ys written : List GoroutineNode) (zs : List (Sides SemaphoreHead)) → (length written ≡ length nodes → ys ≡ written) → written ≡ with_next y.back (Some g) (set nodes g (node_with (Queued s side) None y.back))
-      → zs ≡ set semaphores s (with_side side (record { count = y.count; front = or_else y.front g; back = Some g }) x) → AreTable ys zs limit (with_status g (Queued s side) (on_semaphore s side (with_last g) t)))
+      (λ (y : SemaphoreHead). (ys written : List GoroutineNode) (zs : List (Sides SemaphoreHead)) → (length written ≡ length nodes → ys ≡ written)
+      → written ≡ with_next y.back (Some g) (set nodes g (node_with (Queued s side) None y.back))
+      → zs ≡ set semaphores s (with_side side (record { count = y.count; front = or_else y.front g; back = Some g }) x)
+      → AreTable ys zs limit (with_status g (Queued s side) (on_semaphore s side (with_last g) t)))
       (sym q_is) (requeued_table is (joins_back nodes semaphores is.queues s side x there g old.0 old.1 (of_side side x).count old.2) there (with_last g) refl)
 
   -- one who is in no queue goes to the front of one, whose count is lowered
   pub joined_front : (s : ℕ) (side : Side) (g : ℕ) (x : Sides SemaphoreHead) (q : SemaphoreHead) → slice_get semaphores s ≡ Some x → q ≡ of_side side x → IsOutside g t
-      → (ys written : List GoroutineNode) (zs : List (Sides SemaphoreHead)) → (length written ≡ length nodes → ys ≡ written) → written ≡ with_previous q.front (Some g) (set nodes g (node_with (Queued s side) q.front None))
+      → (ys written : List GoroutineNode) (zs : List (Sides SemaphoreHead)) → (length written ≡ length nodes → ys ≡ written)
+      → written ≡ with_previous q.front (Some g) (set nodes g (node_with (Queued s side) q.front None))
       → zs ≡ set semaphores s (with_side side (record { count = q.count - 1; front = Some g; back = or_else q.back g }) x)
       → AreTable ys zs limit (with_status g (Queued s side) (on_semaphore s side (unreleased (Some g)) t))
   joined_front s side g x q there q_is outside =
       let old = outside_node g outside in
       subst
-      (λ (y : SemaphoreHead). (ys written : List GoroutineNode) (zs : List (Sides SemaphoreHead)) → (length written ≡ length nodes → ys ≡ written) → written ≡ with_previous y.front (Some g) (set nodes g (node_with (Queued s side) y.front None))
-      → zs ≡ set semaphores s (with_side side (record { count = y.count - 1; front = Some g; back = or_else y.back g }) x) → AreTable ys zs limit (with_status g (Queued s side) (on_semaphore s side (unreleased (Some g)) t)))
+      (λ (y : SemaphoreHead). (ys written : List GoroutineNode) (zs : List (Sides SemaphoreHead)) → (length written ≡ length nodes → ys ≡ written)
+      → written ≡ with_previous y.front (Some g) (set nodes g (node_with (Queued s side) y.front None))
+      → zs ≡ set semaphores s (with_side side (record { count = y.count - 1; front = Some g; back = or_else y.back g }) x)
+      → AreTable ys zs limit (with_status g (Queued s side) (on_semaphore s side (unreleased (Some g)) t)))
       (sym q_is) (requeued_table is (joins_front nodes semaphores is.queues s side x there g old.0 old.1 ((of_side side x).count - 1) old.2) there (unreleased (Some g)) refl)
 
   -- the last one leaves a queue
-  pub left_back : (s : ℕ) (side : Side) (g : ℕ) (x : Sides SemaphoreHead) (q : SemaphoreHead) → slice_get semaphores s ≡ Some x → q ≡ of_side side x → (old : GoroutineNode) → slice_get nodes g ≡ Some old → last_of (queue_from nodes (of_side side x)) ≡ Some g
-      → (ys written : List GoroutineNode) (zs : List (Sides SemaphoreHead)) → (length written ≡ length nodes → ys ≡ written) → written ≡ with_next old.previous None (set nodes g (node_with (Acquiring s side) None None))
+  pub left_back : (s : ℕ) (side : Side) (g : ℕ) (x : Sides SemaphoreHead) (q : SemaphoreHead) → slice_get semaphores s ≡ Some x → q ≡ of_side side x → (old : GoroutineNode)
+      → slice_get nodes g ≡ Some old → back_of (queue_from nodes (of_side side x)) ≡ Some g
+      → (ys written : List GoroutineNode) (zs : List (Sides SemaphoreHead)) → (length written ≡ length nodes → ys ≡ written)
+      → written ≡ with_next old.previous None (set nodes g (node_with (Acquiring s side) None None))
       → zs ≡ set semaphores s (with_side side (record { count = q.count; front = end_left old.previous q.front; back = old.previous }) x)
       → AreTable ys zs limit (with_status g (Acquiring s side) (on_semaphore s side without_last t))
   left_back s side g x q there q_is old at last =
       let queue = queue_from nodes (of_side side x) in
       subst
-      (λ (y : SemaphoreHead). (ys written : List GoroutineNode) (zs : List (Sides SemaphoreHead)) → (length written ≡ length nodes → ys ≡ written) → written ≡ with_next old.previous None (set nodes g (node_with (Acquiring s side) None None))
-      → zs ≡ set semaphores s (with_side side (record { count = y.count; front = end_left old.previous y.front; back = old.previous }) x) → AreTable ys zs limit (with_status g (Acquiring s side) (on_semaphore s side without_last t)))
-      (sym q_is) (requeued_table is (leaves_back nodes semaphores is.queues s side x there g old at (of_side side x).count (Acquiring s side) (take (length queue - 1) queue) refl (last_split queue g last)) there without_last refl)
+      (λ (y : SemaphoreHead). (ys written : List GoroutineNode) (zs : List (Sides SemaphoreHead)) → (length written ≡ length nodes → ys ≡ written)
+      → written ≡ with_next old.previous None (set nodes g (node_with (Acquiring s side) None None))
+      → zs ≡ set semaphores s (with_side side (record { count = y.count; front = end_left old.previous y.front; back = old.previous }) x)
+      → AreTable ys zs limit (with_status g (Acquiring s side) (on_semaphore s side without_last t)))
+      (sym q_is) (requeued_table is (leaves_back nodes semaphores is.queues s side x there g old at (of_side side x).count (Acquiring s side) (take (length queue - 1) queue) refl
+      (last_split queue g last)) there without_last refl)
 
   -- the first one leaves a queue, whose count is raised
-  pub left_front : (s : ℕ) (side : Side) (g : ℕ) (x : Sides SemaphoreHead) (q : SemaphoreHead) → slice_get semaphores s ≡ Some x → q ≡ of_side side x → (old : GoroutineNode) → slice_get nodes g ≡ Some old → slice_get (queue_from nodes (of_side side x)) 0 ≡ Some g
-      → (ys written : List GoroutineNode) (zs : List (Sides SemaphoreHead)) → (length written ≡ length nodes → ys ≡ written) → written ≡ with_previous old.next None (set nodes g (node_with (Acquiring s side) None None))
+  pub left_front : (s : ℕ) (side : Side) (g : ℕ) (x : Sides SemaphoreHead) (q : SemaphoreHead) → slice_get semaphores s ≡ Some x → q ≡ of_side side x → (old : GoroutineNode)
+      → slice_get nodes g ≡ Some old → slice_get (queue_from nodes (of_side side x)) 0 ≡ Some g
+      → (ys written : List GoroutineNode) (zs : List (Sides SemaphoreHead)) → (length written ≡ length nodes → ys ≡ written)
+      → written ≡ with_previous old.next None (set nodes g (node_with (Acquiring s side) None None))
       → zs ≡ set semaphores s (with_side side (record { count = q.count + 1; front = old.next; back = end_left old.next q.back }) x)
       → AreTable ys zs limit (with_status g (Acquiring s side) (on_semaphore s side released_once t))
   left_front s side g x q there q_is old at first =
       let queue = queue_from nodes (of_side side x) in
       subst
-      (λ (y : SemaphoreHead). (ys written : List GoroutineNode) (zs : List (Sides SemaphoreHead)) → (length written ≡ length nodes → ys ≡ written) → written ≡ with_previous old.next None (set nodes g (node_with (Acquiring s side) None None))
-      → zs ≡ set semaphores s (with_side side (record { count = y.count + 1; front = old.next; back = end_left old.next y.back }) x) → AreTable ys zs limit (with_status g (Acquiring s side) (on_semaphore s side released_once t)))
-      (sym q_is) (requeued_table is (leaves_front nodes semaphores is.queues s side x there g old at ((of_side side x).count + 1) (Acquiring s side) (drop 1 queue) refl (first_split queue g first)) there released_once refl)
+      (λ (y : SemaphoreHead). (ys written : List GoroutineNode) (zs : List (Sides SemaphoreHead)) → (length written ≡ length nodes → ys ≡ written)
+      → written ≡ with_previous old.next None (set nodes g (node_with (Acquiring s side) None None))
+      → zs ≡ set semaphores s (with_side side (record { count = y.count + 1; front = old.next; back = end_left old.next y.back }) x)
+      → AreTable ys zs limit (with_status g (Acquiring s side) (on_semaphore s side released_once t)))
+      (sym q_is) (requeued_table is (leaves_front nodes semaphores is.queues s side x there g old at ((of_side side x).count + 1) (Acquiring s side) (drop 1 queue) refl (first_split queue g first))
+      there released_once refl)
 
   -- a goroutine outside the queues, with another status
-  pub status_set : (g : ℕ) (node : GoroutineNode) (status : Status) → slice_get nodes g ≡ Some node → IsOutside g t → is_waiting status ≡ false → AreTable (set nodes g (record node { status = status })) semaphores limit (with_status g status t)
+  pub status_set : (g : ℕ) (node : GoroutineNode) (status : Status) → slice_get nodes g ≡ Some node → IsOutside g t → is_waiting status ≡ false
+      → AreTable (set nodes g (record node { status = status })) semaphores limit (with_status g status t)
   status_set g node status at outside none =
       let new = set nodes g (record node { status = status }) in
       let old = outside_node g outside in
@@ -221,14 +248,16 @@ module _ {nodes : List GoroutineNode} {semaphores : List (Sides SemaphoreHead)} 
       }
 
   -- a semaphore with another count
-  pub count_set : (s : ℕ) (side : Side) (x : Sides SemaphoreHead) (count : ℕ) → slice_get semaphores s ≡ Some x → AreTable nodes (set semaphores s (with_side side (record (of_side side x) { count = count }) x)) limit (on_semaphore s side (with_count count) t)
+  pub count_set : (s : ℕ) (side : Side) (x : Sides SemaphoreHead) (count : ℕ) → slice_get semaphores s ≡ Some x
+      → AreTable nodes (set semaphores s (with_side side (record (of_side side x) { count = count }) x)) limit (on_semaphore s side (with_count count) t)
   count_set s side x count there =
       let head : SemaphoreHead = record (of_side side x) { count = count } in
       let was = semaphores_from nodes x in
       let table : List (Sides Semaphore) → GoroutineTable = λ ss. record { goroutines = statuses nodes; semaphores = ss; limit = limit } in
       let same : record { count = count; queue = queue_from nodes (of_side side x) } ≡ with_count count (of_side side was) = ap (with_count count) (sym (of_side-from nodes side x)) in
       record {
-        queues = AreQueues-from nodes (set semaphores s (with_side side head x)) (queues_from nodes semaphores) (recounted nodes semaphores (queues_from nodes semaphores) s side x head is.queues there refl refl);
+        queues = AreQueues-from nodes (set semaphores s (with_side side head x)) (queues_from nodes semaphores)
+            (recounted nodes semaphores (queues_from nodes semaphores) s side x head is.queues there refl refl);
         view =
             ap table (recounted_semaphores nodes semaphores s side x head refl ∙ ap (λ (y : Semaphore). set (map (semaphores_from nodes) semaphores) s (with_side side y was)) same)
             ∙ sym (on_semaphore_is s side (with_count count) (table_of nodes semaphores limit) was (semaphores_at nodes semaphores s x there))
@@ -249,19 +278,22 @@ module _ {nodes : List GoroutineNode} {semaphores : List (Sides SemaphoreHead)} 
       }
 
   -- the last goroutine goes, which is idle
-  pub last_gone : slice_get t.goroutines (length t.goroutines - 1) ≡ Some Idle → AreTable (take (length nodes - 1) nodes) semaphores limit (record t { goroutines = take (length t.goroutines - 1) t.goroutines })
+  pub last_gone : slice_get t.goroutines (length t.goroutines - 1) ≡ Some Idle
+      → AreTable (take (length nodes - 1) nodes) semaphores limit (record t { goroutines = take (length t.goroutines - 1) t.goroutines })
   last_gone idle =
       let n = length nodes - 1 in
       let new = take n nodes in
       let same : length (statuses nodes) - 1 ≡ n = ap (λ k. k - 1) (length-map nodes (λ (x : GoroutineNode). x.status)) in
       let found = status_node nodes n Idle (ap (slice_get (statuses nodes)) (sym same) ∙ ap (λ (u : GoroutineTable). slice_get u.goroutines (length u.goroutines - 1)) is.view ∙ idle) in
       let whole : nodes ≡ new ++ found.0 ∷ [] = last_split nodes found.0 found.1 in
-      let k = popped new semaphores (queues_from nodes semaphores) found.0 (subst (λ (ys : List GoroutineNode). AreQueues ys semaphores (queues_from nodes semaphores)) whole is.queues) (ap is_waiting found.2) in
+      let k = popped new semaphores (queues_from nodes semaphores) found.0 (subst (λ (ys : List GoroutineNode). AreQueues ys semaphores (queues_from nodes semaphores)) whole is.queues)
+      (ap is_waiting found.2) in
       let table : List Status → List (Sides Semaphore) → GoroutineTable = λ gs ss. record { goroutines = gs; semaphores = ss; limit = limit } in
       record {
         queues = AreQueues-from new semaphores (queues_from nodes semaphores) k;
         view =
-            ap₂ table (sym (take-map (λ (x : GoroutineNode). x.status) n nodes) ∙ ap (λ m. take m (statuses nodes)) (sym same)) (same_semaphores nodes new semaphores (queues_from nodes semaphores) is.queues k)
+            ap₂ table (sym (take-map (λ (x : GoroutineNode). x.status) n nodes) ∙ ap (λ m. take m (statuses nodes)) (sym same))
+            (same_semaphores nodes new semaphores (queues_from nodes semaphores) is.queues k)
             ∙ ap (λ (u : GoroutineTable). record u { goroutines = take (length u.goroutines - 1) u.goroutines }) is.view;
       }
 

@@ -9,8 +9,8 @@ use Rattle.nr_rev.specs.declared.status.Status.TheVariants.{Queued}
 use Rattle.nr_rev.specs.Lock.{bit}
 use Rattle.nr_rev.specs.Sides.{of_side, with_side}
 use Rattle.nr_rev.specs.WellFormed.{is_queued}
-use Rattle.nr_rev.proofs.BothSides.{other_side, of_side-with_side_same, of_side-with_side_other}
-use Rattle.nr_rev.proofs.Lists.{slice_get-push_cases, slice_get-push_kept, slice_get-push_unseen, slice_get-set_cases, slice_get-set_unseen}
+use Rattle.nr_rev.proofs.SideLemmas.{other_side, of_side-with_side_same, of_side-with_side_other}
+use Rattle.nr_rev.proofs.ListUpdateLemmas.{slice_get-push_cases, slice_get-push_kept, slice_get-push_unseen, slice_get-set_cases, slice_get-set_unseen}
 use Rattle.nr_gsema.specs.declared.node.GoroutineNode.{GoroutineNode}
 use Rattle.nr_gsema.specs.declared.node.SemaphoreHead.{SemaphoreHead}
 use Rattle.nr_gsema.specs.Links.{AreQueues, IsLinked, chain, is_waiting, queue_from, semaphores_from, statuses}
@@ -41,7 +41,8 @@ same_queues nodes new semaphores queues h kept bits alone named =
     }
 
 -- then the semaphores are as they were
-pub same_semaphores : (nodes new : List GoroutineNode) (semaphores : List (Sides SemaphoreHead)) (queues : ℕ → Side → List ℕ) → AreQueues nodes semaphores queues → AreQueues new semaphores queues → map (semaphores_from new) semaphores ≡ map (semaphores_from nodes) semaphores
+pub same_semaphores : (nodes new : List GoroutineNode) (semaphores : List (Sides SemaphoreHead)) (queues : ℕ → Side → List ℕ) → AreQueues nodes semaphores queues → AreQueues new semaphores queues
+    → map (semaphores_from new) semaphores ≡ map (semaphores_from nodes) semaphores
 same_semaphores nodes new semaphores queues h k =
     map_alike (semaphores_from new) (semaphores_from nodes) semaphores (λ s x at.
     both_kept nodes new x (λ other. queue_is new semaphores queues k s other x at ∙ sym (queue_is nodes semaphores queues h s other x at)))
@@ -50,7 +51,8 @@ pub statuses_push : (nodes : List GoroutineNode) (node : GoroutineNode) → stat
 statuses_push nodes node = map_push (λ (x : GoroutineNode). x.status) nodes node
 
 -- one goroutine more, in no queue
-pub pushed : (nodes : List GoroutineNode) (semaphores : List (Sides SemaphoreHead)) (queues : ℕ → Side → List ℕ) (node : GoroutineNode) → AreQueues nodes semaphores queues → is_waiting node.status ≡ false → node.next ≡ None → node.previous ≡ None → AreQueues (nodes ++ node ∷ []) semaphores queues
+pub pushed : (nodes : List GoroutineNode) (semaphores : List (Sides SemaphoreHead)) (queues : ℕ → Side → List ℕ) (node : GoroutineNode) → AreQueues nodes semaphores queues
+    → is_waiting node.status ≡ false → node.next ≡ None → node.previous ≡ None → AreQueues (nodes ++ node ∷ []) semaphores queues
 pushed nodes semaphores queues node h none no_next no_previous =
     same_queues nodes (nodes ++ node ∷ []) semaphores queues h
     (λ s side m x at queued. slice_get-push_kept nodes node x m at)
@@ -67,7 +69,8 @@ pushed nodes semaphores queues node h none no_next no_previous =
     ])
 
 -- the last goroutine goes, which is in no queue
-pub popped : (nodes : List GoroutineNode) (semaphores : List (Sides SemaphoreHead)) (queues : ℕ → Side → List ℕ) (node : GoroutineNode) → AreQueues (nodes ++ node ∷ []) semaphores queues → is_waiting node.status ≡ false → AreQueues nodes semaphores queues
+pub popped : (nodes : List GoroutineNode) (semaphores : List (Sides SemaphoreHead)) (queues : ℕ → Side → List ℕ) (node : GoroutineNode) → AreQueues (nodes ++ node ∷ []) semaphores queues
+    → is_waiting node.status ≡ false → AreQueues nodes semaphores queues
 popped nodes semaphores queues node h none =
     same_queues (nodes ++ node ∷ []) nodes semaphores queues h
     (λ s side m x at queued. elim (slice_get-push_cases nodes node x m at) [
@@ -81,7 +84,8 @@ popped nodes semaphores queues node h none =
     (λ m s side is. h.named m s side (ap (λ st. slice_get st m) (statuses_push nodes node) ∙ slice_get-push_kept (statuses nodes) node.status (Queued s side) m is))
 
 -- one that is in no queue gets another status, and is in none
-pub restated : (nodes : List GoroutineNode) (semaphores : List (Sides SemaphoreHead)) (queues : ℕ → Side → List ℕ) (g : ℕ) (old new : GoroutineNode) → AreQueues nodes semaphores queues → slice_get nodes g ≡ Some old → is_waiting old.status ≡ false → is_waiting new.status ≡ false → new.next ≡ old.next → new.previous ≡ old.previous → AreQueues (set nodes g new) semaphores queues
+pub restated : (nodes : List GoroutineNode) (semaphores : List (Sides SemaphoreHead)) (queues : ℕ → Side → List ℕ) (g : ℕ) (old new : GoroutineNode) → AreQueues nodes semaphores queues
+    → slice_get nodes g ≡ Some old → is_waiting old.status ≡ false → is_waiting new.status ≡ false → new.next ≡ old.next → new.previous ≡ old.previous → AreQueues (set nodes g new) semaphores queues
 restated nodes semaphores queues g old new h is was none same_next same_previous =
     same_queues nodes (set nodes g new) semaphores queues h
     (λ s side m x at queued. elim (slice_get-set_cases nodes g old new m is) [
@@ -107,7 +111,9 @@ restated nodes semaphores queues g old new h is was none same_next same_previous
     ])
 
 -- a semaphore whose count alone changes
-pub recounted : (nodes : List GoroutineNode) (semaphores : List (Sides SemaphoreHead)) (queues : ℕ → Side → List ℕ) (s : ℕ) (side : Side) (both : Sides SemaphoreHead) (head : SemaphoreHead) → AreQueues nodes semaphores queues → slice_get semaphores s ≡ Some both → head.front ≡ (of_side side both).front → head.back ≡ (of_side side both).back → AreQueues nodes (set semaphores s (with_side side head both)) queues
+pub recounted : (nodes : List GoroutineNode) (semaphores : List (Sides SemaphoreHead)) (queues : ℕ → Side → List ℕ) (s : ℕ) (side : Side) (both : Sides SemaphoreHead) (head : SemaphoreHead)
+    → AreQueues nodes semaphores queues → slice_get semaphores s ≡ Some both → head.front ≡ (of_side side both).front → head.back ≡ (of_side side both).back
+    → AreQueues nodes (set semaphores s (with_side side head both)) queues
 recounted nodes semaphores queues s side both head h there same_front same_back =
     record {
       linked = λ k other x at.
@@ -115,7 +121,8 @@ recounted nodes semaphores queues s side both head h there same_front same_back 
           elim (slice_get-set_cases semaphores s both (with_side side head both) k there) [
             | inl here ↦
                 let same : with_side side head both ≡ x = same_Some (with_side side head both) x (sym here.1 ∙ at) in
-                let was : IsLinked nodes (Queued k other) None (queues k other) (of_side other both).front (of_side other both).back = h.linked k other both (ap (slice_get semaphores) here.0 ∙ there) in
+                let was : IsLinked nodes (Queued k other) None (queues k other) (of_side other both).front (of_side other both).back =
+                h.linked k other both (ap (slice_get semaphores) here.0 ∙ there) in
                 subst (λ (y : Sides SemaphoreHead). IsLinked nodes (Queued k other) None (queues k other) (of_side other y).front (of_side other y).back) same
                 (elim (other_side other side) [
                   | inl e ↦
@@ -134,8 +141,10 @@ recounted nodes semaphores queues s side both head h there same_front same_back 
       named = λ g k other is. let below = h.named g k other is in let size = length-set semaphores s (with_side side head both) in omega arith;
     }
 
-pub recounted_semaphores : (nodes : List GoroutineNode) (semaphores : List (Sides SemaphoreHead)) (s : ℕ) (side : Side) (both : Sides SemaphoreHead) (head : SemaphoreHead) → head.front ≡ (of_side side both).front
-    → map (semaphores_from nodes) (set semaphores s (with_side side head both)) ≡ set (map (semaphores_from nodes) semaphores) s (with_side side (record { count = head.count; queue = queue_from nodes (of_side side both) }) (semaphores_from nodes both))
+pub recounted_semaphores : (nodes : List GoroutineNode) (semaphores : List (Sides SemaphoreHead)) (s : ℕ) (side : Side) (both : Sides SemaphoreHead) (head : SemaphoreHead)
+    → head.front ≡ (of_side side both).front
+    → map (semaphores_from nodes) (set semaphores s (with_side side head both))
+    ≡ set (map (semaphores_from nodes) semaphores) s (with_side side (record { count = head.count; queue = queue_from nodes (of_side side both) }) (semaphores_from nodes both))
 recounted_semaphores nodes semaphores s side both head same_front =
     map-set (semaphores_from nodes) semaphores s (with_side side head both)
     ∙ ap (set (map (semaphores_from nodes) semaphores) s) (both_from nodes nodes side head both (queue_from nodes (of_side side both)) (ap (chain (length nodes) nodes) same_front) (λ other ne. refl))

@@ -10,7 +10,7 @@ use Rattle.nr_rev.specs.Sides.{of_side}
 use Rattle.nr_rev.specs.WellFormed.{is_queued}
 use Rattle.nr_gsema.specs.declared.operation.GOperation.{GOperation}
 use Rattle.nr_gsema.specs.declared.delta.GUndo.{GUndo}
-use Rattle.nr_gsema.specs.Delta.{Reverses, undo_words, words_allowed}
+use Rattle.nr_gsema.specs.Delta.{Reverses, undo_weight, weight_allowed}
 use Rattle.nr_gsema.specs.Step.{outcome}
 use Rattle.nr_gsema.specs.Table.{GoroutineTable}
 
@@ -19,7 +19,7 @@ pub record AppliesBy (op : GOperation) (old : GoroutineTable) (answer : Answer) 
     (new : GoroutineTable) : Type 0 where
   pub step : outcome old op ≡ Ok (answer, new)
   pub back : Reverses undo new old
-  pub light : undo_words undo ≤ words_allowed op
+  pub light : undo_weight undo ≤ weight_allowed op
 
 -- so it applies, or it is refused and leaves all as it was
 abbrev pub Applies : GOperation → GoroutineTable → Result (Answer × GUndo) Refusal
@@ -31,4 +31,5 @@ Applies op old (Err reason) new = (outcome old op ≡ Err reason) × (new ≡ ol
 pub record IsQueuedUp (t : GoroutineTable) : Type 0 where
   pub queued : (s : ℕ) (side : Side) (both : Sides Semaphore)
       → slice_get t.semaphores s ≡ Some both → (g : ℕ)
-      → count_by (λ h. h == g) (of_side side both).queue ≡ bit (is_queued s side (slice_get t.goroutines g))
+      → count_by (λ h. h == g) (of_side side both).queue
+      ≡ bit (is_queued s side (slice_get t.goroutines g))

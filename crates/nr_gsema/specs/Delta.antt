@@ -5,7 +5,7 @@ use Rattle.nr_rev.specs.declared.sides.Sides.{Sides}
 use Rattle.nr_rev.specs.declared.status.Status.TheVariants.{Idle, Acquiring, Queued, Owing}
 use Rattle.nr_rev.specs.Semaphore.{Semaphore}
 use Rattle.nr_rev.specs.Sides.{of_side}
-use Rattle.nr_rev.specs.Weight.{variant_words, number_words, side_words, status_words, option_words}
+use Rattle.nr_rev.specs.Weight.{variant_weight, number_weight, side_weight, status_weight, option_weight}
 use Rattle.nr_gsema.specs.declared.delta.GDelta.{GDelta}
 use Rattle.nr_gsema.specs.declared.delta.GUndo.{GUndo}
 use Rattle.nr_gsema.specs.declared.delta.GUndo.TheVariants as undo
@@ -61,7 +61,8 @@ CanUndo (undo.Moved g status) t = (is_waiting status ≡ false) × IsOutside g t
 CanUndo (undo.Acquired g s side) t =
     IsOutside g t × HasSemaphore s side (λ semaphore. semaphore.count + 1 < 2 ^ 32) t
 CanUndo (undo.Queued g s side) t =
-    HasSemaphore s side (λ semaphore. slice_get semaphore.queue (length semaphore.queue - 1) ≡ Some g) t
+    HasSemaphore s side (λ semaphore. slice_get semaphore.queue (length semaphore.queue - 1)
+    ≡ Some g) t
 CanUndo (undo.Released g s reads writes front) t =
     IsOutside g (released_back s (side_owed (owed reads writes)) front t) × CanRequeue front t
     × HasSemaphore s (side_owed (owed reads writes)) (λ semaphore. 0 < semaphore.count) t
@@ -75,24 +76,25 @@ abbrev pub LeadsBack : GDelta → GoroutineTable → GoroutineTable → Type 0
 LeadsBack delta new old = Reverses delta.undo new old
 
 -- how many words are held
-abbrev pub undo_words : GUndo → ℕ
-undo_words undo.Spawned = variant_words
-undo_words (undo.Moved g status) = variant_words + number_words g + status_words status
-undo_words (undo.Acquired g s side) =
-    variant_words + number_words g + number_words s + side_words side
-undo_words (undo.Queued g s side) =
-    variant_words + number_words g + number_words s + side_words side
-undo_words (undo.Released g s reads writes front) =
-    variant_words + number_words g + number_words s + number_words reads + number_words writes + option_words number_words front
+abbrev pub undo_weight : GUndo → ℕ
+undo_weight undo.Spawned = variant_weight
+undo_weight (undo.Moved g status) = variant_weight + number_weight g + status_weight status
+undo_weight (undo.Acquired g s side) =
+    variant_weight + number_weight g + number_weight s + side_weight side
+undo_weight (undo.Queued g s side) =
+    variant_weight + number_weight g + number_weight s + side_weight side
+undo_weight (undo.Released g s reads writes front) =
+    variant_weight + number_weight g + number_weight s + number_weight reads + number_weight writes
+    + option_weight number_weight front
 
 -- so many are in a delta
-abbrev pub delta_words : GDelta → ℕ
-delta_words delta = undo_words delta.undo
+abbrev pub delta_weight : GDelta → ℕ
+delta_weight delta = undo_weight delta.undo
 
 -- how many an operation's may
-abbrev pub words_allowed : GOperation → ℕ
-words_allowed operation.Spawn = 1
-words_allowed (operation.Exit g) = 3
-words_allowed (operation.Move g from to) = 2 + status_words from
-words_allowed (operation.Acquire g) = 4
-words_allowed (operation.Release g) = 7
+abbrev pub weight_allowed : GOperation → ℕ
+weight_allowed operation.Spawn = 1
+weight_allowed (operation.Exit g) = 3
+weight_allowed (operation.Move g from to) = 2 + status_weight from
+weight_allowed (operation.Acquire g) = 4
+weight_allowed (operation.Release g) = 7

@@ -1,11 +1,11 @@
--- what a table is, what operations do, and what callers need of them
+-- what callers need
 pub mod Table
 pub mod Step
-pub mod SemaphoreChange
 pub mod Delta
 pub mod Applying
-pub mod ReversibleLaws
 pub mod Worked
--- how the nodes are linked
+-- inner: what only definitions and proofs of this crate use
+pub mod SemaphoreChange
+pub mod ReversibleLaws
 pub mod Links
 pub mod Relinking

@@ -50,17 +50,18 @@ table_from t =
       limit = t.limit;
     }
 
--- a goroutine at its place in a queue
+-- a goroutine at its index in a queue
 abbrev pub node_with : Status → Option ℕ → Option ℕ → GoroutineNode
 node_with status next previous = record { status = status; next = next; previous = previous }
 
--- those of a queue from a place on: each node has the status, the one before it and the one
+-- those of a queue from an index on: each node has the status, the one before it and the one
 -- behind it, none at the end
 abbrev pub IsLinked : List GoroutineNode → Status → Option ℕ → List ℕ → Option ℕ → Option ℕ → Type 0
 IsLinked nodes status previous [] first last = (first ≡ None) × (last ≡ previous)
 IsLinked nodes status previous (g ∷ queue) first last =
     (first ≡ Some g)
-    × ((next : Option ℕ) × (slice_get nodes g ≡ Some (node_with status next previous)) × IsLinked nodes status (Some g) queue next last)
+    × ((next : Option ℕ) × (slice_get nodes g ≡ Some (node_with status next previous))
+    × IsLinked nodes status (Some g) queue next last)
 
 -- the status of one that is queued, wherever
 abbrev pub is_waiting : Status → Bool
@@ -73,10 +74,12 @@ pub record AreQueues (nodes : List GoroutineNode) (semaphores : List (Sides Sema
   -- each from its front to its back
   pub linked : (s : ℕ) (side : Side) (both : Sides SemaphoreHead)
       → slice_get semaphores s ≡ Some both
-      → IsLinked nodes (Queued s side) None (queues s side) (of_side side both).front (of_side side both).back
+      → IsLinked nodes (Queued s side) None (queues s side) (of_side side both).front
+      (of_side side both).back
   -- each goroutine with that queued status is there once, and no other
   pub queued : (s : ℕ) (side : Side) → s < length semaphores → (g : ℕ)
-      → count_by (λ h. h == g) (queues s side) ≡ bit (is_queued s side (slice_get (statuses nodes) g))
+      → count_by (λ h. h == g) (queues s side)
+      ≡ bit (is_queued s side (slice_get (statuses nodes) g))
   -- outside every queue there are no neighbours
   pub alone : (g : ℕ) (node : GoroutineNode) → slice_get nodes g ≡ Some node
       → is_waiting node.status ≡ false
@@ -97,6 +100,7 @@ queues_from nodes semaphores s side =
 
 -- the queues are linked, and there is room for all goroutines that there may be
 pub record IsTable (t : Inside) : Type 0 where
-  pub queues : AreQueues t.nodes.items t.semaphores.items (queues_from t.nodes.items t.semaphores.items)
+  pub queues : AreQueues t.nodes.items t.semaphores.items
+      (queues_from t.nodes.items t.semaphores.items)
   pub few : vec_len t.nodes ≤ t.limit
   pub room : t.limit ≤ vec_capacity t.nodes

@@ -35,7 +35,8 @@ abbrev pub or_else : Option ℕ → ℕ → Option ℕ
 or_else None g = Some g
 or_else (Some end) g = Some end
 
--- the one end of a queue after the other one, beside whom is this neighbour, left it: none, where it was alone
+-- the one end of a queue after the other one, beside whom is this neighbour, left it: none, where
+-- it was alone
 abbrev pub end_left : Option ℕ → Option ℕ → Option ℕ
 end_left None end = None
 end_left (Some neighbour) end = end

@@ -90,7 +90,8 @@ acquire g t = do
   semaphores ← semaphores_of s t
   let semaphore : Semaphore = of_side side semaphores
   let next : GoroutineTable = with_semaphore s side semaphores (acquired g semaphore) t
-  Ok (if is_free semaphore then (Yes, with_status g (Relock s side) next) else (Wait, with_status g (Queued s side) next))
+  Ok (if is_free semaphore then (Yes, with_status g (Relock s side) next)
+      else (Wait, with_status g (Queued s side) next))
 
 -- the front of a queue that leaves it must try again
 abbrev pub tries_again : ℕ → Side → Option ℕ → GoroutineTable → GoroutineTable
@@ -110,7 +111,8 @@ release g t = do
   let side : Side = side_owed owed
   let semaphore : Semaphore = of_side side semaphores
   left ← released semaphore
-  let next : GoroutineTable = tries_again s side (front_of semaphore) (with_semaphore s side semaphores left t)
+  let next : GoroutineTable =
+      tries_again s side (front_of semaphore) (with_semaphore s side semaphores left t)
   Ok (Done, with_status g (owing s (with_side side (of_side side owed - 1) owed)) next)
 
 -- the answer of an operation and the table after it, or the first reason that holds

@@ -46,8 +46,8 @@ abbrev pub queue_at : ℕ → Side → GoroutineTable → List ℕ
 queue_at s side t = queue_found side (slice_get t.semaphores s)
 
 -- who is at the back of a queue
-abbrev pub last_of : List ℕ → Option ℕ
-last_of queue = slice_get queue (length queue - 1)
+abbrev pub back_of : List ℕ → Option ℕ
+back_of queue = slice_get queue (length queue - 1)
 
 -- who is behind g in a queue
 abbrev pub behind : ℕ → List ℕ → Option ℕ
@@ -65,8 +65,8 @@ in_queue found (Some (Queued s side)) t = found (queue_at s side t)
 in_queue found _ t = None
 
 -- who is behind a goroutine in the queue that it is in
-abbrev pub next_of : ℕ → GoroutineTable → Option ℕ
-next_of g t = in_queue (behind g) (slice_get t.goroutines g) t
+abbrev pub next_in_queue : ℕ → GoroutineTable → Option ℕ
+next_in_queue g t = in_queue (behind g) (slice_get t.goroutines g) t
 
 -- who is before it there
 abbrev pub previous_of : ℕ → GoroutineTable → Option ℕ
@@ -75,4 +75,5 @@ previous_of g t = in_queue (before g None) (slice_get t.goroutines g) t
 -- the count of a semaphore
 abbrev pub count_at : ℕ → Side → GoroutineTable → Option ℕ
 count_at s side t =
-    option_map (λ (semaphores : Sides Semaphore). (of_side side semaphores).count) (slice_get t.semaphores s)
+    option_map (λ (semaphores : Sides Semaphore). (of_side side semaphores).count)
+    (slice_get t.semaphores s)

@@ -42,9 +42,9 @@ impl GTable {
 impl Reversible for GTable {
     ghost use Rattle.nr_gsema.specs.declared.apply.TheConstants.{MOST_WORDS};
     ghost use Rattle.nr_gsema.specs.Applying.{IsQueuedUp};
-    ghost use Rattle.nr_gsema.specs.Delta.{LeadsBack, delta_words, words_allowed};
+    ghost use Rattle.nr_gsema.specs.Delta.{LeadsBack, delta_weight, weight_allowed};
     ghost use Rattle.nr_gsema.specs.Step.{StepTo, table_reason};
-    ghost use Rattle.nr_gsema.specs.ReversibleLaws.{LeadsBack-unique, memory_is_no_reason, refused_has_no_step, steps_unique, words_are_within};
+    ghost use Rattle.nr_gsema.specs.ReversibleLaws.{LeadsBack-unique, memory_is_no_reason, refused_has_no_step, steps_unique, weight_is_within};
 
     type Op = GOperation;
 
@@ -66,9 +66,9 @@ impl Reversible for GTable {
 
     ghost back = { LeadsBack };
 
-    ghost weight = { delta_words };
+    ghost weight = { delta_weight };
 
-    ghost allowance = { words_allowed };
+    ghost allowance = { weight_allowed };
 
     ghost bytes_out = { λ _ _. 0 };
 
@@ -121,5 +121,5 @@ impl Reversible for GTable {
 
     ghost steps_unique = { steps_unique };
 
-    ghost allowance_is_within = { words_are_within };
+    ghost allowance_is_within = { weight_is_within };
 }

@@ -9,7 +9,7 @@ ghost use Rattle.nr_gsema.specs.declared.apply.TheConstants.{MOST_WORDS};
 ghost use Rattle.nr_gsema.specs.declared.delta.GDelta.{GDelta};
 ghost use Rattle.nr_gsema.specs.declared.delta.GUndo.TheVariants.{Released};
 ghost use Rattle.nr_gsema.specs.declared.operation.GOperation.TheVariants.{Release};
-ghost use Rattle.nr_gsema.specs.Delta.{undo_words};
+ghost use Rattle.nr_gsema.specs.Delta.{undo_weight};
 ghost use Rattle.nr_gsema.specs.Step.{outcome, same_status};
 ghost use Rattle.nr_gsema.specs.Worked.{one_at};
 
@@ -27,7 +27,7 @@ pub fn delta_is_its_undo()
 pub fn the_numbers()
     ensures words { MOST_WORDS ≡ 7 }
     ensures reached { (g s reads writes front : ℕ)
-        → undo_words (Released g s reads writes (Some front)) ≡ 7 }
+        → undo_weight (Released g s reads writes (Some front)) ≡ 7 }
 {}
 
 /// The count of a semaphore is at most 4,294,967,295: a release there is refused, and one below it is made.

@@ -21,8 +21,8 @@ pub enum GOperation {
         from: Status,
         to: Status,
     },
-    /// A goroutine that is acquiring a semaphore lowers the count and takes the lock again (`Relock`), which answers `Yes`;
-    /// or, where the count is 0, goes to the back of the queue, which answers `Wait`. `NotThere` where it isn't acquiring;
+    /// A goroutine that is acquiring a semaphore lowers the count and takes the lock again (`Relock`), which answers `Yes`.
+    /// Where the count is 0, it goes to the back of the queue, which answers `Wait`. `NotThere` where it isn't acquiring;
     /// `NoSuchSocket` where its socket is not below the limit.
     Acquire {
         goroutine: u32,

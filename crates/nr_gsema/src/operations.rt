@@ -250,7 +250,7 @@ impl GTable {
         Ok((Answer::Done, undo))
     }
 
-    /// A semaphore with this count is released once. Gives the goroutine that leaves the queue.
+    /// A semaphore with this count is released once. Returns the goroutine that leaves the queue.
     #[inline(always)]
     fn release_semaphore(&mut self, socket: u32, side: Side, count: u32) -> Option<u32>
         requires { HasSemaphore socket side (λ semaphore. (semaphore.count ≡ count) × (semaphore.count + 1 < 2 ^ 32)) self.old }

@@ -25,7 +25,7 @@ fn or_else(end: Option<u32>, goroutine: u32) -> Option<u32>
     }
 }
 
-/// The one end of a queue after the other one left it, who stood beside this neighbour.
+/// The one end of a queue after the other one left it, who was beside this neighbour.
 #[inline(always)]
 fn end_left(neighbour: Option<u32>, end: Option<u32>) -> Option<u32>
     ensures { result ≡ end_left neighbour end }

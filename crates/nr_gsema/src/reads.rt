@@ -1,7 +1,7 @@
 //! What is read of a table.
 
 ghost use Rattle.std.specs.Prelude.{◌≡◌, ◌≤◌, length, slice_get};
-ghost use Rattle.nr_gsema.specs.Table.{count_at, last_of, next_of, previous_of, queue_at};
+ghost use Rattle.nr_gsema.specs.Table.{count_at, back_of, next_in_queue, previous_of, queue_at};
 
 use crate::table::GTable;
 use nr_rev::{Side, Status};
@@ -52,7 +52,7 @@ impl GTable {
     /// The goroutine at the back of a queue; `None` where nobody queues.
     #[inline(always)]
     pub fn back_of(&self, socket: u32, side: Side) -> Option<u32>
-        ensures { result ≡ last_of (queue_at socket side self.now) }
+        ensures { result ≡ back_of (queue_at socket side self.now) }
     {
         if socket as usize >= self.semaphores.len() {
             return None;
@@ -62,8 +62,8 @@ impl GTable {
 
     /// The goroutine behind one in the queue that it is in; `None` for the last one, and outside every queue.
     #[inline(always)]
-    pub fn next_of(&self, goroutine: u32) -> Option<u32>
-        ensures { result ≡ next_of goroutine self.now }
+    pub fn next_in_queue(&self, goroutine: u32) -> Option<u32>
+        ensures { result ≡ next_in_queue goroutine self.now }
     {
         if goroutine as usize >= self.nodes.len() {
             return None;

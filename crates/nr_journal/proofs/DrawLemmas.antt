@@ -46,7 +46,7 @@ was_drawn tags t tag other drawn = let o = bit_at_or tags (2 ^ t) tag in let z =
 
 pub fits_drawn : (tags more : ℕ) (log : List ℕ) (v : View) → ((j : ℕ) → IsDrawn tags j → IsDrawn more j) → Fits tags log v → Fits more log v
 fits_drawn tags more log (Outside tried) up fits = λ tag below. up tag (fits tag below)
-fits_drawn tags more log (Within stand) up fits = ((λ tag below. up tag (fits.0 tag below)), fits.1, fits.2)
+fits_drawn tags more log (Within pass_state) up fits = ((λ tag below. up tag (fits.0 tag below)), fits.1, fits.2)
 fits_drawn tags more log (Note seen) up fits = fits
 fits_drawn tags more log Spent up fits = tt
 
@@ -85,7 +85,8 @@ module _ (room : ℕ) where
 
   pub draws_from : (words : List ℕ) (views : List View) (id tried : ℕ) → Kept room words views → get_elem? views id ≡ some (Outside tried)
       → Picks room words views id 0 (bit_or (get_or words 0 0) (2 ^ tried)) (DrawsFrom (Outside tried) (get_or words 0 0))
-  draws_from words views id tried k at = subst (λ (n : ℕ). Picks room words views id 0 (bit_or n (2 ^ tried)) (DrawsFrom (Outside tried) n)) (sym tags_there) (dite (ℕ_discrete (bit_at k.tags tried) 0) first later)
+  draws_from words views id tried k at =
+      subst (λ (n : ℕ). Picks room words views id 0 (bit_or n (2 ^ tried)) (DrawsFrom (Outside tried) n)) (sym tags_there) (dite (ℕ_discrete (bit_at k.tags tried) 0) first later)
     where
       tags_there : get_or words 0 0 ≡ k.tags
       tags_there = ap (λ (ws : List ℕ). get_or ws 0 0) k.words_are

@@ -5,7 +5,7 @@ use Rattle.std.specs.List.{All}
 use Rattle.std.proofs.lemmas.List.Elements.{All-head}
 use mathlib.Core.Option.{some, some-injective, some-ne-none}
 use lib.ListN.{get_elem?}
-use Rattle.nr_journal.specs.declared.view.Stand.{Stand}
+use Rattle.nr_journal.specs.declared.view.PassState.{PassState}
 use Rattle.nr_journal.specs.declared.view.View.{View}
 use Rattle.nr_journal.specs.declared.view.View.TheVariants.{Outside, Within, Note, Spent}
 use Rattle.nr_journal.specs.Rule.{newcomer, tag_of, IsDrawn, IsEntry, IsOthers, HasTag}
@@ -13,19 +13,19 @@ use Rattle.nr_journal.specs.Laws.{BeginsEmpty, EachWordHasItsPass, EmptyLookSees
 use Rattle.nr_journal.proofs.RuleLemmas.{is_word, before_end, found_opcode}
 
 pub empty_look : EmptyLookSeesAll
-empty_look room id stand words views k at zero_there = let c = (k.each_view id (Within stand) at).1 in go c.0 c.1
+empty_look room id pass_state words views k at zero_there = let c = (k.each_view id (Within pass_state) at).1 in go c.0 c.1
   where
-    go : (rest : List ℕ) → k.log ≡ stand.seen ++ rest → k.log ≡ stand.seen
-    go [] is = is ∙ append-nil stand.seen
+    go : (rest : List ℕ) → k.log ≡ pass_state.seen ++ rest → k.log ≡ pass_state.seen
+    go [] is = is ∙ append-nil pass_state.seen
     go (v ∷ rest) is =
-        let there : get_or words (suc (length stand.seen)) 0 ≡ v = before_end room words views k stand.seen v rest is in
-        let index : suc (length stand.seen) ≡ length stand.seen + 1 = omega arith in
-        absurd (is_word v (found_opcode room words views k stand.seen v rest is) (sym there ∙ (ap (λ (j : ℕ). get_or words j 0) index ∙ zero_there)))
+        let there : get_or words (suc (length pass_state.seen)) 0 ≡ v = before_end room words views k pass_state.seen v rest is in
+        let index : suc (length pass_state.seen) ≡ length pass_state.seen + 1 = omega arith in
+        absurd (is_word v (found_opcode room words views k pass_state.seen v rest is) (sym there ∙ (ap (λ (j : ℕ). get_or words j 0) index ∙ zero_there)))
 
 -- whoever has a tag is a pass
-pub of_pass : (v : View) (tag : ℕ) → HasTag v tag → (stand : Stand) × (v ≡ Within stand) × (stand.tag ≡ tag)
+pub of_pass : (v : View) (tag : ℕ) → HasTag v tag → (pass_state : PassState) × (v ≡ Within pass_state) × (pass_state.tag ≡ tag)
 of_pass (Outside tried) tag has = absurd has
-of_pass (Within stand) tag has = (stand, refl, has)
+of_pass (Within pass_state) tag has = (pass_state, refl, has)
 of_pass (Note seen) tag has = absurd has
 of_pass Spent tag has = absurd has
 

@@ -6,55 +6,59 @@ use Rattle.std.proofs.lemmas.List.Elements.{All-head}
 use mathlib.Core.Option.{some, none}
 use lib.ListN.{get_elem?}
 use Rattle.atomic_table.specs.Table.{step, Allows}
-use Rattle.nr_journal.specs.declared.view.Stand.{Stand}
+use Rattle.nr_journal.specs.declared.view.PassState.{PassState}
 use Rattle.nr_journal.specs.declared.view.View.{View}
 use Rattle.nr_journal.specs.declared.view.View.TheVariants.{Within}
-use Rattle.nr_journal.specs.Rule.{IsOthers, StartsWith, Kept, looked, shown}
+use Rattle.nr_journal.specs.Rule.{IsOthers, StartsWith, Kept, looked, having_seen}
 use Rattle.nr_journal.specs.Step.{Seat, Looked, LookedFrom, Rereads, RereadsFrom}
 use Rattle.nr_journal.proofs.RowLemmas.{among}
 use Rattle.nr_journal.proofs.RuleLemmas.{same_tags, is_word, kept_view, at_place, before_end, kept_found, found_opcode, Rule, Picks, allowed, stays}
 
 module _ (room : ℕ) where
-  pub looks_from : (words : List ℕ) (views : List View) (id : ℕ) (stand : Stand) → Kept room words views → get_elem? views id ≡ some (Within stand)
-      → Picks room words views id (suc (length stand.seen)) (get_or words (suc (length stand.seen)) 0) (LookedFrom (Within stand) (get_or words (suc (length stand.seen)) 0))
-  looks_from words views id stand k at = let c = k.each_view id (Within stand) at in go c.1.0 c.1.1 c.1.2
+  pub looks_from : (words : List ℕ) (views : List View) (id : ℕ) (pass_state : PassState) → Kept room words views → get_elem? views id ≡ some (Within pass_state)
+      → Picks room words views id (suc (length pass_state.seen)) (get_or words (suc (length pass_state.seen)) 0) (LookedFrom (Within pass_state) (get_or words (suc (length pass_state.seen)) 0))
+  looks_from words views id pass_state k at = let c = k.each_view id (Within pass_state) at in go c.1.0 c.1.1 c.1.2
     where
-      same : set words (suc (length stand.seen)) (get_or words (suc (length stand.seen)) 0) ≡ words
-      same = set-get_or words (suc (length stand.seen)) 0
+      same : set words (suc (length pass_state.seen)) (get_or words (suc (length pass_state.seen)) 0) ≡ words
+      same = set-get_or words (suc (length pass_state.seen)) 0
 
-      go : (rest : List ℕ) → k.log ≡ stand.seen ++ rest → All (IsOthers stand.tag) rest
-          → Picks room words views id (suc (length stand.seen)) (get_or words (suc (length stand.seen)) 0) (LookedFrom (Within stand) (get_or words (suc (length stand.seen)) 0))
+      go : (rest : List ℕ) → k.log ≡ pass_state.seen ++ rest → All (IsOthers pass_state.tag) rest
+          → Picks room words views id (suc (length pass_state.seen)) (get_or words (suc (length pass_state.seen)) 0) (LookedFrom (Within pass_state) (get_or words (suc (length pass_state.seen)) 0))
       go [] is others =
-          let c = k.each_view id (Within stand) at in
-          let zero_there : get_or words (suc (length stand.seen)) 0 ≡ 0 = at_place room words views k stand.seen (is ∙ append-nil stand.seen) in (
-            Within (looked stand),
-            subst (λ (ws : List ℕ). Kept room ws (set views id (Within (looked stand)))) (sym same) (kept_view room words views id (Within stand) (Within (looked stand)) at k c (same_tags stand (looked stand) refl)),
-            ((λ z. (refl, subst (λ (l : List ℕ). StartsWith l stand.told) (is ∙ append-nil stand.seen) c.2)), (λ not. absurd (not zero_there))),
+          let c = k.each_view id (Within pass_state) at in
+          let zero_there : get_or words (suc (length pass_state.seen)) 0 ≡ 0 = at_place room words views k pass_state.seen (is ∙ append-nil pass_state.seen) in (
+            Within (looked pass_state),
+            subst (λ (ws : List ℕ). Kept room ws (set views id (Within (looked pass_state)))) (sym same)
+                (kept_view room words views id (Within pass_state) (Within (looked pass_state)) at k c (same_tags pass_state (looked pass_state) refl)),
+            ((λ z. (refl, subst (λ (l : List ℕ). StartsWith l pass_state.learned) (is ∙ append-nil pass_state.seen) c.2)), (λ not. absurd (not zero_there))),
           )
       go (v ∷ rest) is others =
-          let c = k.each_view id (Within stand) at in
-          let there : get_or words (suc (length stand.seen)) 0 ≡ v = before_end room words views k stand.seen v rest is in
-          let code = found_opcode room words views k stand.seen v rest is in (
-            Within (shown stand v),
-            subst (λ (ws : List ℕ). Kept room ws (set views id (Within (shown stand v)))) (sym same) (kept_found room words views k id stand v rest at is others),
-            subst (λ (n : ℕ). LookedFrom (Within stand) n (Within (shown stand v), [])) (sym there)
-                ((λ z. absurd (is_word v code z)), (λ not. (refl, code, All-head (IsOthers stand.tag) v rest others))),
+          let c = k.each_view id (Within pass_state) at in
+          let there : get_or words (suc (length pass_state.seen)) 0 ≡ v = before_end room words views k pass_state.seen v rest is in
+          let code = found_opcode room words views k pass_state.seen v rest is in (
+            Within (having_seen pass_state v),
+            subst (λ (ws : List ℕ). Kept room ws (set views id (Within (having_seen pass_state v)))) (sym same) (kept_found room words views k id pass_state v rest at is others),
+            subst (λ (n : ℕ). LookedFrom (Within pass_state) n (Within (having_seen pass_state v), [])) (sym there)
+                ((λ z. absurd (is_word v code z)), (λ not. (refl, code, All-head (IsOthers pass_state.tag) v rest others))),
           )
 
-  pub looks : (slots id i : ℕ) (me : Seat) (stand : Stand) → me ≡ (Within stand, []) → i ≡ suc (length stand.seen) → Allows (Rule room) slots id me i (λ n. n) (Looked (step slots i 0 0 none) me)
-  looks slots id i me stand is place =
+  pub looks : (slots id i : ℕ) (me : Seat) (pass_state : PassState) → me ≡ (Within pass_state, []) → i ≡ suc (length pass_state.seen)
+      → Allows (Rule room) slots id me i (λ n. n) (Looked (step slots i 0 0 none) me)
+  looks slots id i me pass_state is place =
       subst (λ (m : Seat). Allows (Rule room) slots id m i (λ n. n) (Looked (step slots i 0 0 none) m)) (sym is)
-      (subst (λ (j : ℕ). Allows (Rule room) slots id (Within stand, []) j (λ n. n) (Looked (step slots j 0 0 none) (Within stand, []))) (sym place)
-      (allowed room slots id (suc (length stand.seen)) (Within stand) (λ n. n) (LookedFrom (Within stand)) (λ words views k at fits. looks_from words views id stand k at)))
+      (subst (λ (j : ℕ). Allows (Rule room) slots id (Within pass_state, []) j (λ n. n) (Looked (step slots j 0 0 none) (Within pass_state, []))) (sym place)
+      (allowed room slots id (suc (length pass_state.seen)) (Within pass_state) (λ n. n) (LookedFrom (Within pass_state)) (λ words views k at fits. looks_from words views id pass_state k at)))
 
-  -- what stands at a place that was seen
-  pub seen_at : (words : List ℕ) (views : List View) (k : Kept room words views) (id at : ℕ) (stand : Stand) → get_elem? views id ≡ some (Within stand) → at < length stand.seen → get_or words (suc at) 0 ≡ get_or stand.seen at 0
-  seen_at words views k id at stand mine below = let c = (k.each_view id (Within stand) mine).1 in
-      ap (λ (ws : List ℕ). get_or ws (suc at) 0) k.words_are ∙ (ap (λ (l : List ℕ). get_or (l ++ replicate k.free 0) at 0) c.1 ∙ among stand.seen c.0 (replicate k.free 0) at below)
+  -- what is at a place that was seen
+  pub seen_at : (words : List ℕ) (views : List View) (k : Kept room words views) (id at : ℕ) (pass_state : PassState) → get_elem? views id ≡ some (Within pass_state) → at < length pass_state.seen
+      → get_or words (suc at) 0 ≡ get_or pass_state.seen at 0
+  seen_at words views k id at pass_state mine below = let c = (k.each_view id (Within pass_state) mine).1 in
+      ap (λ (ws : List ℕ). get_or ws (suc at) 0) k.words_are ∙ (ap (λ (l : List ℕ). get_or (l ++ replicate k.free 0) at 0) c.1 ∙ among pass_state.seen c.0 (replicate k.free 0) at below)
 
-  pub rereads : (slots id i : ℕ) (me : Seat) (stand : Stand) (at : ℕ) → me ≡ (Within stand, []) → i ≡ suc at → at < length stand.seen → Allows (Rule room) slots id me i (λ n. n) (Rereads (step slots i 0 0 none) me)
-  rereads slots id i me stand at is place below =
+  pub rereads : (slots id i : ℕ) (me : Seat) (pass_state : PassState) (at : ℕ) → me ≡ (Within pass_state, []) → i ≡ suc at → at < length pass_state.seen
+      → Allows (Rule room) slots id me i (λ n. n) (Rereads (step slots i 0 0 none) me)
+  rereads slots id i me pass_state at is place below =
       subst (λ (m : Seat). Allows (Rule room) slots id m i (λ n. n) (Rereads (step slots i 0 0 none) m)) (sym is)
-      (allowed room slots id i (Within stand) (λ n. n) (RereadsFrom i (Within stand))
-      (λ words views k mine fits. stays room words views id i (Within stand) (RereadsFrom i (Within stand) (get_or words i 0)) k mine
-      (refl, ap (λ (j : ℕ). get_or words j 0) place ∙ (seen_at words views k id at stand mine below ∙ ap (λ (j : ℕ). get_or stand.seen j 0) (omega arith)))))
+      (allowed room slots id i (Within pass_state) (λ n. n) (RereadsFrom i (Within pass_state))
+      (λ words views k mine fits. stays room words views id i (Within pass_state) (RereadsFrom i (Within pass_state) (get_or words i 0)) k mine
+      (refl, ap (λ (j : ℕ). get_or words j 0) place ∙ (seen_at words views k id at pass_state mine below ∙ ap (λ (j : ℕ). get_or pass_state.seen j 0) (omega arith)))))

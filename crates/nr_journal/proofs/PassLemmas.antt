@@ -1,34 +1,34 @@
 -- A pass, by the view of its seat.
 use Rattle.std.proofs.Common.{◌≡◌, ℕ, ◌+◌, ◌<◌, List, [], ◌∷◌, ◌++◌, length, refl, sym, ap, ◌∙◌, subst, arith, length-append, append_assoc}
-use Rattle.nr_journal.specs.declared.view.Stand.{Stand}
+use Rattle.nr_journal.specs.declared.view.PassState.{PassState}
 use Rattle.nr_journal.specs.declared.view.View.TheVariants.{Within}
-use Rattle.nr_journal.specs.Rule.{shown, looked, IsOthers, StartsWith}
+use Rattle.nr_journal.specs.Rule.{having_seen, looked, IsOthers, StartsWith}
 use Rattle.nr_journal.specs.Step.{Seat}
 use Rattle.std.proofs.lemmas.List.{append-nil}
 use Rattle.std.proofs.lemmas.List.Elements.{All-nil, All-push}
-use Rattle.nr_journal.specs.Pass.{stand_of, Gains, AreInLine}
+use Rattle.nr_journal.specs.Pass.{pass_state_of, SeesOthers, AreInLine}
 use Rattle.nr_journal.proofs.RowLemmas.{in_line}
 
-pub seated : (me : Seat) (s : Stand) (place tag words : ℕ) → me ≡ (Within s, []) → place ≡ length s.seen → tag ≡ s.tag → place < words
-    → (me ≡ (Within (stand_of me.0), [])) × (place ≡ length (stand_of me.0).seen) × (tag ≡ (stand_of me.0).tag) × (place < words)
+pub seated : (me : Seat) (s : PassState) (place tag words : ℕ) → me ≡ (Within s, []) → place ≡ length s.seen → tag ≡ s.tag → place < words
+    → (me ≡ (Within (pass_state_of me.0), [])) × (place ≡ length (pass_state_of me.0).seen) × (tag ≡ (pass_state_of me.0).tag) × (place < words)
 seated me s place tag words is p t l = (
-  is ∙ sym (ap (λ (m : Seat). (Within (stand_of m.0), [])) is),
-  p ∙ ap (λ (m : Seat). length (stand_of m.0).seen) (sym is),
-  t ∙ ap (λ (m : Seat). (stand_of m.0).tag) (sym is),
+  is ∙ sym (ap (λ (m : Seat). (Within (pass_state_of m.0), [])) is),
+  p ∙ ap (λ (m : Seat). length (pass_state_of m.0).seen) (sym is),
+  t ∙ ap (λ (m : Seat). (pass_state_of m.0).tag) (sym is),
   l,
 )
 
-pub stands : (me : Seat) (s : Stand) → me ≡ (Within s, []) → stand_of me.0 ≡ s
-stands me s is = ap (λ (m : Seat). stand_of m.0) is
+pub knows_as : (me : Seat) (s : PassState) → me ≡ (Within s, []) → pass_state_of me.0 ≡ s
+knows_as me s is = ap (λ (m : Seat). pass_state_of m.0) is
 
 pub one_more : (seen : List ℕ) (v place : ℕ) → place ≡ length seen → place + 1 ≡ length (seen ++ v ∷ [])
 one_more seen v place is = omega (arith, length-append seen (v ∷ []))
 
-pub gains_none : (a : Stand) → Gains a a
-gains_none a = ([], sym (append-nil a.seen), All-nil (IsOthers a.tag), refl, refl)
+pub sees_others_none : (a : PassState) → SeesOthers a a
+sees_others_none a = ([], sym (append-nil a.seen), All-nil (IsOthers a.tag), refl, refl)
 
-pub gains_one : (a b : Stand) (v : ℕ) → Gains a b → IsOthers b.tag v → Gains a (shown b v)
-gains_one a b v g other = (
+pub sees_others_one : (a b : PassState) (v : ℕ) → SeesOthers a b → IsOthers b.tag v → SeesOthers a (having_seen b v)
+sees_others_one a b v g other = (
   g.0 ++ v ∷ [],
   ap (λ (l : List ℕ). l ++ v ∷ []) g.1 ∙ append_assoc a.seen g.0 (v ∷ []),
   All-push (IsOthers a.tag) g.0 v g.2 (subst (λ (t : ℕ). IsOthers t v) g.3 other),
@@ -36,8 +36,8 @@ gains_one a b v g other = (
   g.4,
 )
 
-pub gains_look : (a b : Stand) → Gains a b → Gains a (looked b)
-gains_look a b g = g
+pub sees_others_look : (a b : PassState) → SeesOthers a b → SeesOthers a (looked b)
+sees_others_look a b g = g
 
 -- two lists that begin one
 pub are_in_line : (xs ys log : List ℕ) → StartsWith log xs → StartsWith log ys → AreInLine xs ys

@@ -10,10 +10,10 @@ use native.Mathlib.Decide.{ℕ_discrete}
 use Rattle.std.proofs.lemmas.Nat.Bits.{bit_at-zero}
 use Rattle.atomic_table.specs.Table.{State, keeps, Allows}
 use Rattle.atomic_table.proofs.Lists.{at_set, at_snoc, at_longer, set_again, set_else}
-use Rattle.nr_journal.specs.declared.view.Stand.{Stand}
+use Rattle.nr_journal.specs.declared.view.PassState.{PassState}
 use Rattle.nr_journal.specs.declared.view.View.{View}
 use Rattle.nr_journal.specs.declared.view.View.TheVariants.{Outside, Within, Note, Spent}
-use Rattle.nr_journal.specs.Rule.{HasOpcode, IsDrawn, AreTaken, IsEntry, IsOthers, Fits, HasTag, AreApart, Kept, shown, newcomer}
+use Rattle.nr_journal.specs.Rule.{HasOpcode, IsDrawn, AreTaken, IsEntry, IsOthers, Fits, HasTag, AreApart, Kept, having_seen, newcomer}
 use Rattle.nr_journal.specs.Step.{Seat}
 use Rattle.nr_journal.proofs.RowLemmas.{All-right, behind, beside}
 
@@ -43,8 +43,8 @@ apart_set views id v w at same apart i j tag a b ea eb ha hb =
 abbrev pub SameTags : View → View → Type 0
 SameTags v w = ((tag : ℕ) → HasTag w tag → HasTag v tag) × ((tag : ℕ) → HasTag v tag → HasTag w tag)
 
-pub same_tags : (stand other : Stand) → stand.tag ≡ other.tag → SameTags (Within stand) (Within other)
-same_tags stand other is = ((λ tag has. is ∙ has), (λ tag has. sym is ∙ has))
+pub same_tags : (pass_state other : PassState) → pass_state.tag ≡ other.tag → SameTags (Within pass_state) (Within other)
+same_tags pass_state other is = ((λ tag has. is ∙ has), (λ tag has. sym is ∙ has))
 
 pub set_there : (views : List View) (i : ℕ) (v w : View) → get_elem? views i ≡ some v → get_elem? (set views i w) i ≡ some w
 set_there [] i v w e = absurd (some-ne-none v (sym e))
@@ -65,7 +65,7 @@ is_word v code z = let e : v % 256 ≡ 0 = ap (λ (n : ℕ). n % 256) z in let p
 -- who has a tag has drawn it
 pub drawn_by : (tags : ℕ) (log : List ℕ) (v : View) (tag : ℕ) → HasTag v tag → Fits tags log v → IsDrawn tags tag
 drawn_by tags log (Outside tried) tag has fits = absurd has
-drawn_by tags log (Within stand) tag has fits = subst (IsDrawn tags) has (fits.0 stand.tag (omega arith))
+drawn_by tags log (Within pass_state) tag has fits = subst (IsDrawn tags) has (fits.0 pass_state.tag (omega arith))
 drawn_by tags log (Note seen) tag has fits = absurd has
 drawn_by tags log Spent tag has fits = absurd has
 
@@ -117,7 +117,8 @@ snoc_view room words views w k fits none_there = record {
 
 module _ (room : ℕ) where
   -- one view changes, and no word
-  pub kept_view : (words : List ℕ) (views : List View) (id : ℕ) (v w : View) → get_elem? views id ≡ some v → (k : Kept room words views) → Fits k.tags k.log w → SameTags v w → Kept room words (set views id w)
+  pub kept_view : (words : List ℕ) (views : List View) (id : ℕ) (v w : View) → get_elem? views id ≡ some v → (k : Kept room words views) → Fits k.tags k.log w → SameTags v w
+      → Kept room words (set views id w)
   kept_view words views id v w at k fits same = record {
     tags = k.tags;
     log = k.log;
@@ -140,12 +141,12 @@ module _ (room : ℕ) where
       ∙ ap (λ (l : List ℕ). get_or (l ++ replicate k.free 0) (length seen) 0) is ∙ beside seen v rest (replicate k.free 0)
 
   -- a word that was found at the place
-  pub kept_found : (words : List ℕ) (views : List View) (k : Kept room words views) (id : ℕ) (stand : Stand) (v : ℕ) (rest : List ℕ) → get_elem? views id ≡ some (Within stand)
-      → k.log ≡ stand.seen ++ v ∷ rest → All (IsOthers stand.tag) (v ∷ rest) → Kept room words (set views id (Within (shown stand v)))
-  kept_found words views k id stand v rest at is others = let c = k.each_view id (Within stand) at in
-      kept_view words views id (Within stand) (Within (shown stand v)) at k
-      (c.0, (rest, is ∙ sym (append_assoc stand.seen (v ∷ []) rest), All-tail (IsOthers stand.tag) v rest others), c.2)
-      (same_tags stand (shown stand v) refl)
+  pub kept_found : (words : List ℕ) (views : List View) (k : Kept room words views) (id : ℕ) (pass_state : PassState) (v : ℕ) (rest : List ℕ) → get_elem? views id ≡ some (Within pass_state)
+      → k.log ≡ pass_state.seen ++ v ∷ rest → All (IsOthers pass_state.tag) (v ∷ rest) → Kept room words (set views id (Within (having_seen pass_state v)))
+  kept_found words views k id pass_state v rest at is others = let c = k.each_view id (Within pass_state) at in
+      kept_view words views id (Within pass_state) (Within (having_seen pass_state v)) at k
+      (c.0, (rest, is ∙ sym (append_assoc pass_state.seen (v ∷ []) rest), All-tail (IsOthers pass_state.tag) v rest others), c.2)
+      (same_tags pass_state (having_seen pass_state v) refl)
 
   pub found_opcode : (words : List ℕ) (views : List View) (k : Kept room words views) (seen : List ℕ) (v : ℕ) (rest : List ℕ) → k.log ≡ seen ++ v ∷ rest → HasOpcode v
   found_opcode words views k seen v rest is = (All-head (IsEntry k.tags) v rest (All-right (IsEntry k.tags) seen (v ∷ rest) (subst (All (IsEntry k.tags)) is k.entries))).0
@@ -158,14 +159,16 @@ module _ (room : ℕ) where
   Picks words views id i n then = (w : View) × Kept room (set words i n) (set views id w) × then (w, [])
 
   pub allowed : (slots id i : ℕ) (v : View) (f : ℕ → ℕ) (then : ℕ → Seat → Type 0)
-      → ((words : List ℕ) (views : List View) → Kept room words views → get_elem? views id ≡ some v → get_or words i 0 < 18446744073709551616 → Picks words views id i (f (get_or words i 0)) (then (get_or words i 0)))
+      → ((words : List ℕ) (views : List View) → Kept room words views → get_elem? views id ≡ some v → get_or words i 0 < 18446744073709551616
+      → Picks words views id i (f (get_or words i 0)) (then (get_or words i 0)))
       → Allows Rule slots id (v, []) i f then
   allowed slots id i v f then may s k homes at fits = let p = may s.words s.views k at fits in (p.0, keeps, tt, p.1, p.2)
 
   -- a load that changes no view
-  pub stays : (words : List ℕ) (views : List View) (id i : ℕ) (v : View) (then : Seat → Type 0) → Kept room words views → get_elem? views id ≡ some v → then (v, []) → Picks words views id i (get_or words i 0) then
-  stays words views id i v then k at told = (
+  pub stays : (words : List ℕ) (views : List View) (id i : ℕ) (v : View) (then : Seat → Type 0) → Kept room words views → get_elem? views id ≡ some v →
+      then (v, []) → Picks words views id i (get_or words i 0) then
+  stays words views id i v then k at learned = (
     v,
     subst (λ (ws : List ℕ). Kept room ws (set views id v)) (sym (set-get_or words i 0)) (subst (λ (vs : List View). Kept room words vs) (sym (set_again views id v at)) k),
-    told,
+    learned,
   )

@@ -5,27 +5,27 @@ use lib.ListN.{get_elem?}
 use Rattle.nr_journal.specs.declared.journal.Journal.TheInside as journal_parts
 use Rattle.nr_journal.specs.declared.pass.Pass.TheInside as pass_parts
 use Rattle.nr_journal.specs.declared.seat.Seat.TheInside as seat_parts
-use Rattle.nr_journal.specs.declared.view.Stand.{Stand}
+use Rattle.nr_journal.specs.declared.view.PassState.{PassState}
 use Rattle.nr_journal.specs.declared.view.View.{View}
 use Rattle.nr_journal.specs.declared.view.View.TheVariants.{Within}
 use Rattle.nr_journal.specs.Rule.{Kept, newcomer, tag_of}
 
 -- where the word behind all that a pass has seen is 0, the log is exactly what it has seen
 abbrev pub EmptyLookSeesAll : Type 0
-EmptyLookSeesAll = (room id : ℕ) (stand : Stand) (words : List ℕ) (views : List View)
-    → (k : Kept room words views) → get_elem? views id ≡ some (Within stand)
-    → slice_index words (length stand.seen + 1) ≡ 0 → k.log ≡ stand.seen
+EmptyLookSeesAll = (room id : ℕ) (pass_state : PassState) (words : List ℕ) (views : List View)
+    → (k : Kept room words views) → get_elem? views id ≡ some (Within pass_state)
+    → slice_index words (length pass_state.seen + 1) ≡ 0 → k.log ≡ pass_state.seen
 
--- each word of the log is, at its place, among the words that the pass with its tag has seen
+-- each word of the log is, at its index, among the words that the pass with its tag has seen
 abbrev pub EachWordHasItsPass : Type 0
 EachWordHasItsPass = (room : ℕ) (words : List ℕ) (views : List View)
     → (k : Kept room words views) → (place : ℕ) → place < length k.log
-    → (id : ℕ) × (stand : Stand) × (get_elem? views id ≡ some (Within stand))
-    × (stand.tag ≡ tag_of (slice_index k.log place)) × (place < length stand.seen)
-    × (slice_index stand.seen place ≡ slice_index k.log place)
+    → (id : ℕ) × (pass_state : PassState) × (get_elem? views id ≡ some (Within pass_state))
+    × (pass_state.tag ≡ tag_of (slice_index k.log place)) × (place < length pass_state.seen)
+    × (slice_index pass_state.seen place ≡ slice_index k.log place)
 
--- A pass is what it knows, a place and a tag, a seat what it knows and a number of tags, and a journal its table and a
--- number of words. What is known takes no bytes.
+-- A pass is what it knows, an index and a tag, a seat what it knows and a number of tags, and a
+-- journal its table and a number of words. What is known takes no bytes.
 pub record NothingIsHidden : Type 0 where
   pub pass : (one other : pass_parts.Inside)
       → one.seat ≡ other.seat → one.place ≡ other.place → one.tag ≡ other.tag → one ≡ other

@@ -1,4 +1,5 @@
--- The rule of a journal. Word 0 of its table has the tag bits, and the words behind it are the journal.
+-- The rule of a journal. Word 0 of its table has the tag bits, and the words behind it are the
+-- journal.
 use Rattle.std.specs.Prelude.{◌≡◌, ◌≢◌, ℕ, ◌+◌, ◌-◌, ◌/◌, ◌%◌, ◌<◌, ◌≤◌, List, [], ◌∷◌, ◌++◌, length, replicate}
 use Rattle.std.specs.List.{All}
 use Rattle.std.specs.Int.{bit_at}
@@ -6,7 +7,7 @@ use mathlib.Core.Option.{some}
 use lib.ListN.{get_elem?}
 use Rattle.atomic_table.specs.Seated.{TableId}
 use Rattle.nr_journal.specs.declared.rule.TheConstants.{BYTE_VALUES, GREATEST_OPCODE}
-use Rattle.nr_journal.specs.declared.view.Stand.{Stand}
+use Rattle.nr_journal.specs.declared.view.PassState.{PassState}
 use Rattle.nr_journal.specs.declared.view.View.{View}
 use Rattle.nr_journal.specs.declared.view.View.TheVariants.{Outside, Within, Note, Spent}
 
@@ -34,7 +35,7 @@ IsEntry tags word = HasOpcode word × IsDrawn tags (tag_of word)
 abbrev pub IsOthers : ℕ → ℕ → Type 0
 IsOthers tag word = tag_of word ≢ tag
 
--- the first list begins with the second
+-- the second list is a prefix of the first
 abbrev pub StartsWith : List ℕ → List ℕ → Type 0
 StartsWith log seen = (rest : List ℕ) × (log ≡ seen ++ rest)
 
@@ -42,25 +43,28 @@ StartsWith log seen = (rest : List ℕ) × (log ≡ seen ++ rest)
 abbrev pub Covers : List ℕ → ℕ → List ℕ → Type 0
 Covers log tag seen = (rest : List ℕ) × (log ≡ seen ++ rest) × All (IsOthers tag) rest
 
--- What is known is true. Of a seat: the bits of the tags that it tried are set. Of a pass: its own bit and all below it
--- are set, it has seen a beginning of the log with all of its own words, and was told a beginning of the log.
+-- What is known is true. Of a seat: the bits of the tags that it tried are set. Of a pass: its own
+-- bit and all below it are set. It has seen a prefix of the log with all of its own words, and what
+-- it learnt of is a prefix of the log.
 abbrev pub Fits : ℕ → List ℕ → View → Type 0
 Fits tags log (Outside tried) = AreDrawn tags tried
-Fits tags log (Within stand) =
-    AreDrawn tags (stand.tag + 1) × Covers log stand.tag stand.seen × StartsWith log stand.told
+Fits tags log (Within pass_state) =
+    AreDrawn tags (pass_state.tag + 1) × Covers log pass_state.tag pass_state.seen
+    × StartsWith log pass_state.learned
 Fits tags log (Note seen) = StartsWith log seen
 Fits tags log Spent = Unit {0}
 
 -- it is the view of a pass with this tag
 abbrev pub HasTag : View → ℕ → Type 0
 HasTag (Outside _) tag = ⊥
-HasTag (Within stand) tag = stand.tag ≡ tag
+HasTag (Within pass_state) tag = pass_state.tag ≡ tag
 HasTag (Note _) tag = ⊥
 HasTag Spent tag = ⊥
 
 -- no two passes have one tag
 abbrev pub AreApart : List View → Type 0
-AreApart views = (i j tag : ℕ) (v w : View) → get_elem? views i ≡ some v → get_elem? views j ≡ some w
+AreApart views =
+    (i j tag : ℕ) (v w : View) → get_elem? views i ≡ some v → get_elem? views j ≡ some w
     → HasTag v tag → HasTag w tag → i ≡ j
 
 -- each tag whose bit is set is a pass's
@@ -68,8 +72,8 @@ abbrev pub AreTaken : ℕ → List View → Type 0
 AreTaken tags views = (tag : ℕ) → IsDrawn tags tag
     → (id : ℕ) × (v : View) × (get_elem? views id ≡ some v) × HasTag v tag
 
--- What a journal with so much room keeps. There is one log: the journal is the log and then zeros, each word of the log
--- is an entry, and all that is known is true of it.
+-- What a journal with so much room keeps. There is one log: the journal is the log and then zeros,
+-- each word of the log is an entry, and all that is known is true of it.
 pub record Kept (room : ℕ) (words : List ℕ) (views : List View) : Type 0 where
   pub tags : ℕ
   pub log : List ℕ
@@ -86,36 +90,36 @@ abbrev pub newcomer : View
 newcomer = Outside 0
 
 -- what a pass knows when it goes in with a tag
-abbrev pub entering : ℕ → Stand
-entering tag = record { tag = tag; seen = []; looks = 0; told = [] }
+abbrev pub entering : ℕ → PassState
+entering tag = record { tag = tag; seen = []; looks = 0; learned = [] }
 
 -- one look more found no word
-abbrev pub looked : Stand → Stand
-looked stand = record {
-  tag = stand.tag;
-  seen = stand.seen;
-  looks = stand.looks + 1;
-  told = stand.told;
+abbrev pub looked : PassState → PassState
+looked pass_state = record {
+  tag = pass_state.tag;
+  seen = pass_state.seen;
+  looks = pass_state.looks + 1;
+  learned = pass_state.learned;
 }
 
 -- one word more was seen
-abbrev pub shown : Stand → ℕ → Stand
-shown stand word = record {
-  tag = stand.tag;
-  seen = stand.seen ++ word ∷ [];
-  looks = stand.looks;
-  told = stand.told;
+abbrev pub having_seen : PassState → ℕ → PassState
+having_seen pass_state word = record {
+  tag = pass_state.tag;
+  seen = pass_state.seen ++ word ∷ [];
+  looks = pass_state.looks;
+  learned = pass_state.learned;
 }
 
--- it was told now what another had seen, and forgets what it was told before
-abbrev pub informed : Stand → List ℕ → Stand
-informed stand told = record {
-  tag = stand.tag;
-  seen = stand.seen;
-  looks = stand.looks;
-  told = told;
+-- it learns now what another had seen, and forgets what it had learnt before
+abbrev pub informed : PassState → List ℕ → PassState
+informed pass_state learned = record {
+  tag = pass_state.tag;
+  seen = pass_state.seen;
+  looks = pass_state.looks;
+  learned = learned;
 }
 
 -- how many words a journal has room for: its table has the word of the tag bits beside
-abbrev pub room_of : TableId → ℕ
-room_of table = table.words - 1
+abbrev pub journal_room : TableId → ℕ
+journal_room table = table.words - 1

@@ -4,7 +4,7 @@ use Rattle.atomic_table.specs.Seated.{TableId}
 use Rattle.nr_journal.specs.declared.view.View.{View}
 use Rattle.nr_journal.specs.declared.view.View.TheVariants.{Outside, Within, Note, Spent}
 
--- what a seat stands for: its journal, and how many tags, from 0 on, it has seen drawn
+-- what contracts see of a seat: its journal, and how many tags, from 0 on, it has seen drawn
 pub record Waiting : Type 0 where
   pub table : TableId
   pub tried : ℕ

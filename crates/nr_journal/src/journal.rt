@@ -2,8 +2,8 @@
 
 ghost use Rattle.std.specs.Prelude.{◌≡◌, ◌≢◌, ◌⊎◌, ℕ, ◌+◌, ◌^◌, ◌<◌, ◌≤◌, length, IfSome, IfNone, IfOk, IfErr, slice_index};
 ghost use Rattle.std.specs.Ordering.{nat_cmp};
-ghost use Rattle.nr_journal.specs.Rule.{entering, informed, room_of, StartsWith, looked, shown, HasOpcode, IsOthers, tag_of};
-ghost use Rattle.nr_journal.specs.Pass.{WasOffered, AreInLine, Gains, CatchesUp};
+ghost use Rattle.nr_journal.specs.Rule.{entering, informed, journal_room, StartsWith, looked, having_seen, HasOpcode, IsOthers, tag_of};
+ghost use Rattle.nr_journal.specs.Pass.{WasOffered, AreInLine, SeesOthers, CatchesUp};
 ghost use Rattle.nr_journal.specs.declared.rule.TheConstants.{MOST_PASSES, MOST_WORDS};
 
 use crate::pass::{Offered, Pass};
@@ -46,7 +46,7 @@ impl Journal {
     #[tactic(auto, using(crate::proofs::RuleLemmas::begins))]
     pub fn new(alloc: Global, words: usize) -> Result<(Journal, Seat), AllocError>
         requires { (1 ≤ words) × (words ≤ MOST_WORDS) }
-        ensures { IfOk result (λ r. (room_of r.0 ≡ words) × (r.1.table ≡ r.0) × (r.1.tried ≡ 0)) }
+        ensures { IfOk result (λ r. (journal_room r.0 ≡ words) × (r.1.table ≡ r.0) × (r.1.tried ≡ 0)) }
     {
         let zeros = Vec::from_elem(alloc, 0u64, words + 1)?;
         let (table, seat) = Table::of_words(alloc, zeros.as_slice(), &(words as u64))?;
@@ -70,8 +70,8 @@ impl Journal {
     /// `NoTag` only where each of the `MOST_PASSES` tags was seen to be drawn; then the seat comes back and knows so.
     pub fn enter(&self, seat: Seat) -> Result<Pass, (Seat, NoTag)>
         requires { seat.table ≡ self.now }
-        ensures ok { IfOk result (λ p. (p.table ≡ seat.table) × (p.stand ≡ entering p.stand.tag)
-            × (seat.tried ≤ p.stand.tag) × (p.stand.tag < MOST_PASSES)) }
+        ensures ok { IfOk result (λ p. (p.table ≡ seat.table) × (p.pass_state ≡ entering p.pass_state.tag)
+            × (seat.tried ≤ p.pass_state.tag) × (p.pass_state.tag < MOST_PASSES)) }
         ensures err { IfErr result (λ e. (e.0.table ≡ seat.table) × (e.0.tried ≡ MOST_PASSES)) }
     {
         let Seat {
@@ -100,15 +100,15 @@ impl Journal {
     pub fn next(&self, pass: &mut Pass) -> Option<u64>
         requires { pass.old.table ≡ self.now }
         ensures table { pass.new.table ≡ pass.old.table }
-        ensures room { IfSome result (λ v. length pass.old.stand.seen < room_of self.now) }
-        ensures some { IfSome result (λ v. (pass.new.stand ≡ shown pass.old.stand v)
-            × HasOpcode v × IsOthers pass.old.stand.tag v) }
-        // a body that doesn't look can't know that it was told no more than it has seen
+        ensures room { IfSome result (λ v. length pass.old.pass_state.seen < journal_room self.now) }
+        ensures some { IfSome result (λ v. (pass.new.pass_state ≡ having_seen pass.old.pass_state v)
+            × HasOpcode v × IsOthers pass.old.pass_state.tag v) }
+        // a body that doesn't look can't know that it learnt of no more than it has seen
         ensures none { IfNone result (
-            ((pass.new.stand ≡ looked pass.old.stand)
-            × StartsWith pass.old.stand.seen pass.old.stand.told)
-            ⊎ ((pass.new.stand ≡ pass.old.stand)
-            × (length pass.old.stand.seen ≡ room_of self.now))) }
+            ((pass.new.pass_state ≡ looked pass.old.pass_state)
+            × StartsWith pass.old.pass_state.seen pass.old.pass_state.learned)
+            ⊎ ((pass.new.pass_state ≡ pass.old.pass_state)
+            × (length pass.old.pass_state.seen ≡ journal_room self.now))) }
     {
         if pass.place >= self.words {
             return None;
@@ -124,13 +124,13 @@ impl Journal {
         Some(found)
     }
 
-    /// Places the word behind all that the pass has seen, or says which word of another stands there. Either is seen now.
+    /// Places the word behind all that the pass has seen, or returns the word of another that is there. Either is seen now.
     /// The word has to have an opcode from 1 to `GREATEST_OPCODE` and the pass's tag.
     pub fn offer(&self, pass: &mut Pass, word: u64) -> Offered
         requires table { pass.old.table ≡ self.now }
-        requires word { HasOpcode word × (tag_of word ≡ pass.old.stand.tag) }
+        requires word { HasOpcode word × (tag_of word ≡ pass.old.pass_state.tag) }
         ensures table { pass.new.table ≡ pass.old.table }
-        ensures offered { WasOffered word (room_of self.now) pass.old.stand pass.new.stand result }
+        ensures offered { WasOffered word (journal_room self.now) pass.old.pass_state pass.new.pass_state result }
     {
         if pass.place >= self.words {
             return Offered::Full;
@@ -152,12 +152,12 @@ impl Journal {
     pub fn meet(&self, one: &mut Pass, other: &mut Pass) -> Ordering
         requires { (one.old.table ≡ self.now) × (other.old.table ≡ self.now) }
         ensures tables { (one.new.table ≡ one.old.table) × (other.new.table ≡ other.old.table) }
-        ensures told { (one.new.stand ≡ informed one.old.stand other.old.stand.seen)
-            × (other.new.stand ≡ informed other.old.stand one.old.stand.seen) }
-        ensures order { result ≡ nat_cmp (length one.old.stand.seen) (length other.old.stand.seen) }
-        ensures line { AreInLine one.old.stand.seen other.old.stand.seen }
-        ensures room { (length one.old.stand.seen ≤ room_of self.now)
-            × (length other.old.stand.seen ≤ room_of self.now) }
+        ensures learned { (one.new.pass_state ≡ informed one.old.pass_state other.old.pass_state.seen)
+            × (other.new.pass_state ≡ informed other.old.pass_state one.old.pass_state.seen) }
+        ensures order { result ≡ nat_cmp (length one.old.pass_state.seen) (length other.old.pass_state.seen) }
+        ensures line { AreInLine one.old.pass_state.seen other.old.pass_state.seen }
+        ensures room { (length one.old.pass_state.seen ≤ journal_room self.now)
+            × (length other.old.pass_state.seen ≤ journal_room self.now) }
     {
         self.learn(one, other);
         self.learn(other, one);
@@ -169,26 +169,26 @@ impl Journal {
     pub fn see_all_of(&self, one: &mut Pass, other: &mut Pass)
         requires { (one.old.table ≡ self.now) × (other.old.table ≡ self.now) }
         ensures tables { (one.new.table ≡ one.old.table) × (other.new.table ≡ other.old.table) }
-        ensures all { StartsWith one.new.stand.seen other.old.stand.seen }
-        ensures gains { Gains (informed one.old.stand other.old.stand.seen) one.new.stand }
-        ensures caught { CatchesUp (room_of self.now)
-            (informed one.old.stand other.old.stand.seen) one.new.stand }
-        ensures other { other.new.stand ≡ informed other.old.stand one.old.stand.seen }
+        ensures all { StartsWith one.new.pass_state.seen other.old.pass_state.seen }
+        ensures sees_others { SeesOthers (informed one.old.pass_state other.old.pass_state.seen) one.new.pass_state }
+        ensures caught { CatchesUp (journal_room self.now)
+            (informed one.old.pass_state other.old.pass_state.seen) one.new.pass_state }
+        ensures other { other.new.pass_state ≡ informed other.old.pass_state one.old.pass_state.seen }
     {
         self.meet(one, other);
         self.catch_up(one);
         self.compare(one);
     }
 
-    /// Looks until no word is found, or all words are seen, and then gives the words seen, in order, read again.
+    /// Looks until no word is found, or all words are seen, and then returns the words seen, in order, read again.
     ///
     /// Memory is the only error; it comes behind the looks, so the pass may have seen more words.
     pub fn finish(&self, alloc: Global, pass: &mut Pass) -> Result<Vec<u64>, AllocError>
         requires { pass.old.table ≡ self.now }
         ensures table { pass.new.table ≡ pass.old.table }
-        ensures gains { Gains pass.old.stand pass.new.stand }
-        ensures caught { CatchesUp (room_of self.now) pass.old.stand pass.new.stand }
-        ensures words { IfOk result (λ words. words.items ≡ pass.new.stand.seen) }
+        ensures sees_others { SeesOthers pass.old.pass_state pass.new.pass_state }
+        ensures caught { CatchesUp (journal_room self.now) pass.old.pass_state pass.new.pass_state }
+        ensures words { IfOk result (λ words. words.items ≡ pass.new.pass_state.seen) }
     {
         self.catch_up(pass);
         let mut words = Vec::with_capacity(alloc, pass.seen())?;
@@ -202,8 +202,8 @@ impl Journal {
     fn catch_up(&self, pass: &mut Pass)
         requires { pass.old.table ≡ self.now }
         ensures table { pass.new.table ≡ pass.old.table }
-        ensures gains { Gains pass.old.stand pass.new.stand }
-        ensures caught { CatchesUp (room_of self.now) pass.old.stand pass.new.stand }
+        ensures sees_others { SeesOthers pass.old.pass_state pass.new.pass_state }
+        ensures caught { CatchesUp (journal_room self.now) pass.old.pass_state pass.new.pass_state }
     {
         while let Some(_) = self.next(pass) {}
     }
@@ -211,9 +211,9 @@ impl Journal {
     // Reads a word that was seen.
     fn reread(&self, pass: &mut Pass, at: usize) -> u64
         requires table { pass.old.table ≡ self.now }
-        requires seen { at < length pass.old.stand.seen }
+        requires seen { at < length pass.old.pass_state.seen }
         ensures same { pass.new ≡ pass.old }
-        ensures word { result ≡ slice_index pass.old.stand.seen at }
+        ensures word { result ≡ slice_index pass.old.pass_state.seen at }
     {
         self.table.shared.load::<Reread>(&mut pass.seat, at + 1)
     }
@@ -222,20 +222,20 @@ impl Journal {
     fn learn(&self, pass: &mut Pass, from: &mut Pass)
         requires { (pass.old.table ≡ self.now) × (from.old.table ≡ self.now) }
         ensures from { from.new ≡ from.old }
-        ensures told { (pass.new.table ≡ pass.old.table)
-            × (pass.new.stand ≡ informed pass.old.stand from.old.stand.seen) }
-        ensures room { length from.old.stand.seen ≤ room_of self.now }
+        ensures learned { (pass.new.table ≡ pass.old.table)
+            × (pass.new.pass_state ≡ informed pass.old.pass_state from.old.pass_state.seen) }
+        ensures room { length from.old.pass_state.seen ≤ journal_room self.now }
     {
         let shared = &self.table.shared;
         let note = shared.split_seat::<Tell>(&mut from.seat);
         shared.join_seat::<Learn>(&mut pass.seat, note);
     }
 
-    // What was seen and what was told are compared.
+    // What was seen and what was learnt of are compared.
     fn compare(&self, pass: &mut Pass)
         requires { pass.old.table ≡ self.now }
         ensures same { pass.new ≡ pass.old }
-        ensures line { AreInLine pass.old.stand.seen pass.old.stand.told }
+        ensures line { AreInLine pass.old.pass_state.seen pass.old.pass_state.learned }
     {
         self.table.shared.load::<Compare>(&mut pass.seat, 0);
     }

@@ -14,7 +14,7 @@ pub fn empty_look_sees_all()
     ensures { EmptyLookSeesAll }
 {}
 
-/// No word comes from nowhere: the pass whose tag it has is there and has seen it, at its place. And a pass sees a word
+/// No word comes from nowhere: the pass whose tag it has is there and has seen it, at its index. And a pass sees a word
 /// of its own tag only by an offer that placed it.
 pub fn each_word_has_its_pass()
     ensures { EachWordHasItsPass }
@@ -25,7 +25,8 @@ pub fn nothing_is_hidden()
     ensures { NothingIsHidden }
 {}
 
-/// A word of the journal has an opcode from 1 to 11; at most 64 passes enter a journal, which has at most 1,000,000 words.
+/// The greatest opcode of a word of the journal, how many passes enter a journal at most, and how many words it has at
+/// most.
 pub fn the_numbers()
     ensures opcode { GREATEST_OPCODE ≡ 11 }
     ensures passes { MOST_PASSES ≡ 64 }

@@ -15,8 +15,8 @@ pub const MOST_PASSES: u32 = 64;
 /// The most words that a journal may be made for.
 pub const MOST_WORDS: usize = 1_000_000;
 
-/// What holds of a journal's words and of all that is known of them, whichever threads take which steps. The table is
-/// told how many words the journal has.
+/// What holds of a journal's words and of all that is known of them, whichever threads take which steps. The table
+/// gets the number of words that the journal has.
 pub struct InOneOrder;
 
 impl TableRule<(), View, u64> for InOneOrder {

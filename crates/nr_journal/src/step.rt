@@ -1,4 +1,4 @@
-//! The steps on a journal's table, and what each tells whoever makes it.
+//! The steps on a journal's table, and what whoever makes one learns.
 
 use crate::view::View;
 use atomic_table::{Join, Play, Split};
@@ -39,7 +39,7 @@ impl Play<(), View> for Reread {
     ghost then = { Rereads };
 }
 
-/// A pass compares what it has seen with what it was told.
+/// A pass compares what it has seen with what it learnt of.
 pub(crate) struct Compare;
 
 impl Play<(), View> for Compare {

@@ -3,7 +3,7 @@
 use std::collections::LinkedList;
 
 /// What a pass knows. No value of it is made.
-pub struct Stand {
+pub struct PassState {
     /// The tag that is the pass's alone.
     pub tag: u64,
     /// The words that it has seen, its own among them, in the journal's order.
@@ -11,7 +11,7 @@ pub struct Stand {
     /// How often it looked for the next word and there was none.
     pub looks: u64,
     /// The words that another pass had seen when the two met last.
-    pub told: LinkedList<u64>,
+    pub learned: LinkedList<u64>,
 }
 
 /// What is known by whoever steps on the journal. No value of it is made.
@@ -19,7 +19,7 @@ pub enum View {
     /// A seat's: so many tags, from 0 on, are drawn.
     Outside(u64),
     /// A pass's.
-    Within(Stand),
+    Within(PassState),
     /// For the way from one pass to another: words that were seen.
     Note(LinkedList<u64>),
     /// A note that was taken in.

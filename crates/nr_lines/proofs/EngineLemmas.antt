@@ -1,42 +1,42 @@
--- How the line loop stands, and how it ends.
+-- What the line loop keeps, and how it ends.
 use Rattle.std.proofs.Common.{◌≡◌, ℕ, suc, ◌+◌, ◌<◌, ◌≤◌, min, Bool, ◌||◌, true, false, cond, Option, Ok, Err, List, [], ◌∷◌, ◌++◌, arith, length, take, drop, refl, sym, ap, ◌∙◌, subst, nat_eq, append_assoc, append-nil, get_or, take-append-drop, take_all, drop-cons}
 use Rattle.std.proofs.lemmas.List.{length-take, take_more}
 use Rattle.std.proofs.lemmas.Bool.{lt-ltb, le-ltb, eqb-false, false≢true}
 use Rattle.std.specs.List.{concat}
 use Rattle.std.specs.Io.KnownBytes.{Appends, Consumes, IsAtEnd}
 use Rattle.nr_command.specs.Command.{meaning_of}
-use Rattle.nr_front.specs.Desk.{Desk}
+use Rattle.nr_front.specs.FrontState.{FrontState}
 use Rattle.std.proofs.KnownBytes.{Appends-nil, Appends-trans, Consumes-nil, Consumes-trans}
 use Rattle.nr_lines.specs.declared.ending.End.TheVariants.{Closed, Quit}
 use Rattle.nr_lines.specs.declared.ending.LineEnd.{LineEnd}
 use Rattle.nr_lines.specs.declared.ending.LineEnd.TheVariants.{Read, Write}
-use Rattle.nr_lines.specs.Engine.{lines_of, Turns, has_quit, Answered, Serves}
-use Rattle.nr_lines.specs.Turn.{Turn, is_quit, count_with, IsCut}
-use Rattle.nr_lines.specs.Standing.{GoesOn, Standing, rest_of, whole_lines}
-use Rattle.nr_lines.proofs.LineLemmas.{whole_lines-byte, rest_of-byte, whole_lines-feed, rest_of-feed, lines_at_end, meaning_of-take, kept_more}
+use Rattle.nr_lines.specs.Engine.{lines_of, Turns, has_quit, Answered, AnswersLines}
+use Rattle.nr_lines.specs.Turn.{Turn, is_quit, count_with, StopsInside}
+use Rattle.nr_lines.specs.LoopInvariant.{GoesOn, LoopInvariant, unfinished_line, whole_lines}
+use Rattle.nr_lines.proofs.LineLemmas.{whole_lines-byte, unfinished_line-byte, whole_lines-feed, unfinished_line-feed, lines_at_end, meaning_of-take, kept_more}
 use Rattle.nr_lines.proofs.TurnLemmas.{counted_more, has_quit-append, concat_more, turns_more, turn_asks}
 
 -- what a turn gave
-abbrev Turned : Desk → List ℕ → Desk → Option (List ℕ) → Option (List ℕ) → ℕ → ℕ → Type 0
+abbrev Turned : FrontState → List ℕ → FrontState → Option (List ℕ) → Option (List ℕ) → ℕ → ℕ → Type 0
 Turned p line p' w w' whole whole' = (text : List ℕ) × Turn p line text p' × Appends w w' text × (whole' ≡ count_with whole text)
 
-abbrev Failed : Desk → List ℕ → Desk → Option (List ℕ) → Option (List ℕ) → ℕ → LineEnd → Type 0
-Failed p line p' w w' whole e = (text : List ℕ) × Turn p line text p' × IsCut e whole text w w'
+abbrev Failed : FrontState → List ℕ → FrontState → Option (List ℕ) → Option (List ℕ) → ℕ → LineEnd → Type 0
+Failed p line p' w w' whole e = (text : List ℕ) × Turn p line text p' × StopsInside e whole text w w'
 
 -- the line that is kept asks for what the whole line does
-asks : (line read : List ℕ) → line ≡ take 257 (rest_of read) → meaning_of line ≡ meaning_of (rest_of read)
-asks line read kept = ap meaning_of kept ∙ meaning_of-take (rest_of read)
+asks : (line read : List ℕ) → line ≡ take 257 (unfinished_line read) → meaning_of line ≡ meaning_of (unfinished_line read)
+asks line read kept = ap meaning_of kept ∙ meaning_of-take (unfinished_line read)
 
 -- a byte that is no line feed
-pub byte_more : (r r' w w' : Option (List ℕ)) (p p' : Desk) (came read line line' : List ℕ) (whole b : ℕ)
-    → Standing r r' w w' p p' came read line whole → nat_eq b 10 ≡ false → line' ≡ take 257 (line ++ b ∷ []) → Standing r r' w w' p p' came (read ++ b ∷ []) line' whole
+pub byte_more : (r r' w w' : Option (List ℕ)) (p p' : FrontState) (came read line line' : List ℕ) (whole b : ℕ)
+    → LoopInvariant r r' w w' p p' came read line whole → nat_eq b 10 ≡ false → line' ≡ take 257 (line ++ b ∷ []) → LoopInvariant r r' w w' p p' came (read ++ b ∷ []) line' whole
 byte_more r r' w w' p p' came read line line' whole b st goes e = record {
   texts = st.texts;
   reads = st.reads;
   writes = st.writes;
   turns = subst (λ ls. Turns p ls st.texts p') (sym (whole_lines-byte read b goes)) st.turns;
   no_quit = ap has_quit (whole_lines-byte read b goes) ∙ st.no_quit;
-  kept = e ∙ ap (λ l. take 257 (l ++ b ∷ [])) st.kept ∙ kept_more (rest_of read) b ∙ ap (take 257) (sym (rest_of-byte read b goes));
+  kept = e ∙ ap (λ l. take 257 (l ++ b ∷ [])) st.kept ∙ kept_more (unfinished_line read) b ∙ ap (take 257) (sym (unfinished_line-byte read b goes));
   count = st.count;
 }
 
@@ -48,53 +48,53 @@ abbrev has_one : Bool → Bool
 has_one t = t || false
 
 -- the line that is kept has its turn: so has the whole line, after those before it
-turns_after : (r r' w w' : Option (List ℕ)) (p p' p'' : Desk) (came read line text : List ℕ) (whole : ℕ) (st : Standing r r' w w' p p' came read line whole) → Turn p' line text p''
-    → Turns p (whole_lines read ++ rest_of read ∷ []) (st.texts ++ text ∷ []) p''
+turns_after : (r r' w w' : Option (List ℕ)) (p p' p'' : FrontState) (came read line text : List ℕ) (whole : ℕ) (st : LoopInvariant r r' w w' p p' came read line whole) → Turn p' line text p''
+    → Turns p (whole_lines read ++ unfinished_line read ∷ []) (st.texts ++ text ∷ []) p''
 turns_after r r' w w' p p' p'' came read line text whole st turn =
-    turns_more p (whole_lines read) st.texts p' (rest_of read) text p'' st.turns (turn_asks line (rest_of read) text p' p'' (asks line read st.kept) turn)
+    turns_more p (whole_lines read) st.texts p' (unfinished_line read) text p'' st.turns (turn_asks line (unfinished_line read) text p' p'' (asks line read st.kept) turn)
 
 -- it isn't quit: so none of them is
-no_quit_after : (r r' w w' : Option (List ℕ)) (p p' : Desk) (came read line : List ℕ) (whole : ℕ) → Standing r r' w w' p p' came read line whole → is_quit (meaning_of line) ≡ false
-    → has_quit (whole_lines read ++ rest_of read ∷ []) ≡ false
+no_quit_after : (r r' w w' : Option (List ℕ)) (p p' : FrontState) (came read line : List ℕ) (whole : ℕ) → LoopInvariant r r' w w' p p' came read line whole → is_quit (meaning_of line) ≡ false
+    → has_quit (whole_lines read ++ unfinished_line read ∷ []) ≡ false
 no_quit_after r r' w w' p p' came read line whole st goes =
-    has_quit-append (whole_lines read) (rest_of read ∷ []) st.no_quit ∙ ap (λ a. has_one (is_quit a)) (sym (asks line read st.kept)) ∙ ap has_one goes
+    has_quit-append (whole_lines read) (unfinished_line read ∷ []) st.no_quit ∙ ap (λ a. has_one (is_quit a)) (sym (asks line read st.kept)) ∙ ap has_one goes
 
 -- a line feed, after a line that isn't quit
-pub line_more : (r r' w w' w'' : Option (List ℕ)) (p p' p'' : Desk) (came read line line' : List ℕ) (whole whole' b : ℕ)
-    → Standing r r' w w' p p' came read line whole → nat_eq b 10 ≡ true → is_quit (meaning_of line) ≡ false → Turned p' line p'' w' w'' whole whole' → line' ≡ []
-    → Standing r r' w w'' p p'' came (read ++ b ∷ []) line' whole'
+pub line_more : (r r' w w' w'' : Option (List ℕ)) (p p' p'' : FrontState) (came read line line' : List ℕ) (whole whole' b : ℕ)
+    → LoopInvariant r r' w w' p p' came read line whole → nat_eq b 10 ≡ true → is_quit (meaning_of line) ≡ false → Turned p' line p'' w' w'' whole whole' → line' ≡ []
+    → LoopInvariant r r' w w'' p p'' came (read ++ b ∷ []) line' whole'
 line_more r r' w w' w'' p p' p'' came read line line' whole whole' b st feed goes turned cleared =
     let text = turned.0 in
-    let lines : whole_lines (read ++ b ∷ []) ≡ whole_lines read ++ rest_of read ∷ [] = whole_lines-feed read b [] feed in
+    let lines : whole_lines (read ++ b ∷ []) ≡ whole_lines read ++ unfinished_line read ∷ [] = whole_lines-feed read b [] feed in
     record {
       texts = st.texts ++ text ∷ [];
       reads = st.reads;
       writes = written_more w w' w'' st.texts text st.writes turned.2;
       turns = subst (λ ls. Turns p ls (st.texts ++ text ∷ []) p'') (sym lines) (turns_after r r' w w' p p' p'' came read line text whole st turned.1);
       no_quit = ap has_quit lines ∙ no_quit_after r r' w w' p p' came read line whole st goes;
-      kept = cleared ∙ ap (take 257) (sym (rest_of-feed read b feed));
+      kept = cleared ∙ ap (take 257) (sym (unfinished_line-feed read b feed));
       count = turned.3 ∙ counted_more st.texts text whole st.count;
     }
 
 -- the lines of all that came, where a line feed ends a line in the middle
-lines_there : (read came bs : List ℕ) (b : ℕ) → came ≡ read ++ b ∷ bs → nat_eq b 10 ≡ true → lines_of false came ≡ whole_lines read ++ rest_of read ∷ whole_lines bs
+lines_there : (read came bs : List ℕ) (b : ℕ) → came ≡ read ++ b ∷ bs → nat_eq b 10 ≡ true → lines_of false came ≡ whole_lines read ++ unfinished_line read ∷ whole_lines bs
 lines_there read came bs b e feed = ap whole_lines e ∙ whole_lines-feed read b bs feed
 
 -- the line that follows the last line feed, at the end
-last_line : (read line : List ℕ) → line ≡ take 257 (rest_of read) → 0 < length line → lines_of true read ≡ whole_lines read ++ rest_of read ∷ []
+last_line : (read line : List ℕ) → line ≡ take 257 (unfinished_line read) → 0 < length line → lines_of true read ≡ whole_lines read ++ unfinished_line read ∷ []
 last_line read line kept some =
-    let len : length line ≡ min 257 (length (rest_of read)) = ap length kept ∙ length-take 257 (rest_of read) in
-    lines_at_end read ∙ ap (λ t. whole_lines read ++ cond t (rest_of read ∷ []) []) (lt-ltb 0 (length (rest_of read)) (omega (arith, len, some)))
+    let len : length line ≡ min 257 (length (unfinished_line read)) = ap length kept ∙ length-take 257 (unfinished_line read) in
+    lines_at_end read ∙ ap (λ t. whole_lines read ++ cond t (unfinished_line read ∷ []) []) (lt-ltb 0 (length (unfinished_line read)) (omega (arith, len, some)))
 
-no_line : (read line : List ℕ) → line ≡ take 257 (rest_of read) → length line ≡ 0 → lines_of true read ≡ whole_lines read
+no_line : (read line : List ℕ) → line ≡ take 257 (unfinished_line read) → length line ≡ 0 → lines_of true read ≡ whole_lines read
 no_line read line kept none =
-    let len : length line ≡ min 257 (length (rest_of read)) = ap length kept ∙ length-take 257 (rest_of read) in
-    lines_at_end read ∙ ap (λ t. whole_lines read ++ cond t (rest_of read ∷ []) []) (le-ltb 0 (length (rest_of read)) (omega (arith, len, none))) ∙ append-nil (whole_lines read)
+    let len : length line ≡ min 257 (length (unfinished_line read)) = ap length kept ∙ length-take 257 (unfinished_line read) in
+    lines_at_end read ∙ ap (λ t. whole_lines read ++ cond t (unfinished_line read ∷ []) []) (le-ltb 0 (length (unfinished_line read)) (omega (arith, len, none))) ∙ append-nil (whole_lines read)
 
 -- a line is quit: these lines, of which it is one
-quits : (r r' w w' w'' : Option (List ℕ)) (p p' p'' : Desk) (came read line : List ℕ) (back : List (List ℕ)) (whole whole' : ℕ) (ended : Bool)
-    → Standing r r' w w' p p' came read line whole → lines_of ended came ≡ whole_lines read ++ rest_of read ∷ back → (ended ≡ true → IsAtEnd r') → is_quit (meaning_of line) ≡ true
-    → Turned p' line p'' w' w'' whole whole' → Serves r r' w w'' p p'' (Ok Quit)
+quits : (r r' w w' w'' : Option (List ℕ)) (p p' p'' : FrontState) (came read line : List ℕ) (back : List (List ℕ)) (whole whole' : ℕ) (ended : Bool)
+    → LoopInvariant r r' w w' p p' came read line whole → lines_of ended came ≡ whole_lines read ++ unfinished_line read ∷ back → (ended ≡ true → IsAtEnd r') → is_quit (meaning_of line) ≡ true
+    → Turned p' line p'' w' w'' whole whole' → AnswersLines r r' w w'' p p'' (Ok Quit)
 quits r r' w w' w'' p p' p'' came read line back whole whole' ended st lines at_end stops turned =
     let text = turned.0 in
     record {
@@ -106,7 +106,7 @@ quits r r' w w' w'' p p' p'' came read line back whole whole' ended st lines at_
       at_end = at_end;
       ends = record {
         front = whole_lines read;
-        line = rest_of read;
+        line = unfinished_line read;
         back = back;
         texts = st.texts ++ text ∷ [];
         split = lines;
@@ -118,19 +118,20 @@ quits r r' w w' w'' p p' p'' came read line back whole whole' ended st lines at_
     }
 
 -- a write failed
-cut : (r r' w w' w'' : Option (List ℕ)) (p p' p'' : Desk) (came read line : List ℕ) (back : List (List ℕ)) (whole : ℕ) (ended : Bool) (e : LineEnd)
-    → Standing r r' w w' p p' came read line whole → lines_of ended came ≡ whole_lines read ++ rest_of read ∷ back → (ended ≡ true → IsAtEnd r')
-    → Failed p' line p'' w' w'' whole e → Serves r r' w w'' p p'' (Err e)
+cut : (r r' w w' w'' : Option (List ℕ)) (p p' p'' : FrontState) (came read line : List ℕ) (back : List (List ℕ)) (whole : ℕ) (ended : Bool) (e : LineEnd)
+    → LoopInvariant r r' w w' p p' came read line whole → lines_of ended came ≡ whole_lines read ++ unfinished_line read ∷ back → (ended ≡ true → IsAtEnd r')
+    → Failed p' line p'' w' w'' whole e → AnswersLines r r' w w'' p p'' (Err e)
 cut r r' w w' w'' p p' p'' came read line back whole ended Read st lines at_end failed = absurd failed.2
 cut r r' w w' w'' p p' p'' came read line back whole ended (Write n part) st lines at_end failed =
     let same = asks line read st.kept in
-    let rest = rest_of read in
+    let rest = unfinished_line read in
+    let stops = failed.2.1 in
     record {
       read = came;
-      out = concat st.texts ++ take failed.2.1.0 failed.0;
+      out = concat st.texts ++ take stops.0 failed.0;
       ended = ended;
       reads = st.reads;
-      writes = Appends-trans w w' w'' (concat st.texts) (take failed.2.1.0 failed.0) st.writes failed.2.1.3;
+      writes = Appends-trans w w' w'' (concat st.texts) (take stops.0 failed.0) st.writes stops.3;
       at_end = at_end;
       ends = record {
         front = whole_lines read;
@@ -139,21 +140,21 @@ cut r r' w w' w'' p p' p'' came read line back whole ended (Write n part) st lin
         texts = st.texts;
         text = failed.0;
         mid = p';
-        n = failed.2.1.0;
+        n = stops.0;
         split = lines;
         no_quit = st.no_quit;
         turns = st.turns;
         turn = turn_asks line rest failed.0 p' p'' same failed.1;
         count = failed.2.0 ∙ st.count;
-        part_told = failed.2.1.2;
-        within = failed.2.1.1;
+        part_is = stops.2;
+        within = stops.1;
         written = refl;
       };
     }
 
 -- the reader is at its end, and no line is left
-pub closed : (r r' w w' : Option (List ℕ)) (p p' : Desk) (read line : List ℕ) (whole : ℕ) → Standing r r' w w' p p' read read line whole → IsAtEnd r' → length line ≡ 0
-    → Serves r r' w w' p p' (Ok Closed)
+pub closed : (r r' w w' : Option (List ℕ)) (p p' : FrontState) (read line : List ℕ) (whole : ℕ) → LoopInvariant r r' w w' p p' read read line whole → IsAtEnd r' → length line ≡ 0
+    → AnswersLines r r' w w' p p' (Ok Closed)
 closed r r' w w' p p' read line whole st at_end none = record {
   read = read;
   out = concat st.texts;
@@ -165,8 +166,8 @@ closed r r' w w' p p' read line whole st at_end none = record {
 }
 
 -- the reader is at its end, and the last line isn't quit
-pub closed_after : (r r' w w' w'' : Option (List ℕ)) (p p' p'' : Desk) (read line : List ℕ) (whole whole' : ℕ) → Standing r r' w w' p p' read read line whole → IsAtEnd r' → 0 < length line
-    → is_quit (meaning_of line) ≡ false → Turned p' line p'' w' w'' whole whole' → Serves r r' w w'' p p'' (Ok Closed)
+pub closed_after : (r r' w w' w'' : Option (List ℕ)) (p p' p'' : FrontState) (read line : List ℕ) (whole whole' : ℕ) → LoopInvariant r r' w w' p p' read read line whole → IsAtEnd r' → 0 < length line
+    → is_quit (meaning_of line) ≡ false → Turned p' line p'' w' w'' whole whole' → AnswersLines r r' w w'' p p'' (Ok Closed)
 closed_after r r' w w' w'' p p' p'' read line whole whole' st at_end some goes turned =
     let text = turned.0 in
     record {
@@ -188,30 +189,33 @@ closed_after r r' w w' w'' p p' p'' read line whole whole' st at_end some goes t
     }
 
 -- the last line, at the reader's end
-pub last_quits : (r r' w w' w'' : Option (List ℕ)) (p p' p'' : Desk) (read line : List ℕ) (whole whole' : ℕ) → Standing r r' w w' p p' read read line whole → IsAtEnd r' → 0 < length line
-    → is_quit (meaning_of line) ≡ true → Turned p' line p'' w' w'' whole whole' → Serves r r' w w'' p p'' (Ok Quit)
+pub last_quits : (r r' w w' w'' : Option (List ℕ)) (p p' p'' : FrontState) (read line : List ℕ) (whole whole' : ℕ) → LoopInvariant r r' w w' p p' read read line whole → IsAtEnd r' → 0 < length line
+    → is_quit (meaning_of line) ≡ true → Turned p' line p'' w' w'' whole whole' → AnswersLines r r' w w'' p p'' (Ok Quit)
 last_quits r r' w w' w'' p p' p'' read line whole whole' st at_end some stops turned =
     quits r r' w w' w'' p p' p'' read read line [] whole whole' true st (last_line read line st.kept some) (λ _. at_end) stops turned
 
-pub last_cut : (r r' w w' w'' : Option (List ℕ)) (p p' p'' : Desk) (read line : List ℕ) (whole : ℕ) (e : LineEnd) → Standing r r' w w' p p' read read line whole → IsAtEnd r' → 0 < length line
-    → Failed p' line p'' w' w'' whole e → Serves r r' w w'' p p'' (Err e)
+pub last_cut : (r r' w w' w'' : Option (List ℕ)) (p p' p'' : FrontState) (read line : List ℕ) (whole : ℕ) (e : LineEnd) → LoopInvariant r r' w w' p p' read read line whole → IsAtEnd r'
+    → 0 < length line
+    → Failed p' line p'' w' w'' whole e → AnswersLines r r' w w'' p p'' (Err e)
 last_cut r r' w w' w'' p p' p'' read line whole e st at_end some failed =
     cut r r' w w' w'' p p' p'' read read line [] whole true e st (last_line read line st.kept some) (λ _. at_end) failed
 
 -- a line that ends by a line feed
-pub line_quits : (r r' w w' w'' : Option (List ℕ)) (p p' p'' : Desk) (came read line bs : List ℕ) (whole whole' b : ℕ) → Standing r r' w w' p p' came read line whole → came ≡ read ++ b ∷ bs → nat_eq b 10 ≡ true
-    → is_quit (meaning_of line) ≡ true → Turned p' line p'' w' w'' whole whole' → Serves r r' w w'' p p'' (Ok Quit)
+pub line_quits : (r r' w w' w'' : Option (List ℕ)) (p p' p'' : FrontState) (came read line bs : List ℕ) (whole whole' b : ℕ) → LoopInvariant r r' w w' p p' came read line whole → came ≡ read ++ b ∷ bs
+    → nat_eq b 10 ≡ true
+    → is_quit (meaning_of line) ≡ true → Turned p' line p'' w' w'' whole whole' → AnswersLines r r' w w'' p p'' (Ok Quit)
 line_quits r r' w w' w'' p p' p'' came read line bs whole whole' b st e feed stops turned =
     quits r r' w w' w'' p p' p'' came read line (whole_lines bs) whole whole' false st (lines_there read came bs b e feed) (λ (h : false ≡ true). cc) stops turned
 
-pub line_cut : (r r' w w' w'' : Option (List ℕ)) (p p' p'' : Desk) (came read line bs : List ℕ) (whole b : ℕ) (err : LineEnd) → Standing r r' w w' p p' came read line whole → came ≡ read ++ b ∷ bs → nat_eq b 10 ≡ true
-    → Failed p' line p'' w' w'' whole err → Serves r r' w w'' p p'' (Err err)
+pub line_cut : (r r' w w' w'' : Option (List ℕ)) (p p' p'' : FrontState) (came read line bs : List ℕ) (whole b : ℕ) (err : LineEnd) → LoopInvariant r r' w w' p p' came read line whole
+    → came ≡ read ++ b ∷ bs → nat_eq b 10 ≡ true
+    → Failed p' line p'' w' w'' whole err → AnswersLines r r' w w'' p p'' (Err err)
 line_cut r r' w w' w'' p p' p'' came read line bs whole b err st e feed failed =
     cut r r' w w' w'' p p' p'' came read line (whole_lines bs) whole false err st (lines_there read came bs b e feed) (λ (h : false ≡ true). cc) failed
 
 -- nothing came yet
-pub standing_at_first : (r w : Option (List ℕ)) (p : Desk) (line : List ℕ) → line ≡ [] → Standing r r w w p p [] [] line 0
-standing_at_first r w p line e = record {
+pub invariant_at_first : (r w : Option (List ℕ)) (p : FrontState) (line : List ℕ) → line ≡ [] → LoopInvariant r r w w p p [] [] line 0
+invariant_at_first r w p line e = record {
   texts = [];
   reads = Consumes-nil r;
   writes = Appends-nil w;
@@ -222,7 +226,8 @@ standing_at_first r w p line e = record {
 }
 
 -- a read that gave some bytes
-pub came_more : (r r' r'' w w' : Option (List ℕ)) (p p' : Desk) (read line bytes : List ℕ) (whole : ℕ) → Standing r r' w w' p p' read read line whole → Consumes r' r'' bytes → Standing r r'' w w' p p' (read ++ bytes) read line whole
+pub came_more : (r r' r'' w w' : Option (List ℕ)) (p p' : FrontState) (read line bytes : List ℕ) (whole : ℕ) → LoopInvariant r r' w w' p p' read read line whole → Consumes r' r'' bytes
+    → LoopInvariant r r'' w w' p p' (read ++ bytes) read line whole
 came_more r r' r'' w w' p p' read line bytes whole st more = record {
   texts = st.texts;
   reads = Consumes-trans r r' r'' read bytes st.reads more;
@@ -234,23 +239,27 @@ came_more r r' r'' w w' p p' read line bytes whole st more = record {
 }
 
 -- none of the bytes are done with
-pub none_done : (r r' w w' : Option (List ℕ)) (p p' : Desk) (came before line : List ℕ) (whole : ℕ) → Standing r r' w w' p p' came before line whole → Standing r r' w w' p p' came (before ++ []) line whole
-none_done r r' w w' p p' came before line whole st = subst (λ read. Standing r r' w w' p p' came read line whole) (sym (append-nil before)) st
+pub none_done : (r r' w w' : Option (List ℕ)) (p p' : FrontState) (came before line : List ℕ) (whole : ℕ) → LoopInvariant r r' w w' p p' came before line whole
+    → LoopInvariant r r' w w' p p' came (before ++ []) line whole
+none_done r r' w w' p p' came before line whole st = subst (λ read. LoopInvariant r r' w w' p p' came read line whole) (sym (append-nil before)) st
 
 -- all of them are
-pub all_done : (r r' w w' : Option (List ℕ)) (p p' : Desk) (before bytes came line : List ℕ) (whole i : ℕ) → Standing r r' w w' p p' came (before ++ take i bytes) line whole → length bytes ≤ i
-    → Standing r r' w w' p p' came (before ++ bytes) line whole
-all_done r r' w w' p p' before bytes came line whole i st h = subst (λ done. Standing r r' w w' p p' came (before ++ done) line whole) (take_all i bytes h) st
+pub all_done : (r r' w w' : Option (List ℕ)) (p p' : FrontState) (before bytes came line : List ℕ) (whole i : ℕ) → LoopInvariant r r' w w' p p' came (before ++ take i bytes) line whole
+    → length bytes ≤ i
+    → LoopInvariant r r' w w' p p' came (before ++ bytes) line whole
+all_done r r' w w' p p' before bytes came line whole i st h = subst (λ done. LoopInvariant r r' w w' p p' came (before ++ done) line whole) (take_all i bytes h) st
 
 -- the line by another name
-pub relined : (r r' w w' : Option (List ℕ)) (p p' : Desk) (came read line slice : List ℕ) (whole : ℕ) → Standing r r' w w' p p' came read line whole → slice ≡ line → Standing r r' w w' p p' came read slice whole
-relined r r' w w' p p' came read line slice whole st e = subst (λ l. Standing r r' w w' p p' came read l whole) (sym e) st
+pub relined : (r r' w w' : Option (List ℕ)) (p p' : FrontState) (came read line slice : List ℕ) (whole : ℕ) → LoopInvariant r r' w w' p p' came read line whole → slice ≡ line
+    → LoopInvariant r r' w w' p p' came read slice whole
+relined r r' w w' p p' came read line slice whole st e = subst (λ l. LoopInvariant r r' w w' p p' came read l whole) (sym e) st
 
 -- a read that gave none
-pub last_stands : (r r' r'' w w' : Option (List ℕ)) (p p' : Desk) (read line slice buf : List ℕ) (whole n : ℕ) → Standing r r' w w' p p' read read line whole → Consumes r' r'' (take n buf) → n ≡ 0 → slice ≡ line → Standing r r'' w w' p p' read read slice whole
-last_stands r r' r'' w w' p p' read line slice buf whole n st more none e =
+pub last_invariant : (r r' r'' w w' : Option (List ℕ)) (p p' : FrontState) (read line slice buf : List ℕ) (whole n : ℕ) → LoopInvariant r r' w w' p p' read read line whole
+    → Consumes r' r'' (take n buf) → n ≡ 0 → slice ≡ line → LoopInvariant r r'' w w' p p' read read slice whole
+last_invariant r r' r'' w w' p p' read line slice buf whole n st more none e =
     relined r r'' w w' p p' read read line slice whole
-    (subst (λ came. Standing r r'' w w' p p' came read line whole) (append-nil read)
+    (subst (λ came. LoopInvariant r r'' w w' p p' came read line whole) (append-nil read)
     (came_more r r' r'' w w' p p' read line [] whole st (subst (λ m. Consumes r' r'' (take m buf)) none more))) e
 
 -- what came, at the byte at i
@@ -270,13 +279,13 @@ some_left items slice r tested false_r same =
     omega (arith, differs, len)
 
 -- more was gone over, and one of its lines was quit
-pub goes_quit : (from left old new : Option (List ℕ)) (d d' : Desk) (came line : List ℕ) (whole : ℕ) (quits : Bool) → GoesOn from left old new d d' came line whole (Ok quits) → quits ≡ true
-    → Serves from left old new d d' (Ok Quit)
+pub goes_quit : (from left old new : Option (List ℕ)) (d d' : FrontState) (came line : List ℕ) (whole : ℕ) (quits : Bool) → GoesOn from left old new d d' came line whole (Ok quits) → quits ≡ true
+    → AnswersLines from left old new d d' (Ok Quit)
 goes_quit from left old new d d' came line whole true goes e = goes
 goes_quit from left old new d d' came line whole false goes e = absurd (false≢true e)
 
 -- or none was
-pub goes_further : (from left old new : Option (List ℕ)) (d d' : Desk) (came line : List ℕ) (whole : ℕ) (quits : Bool) → GoesOn from left old new d d' came line whole (Ok quits) → quits ≡ false
-    → Standing from left old new d d' came came line whole
+pub goes_further : (from left old new : Option (List ℕ)) (d d' : FrontState) (came line : List ℕ) (whole : ℕ) (quits : Bool) → GoesOn from left old new d d' came line whole (Ok quits) → quits ≡ false
+    → LoopInvariant from left old new d d' came came line whole
 goes_further from left old new d d' came line whole true goes e = absurd (false≢true (sym e))
 goes_further from left old new d d' came line whole false goes e = goes

@@ -1,4 +1,5 @@
 pub mod EngineLemmas
 pub mod GrowLemmas
+pub mod KeptLemmas
 pub mod LineLemmas
 pub mod TurnLemmas

@@ -7,7 +7,7 @@ use Rattle.std.specs.List.{slice_split, onto_first}
 use Rattle.nr_command.specs.declared.command.LineFault.TheVariants.{TooLong}
 use Rattle.nr_command.specs.Command.{meaning_of, meaning_of_words, words, without_return}
 use Rattle.nr_lines.specs.Engine.{lines_in, lines_of}
-use Rattle.nr_lines.specs.Standing.{last_of, rest_of, whole_lines}
+use Rattle.nr_lines.specs.LoopInvariant.{last_part, unfinished_line, whole_lines}
 
 -- the parts of a text between its line feeds
 abbrev parts : List ℕ → List (List ℕ)
@@ -31,7 +31,7 @@ parts-feed (x ∷ xs) b bs e =
 
 -- the parts, with a byte more at the end of the last
 abbrev grown : List (List ℕ) → ℕ → List (List ℕ)
-grown ps b = lines_in false ps ++ (last_of ps ++ b ∷ []) ∷ []
+grown ps b = lines_in false ps ++ (last_part ps ++ b ∷ []) ∷ []
 
 onto_first-grown : (x : ℕ) (ps : List (List ℕ)) (b : ℕ) → onto_first x (grown ps b) ≡ grown (onto_first x ps) b
 onto_first-grown x [] b = refl
@@ -55,12 +55,12 @@ lines_in-append ended [] q qs = refl
 lines_in-append ended (p ∷ []) q qs = refl
 lines_in-append ended (p ∷ next ∷ ps) q qs = ap (λ ls. p ∷ ls) (lines_in-append ended (next ∷ ps) q qs)
 
-last_of-append : (ps : List (List ℕ)) (q : List ℕ) (qs : List (List ℕ)) → last_of (ps ++ q ∷ qs) ≡ last_of (q ∷ qs)
-last_of-append [] q qs = refl
-last_of-append (p ∷ []) q qs = refl
-last_of-append (p ∷ next ∷ ps) q qs = last_of-append (next ∷ ps) q qs
+last_part-append : (ps : List (List ℕ)) (q : List ℕ) (qs : List (List ℕ)) → last_part (ps ++ q ∷ qs) ≡ last_part (q ∷ qs)
+last_part-append [] q qs = refl
+last_part-append (p ∷ []) q qs = refl
+last_part-append (p ∷ next ∷ ps) q qs = last_part-append (next ∷ ps) q qs
 
-front_and_last : (ps : List (List ℕ)) → 0 < length ps → ps ≡ lines_in false ps ++ last_of ps ∷ []
+front_and_last : (ps : List (List ℕ)) → 0 < length ps → ps ≡ lines_in false ps ++ last_part ps ∷ []
 front_and_last [] h = absurd (omega arith)
 front_and_last (p ∷ []) h = refl
 front_and_last (p ∷ next ∷ ps) h = ap (λ qs. p ∷ qs) (front_and_last (next ∷ ps) (omega arith))
@@ -70,30 +70,30 @@ lines_in-behind : (ended : Bool) (ps qs : List (List ℕ)) → 0 < length qs →
 lines_in-behind ended ps [] h = absurd (omega arith)
 lines_in-behind ended ps (q ∷ qs) h = lines_in-append ended ps q qs
 
-last_of-behind : (ps qs : List (List ℕ)) → 0 < length qs → last_of (ps ++ qs) ≡ last_of qs
-last_of-behind ps [] h = absurd (omega arith)
-last_of-behind ps (q ∷ qs) h = last_of-append ps q qs
+last_part-behind : (ps qs : List (List ℕ)) → 0 < length qs → last_part (ps ++ qs) ≡ last_part qs
+last_part-behind ps [] h = absurd (omega arith)
+last_part-behind ps (q ∷ qs) h = last_part-append ps q qs
 
 -- a byte that is no line feed goes onto the rest
 pub whole_lines-byte : (text : List ℕ) (b : ℕ) → nat_eq b 10 ≡ false → whole_lines (text ++ b ∷ []) ≡ whole_lines text
-whole_lines-byte text b e = ap (lines_in false) (parts-byte text b e) ∙ lines_in-append false (whole_lines text) (rest_of text ++ b ∷ []) [] ∙ append-nil (whole_lines text)
+whole_lines-byte text b e = ap (lines_in false) (parts-byte text b e) ∙ lines_in-append false (whole_lines text) (unfinished_line text ++ b ∷ []) [] ∙ append-nil (whole_lines text)
 
-pub rest_of-byte : (text : List ℕ) (b : ℕ) → nat_eq b 10 ≡ false → rest_of (text ++ b ∷ []) ≡ rest_of text ++ b ∷ []
-rest_of-byte text b e = ap last_of (parts-byte text b e) ∙ last_of-append (whole_lines text) (rest_of text ++ b ∷ []) []
+pub unfinished_line-byte : (text : List ℕ) (b : ℕ) → nat_eq b 10 ≡ false → unfinished_line (text ++ b ∷ []) ≡ unfinished_line text ++ b ∷ []
+unfinished_line-byte text b e = ap last_part (parts-byte text b e) ∙ last_part-append (whole_lines text) (unfinished_line text ++ b ∷ []) []
 
 -- a line feed ends the line, whatever follows
-pub whole_lines-feed : (text : List ℕ) (b : ℕ) (bs : List ℕ) → nat_eq b 10 ≡ true → whole_lines (text ++ b ∷ bs) ≡ whole_lines text ++ rest_of text ∷ whole_lines bs
+pub whole_lines-feed : (text : List ℕ) (b : ℕ) (bs : List ℕ) → nat_eq b 10 ≡ true → whole_lines (text ++ b ∷ bs) ≡ whole_lines text ++ unfinished_line text ∷ whole_lines bs
 whole_lines-feed text b bs e =
     ap (lines_in false) (parts-feed text b bs e) ∙ lines_in-behind false (parts text) (parts bs) (some_parts bs)
-    ∙ ap (λ ps. ps ++ whole_lines bs) (front_and_last (parts text) (some_parts text)) ∙ append_assoc (whole_lines text) (rest_of text ∷ []) (whole_lines bs)
+    ∙ ap (λ ps. ps ++ whole_lines bs) (front_and_last (parts text) (some_parts text)) ∙ append_assoc (whole_lines text) (unfinished_line text ∷ []) (whole_lines bs)
 
-pub rest_of-feed : (text : List ℕ) (b : ℕ) → nat_eq b 10 ≡ true → rest_of (text ++ b ∷ []) ≡ []
-rest_of-feed text b e = ap last_of (parts-feed text b [] e) ∙ last_of-behind (parts text) (parts []) (some_parts [])
+pub unfinished_line-feed : (text : List ℕ) (b : ℕ) → nat_eq b 10 ≡ true → unfinished_line (text ++ b ∷ []) ≡ []
+unfinished_line-feed text b e = ap last_part (parts-feed text b [] e) ∙ last_part-behind (parts text) (parts []) (some_parts [])
 
 -- at the end of a text the rest is a line too, where it isn't empty
-pub lines_at_end : (text : List ℕ) → lines_of true text ≡ whole_lines text ++ cond (nat_lt 0 (length (rest_of text))) (rest_of text ∷ []) []
+pub lines_at_end : (text : List ℕ) → lines_of true text ≡ whole_lines text ++ cond (nat_lt 0 (length (unfinished_line text))) (unfinished_line text ∷ []) []
 lines_at_end text =
-    ap (lines_in true) (front_and_last (parts text) (some_parts text)) ∙ lines_in-append true (whole_lines text) (rest_of text) []
+    ap (lines_in true) (front_and_last (parts text) (some_parts text)) ∙ lines_in-append true (whole_lines text) (unfinished_line text) []
 
 too_long : (line : List ℕ) → nat_lt 256 (length line) ≡ true → meaning_of line ≡ Err TooLong
 too_long line h = ap (λ t. cond t (Err TooLong) (meaning_of_words (words (without_return line)))) h
@@ -102,7 +102,8 @@ too_long line h = ap (λ t. cond t (Err TooLong) (meaning_of_words (words (witho
 pub meaning_of-take : (line : List ℕ) → meaning_of (take 257 line) ≡ meaning_of line
 meaning_of-take line =
     elim (nat_lt 256 (length line)) as (λ t. nat_lt 256 (length line) ≡ t → meaning_of (take 257 line) ≡ meaning_of line) [
-      | true ↦ λ long. let h = ltb-true _ _ long in let same : length (take 257 line) ≡ 257 = length-take-le 257 line (omega (arith, h)) in too_long (take 257 line) (lt-ltb _ _ (omega (arith, same))) ∙ sym (too_long line long)
+      | true ↦ λ long. let h = ltb-true _ _ long in let same : length (take 257 line) ≡ 257 = length-take-le 257 line (omega (arith, h)) in
+          too_long (take 257 line) (lt-ltb _ _ (omega (arith, same))) ∙ sym (too_long line long)
       | false ↦ λ short. ap meaning_of (take_all 257 line (let h = ltb-false _ _ short in omega (arith, h)))
     ] refl
 

@@ -4,7 +4,7 @@ use Rattle.std.specs.List.{concat}
 use Rattle.std.proofs.lemmas.List.Folds.{concat-append}
 use Rattle.std.proofs.lemmas.List.Elements.{filter-append}
 use Rattle.nr_command.specs.Command.{meaning_of}
-use Rattle.nr_front.specs.Desk.{Desk}
+use Rattle.nr_front.specs.FrontState.{FrontState}
 use Rattle.nr_text.specs.Streams.{saturating_count}
 use Rattle.nr_lines.specs.Turn.{MayReply, Turn, is_quit, count_with}
 use Rattle.nr_lines.specs.Engine.{Turns, has_quit, some_count}
@@ -31,12 +31,13 @@ has_quit-append (x ∷ xs) ys =
 pub concat_more : (texts : List (List ℕ)) (text : List ℕ) → concat (texts ++ text ∷ []) ≡ concat texts ++ text
 concat_more texts text = concat-append texts (text ∷ []) ∙ ap (λ t. concat texts ++ t) (append-nil text)
 
-pub turns_more : (p : Desk) (lines texts : List (List ℕ)) (mid : Desk) (line text : List ℕ) (p' : Desk) → Turns p lines texts mid → Turn mid line text p' → Turns p (lines ++ line ∷ []) (texts ++ text ∷ []) p'
+pub turns_more : (p : FrontState) (lines texts : List (List ℕ)) (mid : FrontState) (line text : List ℕ) (p' : FrontState) → Turns p lines texts mid → Turn mid line text p'
+    → Turns p (lines ++ line ∷ []) (texts ++ text ∷ []) p'
 turns_more p [] [] mid line text p' here turn = (p', subst (λ m. Turn m line text p') here turn, refl)
 turns_more p [] (t ∷ ts) mid line text p' here turn = absurd here
 turns_more p (l ∷ ls) [] mid line text p' here turn = absurd here
 turns_more p (l ∷ ls) (t ∷ ts) mid line text p' here turn = (here.0, here.1, turns_more here.0 ls ts mid line text p' here.2 turn)
 
 -- a line that asks for the same has the same turns
-pub turn_asks : (a b text : List ℕ) (p p' : Desk) → meaning_of a ≡ meaning_of b → Turn p a text p' → Turn p b text p'
+pub turn_asks : (a b text : List ℕ) (p p' : FrontState) → meaning_of a ≡ meaning_of b → Turn p a text p' → Turn p b text p'
 turn_asks a b text p p' e turn = (turn.0, subst (λ asked. MayReply asked p turn.0 p') e turn.1, turn.2)

@@ -4,7 +4,7 @@ use Rattle.std.specs.List.{concat, list_any, slice_split}
 use Rattle.std.specs.Io.KnownBytes.{Appends, Consumes, IsAtEnd}
 use Rattle.nr_command.specs.Command.{meaning_of}
 use Rattle.nr_journal.specs.Rule.{StartsWith}
-use Rattle.nr_front.specs.Desk.{Desk}
+use Rattle.nr_front.specs.FrontState.{FrontState}
 use Rattle.nr_text.specs.Streams.{saturating_count}
 use Rattle.nr_lines.specs.Turn.{Turn, is_quit}
 use Rattle.nr_lines.specs.declared.ending.End.{End}
@@ -12,29 +12,30 @@ use Rattle.nr_lines.specs.declared.ending.End.TheVariants.{Closed, Quit}
 use Rattle.nr_lines.specs.declared.ending.LineEnd.{LineEnd}
 use Rattle.nr_lines.specs.declared.ending.LineEnd.TheVariants.{Read, Write}
 
--- The lines in the parts of a text between its line feeds: each part but the last, and at the text's end the last
--- too, where it isn't empty.
+-- The lines in the parts of a text between its line feeds: each part but the last, and at the
+-- text's end the last too, where it isn't empty.
 abbrev pub lines_in : Bool → List (List ℕ) → List (List ℕ)
 lines_in ended [] = []
 lines_in ended (last ∷ []) = if ended && nat_lt 0 (length last) then last ∷ [] else []
 lines_in ended (line ∷ next ∷ more) = line ∷ lines_in ended (next ∷ more)
 
--- The lines of a text, without their line feeds. Where the text isn't at its end, what follows the last line feed is
--- no line yet.
+-- The lines of a text, without their line feeds. Where the text isn't at its end, what follows the
+-- last line feed is no line yet.
 abbrev pub lines_of : Bool → List ℕ → List (List ℕ)
 lines_of ended text = lines_in ended (slice_split (λ b. b == 10) text)
 
 -- Lines and their texts, one turn after the other.
-abbrev pub Turns : Desk → List (List ℕ) → List (List ℕ) → Desk → Type 0
+abbrev pub Turns : FrontState → List (List ℕ) → List (List ℕ) → FrontState → Type 0
 Turns d [] [] d' = d' ≡ d
-Turns d (line ∷ lines) (text ∷ texts) d' = (mid : Desk) × Turn d line text mid × Turns mid lines texts d'
+Turns d (line ∷ lines) (text ∷ texts) d' =
+    (mid : FrontState) × Turn d line text mid × Turns mid lines texts d'
 Turns d [] (text ∷ texts) d' = ⊥
 Turns d (line ∷ lines) [] d' = ⊥
 
 -- the words seen begin those seen then, and no look that found none is taken back
-pub record Grows (d d' : Desk) : Type 0 where
-  pub words : StartsWith d'.stand.seen d.stand.seen
-  pub looks : d.stand.looks ≤ d'.stand.looks
+pub record Grows (d d' : FrontState) : Type 0 where
+  pub words : StartsWith d'.pass_state.seen d.pass_state.seen
+  pub looks : d.pass_state.looks ≤ d'.pass_state.looks
 
 -- whether one of the lines is `quit`
 abbrev pub has_quit : List (List ℕ) → Bool
@@ -44,16 +45,18 @@ has_quit lines = list_any (λ line. is_quit (meaning_of line)) lines
 abbrev pub some_count : List (List ℕ) → ℕ
 some_count texts = length (filter (λ text. nat_lt 0 (length text)) texts)
 
--- These lines were answered whole, none of them quit, and `out` is their texts. The front stood as d before, and stands
--- as d' then.
-pub record Answered (d : Desk) (lines : List (List ℕ)) (out : List ℕ) (d' : Desk) : Type 0 where
+-- These lines were answered whole, none of them quit, and `out` is their texts. The front was d
+-- before, and is d' then.
+pub record Answered (d : FrontState) (lines : List (List ℕ)) (out : List ℕ) (d' : FrontState) : Type
+    0 where
   pub texts : List (List ℕ)
   pub turns : Turns d lines texts d'
   pub no_quit : has_quit lines ≡ false
   pub written : out ≡ concat texts
 
 -- One of the lines is the first quit, and `out` is the texts up to its own.
-pub record Quitted (d : Desk) (lines : List (List ℕ)) (out : List ℕ) (d' : Desk) : Type 0 where
+pub record Quitted (d : FrontState) (lines : List (List ℕ)) (out : List ℕ) (d' : FrontState) : Type
+    0 where
   pub front : List (List ℕ)
   pub line : List ℕ
   pub back : List (List ℕ)
@@ -64,36 +67,40 @@ pub record Quitted (d : Desk) (lines : List (List ℕ)) (out : List ℕ) (d' : D
   pub turns : Turns d (front ++ line ∷ []) texts d'
   pub written : out ≡ concat texts
 
--- The lines before one were answered whole, `whole` texts of them not empty; of that line's text the
--- first n bytes were written, and not all of it. The line was run.
-pub record CutShort (d : Desk) (lines : List (List ℕ)) (whole part : ℕ) (out : List ℕ) (d' : Desk) : Type 0 where
+-- The lines before one were answered whole, `whole` texts of them not empty; of that line's text
+-- the first n bytes were written, and not all of it. The line was run.
+pub record CutShort (d : FrontState) (lines : List (List ℕ)) (whole part : ℕ) (out : List ℕ)
+    (d' : FrontState) : Type 0 where
   pub front : List (List ℕ)
   pub line : List ℕ
   pub back : List (List ℕ)
   pub texts : List (List ℕ)
   pub text : List ℕ
-  pub mid : Desk
+  pub mid : FrontState
   pub n : ℕ
   pub split : lines ≡ front ++ line ∷ back
   pub no_quit : has_quit front ≡ false
   pub turns : Turns d front texts mid
   pub turn : Turn mid line text d'
   pub count : whole ≡ saturating_count (some_count texts)
-  pub part_told : part ≡ saturating_count n
+  pub part_is : part ≡ saturating_count n
   pub within : n < length text
   pub written : out ≡ concat texts ++ take n text
 
--- What was written for the lines that were read, by how it ended. `ended`: the source was at its end.
-abbrev pub Ends : Result End LineEnd → Bool → Desk → List (List ℕ) → List ℕ → Desk → Type 0
+-- What was written for the lines that were read, by how it ended. `ended`: the source was at its
+-- end.
+abbrev pub Ends : Result End LineEnd → Bool → FrontState → List (List ℕ) → List ℕ → FrontState
+    → Type 0
 Ends (Ok Closed) ended d lines out d' = (ended ≡ true) × Answered d lines out d'
 Ends (Ok Quit) ended d lines out d' = Quitted d lines out d'
 Ends (Err Read) ended d lines out d' = (ended ≡ false) × Answered d lines out d'
 Ends (Err (Write whole part)) ended d lines out d' = CutShort d lines whole part out d'
 
--- From a source that had `from` and has `left` some bytes were read, and to a sink that had `old` and has `new` others
--- were written. Those written answer the lines of those read, by a front that stood as d and stands as d' then, and
--- nothing else.
-pub record Serves (from left old new : Option (List ℕ)) (d d' : Desk) (result : Result End LineEnd) : Type 0 where
+-- From a source that had `from` and has `left` some bytes were read, and to a sink that had `old`
+-- and has `new` others were written. Those written answer the lines of those read, by a front that
+-- was d and is d' then, and nothing else.
+pub record AnswersLines (from left old new : Option (List ℕ)) (d d' : FrontState)
+    (result : Result End LineEnd) : Type 0 where
   pub read : List ℕ
   pub out : List ℕ
   pub ended : Bool
@@ -102,12 +109,12 @@ pub record Serves (from left old new : Option (List ℕ)) (d d' : Desk) (result 
   pub at_end : ended ≡ true → IsAtEnd left
   pub ends : Ends result ended d (lines_of ended read) out d'
 
--- it tells that a read failed
-abbrev pub tells_read : Result End LineEnd → Bool
-tells_read (Err Read) = true
-tells_read _ = false
+-- it reports that a read failed
+abbrev pub is_read_failure : Result End LineEnd → Bool
+is_read_failure (Err Read) = true
+is_read_failure _ = false
 
--- it tells that a write failed
-abbrev pub tells_write : Result End LineEnd → Bool
-tells_write (Err (Write whole part)) = true
-tells_write _ = false
+-- it reports that a write failed
+abbrev pub is_write_failure : Result End LineEnd → Bool
+is_write_failure (Err (Write whole part)) = true
+is_write_failure _ = false

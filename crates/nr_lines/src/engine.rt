@@ -1,9 +1,9 @@
 //! The line loop.
 
 ghost use Rattle.std.specs.Prelude.{◌≡◌, ℕ, List, [], ◌∷◌, ◌++◌, Option, Err, IfErr, OnOk, false, take, true};
-ghost use Rattle.nr_front.specs.Desk.{Desk};
-ghost use Rattle.nr_lines.specs.Engine.{Serves, tells_read, tells_write};
-ghost use Rattle.nr_lines.specs.Standing.{GoesOn, Standing};
+ghost use Rattle.nr_front.specs.FrontState.{FrontState};
+ghost use Rattle.nr_lines.specs.Engine.{AnswersLines, is_read_failure, is_write_failure};
+ghost use Rattle.nr_lines.specs.LoopInvariant.{GoesOn, LoopInvariant};
 
 use crate::ending::{End, LineEnd};
 use crate::turn::turn;
@@ -17,7 +17,7 @@ use nr_text::{Sink, Source};
 use std::io::{Read, Write};
 use std::sync::Wait;
 
-/// One byte more than a line may have, so that a longer one is seen to be too long.
+/// One byte more than a line may have, which shows that a longer one is too long.
 const LINE_ROOM: usize = MAX_LINE + 1;
 
 /// How many bytes are read at once.
@@ -27,7 +27,7 @@ const CHUNK: usize = 512;
 ///
 /// The source may be read past `quit`, or past the line whose reply was not written. Where a read failed, the whole
 /// lines before it are answered. Whatever the end, the front can be used again, and each line up to there was run, also
-/// one whose reply was not written. A failure is told just where there was one.
+/// one whose reply was not written. A failure is reported exactly where there was one.
 pub fn serve<R: Read, W: Write, S: Worlds + Drop + Sync, F: Finder>(
     rt: &impl Wait,
     r: &mut Source<R>,
@@ -41,10 +41,10 @@ where
     requires reader { r.old.failed ≡ false }
     requires writer { w.old.failed ≡ false }
     ensures table { front.new.table ≡ front.old.table }
-    ensures serves { Serves r.old.remaining r.new.remaining w.old.contents w.new.contents
+    ensures serves { AnswersLines r.old.remaining r.new.remaining w.old.contents w.new.contents
         front.old front.new result }
-    ensures reader { r.new.failed ≡ tells_read result }
-    ensures writer { w.new.failed ≡ tells_write result }
+    ensures reader { r.new.failed ≡ is_read_failure result }
+    ensures writer { w.new.failed ≡ is_write_failure result }
 {
     let mut line = ArrayVec::<u8, LINE_ROOM>::new();
     let mut whole = 0u64;
@@ -67,8 +67,8 @@ where
     unreachable!()
 }
 
-/// Answers the lines that end among these bytes, the first of them begun by what the line holds, up to a `quit`, and says
-/// whether there was one. Where there was none, the line holds what follows the last line feed.
+/// Answers the lines that end among these bytes, up to a `quit`, and says whether there was one. The first of them begins
+/// with what the line holds. Where there was no `quit`, the line then holds what follows the last line feed.
 fn answer_lines<W: Write, S: Worlds + Drop + Sync, F: Finder>(
     bytes: &[u8],
     line: &mut ArrayVec<u8, LINE_ROOM>,
@@ -81,13 +81,13 @@ where
     S::Delta: Drop,
     requires { front.old.table ≡ journal.now }
     ensures table { front.new.table ≡ front.old.table }
-    ensures answers { (from left old : Option (List ℕ)) (d : Desk) (before : List ℕ)
-        → Standing from left old w.old.contents d front.old
+    ensures answers { (from left old : Option (List ℕ)) (d : FrontState) (before : List ℕ)
+        → LoopInvariant from left old w.old.contents d front.old
         (before ++ bytes.now) before line.old.items whole.old
         → GoesOn from left old w.new.contents d front.new
         (before ++ bytes.now) line.new.items whole.new result }
     ensures calm { OnOk result (w.new.failed ≡ w.old.failed) }
-    ensures failed { IfErr result (λ e. (w.new.failed ≡ true) × (tells_write (Err e) ≡ true)) }
+    ensures failed { IfErr result (λ e. (w.new.failed ≡ true) × (is_write_failure (Err e) ≡ true)) }
 {
     for byte in bytes {
         if *byte != b'\n' {

@@ -3,7 +3,7 @@
 ghost use Rattle.std.specs.Prelude.{◌≡◌, ℕ, List, true, IfErr, IfOk, OnErr, OnOk};
 ghost use Rattle.std.specs.Io.KnownBytes.{Appends};
 ghost use Rattle.nr_command.specs.Command.{meaning_of};
-ghost use Rattle.nr_lines.specs.Turn.{IsCut, MayReply, Turn, count_with, is_quit, outcome, resumed, told};
+ghost use Rattle.nr_lines.specs.Turn.{StopsInside, MayReply, Turn, count_with, is_quit, reply_given, resumed, fault_reply};
 
 use crate::ending::LineEnd;
 use nr_command::{Command, Fault, Line, LineFault, Reply};
@@ -33,7 +33,7 @@ where
         × (whole.new ≡ count_with whole.old text)) }
     ensures err { IfErr result (λ e. (text : List ℕ)
         × Turn front.old line.now text front.new
-        × IsCut e whole.old text w.old.contents w.new.contents) }
+        × StopsInside e whole.old text w.old.contents w.new.contents) }
     ensures calm { OnOk result (w.new.failed ≡ w.old.failed) }
     ensures failed { OnErr result (w.new.failed ≡ true) }
 {
@@ -81,38 +81,38 @@ where
         Err(fault) => return Some(Reply::Fault(Fault::Line(fault))),
     };
     match line {
-        Line::Run(command) => Some(outcome(front.exec(journal, command))),
-        Line::Look(query) => Some(outcome(front.look(journal, query))),
+        Line::Run(command) => Some(reply_given(front.exec(journal, command))),
+        Line::Look(query) => Some(reply_given(front.look(journal, query))),
         Line::Resume => Some(resumed(front.resume())),
         Line::Quit => Some(Reply::Bye),
         Line::Empty => None,
     }
 }
 
-/// What is told of a command or of a look.
-fn outcome(given: Result<Reply, FrontFault>) -> Reply
-    ensures { result ≡ outcome given }
+/// The reply to a command or to a look.
+fn reply_given(given: Result<Reply, FrontFault>) -> Reply
+    ensures { result ≡ reply_given given }
 {
     match given {
         Ok(reply) => reply,
-        Err(fault) => told(fault),
+        Err(fault) => fault_reply(fault),
     }
 }
 
-/// What is told of a reply that was asked for once more.
+/// The reply where one was asked for once more.
 fn resumed(given: Result<Option<Reply>, FrontFault>) -> Reply
     ensures { result ≡ resumed given }
 {
     match given {
         Ok(Some(reply)) => reply,
         Ok(None) => Reply::NothingOwed,
-        Err(fault) => told(fault),
+        Err(fault) => fault_reply(fault),
     }
 }
 
-/// The reply that tells why there is none.
-fn told(fault: FrontFault) -> Reply
-    ensures { result ≡ told fault }
+/// The reply that says why there is none.
+fn fault_reply(fault: FrontFault) -> Reply
+    ensures { result ≡ fault_reply fault }
 {
     let fault = match fault {
         FrontFault::Memory => Fault::Memory,

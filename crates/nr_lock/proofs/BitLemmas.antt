@@ -2,7 +2,7 @@
 use Rattle.std.proofs.Common.{◌≡◌, ℕ, ◌+◌, ◌*◌, ◌/◌, ◌%◌, ◌^◌, ◌<◌, bit_and, arith}
 use Rattle.std.proofs.lemmas.Nat.{and_mask}
 use Rattle.std.proofs.lemmas.Bool.Decides.{nat_tests}
-use Rattle.nr_rev.proofs.Bits.{and_2, and_4, and_not_pow, or_1, or_2, or_4}
+use Rattle.nr_rev.proofs.BitLemmas.{and_2, and_4, and_not_pow, or_1, or_2, or_4}
 
 pub and_not_2 : (w : ℕ) → w < 2 ^ 63 → bit_and w 18446744073709551613 + w / 2 % 2 * 2 ≡ w
 and_not_2 w h = and_not_pow 64 w 1 (omega arith) (omega arith)

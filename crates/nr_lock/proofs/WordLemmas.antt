@@ -4,7 +4,7 @@ use Rattle.nr_rev.specs.declared.lock.Lock.{Lock}
 use Rattle.nr_rev.specs.declared.sides.Side.TheVariants.{Read, Write}
 use Rattle.nr_rev.specs.Lock.{lock_number}
 use Rattle.nr_rev.specs.WellFormed.{LockFits}
-use Rattle.nr_rev.proofs.Bits.{bit_small, test_of}
+use Rattle.nr_rev.proofs.BitLemmas.{bit_small, test_of}
 use Rattle.nr_lock.specs.Word.{lock_of}
 
 pub lock_of-lock_number : (lock : Lock) → LockFits lock → lock_of (lock_number lock) ≡ lock

@@ -3,10 +3,10 @@ use Rattle.std.specs.Prelude.{◌≡◌, ℕ, ◌/◌, ◌%◌, ◌^◌, ◌==�
 use Rattle.std.proofs.Common.{arith}
 use Rattle.nr_rev.specs.declared.lock.Lock.{Lock}
 use Rattle.nr_rev.specs.Lock.{lock_number}
-use Rattle.nr_rev.proofs.Bits.{bit_of}
+use Rattle.nr_rev.proofs.BitLemmas.{bit_of}
 
--- the fields of a word: bit 0 closed, 1 read lock, 2 write lock, from 3 references, from 23 read waiters, from 43 write
--- waiters
+-- the fields of a word: bit 0 closed, 1 read lock, 2 write lock, from 3 references, from 23 read
+-- waiters, from 43 write waiters
 abbrev pub lock_of : ℕ → Lock
 lock_of w =
     record {

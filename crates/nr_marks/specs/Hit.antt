@@ -2,7 +2,7 @@
 use Rattle.std.specs.Prelude.{ℕ, ◌+◌, ◌-◌, ◌==◌, Bool, false, not, List, slice_get, map, filter, Option, Some, None, option_map}
 use Rattle.std.specs.Int.NonZero.{non_zero_u32_get}
 use Rattle.nr_rev.specs.Cell.{cell}
-use Rattle.nr_rev.specs.Kind.{kind_of}
+use Rattle.nr_rev.specs.Kind.{kind_of, same_kind}
 use Rattle.nr_rev.specs.Run.{Recording, world_at}
 use Rattle.nr_rev.specs.World.{World}
 use Rattle.nr_rev.specs.declared.cell_value.CellValue.{CellValue}
@@ -10,7 +10,6 @@ use Rattle.nr_rev.specs.declared.cell_value.CellValue.TheVariants.{Absent}
 use Rattle.nr_rev.specs.declared.kind.Kind.{Kind}
 use Rattle.nr_rev.specs.declared.step.Step.{Step}
 use Rattle.nr_rev.specs.contracts.cell_value.CellValuePartialEq.TheImpl as value_eq
-use Rattle.nr_rev.specs.contracts.kind.KindPartialEq.TheImpl as kind_eq
 use Rattle.nr_marks.specs.declared.mark.Break.{Break}
 use Rattle.nr_marks.specs.declared.mark.Break.TheVariants as break
 use Rattle.nr_marks.specs.declared.mark.Mark.{Mark}
@@ -22,10 +21,6 @@ use Rattle.nr_marks.specs.Marks.{NumberedMark}
 abbrev pub same_value : CellValue → CellValue → Bool
 same_value = (value_eq.ghosts).eq
 
--- what `==` says of two kinds
-abbrev pub same_kind : Kind → Kind → Bool
-same_kind = (kind_eq.ghosts).eq
-
 -- A break names a step by its kind, or by its number.
 abbrev pub names : Break → NextStep → Bool
 names (break.Kind kind) step = same_kind kind step.kind
@@ -36,9 +31,8 @@ abbrev pub watched : World → Mark → CellValue
 watched w (mark.Break wanted) = Absent
 watched w (mark.Watch c) = cell w c
 
--- By the values that a mark watches in the world before and in this one: a break hits where it names
--- the step that comes next, and a watch where its cell has another value than before. A cell that
--- isn't there has a value of its own.
+-- A break hits where it names the step that comes next. A watch hits where its cell has another
+-- value in this world than in the one before. A cell that isn't there has a value of its own.
 abbrev pub hits_by : CellValue → CellValue → Option NextStep → Mark → Bool
 hits_by before now None (mark.Break wanted) = false
 hits_by before now (Some step) (mark.Break wanted) = names wanted step
@@ -50,12 +44,15 @@ mark_hits before after next mark = hits_by (watched before mark) (watched after 
 
 -- The numbers of the marks that hit, in the order of the marks.
 abbrev pub hits_between : World → World → Option NextStep → List NumberedMark → List ℕ
-hits_between before after next marks = map (λ m. m.number) (filter (λ m. mark_hits before after next m.item) marks)
+hits_between before after next marks =
+    map (λ m. m.number) (filter (λ m. mark_hits before after next m.item) marks)
 
 -- a step as the one that comes next at a position
 abbrev pub numbered : ℕ → Option Step → Option NextStep
 numbered p step = option_map (λ (s : Step). record { number = p + 1; kind = kind_of s }) step
 
--- Which marks hit at position p of a recording. Before position 0 nothing has changed, so no watch hits there.
+-- Which marks hit at position p of a recording. Before position 0 nothing has changed, so no watch
+-- hits there.
 abbrev pub hits_at : Recording → List NumberedMark → ℕ → List ℕ
-hits_at r marks p = hits_between (world_at r (p - 1)) (world_at r p) (numbered p (slice_get r.steps p)) marks
+hits_at r marks p =
+    hits_between (world_at r (p - 1)) (world_at r p) (numbered p (slice_get r.steps p)) marks

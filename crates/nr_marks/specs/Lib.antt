@@ -1,3 +1,4 @@
+-- what callers need
 pub mod Hit
 pub mod Marks
 pub mod Numbered

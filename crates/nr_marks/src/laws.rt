@@ -1,11 +1,12 @@
 //! Laws of hits: public functions with an empty body, whose contract is the law.
 
 ghost use Rattle.std.specs.Prelude.{◌≡◌, ◌↔◌, ◌∷◌, [], ℕ, true};
+ghost use Rattle.nr_rev.specs.Kind.{same_kind};
 ghost use Rattle.nr_rev.specs.Run.{Recording};
 ghost use Rattle.nr_rev.specs.declared.cell.Cell.{Cell};
 ghost use Rattle.nr_rev.specs.declared.cell_value.CellValue.{CellValue};
 ghost use Rattle.nr_rev.specs.declared.kind.Kind.{Kind};
-ghost use Rattle.nr_marks.specs.Hit.{hits_at, same_kind, same_value};
+ghost use Rattle.nr_marks.specs.Hit.{hits_at, same_value};
 ghost use Rattle.nr_marks.specs.declared.mark.Mark.TheVariants.{Watch};
 ghost use Rattle.nr_marks.specs.declared.numbered.TheConstants.{MOST_NUMBERED};
 
@@ -21,7 +22,7 @@ pub fn no_watch_hits_at_the_start()
         → hits_at r (record { number = number; item = Watch c } ∷ []) 0 ≡ [] }
 {}
 
-/// At most 64 marks stand at once.
+/// There are at most 64 marks at once.
 pub fn the_numbers()
     ensures numbered { MOST_NUMBERED ≡ 64 }
 {}

@@ -1,4 +1,4 @@
-//! The marks that stand, by number.
+//! The marks, by number.
 
 use crate::mark::{Break, Mark, NextStep};
 use crate::numbered::{MOST_NUMBERED, Numbered, NumberedList};
@@ -6,18 +6,18 @@ use arrayvec::ArrayVec;
 use nr_rev::{Cell, Worlds};
 use std::marker::Model;
 
-/// The most marks that stand at once.
+/// The most marks at once.
 pub const MOST_MARKS: usize = MOST_NUMBERED;
 
-/// A mark that stands, with its number.
+/// A mark, with its number.
 pub type NumberedMark = Numbered<Mark>;
 
 /// Why the marks stay as they are.
 #[derive(Clone, Copy, Debug, PartialEq, Eq)]
 pub enum MarkFault {
-    /// No mark of this number stands.
+    /// There is no mark of this number.
     NoSuchMark,
-    /// No mark can be made: 64 stand, or the numbers up to 4,294,967,295 are used up.
+    /// No mark can be made: there are 64, or the numbers up to 4,294,967,295 are used up.
     MarksFull,
 }
 
@@ -29,9 +29,9 @@ pub struct Marks {
 }
 
 impl Model for Marks {
-    ghost use Rattle.nr_marks.specs.Marks.{MarkTable};
+    ghost use Rattle.nr_marks.specs.Marks.{MarkList};
 
-    ghost Value = { MarkTable };
+    ghost Value = { MarkList };
 
     ghost view = { λ m. m.list };
 }
@@ -39,7 +39,7 @@ impl Model for Marks {
 impl Marks {
     ghost use Rattle.std.specs.Prelude.{◌≡◌, ◌≤◌, length, OnErr};
     ghost use Rattle.nr_marks.specs.Hit.{hits_between};
-    ghost use Rattle.nr_marks.specs.Marks.{deletion, next_number};
+    ghost use Rattle.nr_marks.specs.Marks.{mark_deletion, next_number};
     ghost use Rattle.nr_marks.specs.Numbered.{RisesWithin, empty, numbers_of, with_item, without_item};
     ghost use Rattle.nr_marks.specs.declared.marks.TheConstants.{MOST_MARKS};
     ghost use Rattle.nr_marks.specs.declared.mark.Mark.TheVariants as mark;
@@ -53,7 +53,7 @@ impl Marks {
         }
     }
 
-    /// Makes a breakpoint and gives its number, the next one. Where 64 marks stand or the numbers are used up, it is
+    /// Makes a breakpoint and returns its number, the next one. Where there are 64 marks or the numbers are used up, it is
     /// refused and nothing changes.
     pub fn add_break(&mut self, wanted: Break) -> Result<u32, MarkFault>
         ensures number { result ≡ next_number self.old }
@@ -63,7 +63,7 @@ impl Marks {
         self.add(Mark::Break(wanted))
     }
 
-    /// Makes a watchpoint and gives its number, the next one. Where 64 marks stand or the numbers are used up, it is
+    /// Makes a watchpoint and returns its number, the next one. Where there are 64 marks or the numbers are used up, it is
     /// refused and nothing changes.
     pub fn add_watch(&mut self, cell: Cell) -> Result<u32, MarkFault>
         ensures number { result ≡ next_number self.old }
@@ -85,10 +85,10 @@ impl Marks {
         }
     }
 
-    /// Deletes the mark of this number. The others keep theirs. Where none of this number stands, it is refused and
+    /// Deletes the mark of this number. The others keep theirs. Where there is none of this number, it is refused and
     /// nothing changes.
     pub fn delete(&mut self, number: u32) -> Result<(), MarkFault>
-        ensures answer { result ≡ deletion number self.old }
+        ensures answer { result ≡ mark_deletion number self.old }
         ensures marks { self.new ≡ without_item number self.old }
         ensures unchanged { OnErr result (self.new ≡ self.old) }
     {
@@ -99,18 +99,18 @@ impl Marks {
         }
     }
 
-    /// The marks that stand, rising by number.
+    /// The marks, rising by number.
     pub fn as_slice(&self) -> &[NumberedMark]
-        ensures marks { result.now ≡ self.now.standing }
+        ensures marks { result.now ≡ self.now.present }
         ensures few { length result.now ≤ MOST_MARKS }
         ensures rising { RisesWithin 0 (numbers_of result.now) self.now.made }
     {
         self.list.as_slice()
     }
 
-    /// How many marks stand.
+    /// How many marks there are.
     pub fn len(&self) -> usize
-        ensures count { result ≡ length self.now.standing }
+        ensures count { result ≡ length self.now.present }
         ensures few { result ≤ MOST_MARKS }
     {
         self.list.as_slice().len()
@@ -127,7 +127,7 @@ impl Marks {
         requires before { W.is_well_formed before.now }
         requires after { W.is_well_formed after.now }
         ensures hits { result.items
-            ≡ hits_between (W.world before.now) (W.world after.now) next self.now.standing }
+            ≡ hits_between (W.world before.now) (W.world after.now) next self.now.present }
         ensures rising { RisesWithin 0 result.items self.now.made }
     {
         let mut hits = ArrayVec::new();

@@ -1,14 +1,14 @@
-//! Items that stand under numbers.
+//! Items under numbers.
 
 ghost use Rattle.std.specs.Prelude.{◌≡◌, ◌≤◌, ◌==◌, false, find, length};
 
 use arrayvec::ArrayVec;
 use std::marker::Model;
 
-/// The most items that stand at once.
+/// The most items at once.
 pub const MOST_NUMBERED: usize = 64;
 
-/// An item that stands, with its number.
+/// An item, with its number.
 #[derive(Clone, Copy, Debug, Default, PartialEq, Eq)]
 pub struct Numbered<T> {
     /// From 1, as GDB counts breakpoints.
@@ -20,22 +20,22 @@ pub struct Numbered<T> {
 /// memory.
 #[derive(Debug, Drop)]
 pub struct NumberedList<T> {
-    standing: ArrayVec<Numbered<T>, MOST_NUMBERED>,
+    present: ArrayVec<Numbered<T>, MOST_NUMBERED>,
     made: u32,
 }
 
 impl<T> Model for NumberedList<T> {
-    ghost use Rattle.nr_marks.specs.Numbered.{RisesWithin, Table, numbers_of};
+    ghost use Rattle.nr_marks.specs.Numbered.{RisesWithin, NumberedItems, numbers_of};
 
-    ghost Value = { Table T };
+    ghost Value = { NumberedItems T };
 
-    ghost view = { λ l. record { standing = l.standing.items; made = l.made } };
+    ghost view = { λ l. record { present = l.present.items; made = l.made } };
 
-    ghost invariant = { λ l. RisesWithin 0 (numbers_of l.standing.items) l.made };
+    ghost invariant = { λ l. RisesWithin 0 (numbers_of l.present.items) l.made };
 }
 
 impl<T: Copy + Default> NumberedList<T> {
-    ghost use Rattle.nr_marks.specs.Numbered.{RisesWithin, empty, item_of, next, numbers_of, stands, with_item, without_item};
+    ghost use Rattle.nr_marks.specs.Numbered.{RisesWithin, empty, item_of, next, numbers_of, is_present, with_item, without_item};
     ghost use Rattle.nr_marks.specs.declared.numbered.TheConstants.{MOST_NUMBERED};
 
     /// No items.
@@ -43,55 +43,55 @@ impl<T: Copy + Default> NumberedList<T> {
         ensures { result ≡ empty }
     {
         NumberedList {
-            standing: ArrayVec::new(),
+            present: ArrayVec::new(),
             made: 0,
         }
     }
 
-    /// Makes an item stand under the next number. Where 64 stand or the numbers up to 4,294,967,295 are used up, it
+    /// Keeps an item under the next number. Where there are 64 or the numbers up to 4,294,967,295 are used up, it
     /// isn't made.
     pub fn make(&mut self, item: T) -> Option<Numbered<T>>
         ensures numbered { result ≡ next item self.old }
         ensures list { self.new ≡ with_item item self.old }
     {
-        if self.standing.is_full() || self.made == u32::MAX {
+        if self.present.is_full() || self.made == u32::MAX {
             return None;
         }
         let number = self.made + 1;
         let numbered = Numbered { number, item };
-        self.standing.push(numbered);
+        self.present.push(numbered);
         self.made = number;
         Some(numbered)
     }
 
-    /// Deletes the item of this number, and says whether one stood. The others keep their numbers.
+    /// Deletes the item of this number, and says whether there was one. The others keep their numbers.
     pub fn delete(&mut self, number: u32) -> bool
-        ensures stood { result ≡ stands number self.old }
+        ensures was_present { result ≡ is_present number self.old }
         ensures list { self.new ≡ without_item number self.old }
         ensures unchanged { result ≡ false → self.new ≡ self.old }
     {
         if self.find(number).is_none() {
             return false;
         }
-        self.standing.retain(|numbered| numbered.number != number);
+        self.present.retain(|numbered| numbered.number != number);
         true
     }
 
-    /// The item of this number, if one stands.
+    /// The item of this number, if there is one.
     pub fn find(&self, number: u32) -> Option<T>
         ensures { result ≡ item_of number self.now }
     {
-        let numbered = first_of_number(self.standing.as_slice(), number)?;
+        let numbered = first_of_number(self.present.as_slice(), number)?;
         Some(numbered.item)
     }
 
-    /// The items that stand, rising by number.
+    /// The items, rising by number.
     pub fn as_slice(&self) -> &[Numbered<T>]
-        ensures items { result.now ≡ self.now.standing }
+        ensures items { result.now ≡ self.now.present }
         ensures few { length result.now ≤ MOST_NUMBERED }
         ensures rising { RisesWithin 0 (numbers_of result.now) self.now.made }
     {
-        self.standing.as_slice()
+        self.present.as_slice()
     }
 }
 

@@ -1,5 +1,5 @@
-//! Descriptors on real numbers: codes of words (0 nil, 1 ready, 2 wait, 3 more than its number for a goroutine) and the
-//! byte of marks (1 closing, 2 event error, 4 and 8 the timers of reading and writing run).
+//! Descriptors on real numbers. Codes of words are 0 nil, 1 ready, 2 wait, and 3 more than its number for a goroutine.
+//! The byte of marks has 1 for closing, 2 for an event error, 4 and 8 where the timers of reading and writing run.
 
 ghost use Rattle.std.specs.Prelude.{◌≡◌, IfOk};
 ghost use Rattle.nr_desc.specs.Desc.{DescFits};

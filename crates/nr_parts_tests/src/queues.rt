@@ -10,12 +10,12 @@ use nr_rev::{Refusal, Reversible, Side, Status, transact};
 use std::alloc::{AllocError, Global};
 use std::test::Fail;
 
-/// Two goroutines, or none in place of either: front and back of a queue, or who is before and behind a goroutine.
+/// Two goroutines, or none for either: front and back of a queue, or who is before and behind a goroutine.
 type Pair = (Option<u32>, Option<u32>);
 
 /// The ends of the queue of reading at socket 0, and the neighbours of the goroutines 1, 2 and 3.
 fn links(table: &GTable) -> (Pair, [Pair; 3]) {
-    let neighbours = |goroutine| (table.previous_of(goroutine), table.next_of(goroutine));
+    let neighbours = |goroutine| (table.previous_of(goroutine), table.next_in_queue(goroutine));
     (
         (table.front_of(0, Side::Read), table.back_of(0, Side::Read)),
         [neighbours(1), neighbours(2), neighbours(3)],

@@ -28,7 +28,7 @@ fn stop(descriptor: u32) -> TimersOp {
     }
 }
 
-/// The entry that `arm` gives.
+/// The entry that `arm` makes.
 fn entry(descriptor: u32, due: i64, number: u64) -> Entry {
     Entry {
         descriptor,

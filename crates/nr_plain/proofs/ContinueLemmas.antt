@@ -14,16 +14,18 @@ use Rattle.nr_rev.specs.Step.{after_orders, after_wakes, after_change, after_ord
 use Rattle.nr_rev.specs.World.{World, with_row}
 use Rattle.nr_plain.specs.declared.edit.Edit.{Edit}
 use Rattle.nr_plain.specs.declared.edit.Edit.TheVariants.{Row, Arming, Wake}
-use Rattle.nr_plain.specs.Edit.{edit_words, after_edit}
+use Rattle.nr_plain.specs.Edit.{edit_weight, after_edit}
 use Rattle.nr_plain.specs.declared.plan.Plan.{Plan}
 use Rattle.nr_plain.specs.Continuing.{Continues}
-use Rattle.nr_plain.specs.Plan.{CanEditAll, after_edits, all_words}
+use Rattle.nr_plain.specs.Plan.{CanEditAll, after_edits, total_weight}
 
 -- the orders to the two sides, one after the other
-pub both_obeyed : (a b : Option TimerOrder) (before : Sides (Option Timer) × ℕ) → after_orders (option_to_list a ++ option_to_list b) before ≡ (after_orders (option_to_list a) before >>= after_orders (option_to_list b))
+pub both_obeyed : (a b : Option TimerOrder) (before : Sides (Option Timer) × ℕ)
+    → after_orders (option_to_list a ++ option_to_list b) before ≡ (after_orders (option_to_list a) before >>= after_orders (option_to_list b))
 both_obeyed None b before = refl
 both_obeyed (Some order) b before =
-    elim (after_order order before) as (λ (r : Result (Sides (Option Timer) × ℕ) Refusal). (r >>= after_orders (option_to_list b)) ≡ ((r >>= λ after. Ok after) >>= after_orders (option_to_list b))) [ Ok after ↦ refl | Err e ↦ refl ]
+    elim (after_order order before) as (λ (r : Result (Sides (Option Timer) × ℕ) Refusal). (r >>= after_orders (option_to_list b)) ≡ ((r >>= λ after. Ok after) >>= after_orders (option_to_list b)))
+    [ Ok after ↦ refl | Err e ↦ refl ]
 
 -- changes behind others
 pub after_edits-append : (xs ys : List Edit) (w : World) → after_edits (xs ++ ys) w ≡ after_edits ys (after_edits xs w)
@@ -43,9 +45,9 @@ woken_can : (gs : List ℕ) (w : World) → CanEditAll (map Wake gs) w
 woken_can [] w = tt
 woken_can (g ∷ gs) w = (tt, woken_can gs (after_edit (Wake g) w))
 
-woken_words : (gs : List ℕ) → all_words (map Wake gs) ≡ 7 * length gs
+woken_words : (gs : List ℕ) → total_weight (map Wake gs) ≡ 7 * length gs
 woken_words [] = refl
-woken_words (g ∷ gs) = let one = sum_by-cons edit_words (Wake g) (map Wake gs) in let rest = woken_words gs in omega (arith, one, rest)
+woken_words (g ∷ gs) = let one = sum_by-cons edit_weight (Wake g) (map Wake gs) in let rest = woken_words gs in omega (arith, one, rest)
 
 -- the world after some changes, with the descriptor changed so
 where_it_leads : (d : ℕ) (row : DescriptorRow) (change : Change) (w v : World) (after : Sides (Option Timer) × ℕ) → v.next_arming ≡ w.next_arming
@@ -67,9 +69,9 @@ pub continued : (d : ℕ) (row : DescriptorRow) (change : Change) (w : World) (b
 continued d row change w before plan after can same few are answer is =
     let xs = before.edits.items in
     let new : List Edit = Row d (record { descriptor = change.descriptor; timers = after.0 }) ∷ Arming after.1 ∷ map Wake change.woken in
-    let both = sum_by-append edit_words xs new in
-    let first = sum_by-cons edit_words (Row d (record { descriptor = change.descriptor; timers = after.0 })) (Arming after.1 ∷ map Wake change.woken) in
-    let second = sum_by-cons edit_words (Arming after.1) (map Wake change.woken) in
+    let both = sum_by-append edit_weight xs new in
+    let first = sum_by-cons edit_weight (Row d (record { descriptor = change.descriptor; timers = after.0 })) (Arming after.1 ∷ map Wake change.woken) in
+    let second = sum_by-cons edit_weight (Arming after.1) (map Wake change.woken) in
     let words = woken_words change.woken in
     let lengths = length-append xs new in
     let wakes = length-map change.woken Wake in

@@ -51,7 +51,7 @@ module _ {X : Type 0} (change : X → X) where
 pub changed_past : {X : Type 0} (xs : List X) (i : ℕ) (change : X → X) → length xs ≤ i → with_changed i change xs ≡ xs
 changed_past {X = X} xs i change past = ap (λ (o : Option X). with_item i (option_map change o) xs) (slice_get_past xs i past)
 
--- what stands within the list
+-- what is within the list
 pub there_is : {X : Type 0} (xs : List X) (i : ℕ) → i < length xs → (x : X) × (slice_get xs i ≡ Some x)
 there_is [] i within = absurd (omega arith)
 there_is (x ∷ xs) zero within = (x, refl)

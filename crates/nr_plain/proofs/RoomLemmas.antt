@@ -13,7 +13,7 @@ use Rattle.nr_rev.specs.Socket.{Socket}
 use Rattle.nr_rev.specs.Step.{acquiring_of, alive}
 use Rattle.nr_rev.specs.WellFormed.{WellFormed, is_queued}
 use Rattle.nr_rev.specs.World.{World}
-use Rattle.nr_rev.proofs.Counting.{room_for, times}
+use Rattle.nr_rev.proofs.DistinctNumberLemmas.{room_for, times}
 use Rattle.nr_plain.specs.Reads.{acquiring_by}
 
 queued_there : (gs : List Status) (s : ℕ) (side : Side) (k : ℕ) → 0 < bit (is_queued s side (slice_get gs k)) → k < length gs
@@ -28,7 +28,8 @@ bit_le true = omega arith
 bit_le false = omega arith
 
 -- a goroutine that acquires has room in the queue
-pub queue_has_room : (w : World) (g s : ℕ) (side : Side) (socket : Socket) → WellFormed w → slice_get w.goroutines g ≡ Some (Acquiring s side) → slice_get w.sockets s ≡ Some socket → length (of_side side socket.semaphores).queue < w.limits.goroutines
+pub queue_has_room : (w : World) (g s : ℕ) (side : Side) (socket : Socket) → WellFormed w → slice_get w.goroutines g ≡ Some (Acquiring s side) → slice_get w.sockets s ≡ Some socket
+    → length (of_side side socket.semaphores).queue < w.limits.goroutines
 queue_has_room w g s side socket h at there =
     let queue = (of_side side socket.semaphores).queue in
     let is : (k : ℕ) → times k queue ≡ bit (is_queued s side (slice_get w.goroutines k)) = λ k. h.queues.queued k s side socket there in
@@ -42,11 +43,13 @@ queue_has_room w g s side socket h at there =
     omega (arith, room, most)
 
 module _ (w : World) (g : ℕ) (p : ℕ × Side) (h : WellFormed w) where
-  by_socket : slice_get w.goroutines g ≡ Some (Acquiring p.0 p.1) → (o : Option Socket) → slice_get w.sockets p.0 ≡ o → IfSome o (λ (socket : Socket). length (of_side p.1 socket.semaphores).queue < w.limits.goroutines)
+  by_socket : slice_get w.goroutines g ≡ Some (Acquiring p.0 p.1) → (o : Option Socket) → slice_get w.sockets p.0 ≡ o
+      → IfSome o (λ (socket : Socket). length (of_side p.1 socket.semaphores).queue < w.limits.goroutines)
   by_socket at None there = tt
   by_socket at (Some socket) there = queue_has_room w g p.0 p.1 socket h at there
 
-  by_status : (o : Option Status) → slice_get w.goroutines g ≡ o → (alive o >>= acquiring_of) ≡ Ok p → IfSome (slice_get w.sockets p.0) (λ (socket : Socket). length (of_side p.1 socket.semaphores).queue < w.limits.goroutines)
+  by_status : (o : Option Status) → slice_get w.goroutines g ≡ o → (alive o >>= acquiring_of) ≡ Ok p
+      → IfSome (slice_get w.sockets p.0) (λ (socket : Socket). length (of_side p.1 socket.semaphores).queue < w.limits.goroutines)
   by_status None at e = absurd cc
   by_status (Some (Acquiring s side)) at e =
       let same : (s, side) ≡ p = cc in

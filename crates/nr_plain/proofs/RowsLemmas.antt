@@ -1,4 +1,4 @@
--- Items that stand one after the other, cut into rows.
+-- Items one after the other, cut into rows.
 use Rattle.std.proofs.Common.{◌≡◌, ℕ, zero, suc, ◌+◌, ◌-◌, ◌*◌, ◌<◌, ◌≤◌, List, [], ◌∷◌, ◌++◌, length, get_or, set, take, drop, min, refl, sym, ap, ap₂, ◌∙◌, arith, append_assoc, zero-add}
 use Rattle.std.proofs.Math.Seq.{take-add}
 use Rattle.std.proofs.Math.Nat.{mul-le-mul_right}
@@ -7,7 +7,7 @@ use Rattle.std.proofs.lemmas.List.Elements.{All-push, All-set}
 use Rattle.std.proofs.lemmas.List.Sums.{sum_by-cons, sum_by-le, sum_by-set, sum_by-take-le, sum_by_more, sum_by_push}
 use Rattle.std.specs.List.{splice}
 use Rattle.std.specs.Prelude.{sum}
-use Rattle.nr_plain.specs.Rows.{AreRows, cut, row_of}
+use Rattle.nr_plain.specs.Rows.{AreRows, cut, row_in}
 
 sum-cons : (n : ℕ) (ns : List ℕ) → sum (n ∷ ns) ≡ n + sum ns
 sum-cons n ns = sum_by-cons (λ m. m) n ns
@@ -34,11 +34,11 @@ module _ {X : Type 0} where
   length-cut (n ∷ ns) xs = ap suc (length-cut ns (drop n xs))
 
   -- where there is no row, no items
-  pub row_past : (lens : List ℕ) (xs : List X) (r : ℕ) → length lens ≤ r → [] ≡ row_of (cut lens xs) r
+  pub row_past : (lens : List ℕ) (xs : List X) (r : ℕ) → length lens ≤ r → [] ≡ row_in (cut lens xs) r
   row_past lens xs r past = sym (get_or_past (cut lens xs) r [] (let same = length-cut lens xs in omega (arith, same)))
 
-  -- a row is its items, which stand behind those of the rows before it
-  pub row-cut : (lens : List ℕ) (xs : List X) (r n : ℕ) → r < length lens → n ≡ get_or lens r n → take n (drop (sum (take r lens)) xs) ≡ row_of (cut lens xs) r
+  -- a row is its items, which come behind those of the rows before it
+  pub row-cut : (lens : List ℕ) (xs : List X) (r n : ℕ) → r < length lens → n ≡ get_or lens r n → take n (drop (sum (take r lens)) xs) ≡ row_in (cut lens xs) r
   row-cut [] xs r n within read = absurd (omega arith)
   row-cut (m ∷ ns) xs zero n within read = ap (λ k. take k xs) read
   row-cut (m ∷ ns) xs (suc r) n within read =
@@ -101,10 +101,10 @@ module _ {X : Type 0} where
       let rest = length-append new (drop (p + count) xs) in
       omega (arith, front, back, all, rest)
 
-  -- a change of a row's items where they stand is one of that row alone
+  -- a change of a row's items where they are is one of that row alone
   pub cut_spliced : (lens : List ℕ) (xs new : List X) (r n place count : ℕ) → r < length lens → n ≡ get_or lens r n → sum lens ≡ length xs → place + count ≤ n
       → cut (set lens r (n - count + length new)) (splice xs (sum (take r lens) + place) (sum (take r lens) + (place + count)) new)
-      ≡ set (cut lens xs) r (splice (row_of (cut lens xs) r) place (place + count) new)
+      ≡ set (cut lens xs) r (splice (row_in (cut lens xs) r) place (place + count) new)
   cut_spliced lens xs new r n place count within read counted inside =
       let s = sum (take r lens) in
       let row = take n (drop s xs) in
@@ -118,7 +118,8 @@ module _ {X : Type 0} where
       ∙ ap (λ (zs : List X). set (cut lens xs) r (splice zs place (place + count) new)) (row-cut lens xs r n within read)
 
   -- items taken out, and others put in there
-  pub spliced : (xs new : List X) (at count : ℕ) → at ≤ length xs → take at (take at xs ++ drop (at + count) xs) ++ (new ++ drop at (take at xs ++ drop (at + count) xs)) ≡ splice xs at (at + count) new
+  pub spliced : (xs new : List X) (at count : ℕ) → at ≤ length xs → take at (take at xs ++ drop (at + count) xs) ++ (new ++ drop at (take at xs ++ drop (at + count) xs))
+      ≡ splice xs at (at + count) new
   spliced xs new at count within =
       let first = length-take-le at xs within in
       ap₂ (λ (front : List X) (back : List X). front ++ (new ++ back)) (take_at (take at xs) (drop (at + count) xs) at first) (drop_at (take at xs) (drop (at + count) xs) at first)
@@ -140,7 +141,7 @@ module _ {X : Type 0} where
       (ap (cut (take m ns)) (drop-take n s xs) ∙ cut-take ns (drop n xs) m)
 
   -- as many as its length says
-  pub length-row : (lens : List ℕ) (xs : List X) (r n : ℕ) → r < length lens → n ≡ get_or lens r n → sum lens ≡ length xs → length (row_of (cut lens xs) r) ≡ n
+  pub length-row : (lens : List ℕ) (xs : List X) (r n : ℕ) → r < length lens → n ≡ get_or lens r n → sum lens ≡ length xs → length (row_in (cut lens xs) r) ≡ n
   length-row lens xs r n within read counted =
       let s = sum (take r lens) in
       let ends = row_ends lens r n within read in

@@ -17,7 +17,7 @@ use Rattle.nr_plain.specs.declared.socket_edit.SocketUndo.{SocketUndo}
 use Rattle.nr_plain.specs.declared.socket_edit.SocketUndo.TheVariants as undo
 use Rattle.nr_plain.specs.Edit.{with_changed}
 use Rattle.nr_plain.specs.Socket.{socket_with, with_state}
-use Rattle.nr_plain.specs.SocketEdit.{CanUndoSocket, UndoesSocket, after_socket_edit, after_socket_undo, on_bytes, on_queue, on_semaphore, socket_edit_words, socket_undo_words}
+use Rattle.nr_plain.specs.SocketEdit.{CanUndoSocket, UndoesSocket, after_socket_edit, after_socket_undo, on_bytes, on_queue, on_semaphore, socket_edit_weight, socket_undo_weight}
 use Rattle.nr_plain.specs.Sockets.{EditsSocket}
 use Rattle.nr_plain.specs.SocketTable.{SocketTable}
 use Rattle.nr_plain.proofs.ItemLemmas.{changed-here, changed_alike, changed_back, mapped_known}
@@ -36,7 +36,10 @@ module _ (q b : ℕ) (x : Socket) where
   back_leaves Read g = (tt, ap (λ (queue : List ℕ). on_semaphore Read (λ s. record s { queue = queue }) x) (sym (last_pushed x.semaphores.read.queue g)))
   back_leaves Write g = (tt, ap (λ (queue : List ℕ). on_semaphore Write (λ s. record s { queue = queue }) x) (sym (last_pushed x.semaphores.write.queue g)))
 
-  semaphore_restored : (side : Side) → of_side side x.semaphores ≡ record { count = (of_side side x.semaphores).count + 1 - 1; queue = option_to_list (slice_get (of_side side x.semaphores).queue 0) ++ drop 1 (of_side side x.semaphores).queue }
+  semaphore_restored : (side : Side) → of_side side x.semaphores ≡ record {
+    count = (of_side side x.semaphores).count + 1 - 1;
+    queue = option_to_list (slice_get (of_side side x.semaphores).queue 0) ++ drop 1 (of_side side x.semaphores).queue;
+  }
   semaphore_restored side =
       let semaphore = of_side side x.semaphores in
       let count : semaphore.count ≡ semaphore.count + 1 - 1 = omega arith in
@@ -100,13 +103,14 @@ module _ (q b : ℕ) (x : Socket) where
   queue_kept Write Write n = refl
 
 -- what the return of a front weighs at most
-pub requeue_light : (side : Side) (front : Option ℕ) → socket_undo_words (undo.Requeue side front) ≤ socket_edit_words (edit.Release side)
+pub requeue_light : (side : Side) (front : Option ℕ) → socket_undo_weight (undo.Requeue side front) ≤ socket_edit_weight (edit.Release side)
 requeue_light side None = omega arith
 requeue_light side (Some g) = omega arith
 
 module _ (state : SocketState) (queues bytes : Sides (List ℕ)) where
   -- a count set in the state is set in the semaphore
-  pub count_set : (side : Side) (count : ℕ) → with_state (record state { counts = with_side side count state.counts }) (socket_with state queues bytes) ≡ after_socket_edit (edit.Count side count) (socket_with state queues bytes)
+  pub count_set : (side : Side) (count : ℕ) → with_state (record state { counts = with_side side count state.counts }) (socket_with state queues bytes)
+      ≡ after_socket_edit (edit.Count side count) (socket_with state queues bytes)
   count_set Read count = refl
   count_set Write count = refl
 
@@ -122,7 +126,7 @@ if_there P x o there known = subst (λ p. IfSome p P) there known
 pub edited : (s : ℕ) (edit : SocketEdit) (undo : SocketUndo) (old new : SocketTable) (change : Socket → Socket) → new ≡ record old { sockets = with_changed s change old.sockets }
     → IfSome (slice_get old.sockets s) (λ x. change x ≡ after_socket_edit edit x)
     → IfSome (slice_get old.sockets s) (λ x. UndoesSocket old.queue_room old.byte_room undo (after_socket_edit edit x) x)
-    → socket_undo_words undo ≤ socket_edit_words edit → EditsSocket s edit undo old new
+    → socket_undo_weight undo ≤ socket_edit_weight edit → EditsSocket s edit undo old new
 edited s edit undo old new change is so back light =
     let there = slice_get old.sockets s in
     let after : new ≡ record old { sockets = with_changed s (after_socket_edit edit) old.sockets } =
@@ -139,9 +143,10 @@ edited s edit undo old new change is so back light =
     }
 
 -- the same of one that was read
-pub edited_there : (s : ℕ) (edit : SocketEdit) (undo : SocketUndo) (old new : SocketTable) (change : Socket → Socket) (x : Socket) → Some x ≡ slice_get old.sockets s → new ≡ record old { sockets = with_changed s change old.sockets }
+pub edited_there : (s : ℕ) (edit : SocketEdit) (undo : SocketUndo) (old new : SocketTable) (change : Socket → Socket) (x : Socket) → Some x ≡ slice_get old.sockets s
+    → new ≡ record old { sockets = with_changed s change old.sockets }
     → change x ≡ after_socket_edit edit x → UndoesSocket old.queue_room old.byte_room undo (after_socket_edit edit x) x
-    → socket_undo_words undo ≤ socket_edit_words edit → EditsSocket s edit undo old new
+    → socket_undo_weight undo ≤ socket_edit_weight edit → EditsSocket s edit undo old new
 edited_there s edit undo old new change x there is so back light =
     edited s edit undo old new change is
     (if_there (λ x. change x ≡ after_socket_edit edit x) x (slice_get old.sockets s) there so)

@@ -11,7 +11,7 @@ use Rattle.nr_rev.specs.Sides.{of_side, twice, with_side}
 use Rattle.nr_rev.specs.Socket.{Socket}
 use Rattle.nr_plain.specs.declared.socket.SocketState.{SocketState}
 use Rattle.nr_plain.specs.Edit.{with_changed}
-use Rattle.nr_plain.specs.Rows.{row_of}
+use Rattle.nr_plain.specs.Rows.{row_in}
 use Rattle.nr_plain.specs.Socket.{place_of, sides_of, socket_with, with_state}
 use Rattle.nr_plain.specs.SocketEdit.{on_bytes, on_queue}
 use Rattle.nr_plain.specs.Sockets.{sockets_from}
@@ -49,7 +49,8 @@ socket-at states q b k =
 -- what a change at one number leaves
 changed_sockets : (states new_states : List SocketState) (q new_q b new_b : List (List ℕ)) (s : ℕ) (change : Socket → Socket)
     → ((k : ℕ) → k ≢ s → (slice_get new_states k ≡ slice_get states k) × (sides_of new_q k ≡ sides_of q k) × (sides_of new_b k ≡ sides_of b k))
-    → option_map (λ state. socket_with state (sides_of new_q s) (sides_of new_b s)) (slice_get new_states s) ≡ option_map (λ state. change (socket_with state (sides_of q s) (sides_of b s))) (slice_get states s)
+    → option_map (λ state. socket_with state (sides_of new_q s) (sides_of new_b s)) (slice_get new_states s)
+    ≡ option_map (λ state. change (socket_with state (sides_of q s) (sides_of b s))) (slice_get states s)
     → sockets_from 0 new_states new_q new_b ≡ with_changed s change (sockets_from 0 states q b)
 changed_sockets states new_states q new_q b new_b s change others here =
     let old = sockets_from 0 states q b in
@@ -95,23 +96,25 @@ within_rows : (s n : ℕ) (side : Side) → s < n → place_of s side < 2 * n
 within_rows s n Read h = omega arith
 within_rows s n Write h = omega arith
 
-queue_there : (state : SocketState) (q b : Sides (List ℕ)) (side : Side) (change : List ℕ → List ℕ) → socket_with state (with_side side (change (of_side side q)) q) b ≡ on_queue side change (socket_with state q b)
+queue_there : (state : SocketState) (q b : Sides (List ℕ)) (side : Side) (change : List ℕ → List ℕ)
+    → socket_with state (with_side side (change (of_side side q)) q) b ≡ on_queue side change (socket_with state q b)
 queue_there state q b Read change = refl
 queue_there state q b Write change = refl
 
-bytes_there : (state : SocketState) (q b : Sides (List ℕ)) (side : Side) (change : List ℕ → List ℕ) → socket_with state q (with_side side (change (of_side side b)) b) ≡ on_bytes side change (socket_with state q b)
+bytes_there : (state : SocketState) (q b : Sides (List ℕ)) (side : Side) (change : List ℕ → List ℕ)
+    → socket_with state q (with_side side (change (of_side side b)) b) ≡ on_bytes side change (socket_with state q b)
 bytes_there state q b Read change = refl
 bytes_there state q b Write change = refl
 
-row_there : (rows : List (List ℕ)) (s : ℕ) (side : Side) → row_of rows (place_of s side) ≡ of_side side (sides_of rows s)
+row_there : (rows : List (List ℕ)) (s : ℕ) (side : Side) → row_in rows (place_of s side) ≡ of_side side (sides_of rows s)
 row_there rows s Read = refl
 row_there rows s Write = refl
 
 -- a queue changed in its row is that of the socket and side
 pub queue_changed : (states : List SocketState) (q b : List (List ℕ)) (s : ℕ) (side : Side) (change : List ℕ → List ℕ) → length q ≡ 2 * length states → s < length states
-    → sockets_from 0 states (set q (place_of s side) (change (row_of q (place_of s side)))) b ≡ with_changed s (on_queue side change) (sockets_from 0 states q b)
+    → sockets_from 0 states (set q (place_of s side) (change (row_in q (place_of s side)))) b ≡ with_changed s (on_queue side change) (sockets_from 0 states q b)
 queue_changed states q b s side change counted within =
-    let row = change (row_of q (place_of s side)) in
+    let row = change (row_in q (place_of s side)) in
     let there : place_of s side < length q = rw counted (within_rows s (length states) side within) in
     changed_sockets states states q (set q (place_of s side) row) b b s (on_queue side change)
     (λ k ne. (refl, sides_beside q s k side row ne, refl))
@@ -121,9 +124,9 @@ queue_changed states q b s side change counted within =
 
 -- and so are bytes
 pub bytes_changed : (states : List SocketState) (q b : List (List ℕ)) (s : ℕ) (side : Side) (change : List ℕ → List ℕ) → length b ≡ 2 * length states → s < length states
-    → sockets_from 0 states q (set b (place_of s side) (change (row_of b (place_of s side)))) ≡ with_changed s (on_bytes side change) (sockets_from 0 states q b)
+    → sockets_from 0 states q (set b (place_of s side) (change (row_in b (place_of s side)))) ≡ with_changed s (on_bytes side change) (sockets_from 0 states q b)
 bytes_changed states q b s side change counted within =
-    let row = change (row_of b (place_of s side)) in
+    let row = change (row_in b (place_of s side)) in
     let there : place_of s side < length b = rw counted (within_rows s (length states) side within) in
     changed_sockets states states q q b (set b (place_of s side) row) s (on_bytes side change)
     (λ k ne. (refl, refl, sides_beside b s k side row ne))
@@ -141,11 +144,11 @@ state_changed states q b s state =
     ∙ mapped_twice (λ _. state) (λ x. socket_with x (sides_of q s) (sides_of b s)) (slice_get states s))
 
 -- the row that is a socket's queue, and the one that is its bytes
-pub queue_row : (q b : List (List ℕ)) (s : ℕ) (side : Side) (state : SocketState) → (of_side side (socket_with state (sides_of q s) (sides_of b s)).semaphores).queue ≡ row_of q (place_of s side)
+pub queue_row : (q b : List (List ℕ)) (s : ℕ) (side : Side) (state : SocketState) → (of_side side (socket_with state (sides_of q s) (sides_of b s)).semaphores).queue ≡ row_in q (place_of s side)
 queue_row q b s Read state = refl
 queue_row q b s Write state = refl
 
-pub bytes_row : (q b : List (List ℕ)) (s : ℕ) (side : Side) (state : SocketState) → (of_side side (socket_with state (sides_of q s) (sides_of b s)).buffers).bytes ≡ row_of b (place_of s side)
+pub bytes_row : (q b : List (List ℕ)) (s : ℕ) (side : Side) (state : SocketState) → (of_side side (socket_with state (sides_of q s) (sides_of b s)).buffers).bytes ≡ row_in b (place_of s side)
 bytes_row q b s Read state = refl
 bytes_row q b s Write state = refl
 
@@ -189,7 +192,7 @@ pushed_from n (x ∷ states) state q b =
     (pushed_from (n + 1) states state q b ∙ ap (λ m. sockets_from (n + 1) states q b ++ socket_with state (sides_of q m) (sides_of b m) ∷ []) same)
 
 -- rows without items change none
-row-push : (rows : List (List ℕ)) (k : ℕ) → row_of (rows ++ [] ∷ []) k ≡ row_of rows k
+row-push : (rows : List (List ℕ)) (k : ℕ) → row_in (rows ++ [] ∷ []) k ≡ row_in rows k
 row-push [] zero = refl
 row-push [] (suc k) = refl
 row-push (row ∷ rows) zero = refl

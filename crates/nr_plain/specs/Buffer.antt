@@ -2,5 +2,6 @@
 use Rattle.nr_rev.specs.Socket.{Buffer}
 use Rattle.nr_plain.specs.declared.buffer.PlainBuffer.{PlainBuffer}
 
-abbrev pub buffer_shown : PlainBuffer → Buffer
-buffer_shown p = record { bytes = p.bytes.now; capacity = p.capacity }
+-- the buffer that a row of bytes shows
+abbrev pub buffer_view : PlainBuffer → Buffer
+buffer_view p = record { bytes = p.bytes.now; capacity = p.capacity }

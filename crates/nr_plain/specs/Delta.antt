@@ -3,11 +3,12 @@ use Rattle.std.specs.Prelude.{ℕ, sum_by}
 use Rattle.nr_rev.specs.World.{World}
 use Rattle.nr_rev.specs.Transaction.{LeadsBack}
 use Rattle.nr_plain.specs.declared.delta.PlainDelta.{PlainDelta}
-use Rattle.nr_plain.specs.Edit.{Undoes, undo_words}
+use Rattle.nr_plain.specs.Edit.{Undoes, undo_weight}
 
 -- undoing them, from the last to the first, leads back
 abbrev pub PlainBack : PlainDelta → World → World → Type 0
 PlainBack delta new old = LeadsBack Undoes delta.undos.items new old
 
-abbrev pub delta_words : PlainDelta → ℕ
-delta_words delta = sum_by undo_words delta.undos.items
+-- how many words a delta holds
+abbrev pub delta_weight : PlainDelta → ℕ
+delta_weight delta = sum_by undo_weight delta.undos.items

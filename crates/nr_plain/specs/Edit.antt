@@ -3,19 +3,20 @@ use Rattle.std.specs.Prelude.{◌≡◌, ℕ, ◌+◌, ◌-◌, ◌*◌, ◌<◌
 use Rattle.nr_rev.specs.declared.status.Status.TheVariants as status
 use Rattle.nr_rev.specs.Socket.{new_socket}
 use Rattle.nr_rev.specs.Step.{new_row, after_wakes}
-use Rattle.nr_rev.specs.Weight.{entry_words, number_words, row_words, status_words, time_words, variant_words}
+use Rattle.nr_rev.specs.Weight.{entry_weight, number_weight, row_weight, status_weight, time_weight, variant_weight}
 use Rattle.nr_rev.specs.World.{World, with_row, with_status}
 use Rattle.nr_plain.specs.declared.edit.Edit.{Edit}
 use Rattle.nr_plain.specs.declared.edit.Edit.TheVariants as edit
 use Rattle.nr_plain.specs.declared.edit.Undo.{Undo}
 use Rattle.nr_plain.specs.declared.edit.Undo.TheVariants as undo
-use Rattle.nr_plain.specs.SocketEdit.{CanEditSocket, CanUndoSocket, socket_edit_words, after_socket_edit, after_socket_undo, socket_undo_words}
+use Rattle.nr_plain.specs.SocketEdit.{CanEditSocket, CanUndoSocket, socket_edit_weight, after_socket_edit, after_socket_undo, socket_undo_weight}
 
--- a list with another element at a place, where there is one
+-- a list with another element at an index, where there is one
 abbrev pub with_item : {X : Type 0} → ℕ → Option X → List X → List X
 with_item place None xs = xs
 with_item place (Some x) xs = slice_set xs place x
 
+-- the list with the item at a place changed, the same list where there is none
 abbrev pub with_changed : {X : Type 0} → ℕ → (X → X) → List X → List X
 with_changed place change xs = with_item place (option_map change (slice_get xs place)) xs
 
@@ -24,7 +25,8 @@ abbrev pub after_edit : Edit → World → World
 after_edit (edit.Status g status) w = with_status g status w
 after_edit edit.AddGoroutine w = record w { goroutines = w.goroutines ++ status.Idle ∷ [] }
 after_edit (edit.AddSocket rc wc) w = record w { sockets = w.sockets ++ new_socket rc wc ∷ [] }
-after_edit (edit.Socket s change) w = record w { sockets = with_changed s (after_socket_edit change) w.sockets }
+after_edit (edit.Socket s change) w =
+    record w { sockets = with_changed s (after_socket_edit change) w.sockets }
 after_edit (edit.Row d row) w = with_row d row w
 after_edit edit.AddRow w = record w { descriptors = w.descriptors ++ new_row ∷ [] }
 after_edit edit.TakeFree w = record w { free = drop 1 w.free }
@@ -39,14 +41,18 @@ after_edit (edit.TakeFiring place) w = record w { firings = remove w.firings pla
 -- what undoing a change of the world leaves
 abbrev pub after_undo : Undo → World → World
 after_undo (undo.Status g status) w = with_status g status w
-after_undo undo.RemoveGoroutine w = record w { goroutines = take (length w.goroutines - 1) w.goroutines }
+after_undo undo.RemoveGoroutine w =
+    record w { goroutines = take (length w.goroutines - 1) w.goroutines }
 after_undo undo.RemoveSocket w = record w { sockets = take (length w.sockets - 1) w.sockets }
-after_undo (undo.Socket s change) w = record w { sockets = with_changed s (after_socket_undo change) w.sockets }
+after_undo (undo.Socket s change) w =
+    record w { sockets = with_changed s (after_socket_undo change) w.sockets }
 after_undo (undo.Row d row) w = with_row d row w
-after_undo undo.RemoveRow w = record w { descriptors = take (length w.descriptors - 1) w.descriptors }
+after_undo undo.RemoveRow w =
+    record w { descriptors = take (length w.descriptors - 1) w.descriptors }
 after_undo (undo.ReturnFree d) w = record w { free = d ∷ w.free }
 after_undo undo.RemoveFree w = record w { free = drop 1 w.free }
-after_undo (undo.Sleep g status waiters) w = record w { goroutines = slice_set w.goroutines g status; waiters = waiters }
+after_undo (undo.Sleep g status waiters) w =
+    record w { goroutines = slice_set w.goroutines g status; waiters = waiters }
 after_undo (undo.Waiters count) w = record w { waiters = count }
 after_undo (undo.Arming number) w = record w { next_arming = number }
 after_undo (undo.Clock time) w = record w { clock = time }
@@ -58,7 +64,8 @@ abbrev pub CanEdit : Edit → World → Type 0
 CanEdit (edit.Status g status) w = Unit {0}
 CanEdit edit.AddGoroutine w = length w.goroutines < w.limits.goroutines
 CanEdit (edit.AddSocket rc wc) w = length w.sockets < w.limits.sockets
-CanEdit (edit.Socket s change) w = IfSome (slice_get w.sockets s) (CanEditSocket w.limits.goroutines w.limits.buffer change)
+CanEdit (edit.Socket s change) w =
+    IfSome (slice_get w.sockets s) (CanEditSocket w.limits.goroutines w.limits.buffer change)
 CanEdit (edit.Row d row) w = Unit {0}
 CanEdit edit.AddRow w = length w.descriptors < w.limits.descriptors
 CanEdit edit.TakeFree w = 0 < length w.free
@@ -72,9 +79,11 @@ CanEdit (edit.TakeFiring place) w = place < length w.firings
 
 -- there is room for what comes back
 abbrev pub CanUndo : Undo → World → Type 0
-CanUndo (undo.Socket s change) w = IfSome (slice_get w.sockets s) (CanUndoSocket w.limits.goroutines w.limits.buffer change)
+CanUndo (undo.Socket s change) w =
+    IfSome (slice_get w.sockets s) (CanUndoSocket w.limits.goroutines w.limits.buffer change)
 CanUndo (undo.ReturnFree d) w = length w.free < w.limits.descriptors
-CanUndo (undo.ReturnFiring place entry) w = (place ≤ length w.firings) × (length w.firings < 2 * w.limits.descriptors)
+CanUndo (undo.ReturnFiring place entry) w =
+    (place ≤ length w.firings) × (length w.firings < 2 * w.limits.descriptors)
 CanUndo _ w = Unit {0}
 
 -- undoing leads from the new world back to the old one
@@ -82,35 +91,37 @@ abbrev pub Undoes : Undo → World → World → Type 0
 Undoes undo new old = CanUndo undo new × (old ≡ after_undo undo new)
 
 -- how many words an undo holds
-abbrev pub undo_words : Undo → ℕ
-undo_words (undo.Status g status) = variant_words + number_words g + status_words status
-undo_words undo.RemoveGoroutine = variant_words
-undo_words undo.RemoveSocket = variant_words
-undo_words (undo.Socket s change) = variant_words + number_words s + socket_undo_words change
-undo_words (undo.Row d row) = variant_words + number_words d + row_words row
-undo_words undo.RemoveRow = variant_words
-undo_words (undo.ReturnFree d) = variant_words + number_words d
-undo_words undo.RemoveFree = variant_words
-undo_words (undo.Sleep g status waiters) = variant_words + number_words g + status_words status + number_words waiters
-undo_words (undo.Waiters count) = variant_words + number_words count
-undo_words (undo.Arming number) = variant_words + number_words number
-undo_words (undo.Clock time) = variant_words + time_words time
-undo_words undo.RemoveFiring = variant_words
-undo_words (undo.ReturnFiring place entry) = variant_words + number_words place + entry_words entry
+abbrev pub undo_weight : Undo → ℕ
+undo_weight (undo.Status g status) = variant_weight + number_weight g + status_weight status
+undo_weight undo.RemoveGoroutine = variant_weight
+undo_weight undo.RemoveSocket = variant_weight
+undo_weight (undo.Socket s change) = variant_weight + number_weight s + socket_undo_weight change
+undo_weight (undo.Row d row) = variant_weight + number_weight d + row_weight row
+undo_weight undo.RemoveRow = variant_weight
+undo_weight (undo.ReturnFree d) = variant_weight + number_weight d
+undo_weight undo.RemoveFree = variant_weight
+undo_weight (undo.Sleep g status waiters) =
+    variant_weight + number_weight g + status_weight status + number_weight waiters
+undo_weight (undo.Waiters count) = variant_weight + number_weight count
+undo_weight (undo.Arming number) = variant_weight + number_weight number
+undo_weight (undo.Clock time) = variant_weight + time_weight time
+undo_weight undo.RemoveFiring = variant_weight
+undo_weight (undo.ReturnFiring place entry) =
+    variant_weight + number_weight place + entry_weight entry
 
 -- how many the undo of a change holds at most
-abbrev pub edit_words : Edit → ℕ
-edit_words (edit.Status g status) = 6
-edit_words edit.AddGoroutine = 1
-edit_words (edit.AddSocket rc wc) = 1
-edit_words (edit.Socket s change) = 2 + socket_edit_words change
-edit_words (edit.Row d row) = 26
-edit_words edit.AddRow = 1
-edit_words edit.TakeFree = 2
-edit_words (edit.GiveFree d) = 1
-edit_words (edit.Wake g) = 7
-edit_words (edit.Waiters count) = 2
-edit_words (edit.Arming number) = 2
-edit_words (edit.Clock time) = 2
-edit_words (edit.AddFiring entry) = 1
-edit_words (edit.TakeFiring place) = 8
+abbrev pub edit_weight : Edit → ℕ
+edit_weight (edit.Status g status) = 6
+edit_weight edit.AddGoroutine = 1
+edit_weight (edit.AddSocket rc wc) = 1
+edit_weight (edit.Socket s change) = 2 + socket_edit_weight change
+edit_weight (edit.Row d row) = 26
+edit_weight edit.AddRow = 1
+edit_weight edit.TakeFree = 2
+edit_weight (edit.GiveFree d) = 1
+edit_weight (edit.Wake g) = 7
+edit_weight (edit.Waiters count) = 2
+edit_weight (edit.Arming number) = 2
+edit_weight (edit.Clock time) = 2
+edit_weight (edit.AddFiring entry) = 1
+edit_weight (edit.TakeFiring place) = 8

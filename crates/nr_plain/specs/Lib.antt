@@ -1,3 +1,10 @@
+-- what callers need
+pub mod World
+pub mod Plan
+pub mod Delta
+pub mod Worlds
+pub mod ReversibleLaws
+-- inner: what only definitions and proofs of this crate use
 pub mod SocketTable
 pub mod Rows
 pub mod RowEdit
@@ -7,11 +14,6 @@ pub mod SocketEdit
 pub mod Socket
 pub mod Sockets
 pub mod Edit
-pub mod World
-pub mod Plan
 pub mod Reads
 pub mod Change
 pub mod Continuing
-pub mod Delta
-pub mod Worlds
-pub mod ReversibleLaws

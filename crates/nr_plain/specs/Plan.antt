@@ -11,7 +11,7 @@ use Rattle.nr_plain.specs.declared.delta.TheConstants.{MOST_WORDS}
 use Rattle.nr_plain.specs.declared.edit.Edit.{Edit}
 use Rattle.nr_plain.specs.declared.plan.Plan.{Plan}
 use Rattle.nr_plain.specs.declared.plan.TheConstants.{MOST_EDITS}
-use Rattle.nr_plain.specs.Edit.{CanEdit, edit_words, after_edit}
+use Rattle.nr_plain.specs.Edit.{CanEdit, edit_weight, after_edit}
 
 -- some changes, one after the other
 abbrev pub after_edits : List Edit → World → World
@@ -24,14 +24,15 @@ CanEditAll [] w = Unit {0}
 CanEditAll (edit ∷ edits) w = CanEdit edit w × CanEditAll edits (after_edit edit w)
 
 -- the words that the undos of some changes hold at most
-abbrev pub all_words : List Edit → ℕ
-all_words edits = sum_by edit_words edits
+abbrev pub total_weight : List Edit → ℕ
+total_weight edits = sum_by edit_weight edits
 
--- the plan leads from w to the outcome of the step; its changes can be made, and their undos are light
+-- the plan leads from w to the outcome of the step; its changes can be made, and their undos are
+-- light
 pub record LeadsTo (step : Step) (w : World) (plan : Plan) : Type 0 where
   pub answer : outcome w step ≡ Ok (plan.answer, after_edits plan.edits.items w)
   pub can : CanEditAll plan.edits.items w
-  pub light : all_words plan.edits.items ≤ MOST_WORDS + (bytes_left step plan.answer + 7) / 8
+  pub light : total_weight plan.edits.items ≤ MOST_WORDS + (bytes_left step plan.answer + 7) / 8
   pub few : length plan.edits.items ≤ MOST_EDITS
 
 -- why a step does not apply
@@ -43,7 +44,8 @@ abbrev pub Plans : Step → World → Result Plan Refusal → Type 0
 Plans step w (Ok plan) = LeadsTo step w plan
 Plans step w (Err reason) = outcome w step ≡ Err reason
 
--- a plan that leads to the step's outcome, or its reason, or want of memory where bytes are to be kept
+-- a plan that leads to the step's outcome, or its reason, or out of memory where bytes are to be
+-- kept
 abbrev pub PlansUnlessMemory : Step → World → Result Plan Refusal → Type 0
 PlansUnlessMemory step w (Ok plan) = LeadsTo step w plan
 PlansUnlessMemory step w (Err reason) = Refuses world_reason LosesBytes w step reason

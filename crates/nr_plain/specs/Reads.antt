@@ -1,4 +1,4 @@
--- Where a goroutine stands that a step takes further.
+-- The status of a goroutine that a step takes further.
 use Rattle.std.specs.Prelude.{ℕ, Result}
 use Rattle.nr_rev.specs.declared.refusal.Refusal.{Refusal}
 use Rattle.nr_rev.specs.declared.sides.Side.{Side}

@@ -1,4 +1,5 @@
--- What a machine owes whose steps can be undone, of a world over lists: the laws that `Reversible` wants of it.
+-- What a machine owes whose steps can be undone, of a world over lists: the laws that `Reversible`
+-- asks of it.
 use Rattle.std.proofs.Common.{◌≡◌, ◌≤◌, Some, None, Ok, Err, Result, sym, ap, ◌∙◌, lit≤}
 use Rattle.nr_rev.specs.declared.answer.Answer.{Answer}
 use Rattle.nr_rev.specs.declared.refusal.Refusal.{Refusal}
@@ -8,8 +9,8 @@ use Rattle.nr_rev.specs.Step.{Outcome, StepTo, outcome}
 use Rattle.nr_rev.specs.WellFormed.{WellFormed}
 use Rattle.nr_rev.specs.World.{World}
 use Rattle.nr_rev.specs.Worlds.{refusal_of}
-use Rattle.nr_rev.proofs.Chains.{LeadsBack-unique}
-use Rattle.nr_rev.proofs.StepKeeps.{none_for_memory}
+use Rattle.nr_rev.proofs.LeadsBackLemmas.{LeadsBack-unique}
+use Rattle.nr_rev.proofs.StepKeepsLemmas.{none_for_memory}
 use Rattle.nr_plain.specs.declared.delta.PlainDelta.{PlainDelta}
 use Rattle.nr_plain.specs.declared.delta.TheConstants.{MOST_WORDS}
 use Rattle.nr_plain.specs.declared.edit.Undo.{Undo}
@@ -18,35 +19,42 @@ use Rattle.nr_plain.specs.Edit.{Undoes}
 use Rattle.nr_plain.specs.Plan.{world_reason}
 
 -- a step that has a reason does not apply
-pub refused_has_no_step : (old : World) (step : Step) (e : Refusal) (answer : Answer) (new : World) → world_reason old step ≡ Some e → StepTo old step answer new → ⊥
-refused_has_no_step old step e answer new reason is = absurd (let none : Some e ≡ None = sym reason ∙ ap refusal_of is in cc)
+pub refused_has_no_step : (old : World) (step : Step) (e : Refusal) (answer : Answer) (new : World)
+    → world_reason old step ≡ Some e → StepTo old step answer new → ⊥
+refused_has_no_step old step e answer new reason is =
+    absurd (let none : Some e ≡ None = sym reason ∙ ap refusal_of is in cc)
 
 -- equal outcomes have equal parts
-same_parts : {A B : Type 0} (a c : A) (b d : B) → ◌≡◌ {A = Result (A × B) Refusal} (Ok (a, b)) (Ok (c, d)) → (a ≡ c) × (b ≡ d)
+same_parts : {A B : Type 0} (a c : A) (b d : B)
+    → ◌≡◌ {A = Result (A × B) Refusal} (Ok (a, b)) (Ok (c, d)) → (a ≡ c) × (b ≡ d)
 same_parts {A} {B} a c b d e =
     let pairs : ◌≡◌ {A = A × B} (a, b) (c, d) = cc in
     (ap (λ (p : A × B). p.0) pairs, ap (λ (p : A × B). p.1) pairs)
 
 -- a step has one outcome
-pub steps_unique : (old : World) (step : Step) (a b : Answer) (new other : World) → StepTo old step a new → StepTo old step b other → (a ≡ b) × (new ≡ other)
+pub steps_unique : (old : World) (step : Step) (a b : Answer) (new other : World)
+    → StepTo old step a new → StepTo old step b other → (a ≡ b) × (new ≡ other)
 steps_unique old step a b new other p q = same_parts a b new other (sym p ∙ q)
 
 -- each step has the whole allowance
-pub words_are_within : (step : Step) → MOST_WORDS ≤ MOST_WORDS
-words_are_within step = lit≤ tt
+pub weight_is_within : (step : Step) → MOST_WORDS ≤ MOST_WORDS
+weight_is_within step = lit≤ tt
 
 -- what an outcome is refused for
 refused_for : (o : Outcome) (e : Refusal) → refusal_of o ≡ Some e → ◌≡◌ {A = Outcome} o (Err e)
 refused_for (Ok left) e is = cc
 refused_for (Err reason) e is = cc
 
--- want of memory is no reason
-pub memory_is_no_reason : (w : World) (step : Step) → WellFormed w → world_reason w step ≡ Some Memory → ⊥
+-- being out of memory is no reason
+pub memory_is_no_reason : (w : World) (step : Step) → WellFormed w
+    → world_reason w step ≡ Some Memory → ⊥
 memory_is_no_reason w step h is = none_for_memory w step h (refused_for (outcome w step) Memory is)
 
 -- a delta leads back to one world
 pub Undoes-unique : (undo : Undo) (new a b : World) → Undoes undo new a → Undoes undo new b → a ≡ b
 Undoes-unique undo new a b p q = p.1 ∙ sym q.1
 
-pub PlainBack-unique : (delta : PlainDelta) (new a b : World) → PlainBack delta new a → PlainBack delta new b → a ≡ b
-PlainBack-unique delta new a b p q = LeadsBack-unique Undoes Undoes-unique delta.undos.items new a b p q
+pub PlainBack-unique : (delta : PlainDelta) (new a b : World) → PlainBack delta new a
+    → PlainBack delta new b → a ≡ b
+PlainBack-unique delta new a b p q =
+    LeadsBack-unique Undoes Undoes-unique delta.undos.items new a b p q

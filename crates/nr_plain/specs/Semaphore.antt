@@ -2,5 +2,6 @@
 use Rattle.nr_rev.specs.Semaphore.{Semaphore}
 use Rattle.nr_plain.specs.declared.semaphore.PlainSemaphore.{PlainSemaphore}
 
-abbrev pub semaphore_shown : PlainSemaphore → Semaphore
-semaphore_shown p = record { count = p.count; queue = p.queue.now }
+-- the semaphore that a row of waiters and a count show
+abbrev pub semaphore_view : PlainSemaphore → Semaphore
+semaphore_view p = record { count = p.count; queue = p.queue.now }

@@ -4,7 +4,7 @@ use Rattle.nr_rev.specs.declared.sides.Side.{Side}
 use Rattle.nr_rev.specs.Sides.{of_side, with_side}
 use Rattle.nr_rev.specs.Semaphore.{Semaphore}
 use Rattle.nr_rev.specs.Socket.{Socket}
-use Rattle.nr_rev.specs.Weight.{bytes_words, lock_words, number_words, option_words, side_words, variant_words}
+use Rattle.nr_rev.specs.Weight.{bytes_weight, lock_weight, number_weight, option_weight, side_weight, variant_weight}
 use Rattle.nr_plain.specs.declared.socket_edit.SocketEdit.{SocketEdit}
 use Rattle.nr_plain.specs.declared.socket_edit.SocketEdit.TheVariants as edit
 use Rattle.nr_plain.specs.declared.socket_edit.SocketUndo.{SocketUndo}
@@ -13,49 +13,72 @@ use Rattle.nr_plain.specs.declared.socket_edit.SocketUndo.TheVariants as undo
 -- a socket with another semaphore at a side
 abbrev pub on_semaphore : Side → (Semaphore → Semaphore) → Socket → Socket
 on_semaphore side change socket =
-    record socket { semaphores = with_side side (change (of_side side socket.semaphores)) socket.semaphores }
+    record socket {
+      semaphores = with_side side (change (of_side side socket.semaphores))
+          socket.semaphores;
+    }
 
 -- a socket with another queue at a side
 abbrev pub on_queue : Side → (List ℕ → List ℕ) → Socket → Socket
-on_queue side change socket = on_semaphore side (λ semaphore. record semaphore { queue = change semaphore.queue }) socket
+on_queue side change socket =
+    on_semaphore side (λ semaphore. record semaphore { queue = change semaphore.queue }) socket
 
 -- a socket with other bytes at a side
 abbrev pub on_bytes : Side → (List ℕ → List ℕ) → Socket → Socket
 on_bytes side change socket =
-    record socket { buffers = with_side side (record (of_side side socket.buffers) { bytes = change (of_side side socket.buffers).bytes }) socket.buffers }
+    record socket {
+      buffers = with_side side (record (of_side side socket.buffers)
+          { bytes = change (of_side side socket.buffers).bytes }) socket.buffers;
+    }
 
 -- a change of a socket
 abbrev pub after_socket_edit : SocketEdit → Socket → Socket
 after_socket_edit (edit.Lock lock) socket = record socket { lock = lock }
-after_socket_edit (edit.Count side count) socket = on_semaphore side (λ semaphore. record semaphore { count = count }) socket
-after_socket_edit (edit.Enqueue side g) socket = on_semaphore side (λ semaphore. record semaphore { queue = semaphore.queue ++ g ∷ [] }) socket
+after_socket_edit (edit.Count side count) socket =
+    on_semaphore side (λ semaphore. record semaphore { count = count }) socket
+after_socket_edit (edit.Enqueue side g) socket =
+    on_semaphore side (λ semaphore. record semaphore { queue = semaphore.queue ++ g ∷ [] }) socket
 after_socket_edit (edit.Release side) socket =
-    on_semaphore side (λ semaphore. record { count = semaphore.count + 1; queue = drop 1 semaphore.queue }) socket
+    on_semaphore side
+    (λ semaphore. record { count = semaphore.count + 1; queue = drop 1 semaphore.queue }) socket
 after_socket_edit (edit.Append side bytes) socket = on_bytes side (λ held. held ++ bytes.now) socket
-after_socket_edit (edit.Take side bytes) socket = on_bytes side (λ held. drop (length bytes) held) socket
+after_socket_edit (edit.Take side bytes) socket =
+    on_bytes side (λ held. drop (length bytes) held) socket
 after_socket_edit edit.ClosePeer socket = record socket { peer_closed = true }
 
 -- what undoing a change of a socket leaves
 abbrev pub after_socket_undo : SocketUndo → Socket → Socket
 after_socket_undo (undo.Lock lock) socket = record socket { lock = lock }
-after_socket_undo (undo.Count side count) socket = on_semaphore side (λ semaphore. record semaphore { count = count }) socket
+after_socket_undo (undo.Count side count) socket =
+    on_semaphore side (λ semaphore. record semaphore { count = count }) socket
 after_socket_undo (undo.LeaveQueue side) socket =
-    on_semaphore side (λ semaphore. record semaphore { queue = take (length semaphore.queue - 1) semaphore.queue }) socket
+    on_semaphore side
+    (λ semaphore. record semaphore {
+      queue = take (length semaphore.queue - 1) semaphore.queue;
+    }) socket
 after_socket_undo (undo.Requeue side front) socket =
-    on_semaphore side (λ semaphore. record { count = semaphore.count - 1; queue = option_to_list front ++ semaphore.queue }) socket
+    on_semaphore side
+    (λ semaphore. record {
+      count = semaphore.count - 1;
+      queue = option_to_list front ++ semaphore.queue;
+    }) socket
 after_socket_undo (undo.Cut side len) socket = on_bytes side (λ held. take len held) socket
 after_socket_undo (undo.Restore side bytes) socket = on_bytes side (λ held. bytes ++ held) socket
 after_socket_undo undo.OpenPeer socket = record socket { peer_closed = false }
 
--- there is room for the change in queues and buffers of this room, and what leaves a buffer is what stands
--- at its front
+-- there is room for the change in queues and buffers of this room, and what leaves a buffer is what
+-- is at its front
 abbrev pub CanEditSocket : ℕ → ℕ → SocketEdit → Socket → Type 0
 CanEditSocket queue_room byte_room (edit.Lock lock) socket = Unit {0}
 CanEditSocket queue_room byte_room (edit.Count side count) socket = Unit {0}
-CanEditSocket queue_room byte_room (edit.Enqueue side g) socket = length (of_side side socket.semaphores).queue < queue_room
-CanEditSocket queue_room byte_room (edit.Release side) socket = (of_side side socket.semaphores).count + 1 < 2 ^ 32
-CanEditSocket queue_room byte_room (edit.Append side bytes) socket = length (of_side side socket.buffers).bytes + length bytes.now ≤ byte_room
-CanEditSocket queue_room byte_room (edit.Take side bytes) socket = take (length bytes) (of_side side socket.buffers).bytes ≡ bytes
+CanEditSocket queue_room byte_room (edit.Enqueue side g) socket =
+    length (of_side side socket.semaphores).queue < queue_room
+CanEditSocket queue_room byte_room (edit.Release side) socket =
+    (of_side side socket.semaphores).count + 1 < 2 ^ 32
+CanEditSocket queue_room byte_room (edit.Append side bytes) socket =
+    length (of_side side socket.buffers).bytes + length bytes.now ≤ byte_room
+CanEditSocket queue_room byte_room (edit.Take side bytes) socket =
+    take (length bytes) (of_side side socket.buffers).bytes ≡ bytes
 CanEditSocket queue_room byte_room edit.ClosePeer socket = socket.peer_closed ≡ false
 
 -- there is room for what comes back
@@ -66,29 +89,33 @@ CanUndoSocket queue_room byte_room (undo.LeaveQueue side) socket = Unit {0}
 CanUndoSocket queue_room byte_room (undo.Requeue side front) socket =
     length (option_to_list front) + length (of_side side socket.semaphores).queue ≤ queue_room
 CanUndoSocket queue_room byte_room (undo.Cut side len) socket = Unit {0}
-CanUndoSocket queue_room byte_room (undo.Restore side bytes) socket = length bytes + length (of_side side socket.buffers).bytes ≤ byte_room
+CanUndoSocket queue_room byte_room (undo.Restore side bytes) socket =
+    length bytes + length (of_side side socket.buffers).bytes ≤ byte_room
 CanUndoSocket queue_room byte_room undo.OpenPeer socket = Unit {0}
 
 -- undoing leads from the new socket back to the old one
 abbrev pub UndoesSocket : ℕ → ℕ → SocketUndo → Socket → Socket → Type 0
-UndoesSocket queue_room byte_room undo new old = CanUndoSocket queue_room byte_room undo new × (old ≡ after_socket_undo undo new)
+UndoesSocket queue_room byte_room undo new old =
+    CanUndoSocket queue_room byte_room undo new × (old ≡ after_socket_undo undo new)
 
 -- how many words the undo of a change holds
-abbrev pub socket_undo_words : SocketUndo → ℕ
-socket_undo_words (undo.Lock lock) = variant_words + lock_words lock
-socket_undo_words (undo.Count side count) = variant_words + side_words side + number_words count
-socket_undo_words (undo.LeaveQueue side) = variant_words + side_words side
-socket_undo_words (undo.Requeue side front) = variant_words + side_words side + option_words number_words front
-socket_undo_words (undo.Cut side len) = variant_words + side_words side + number_words len
-socket_undo_words (undo.Restore side bytes) = variant_words + side_words side + bytes_words bytes
-socket_undo_words undo.OpenPeer = variant_words
+abbrev pub socket_undo_weight : SocketUndo → ℕ
+socket_undo_weight (undo.Lock lock) = variant_weight + lock_weight lock
+socket_undo_weight (undo.Count side count) = variant_weight + side_weight side + number_weight count
+socket_undo_weight (undo.LeaveQueue side) = variant_weight + side_weight side
+socket_undo_weight (undo.Requeue side front) =
+    variant_weight + side_weight side + option_weight number_weight front
+socket_undo_weight (undo.Cut side len) = variant_weight + side_weight side + number_weight len
+socket_undo_weight (undo.Restore side bytes) =
+    variant_weight + side_weight side + bytes_weight bytes
+socket_undo_weight undo.OpenPeer = variant_weight
 
 -- how many the undo of a change holds at most
-abbrev pub socket_edit_words : SocketEdit → ℕ
-socket_edit_words (edit.Lock lock) = variant_words + lock_words lock
-socket_edit_words (edit.Count side count) = 3
-socket_edit_words (edit.Enqueue side g) = 2
-socket_edit_words (edit.Release side) = 4
-socket_edit_words (edit.Append side bytes) = 3
-socket_edit_words (edit.Take side bytes) = 2 + bytes_words bytes
-socket_edit_words edit.ClosePeer = 1
+abbrev pub socket_edit_weight : SocketEdit → ℕ
+socket_edit_weight (edit.Lock lock) = variant_weight + lock_weight lock
+socket_edit_weight (edit.Count side count) = 3
+socket_edit_weight (edit.Enqueue side g) = 2
+socket_edit_weight (edit.Release side) = 4
+socket_edit_weight (edit.Append side bytes) = 3
+socket_edit_weight (edit.Take side bytes) = 2 + bytes_weight bytes
+socket_edit_weight edit.ClosePeer = 1

@@ -7,17 +7,19 @@ use Rattle.nr_plain.specs.declared.socket_edit.SocketUndo.{SocketUndo}
 use Rattle.nr_plain.specs.declared.sockets.Sockets.TheInside.{Inside}
 use Rattle.nr_plain.specs.Edit.{with_changed}
 use Rattle.nr_plain.specs.Socket.{sides_of, socket_with}
-use Rattle.nr_plain.specs.SocketEdit.{CanUndoSocket, after_socket_edit, after_socket_undo, socket_edit_words, socket_undo_words}
+use Rattle.nr_plain.specs.SocketEdit.{CanUndoSocket, after_socket_edit, after_socket_undo, socket_edit_weight, socket_undo_weight}
 use Rattle.nr_plain.specs.SocketTable.{SocketTable}
 
 -- the sockets from number s on
 abbrev pub sockets_from : ℕ → List SocketState → List (List ℕ) → List (List ℕ) → List Socket
 sockets_from s [] queues buffers = []
 sockets_from s (state ∷ states) queues buffers =
-    socket_with state (sides_of queues s) (sides_of buffers s) ∷ sockets_from (s + 1) states queues buffers
+    socket_with state (sides_of queues s) (sides_of buffers s)
+    ∷ sockets_from (s + 1) states queues buffers
 
-abbrev pub table_shown : Inside → SocketTable
-table_shown t =
+-- the table that contracts see
+abbrev pub table_view : Inside → SocketTable
+table_view t =
     record {
       sockets = sockets_from 0 t.states.items t.queues.rows t.buffers.rows;
       room = t.states.room;
@@ -33,8 +35,9 @@ pub record HasTheirRows (t : Inside) : Type 0 where
   pub buffer_room : t.buffers.most ≡ 2 * t.states.room
 
 -- the change of socket s was made, and this undoes it and is no heavier than the change allows
-pub record EditsSocket (s : ℕ) (edit : SocketEdit) (undo : SocketUndo) (old new : SocketTable) : Type 0 where
+pub record EditsSocket (s : ℕ) (edit : SocketEdit) (undo : SocketUndo) (old new : SocketTable) :
+    Type 0 where
   pub after : new ≡ record old { sockets = with_changed s (after_socket_edit edit) old.sockets }
   pub can : IfSome (slice_get new.sockets s) (CanUndoSocket old.queue_room old.byte_room undo)
   pub back : with_changed s (after_socket_undo undo) new.sockets ≡ old.sockets
-  pub light : socket_undo_words undo ≤ socket_edit_words edit
+  pub light : socket_undo_weight undo ≤ socket_edit_weight edit

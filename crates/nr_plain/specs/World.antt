@@ -4,10 +4,11 @@ use Rattle.nr_rev.specs.World.{World}
 use Rattle.nr_plain.specs.declared.edit.Edit.{Edit}
 use Rattle.nr_plain.specs.declared.edit.Undo.{Undo}
 use Rattle.nr_plain.specs.declared.world.PlainWorld.TheInside.{Inside}
-use Rattle.nr_plain.specs.Edit.{Undoes, edit_words, after_edit, undo_words}
+use Rattle.nr_plain.specs.Edit.{Undoes, edit_weight, after_edit, undo_weight}
 
-abbrev pub world_shown : Inside → World
-world_shown p =
+-- the world that contracts see
+abbrev pub world_view : Inside → World
+world_view p =
     record {
       limits = p.limits;
       goroutines = p.goroutines.items;
@@ -35,4 +36,4 @@ pub record HasRooms (p : Inside) : Type 0 where
 pub record Performs (edit : Edit) (undo : Undo) (old new : World) : Type 0 where
   pub after : new ≡ after_edit edit old
   pub back : Undoes undo new old
-  pub light : undo_words undo ≤ edit_words edit
+  pub light : undo_weight undo ≤ edit_weight edit

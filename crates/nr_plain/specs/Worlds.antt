@@ -12,17 +12,25 @@ use Rattle.nr_plain.specs.Plan.{world_reason}
 abbrev pub meant : World → World
 meant w = w
 
-pub steps_are : (old : World) (step : Step) (answer : Answer) (new : World) → StepTo old step answer new → outcome old step ≡ Ok (answer, new)
+-- a step of this world is the machine's
+pub steps_are : (old : World) (step : Step) (answer : Answer) (new : World)
+    → StepTo old step answer new → outcome old step ≡ Ok (answer, new)
 steps_are old step answer new leads = leads
 
-pub reasons_are : (old : World) (step : Step) → world_reason old step ≡ refusal_of (outcome old step)
+-- it is refused for the machine's reason
+pub reasons_are : (old : World) (step : Step)
+    → world_reason old step ≡ refusal_of (outcome old step)
 reasons_are old step = λ _. world_reason old step
 
+-- a step that takes memory is one by which bytes leave a buffer
 pub memory_is_for_bytes : (old : World) (step : Step) → LosesBytes old step → LosesBytes old step
 memory_is_for_bytes old step loses = loses
 
-pub bytes_out_are : (step : Step) (answer : Answer) → bytes_left step answer ≡ bytes_left step answer
+-- as many bytes leave as of the machine
+pub bytes_out_are : (step : Step) (answer : Answer)
+    → bytes_left step answer ≡ bytes_left step answer
 bytes_out_are step answer = λ _. bytes_left step answer
 
+-- a well formed world is one of the machine
 pub means_well_formed : (state : World) → WellFormed state → WellFormed state
 means_well_formed state fits = fits

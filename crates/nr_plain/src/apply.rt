@@ -4,8 +4,8 @@ ghost use Rattle.std.specs.Prelude.{◌≡◌, ◌≤◌, ◌+◌, length, sum_b
 ghost use Rattle.nr_rev.specs.Step.{IsTimely};
 ghost use Rattle.nr_rev.specs.Transaction.{LeadsBack};
 ghost use Rattle.nr_rev.specs.WellFormed.{WellFormed};
-ghost use Rattle.nr_plain.specs.Edit.{Undoes, undo_words};
-ghost use Rattle.nr_plain.specs.Plan.{CanEditAll, PlansUnlessMemory, after_edits, all_words};
+ghost use Rattle.nr_plain.specs.Edit.{Undoes, undo_weight};
+ghost use Rattle.nr_plain.specs.Plan.{CanEditAll, PlansUnlessMemory, after_edits, total_weight};
 
 use crate::delta::{MOST_WORDS, PlainDelta};
 use crate::edit::{Edit, Undo};
@@ -111,13 +111,13 @@ impl PlainWorld {
         }
     }
 
-    /// Makes the changes, in order, and gives what undoes them.
+    /// Makes the changes, in order, and returns what undoes them.
     fn perform_all(&mut self, mut edits: ArrayVec<Edit, MOST_EDITS>) -> ArrayVec<Undo, MOST_EDITS>
         requires few { length edits.items ≤ MOST_EDITS }
         requires can { CanEditAll edits.items self.old }
         ensures after { self.new ≡ after_edits edits.entry.items self.old }
         ensures back { LeadsBack Undoes result.items self.new self.old }
-        ensures light { sum_by undo_words result.items ≤ all_words edits.entry.items }
+        ensures light { sum_by undo_weight result.items ≤ total_weight edits.entry.items }
     {
         let mut undos = ArrayVec::new();
         while let Some(edit) = edits.pop_at(0) {
@@ -134,9 +134,9 @@ impl Reversible for PlainWorld {
     ghost use Rattle.nr_rev.specs.WellFormed.{WellFormed};
     ghost use Rattle.nr_rev.specs.Worlds.{LosesBytes, bytes_left};
     ghost use Rattle.nr_plain.specs.declared.delta.TheConstants.{MOST_WORDS};
-    ghost use Rattle.nr_plain.specs.Delta.{PlainBack, delta_words};
+    ghost use Rattle.nr_plain.specs.Delta.{PlainBack, delta_weight};
     ghost use Rattle.nr_plain.specs.Plan.{world_reason};
-    ghost use Rattle.nr_plain.specs.ReversibleLaws.{PlainBack-unique, memory_is_no_reason, refused_has_no_step, words_are_within, steps_unique};
+    ghost use Rattle.nr_plain.specs.ReversibleLaws.{PlainBack-unique, memory_is_no_reason, refused_has_no_step, weight_is_within, steps_unique};
 
     type Op = Step;
 
@@ -158,7 +158,7 @@ impl Reversible for PlainWorld {
 
     ghost back = { PlainBack };
 
-    ghost weight = { delta_words };
+    ghost weight = { delta_weight };
 
     ghost allowance = { λ _. MOST_WORDS };
 
@@ -185,5 +185,5 @@ impl Reversible for PlainWorld {
 
     ghost steps_unique = { steps_unique };
 
-    ghost allowance_is_within = { words_are_within };
+    ghost allowance_is_within = { weight_is_within };
 }

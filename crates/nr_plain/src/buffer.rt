@@ -1,7 +1,7 @@
 //! A buffer as it is read: bytes, and how many they may be.
 
 ghost use Rattle.nr_rev.specs.Socket.{room_of};
-ghost use Rattle.nr_plain.specs.Buffer.{buffer_shown};
+ghost use Rattle.nr_plain.specs.Buffer.{buffer_view};
 ghost use Rattle.std.specs.Prelude.{◌≡◌, ◌^◌, ◌<◌};
 
 /// Bytes, of which the capacity says how many they may be.
@@ -14,7 +14,7 @@ pub(crate) struct PlainBuffer<'a> {
 impl PlainBuffer<'_> {
     /// How many bytes more it may have.
     pub(crate) fn room(self) -> usize
-        ensures room { result ≡ room_of (buffer_shown self.entry) }
+        ensures room { result ≡ room_of (buffer_view self.entry) }
         ensures small { result < 2 ^ 32 }
     {
         (self.capacity as usize).saturating_sub(self.bytes.len())

@@ -87,11 +87,11 @@ impl PlainWorld {
 
     fn word_value(&self, descriptor: u32, side: Side) -> CellValue
         ensures { result
-            ≡ descriptor_value descriptor self.now (λ x. value.Word (of_side side x.words)) }
+            ≡ descriptor_value descriptor self.now (λ x. value.WaitWord (of_side side x.words)) }
     {
         match self.descriptor(descriptor) {
             None => CellValue::Absent,
-            Some(x) => CellValue::Word(x.words.of(side)),
+            Some(x) => CellValue::WaitWord(x.words.of(side)),
         }
     }
 

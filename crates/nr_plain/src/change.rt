@@ -1,18 +1,17 @@
 //! What an operation leaves of a descriptor: its fields, orders to its timers, and who is woken. At most
 //! one order and one goroutine a side, reading first.
 
-ghost use Rattle.std.specs.Prelude.{◌≡◌, ◌==◌, ◌&&◌, IfOk, IsTrue, None, negsuc, option_map, option_to_list};
+ghost use Rattle.std.specs.Prelude.{◌≡◌, ◌&&◌, IfOk, IsTrue, None, negsuc, option_map, option_to_list};
 ghost use Rattle.std.specs.Ordering.{int_eq};
 ghost use Rattle.nr_rev.specs.Descriptor as spec;
-ghost use Rattle.nr_rev.specs.Lock as lock;
 ghost use Rattle.nr_rev.specs.Sides as sides;
 ghost use Rattle.nr_rev.specs.declared.sides.Side.TheVariants.{Read, Write};
-ghost use Rattle.nr_plain.specs.Change.{change_shown, followed_shown, unblocked_shown};
+ghost use Rattle.nr_plain.specs.Change.{change_view, followed_view, unblocked_view};
 ghost use Rattle.nr_rev.specs.Refusing.{Gives};
 
-use crate::descriptor::{is_combo, is_expired, with_deadlines, with_word};
+use crate::descriptor::{is_combo, is_expired, with_deadlines, with_wait_word};
 use nr_rev::{
-    Descriptor, Mode, Refusal, Side, Sides, TimerFunction, TimerOrder, Word, both_raised,
+    Descriptor, Mode, Refusal, Side, Sides, TimerFunction, TimerOrder, WaitWord, both_raised,
     deadline_from, raised_sequence,
 };
 
@@ -34,13 +33,13 @@ pub(crate) struct Followed {
 /// A word, and the goroutine that it held.
 #[derive(Clone, Copy)]
 pub(crate) struct Unblocked {
-    pub(crate) word: Word,
+    pub(crate) word: WaitWord,
     pub(crate) woken: Option<u32>,
 }
 
 /// A descriptor with no order and nobody woken.
 fn quiet(descriptor: Descriptor) -> PlainChange
-    ensures shown { change_shown result ≡ spec.quiet descriptor }
+    ensures viewed { change_view result ≡ spec.quiet descriptor }
     ensures orders { result.orders ≡ sides.twice None }
     ensures woken { result.woken ≡ sides.twice None }
 {
@@ -52,17 +51,21 @@ fn quiet(descriptor: Descriptor) -> PlainChange
 }
 
 /// A word unblocked (Go's `netpollunblock`).
-fn unblock(word: Word, ioready: bool) -> Unblocked
-    ensures { unblocked_shown result ≡ spec.unblock word ioready }
+fn unblock(word: WaitWord, ioready: bool) -> Unblocked
+    ensures { unblocked_view result ≡ spec.unblock word ioready }
 {
-    let free = if ioready { Word::Ready } else { Word::Nil };
+    let free = if ioready {
+        WaitWord::Ready
+    } else {
+        WaitWord::Nil
+    };
     match word {
-        Word::Ready => Unblocked { word, woken: None },
-        Word::Nil | Word::Wait => Unblocked {
+        WaitWord::Ready => Unblocked { word, woken: None },
+        WaitWord::Nil | WaitWord::Wait => Unblocked {
             word: free,
             woken: None,
         },
-        Word::Held(goroutine) => Unblocked {
+        WaitWord::Held(goroutine) => Unblocked {
             word: free,
             woken: Some(goroutine),
         },
@@ -70,17 +73,17 @@ fn unblock(word: Word, ioready: bool) -> Unblocked
 }
 
 impl PlainChange {
-    /// A side unblocked. Reading comes before writing, so that those woken stand in that order.
+    /// A side unblocked. Reading comes before writing, and those woken are in that order.
     fn unblock(self, side: Side, ioready: bool) -> PlainChange
         requires none { sides.of_side side self.woken ≡ None }
         requires first { self.woken.write ≡ None }
-        ensures shown { change_shown result
-            ≡ spec.and_then (change_shown self) (spec.unblocked ioready side) }
+        ensures viewed { change_view result
+            ≡ spec.and_then (change_view self) (spec.unblocked ioready side) }
         ensures rest { IsTrue (sides.is_read side) → result.woken.write ≡ None }
     {
         let left = unblock(self.descriptor.words.of(side), ioready);
         PlainChange {
-            descriptor: with_word(side, left.word, self.descriptor),
+            descriptor: with_wait_word(side, left.word, self.descriptor),
             woken: self.woken.with(side, left.woken),
             ..self
         }
@@ -89,7 +92,7 @@ impl PlainChange {
 
 /// The descriptor with a side's timer armed at its deadline, or stopped.
 fn timer_reset(side: Side, descriptor: Descriptor) -> Followed
-    ensures { followed_shown result ≡ spec.timer_reset side descriptor }
+    ensures { followed_view result ≡ spec.timer_reset side descriptor }
 {
     let wanted = wants_timer(side, descriptor);
     let order = if wanted {
@@ -111,7 +114,7 @@ fn timer_reset(side: Side, descriptor: Descriptor) -> Followed
     }
 }
 
-/// Whether a side's deadline wants a timer of its own: one for writing isn't armed under combo.
+/// Whether a side's deadline needs a timer of its own: one for writing isn't armed under combo.
 fn wants_timer(side: Side, descriptor: Descriptor) -> bool
     ensures { result ≡ spec.wants_timer side descriptor }
 {
@@ -134,7 +137,7 @@ fn timer_function(side: Side, descriptor: Descriptor) -> TimerFunction
 
 /// A side's timer after the deadlines of `old` became those of the descriptor.
 fn timer_follows(side: Side, old: Descriptor, descriptor: Descriptor) -> Result<Followed, Refusal>
-    ensures { Gives followed_shown result (spec.timer_follows side old descriptor) }
+    ensures { Gives followed_view result (spec.timer_follows side old descriptor) }
 {
     let stays = Followed {
         descriptor,
@@ -163,7 +166,7 @@ fn timer_follows(side: Side, old: Descriptor, descriptor: Descriptor) -> Result<
 fn is_unmoved(side: Side, old: Descriptor, descriptor: Descriptor) -> bool
     ensures { result
         ≡ (int_eq (sides.of_side side old.deadlines) (sides.of_side side descriptor.deadlines)
-        && (lock.bit (spec.is_combo old) == lock.bit (spec.is_combo descriptor))) }
+        && spec.same_bool (spec.is_combo old) (spec.is_combo descriptor)) }
 {
     old.deadlines.of(side) == descriptor.deadlines.of(side) && is_combo(old) == is_combo(descriptor)
 }
@@ -172,7 +175,7 @@ impl PlainChange {
     /// The sides whose deadline is past unblocked, reading first.
     fn unblock_expired(self) -> PlainChange
         requires { self.woken ≡ sides.twice None }
-        ensures { change_shown result ≡ spec.expired_unblocked (change_shown self) }
+        ensures { change_view result ≡ spec.expired_unblocked (change_view self) }
     {
         let mut change = self;
         if is_expired(Side::Read, self.descriptor) {
@@ -187,7 +190,7 @@ impl PlainChange {
 
 /// Both timers after the deadlines of `old` became those of the descriptor, reading first.
 fn both_follow(old: Descriptor, descriptor: Descriptor) -> Result<PlainChange, Refusal>
-    ensures shown { Gives change_shown result (spec.both_follow old descriptor) }
+    ensures viewed { Gives change_view result (spec.both_follow old descriptor) }
     ensures woken { IfOk result (λ change. change.woken ≡ sides.twice None) }
 {
     let read = timer_follows(Side::Read, old, descriptor)?;
@@ -210,7 +213,7 @@ pub(crate) fn change_by_deadline(
     time: i64,
     old: Descriptor,
 ) -> Result<PlainChange, Refusal>
-    ensures { Gives change_shown result (spec.change_by_deadline clock mode time old) }
+    ensures { Gives change_view result (spec.change_by_deadline clock mode time old) }
 {
     if old.closing {
         return Ok(quiet(old));
@@ -220,7 +223,7 @@ pub(crate) fn change_by_deadline(
     Ok(change.unblock_expired())
 }
 
-/// The descriptor with a deadline, told from now, at the sides that a mode names.
+/// The descriptor with a deadline, counted from now, at the sides that a mode names.
 fn with_deadlines_from(clock: i64, mode: Mode, time: i64, descriptor: Descriptor) -> Descriptor
     ensures { result ≡ spec.with_deadlines mode (spec.deadline_from clock time) descriptor }
 {
@@ -241,7 +244,7 @@ fn stop_if(running: bool, side: Side) -> Option<TimerOrder>
 /// A descriptor evicted (Go's `poll_runtime_pollUnblock`): it is closing, its timers are stopped, and both
 /// sides are unblocked.
 pub(crate) fn change_by_evict(descriptor: Descriptor) -> Result<PlainChange, Refusal>
-    ensures { Gives change_shown result (spec.change_by_evict descriptor) }
+    ensures { Gives change_view result (spec.change_by_evict descriptor) }
 {
     if descriptor.closing {
         return Err(Refusal::AlreadyClosing);
@@ -283,9 +286,9 @@ impl PlainChange {
     /// The sides that a function covers expired, reading first.
     fn expire(self, function: TimerFunction) -> PlainChange
         requires { self.woken ≡ sides.twice None }
-        ensures { change_shown result
-            ≡ spec.and_if (sides.covers_side function Write) (spec.expire Write)
-            (spec.and_if (sides.covers_side function Read) (spec.expire Read) (change_shown self)) }
+        ensures { change_view result
+            ≡ spec.then_if (spec.then_if (change_view self) (sides.covers_side function Read) (spec.expire Read))
+            (sides.covers_side function Write) (spec.expire Write) }
     {
         let mut change = self;
         if function.covers(Side::Read) {
@@ -318,7 +321,7 @@ pub(crate) fn change_by_firing(
     sequence: u64,
     descriptor: Descriptor,
 ) -> Result<Option<PlainChange>, Refusal>
-    ensures { Gives (option_map change_shown) result (spec.change_by_firing function sequence descriptor) }
+    ensures { Gives (option_map change_view) result (spec.change_by_firing function sequence descriptor) }
 {
     if sequence != descriptor.sequences.of(function.side()) {
         return Ok(None);
@@ -332,7 +335,7 @@ pub(crate) fn change_by_firing(
 /// An event of the poller (Go's `netpollready`): the event error is the event's, and the sides that it names
 /// are ready.
 pub(crate) fn change_by_event(mode: Mode, error: bool, descriptor: Descriptor) -> PlainChange
-    ensures { change_shown result ≡ spec.change_by_event mode error descriptor }
+    ensures { change_view result ≡ spec.change_by_event mode error descriptor }
 {
     let mut change = quiet(Descriptor {
         event_error: error,

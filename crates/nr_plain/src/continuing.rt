@@ -3,7 +3,7 @@
 ghost use Rattle.std.specs.Prelude.{◌≡◌, ◌++◌, ◌≤◌, [], length, map, option_to_list};
 ghost use Rattle.nr_rev.specs.Step as step;
 ghost use Rattle.nr_plain.specs.declared.edit.Edit.TheVariants.{Wake};
-ghost use Rattle.nr_plain.specs.Change.{change_shown};
+ghost use Rattle.nr_plain.specs.Change.{change_view};
 ghost use Rattle.nr_plain.specs.Continuing.{ContinuesOr};
 ghost use Rattle.nr_plain.specs.Plan.{CanEditAll, after_edits};
 
@@ -27,7 +27,7 @@ impl PlainWorld {
         requires can { CanEditAll plan.edits.items self.now }
         requires arming { (after_edits plan.edits.items self.now).next_arming
             ≡ self.now.next_arming }
-        ensures { ContinuesOr descriptor row (change_shown change) self.now plan.entry result }
+        ensures { ContinuesOr descriptor row (change_view change) self.now plan.entry result }
     {
         let (timers, number) = after_order(change.orders.read, row.timers, self.next_arming)?;
         let (timers, number) = after_order(change.orders.write, timers, number)?;

@@ -1,4 +1,4 @@
-//! The steps that open a descriptor, evict and close it, and tell it of events: Go's `poll_runtime_pollOpen`,
+//! The steps that open a descriptor, evict and close it, and bring it events: Go's `poll_runtime_pollOpen`,
 //! `poll_runtime_pollUnblock`, `poll_runtime_pollClose` and `netpollready`.
 
 ghost use Rattle.std.specs.Prelude.{◌≡◌, ◌<◌, ◌∷◌, [], List, MatchOption, ℕ, OnOk, length};
@@ -23,7 +23,7 @@ impl PlainWorld {
         self.idle(goroutine)?;
         let _opened = self.socket_of(socket)?;
         if let Some(descriptor) = self.front_free() {
-            let row = self.row_of(descriptor)?;
+            let row = self.row_in(descriptor)?;
             let row = DescriptorRow {
                 descriptor: opened_for(socket, row.descriptor)?,
                 ..row
@@ -112,7 +112,7 @@ impl PlainWorld {
     ) -> Result<Plan<'a>, Refusal>
         ensures { Plans (steps.PollEvent descriptor tag mode error) self.now result }
     {
-        let row = self.row_of(descriptor)?;
+        let row = self.row_in(descriptor)?;
         if self.is_free(descriptor) || tag != row.descriptor.fdseq {
             return Ok(Plan::new(Answer::Stale));
         }

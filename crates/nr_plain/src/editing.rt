@@ -12,7 +12,7 @@ use crate::world::PlainWorld;
 use nr_rev::{DescriptorRow, Entry, Sides, Status};
 
 impl PlainWorld {
-    /// Makes the change, and tells what undoes it.
+    /// Makes the change, and returns what undoes it.
     pub(crate) fn perform(&mut self, edit: Edit) -> Undo
         requires { CanEdit edit self.old }
         ensures { Performs edit.entry result self.old self.new }

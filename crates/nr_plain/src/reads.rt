@@ -3,8 +3,8 @@
 ghost use Rattle.std.specs.Prelude.{◌≡◌, Some, None, MatchResult, slice_get};
 ghost use Rattle.nr_rev.specs.declared.refusal.Refusal.TheVariants.{NoSuchSocket};
 ghost use Rattle.nr_rev.specs.Step as step;
-ghost use Rattle.nr_rev.specs.World.{is_free_number, is_place, is_waited, wait_of};
-ghost use Rattle.nr_plain.specs.Socket.{socket_shown};
+ghost use Rattle.nr_rev.specs.World.{is_free_number, is_wait_at, is_waited, wait_of};
+ghost use Rattle.nr_plain.specs.Socket.{socket_view};
 
 use crate::socket::PlainSocket;
 use crate::world::PlainWorld;
@@ -34,7 +34,7 @@ impl PlainWorld {
     /// A socket that is opened.
     pub(crate) fn socket_of(&self, socket: u32) -> Result<PlainSocket<'_>, Refusal>
         ensures { MatchResult result
-            (λ p. slice_get self.now.sockets socket ≡ Some (socket_shown p))
+            (λ p. slice_get self.now.sockets socket ≡ Some (socket_view p))
             (λ e. (slice_get self.now.sockets socket ≡ None) × (e ≡ NoSuchSocket)) }
     {
         self.sockets.get(socket).ok_or(Refusal::NoSuchSocket)
@@ -51,7 +51,7 @@ impl PlainWorld {
     }
 
     /// A descriptor that was made, with its timers.
-    pub(crate) fn row_of(&self, descriptor: u32) -> Result<DescriptorRow, Refusal>
+    pub(crate) fn row_in(&self, descriptor: u32) -> Result<DescriptorRow, Refusal>
         ensures { result ≡ step.row_of descriptor self.now }
     {
         self.descriptors
@@ -66,7 +66,7 @@ impl PlainWorld {
         if self.is_free(descriptor) {
             return Err(Refusal::NoSuchDescriptor);
         }
-        self.row_of(descriptor)
+        self.row_in(descriptor)
     }
 
     /// Whether a descriptor is one of the free ones.
@@ -89,7 +89,7 @@ impl PlainWorld {
 
 /// Whether one of this status is inside a wait of the descriptor and side.
 fn is_inside(descriptor: u32, side: Side, status: Status) -> bool
-    ensures { result ≡ is_place descriptor side (wait_of status) }
+    ensures { result ≡ is_wait_at descriptor side (wait_of status) }
 {
     match wait_of(status) {
         None => false,

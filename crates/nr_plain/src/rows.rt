@@ -1,15 +1,15 @@
-//! Rows of items that stand one after the other, in room that was made at once.
+//! Rows of items, one after the other, in room that was made at once.
 
 ghost use Rattle.std.specs.Prelude.{◌≡◌, ◌+◌, ◌-◌, ◌^◌, ◌<◌, ◌≤◌, ◌∷◌, ◌++◌, [], length, take, drop, sum, slice_set, vec_len, vec_capacity, IfOk};
 ghost use Rattle.std.specs.List.{splice};
 ghost use Rattle.nr_plain.specs.RowEdit.{CanEditRow, after_row_edit};
-ghost use Rattle.nr_plain.specs.Rows.{row_of};
+ghost use Rattle.nr_plain.specs.Rows.{row_in};
 
 use crate::row_edit::RowEdit;
 use std::alloc::{AllocError, Global};
 use std::marker::Model;
 
-/// At most `most` rows of at most `room` items each. What stands behind a row moves when it grows or shrinks.
+/// At most `most` rows of at most `room` items each. What is behind a row moves when it grows or shrinks.
 #[derive(Drop)]
 pub(crate) struct Rows<T> {
     items: Vec<T>,
@@ -51,7 +51,7 @@ impl<T: Copy + Drop> Rows<T> {
     /// A row's items; none where there is no such row.
     #[tactic(auto, using(crate::proofs::RowsLemmas::row_laws))]
     pub(crate) fn row(&self, row: usize) -> &[T]
-        ensures items { result.now ≡ row_of self.now.rows row }
+        ensures items { result.now ≡ row_in self.now.rows row }
         ensures short { length result.now ≤ self.now.room }
     {
         if row >= self.lens.len() {
@@ -100,12 +100,12 @@ impl<T: Copy + Drop> Rows<T> {
     /// Makes the change of a row.
     pub(crate) fn edit(&mut self, row: usize, edit: RowEdit<T>)
         requires there { row < length self.old.rows }
-        requires room { CanEditRow self.old.room edit (row_of self.old.rows row) }
+        requires room { CanEditRow self.old.room edit (row_in self.old.rows row) }
         ensures after { self.new ≡ record self.old {
           rows = slice_set self.old.rows row
-              (after_row_edit edit.entry (row_of self.old.rows row));
+              (after_row_edit edit.entry (row_in self.old.rows row));
         } }
-        ensures short { length (row_of self.old.rows row) ≤ self.old.room }
+        ensures short { length (row_in self.old.rows row) ≤ self.old.room }
     {
         match edit {
             RowEdit::Extend(items) => self.extend(row, items),
@@ -119,11 +119,11 @@ impl<T: Copy + Drop> Rows<T> {
     #[tactic(auto, using(crate::proofs::RowsLemmas::change_laws))]
     fn extend(&mut self, row: usize, items: &[T])
         requires there { row < length self.old.rows }
-        requires room { length (row_of self.old.rows row) + length items.now ≤ self.old.room }
+        requires room { length (row_in self.old.rows row) + length items.now ≤ self.old.room }
         ensures after { self.new ≡ record self.old {
-          rows = slice_set self.old.rows row (row_of self.old.rows row ++ items.now);
+          rows = slice_set self.old.rows row (row_in self.old.rows row ++ items.now);
         } }
-        ensures short { length (row_of self.old.rows row) ≤ self.old.room }
+        ensures short { length (row_in self.old.rows row) ≤ self.old.room }
     {
         let len = self.len_of(row);
         self.splice(row, len, 0, items);
@@ -133,11 +133,11 @@ impl<T: Copy + Drop> Rows<T> {
     #[tactic(auto, using(crate::proofs::RowsLemmas::change_laws))]
     fn extend_front(&mut self, row: usize, items: &[T])
         requires there { row < length self.old.rows }
-        requires room { length items.now + length (row_of self.old.rows row) ≤ self.old.room }
+        requires room { length items.now + length (row_in self.old.rows row) ≤ self.old.room }
         ensures after { self.new ≡ record self.old {
-          rows = slice_set self.old.rows row (items.now ++ row_of self.old.rows row);
+          rows = slice_set self.old.rows row (items.now ++ row_in self.old.rows row);
         } }
-        ensures short { length (row_of self.old.rows row) ≤ self.old.room }
+        ensures short { length (row_in self.old.rows row) ≤ self.old.room }
     {
         self.splice(row, 0, 0, items);
     }
@@ -147,9 +147,9 @@ impl<T: Copy + Drop> Rows<T> {
     fn drop_front(&mut self, row: usize, count: usize)
         requires { row < length self.old.rows }
         ensures after { self.new ≡ record self.old {
-          rows = slice_set self.old.rows row (drop count (row_of self.old.rows row));
+          rows = slice_set self.old.rows row (drop count (row_in self.old.rows row));
         } }
-        ensures short { length (row_of self.old.rows row) ≤ self.old.room }
+        ensures short { length (row_in self.old.rows row) ≤ self.old.room }
     {
         let count = count.min(self.len_of(row));
         self.splice(row, 0, count, &[]);
@@ -160,9 +160,9 @@ impl<T: Copy + Drop> Rows<T> {
     fn truncate(&mut self, row: usize, count: usize)
         requires { row < length self.old.rows }
         ensures after { self.new ≡ record self.old {
-          rows = slice_set self.old.rows row (take count (row_of self.old.rows row));
+          rows = slice_set self.old.rows row (take count (row_in self.old.rows row));
         } }
-        ensures short { length (row_of self.old.rows row) ≤ self.old.room }
+        ensures short { length (row_in self.old.rows row) ≤ self.old.room }
     {
         let len = self.len_of(row);
         let count = count.min(len);
@@ -173,22 +173,22 @@ impl<T: Copy + Drop> Rows<T> {
     #[tactic(auto, using(crate::proofs::RowsLemmas::len_laws))]
     fn len_of(&self, row: usize) -> usize
         requires { row < length self.now.rows }
-        ensures len { result ≡ length (row_of self.now.rows row) }
+        ensures len { result ≡ length (row_in self.now.rows row) }
         ensures short { result ≤ self.now.room }
     {
         self.lens[row]
     }
 
-    /// Puts new items in the place of so many of a row's.
+    /// Replaces so many of a row's items by new ones.
     #[tactic(auto, using(crate::proofs::RowsLemmas::splice_laws))]
     fn splice(&mut self, row: usize, place: usize, count: usize, new: &[T])
         requires there { row < length self.old.rows }
-        requires within { place + count ≤ length (row_of self.old.rows row) }
-        requires room { length (row_of self.old.rows row) - count + length new.now
+        requires within { place + count ≤ length (row_in self.old.rows row) }
+        requires room { length (row_in self.old.rows row) - count + length new.now
             ≤ self.old.room }
         ensures { self.new ≡ record self.old {
           rows = slice_set self.old.rows row
-              (splice (row_of self.old.rows row) place (place + count) new.now);
+              (splice (row_in self.old.rows row) place (place + count) new.now);
         } }
     {
         let len = self.lens[row];
@@ -217,7 +217,7 @@ fn total(lens: &[usize]) -> usize
     lens.iter().sum()
 }
 
-/// Puts new items in the place of so many.
+/// Replaces so many items by new ones.
 #[tactic(auto, using(crate::proofs::RowsLemmas::spliced))]
 fn replace<T: Copy + Drop>(items: &mut Vec<T>, at: usize, count: usize, new: &[T])
     requires there { at + count ≤ vec_len items.old }
@@ -230,7 +230,7 @@ fn replace<T: Copy + Drop>(items: &mut Vec<T>, at: usize, count: usize, new: &[T
     put_in(items, at, new);
 }
 
-/// Takes so many items out, from a place on.
+/// Takes so many items out, from an index on.
 fn take_out<T: Copy + Drop>(items: &mut Vec<T>, at: usize, count: usize)
     requires { at + count ≤ vec_len items.old }
     ensures items { items.new.items ≡ take at items.old.items ++ drop (at + count) items.old.items }
@@ -242,7 +242,7 @@ fn take_out<T: Copy + Drop>(items: &mut Vec<T>, at: usize, count: usize)
     items.truncate(left);
 }
 
-/// Puts new items in, from a place on.
+/// Puts new items in, from an index on.
 fn put_in<T: Copy>(items: &mut Vec<T>, at: usize, new: &[T])
     requires there { at ≤ vec_len items.old }
     requires room { vec_len items.old + length new.now ≤ vec_capacity items.old }

@@ -3,9 +3,9 @@
 ghost use Rattle.std.specs.Prelude.{◌≡◌, [], length, ◌≤◌};
 ghost use Rattle.nr_rev.specs.Sides.{of_side, twice};
 ghost use Rattle.nr_rev.specs.Socket.{new_socket};
-ghost use Rattle.nr_plain.specs.Buffer.{buffer_shown};
-ghost use Rattle.nr_plain.specs.Semaphore.{semaphore_shown};
-ghost use Rattle.nr_plain.specs.Socket.{place_of, socket_shown, socket_with};
+ghost use Rattle.nr_plain.specs.Buffer.{buffer_view};
+ghost use Rattle.nr_plain.specs.Semaphore.{semaphore_view};
+ghost use Rattle.nr_plain.specs.Socket.{place_of, socket_view, socket_with};
 
 use crate::buffer::PlainBuffer;
 use crate::lock::open_lock;
@@ -52,7 +52,7 @@ pub(crate) struct PlainSocket<'a> {
 impl<'a> PlainSocket<'a> {
     /// The semaphore of a side.
     pub(crate) fn semaphore(self, side: Side) -> PlainSemaphore<'a>
-        ensures shown { semaphore_shown result ≡ of_side side (socket_shown self.entry).semaphores }
+        ensures viewed { semaphore_view result ≡ of_side side (socket_view self.entry).semaphores }
         ensures short { length result.queue.now ≤ self.entry.queues.now.room }
     {
         PlainSemaphore {
@@ -63,7 +63,7 @@ impl<'a> PlainSocket<'a> {
 
     /// The buffer of a side: reading, the input.
     pub(crate) fn buffer(self, side: Side) -> PlainBuffer<'a>
-        ensures shown { buffer_shown result ≡ of_side side (socket_shown self.entry).buffers }
+        ensures viewed { buffer_view result ≡ of_side side (socket_view self.entry).buffers }
         ensures short { length result.bytes.now ≤ self.entry.buffers.now.room }
     {
         PlainBuffer {

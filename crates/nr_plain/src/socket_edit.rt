@@ -15,7 +15,7 @@ pub(crate) enum SocketEdit<'a> {
     Release { side: Side },
     /// Appends bytes to a buffer.
     Append { side: Side, bytes: &'a [u8] },
-    /// Takes these bytes, which stand at its front, out of a buffer.
+    /// Takes these bytes, which are at its front, out of a buffer.
     Take { side: Side, bytes: KeptBytes },
     /// Marks that the peer closed.
     ClosePeer,
@@ -28,11 +28,11 @@ pub enum SocketUndo {
     Count { side: Side, count: u32 },
     /// The back of the queue leaves it.
     LeaveQueue { side: Side },
-    /// The count falls, and what stood at the front of the queue stands there again.
+    /// The count falls, and what was at the front of the queue is there again.
     Requeue { side: Side, front: Option<u32> },
     /// The buffer has so many bytes.
     Cut { side: Side, len: usize },
-    /// The bytes stand at the front of the buffer again.
+    /// The bytes are at the front of the buffer again.
     Restore { side: Side, bytes: KeptBytes },
     OpenPeer,
 }

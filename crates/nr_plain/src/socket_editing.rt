@@ -18,7 +18,7 @@ use crate::sockets::Sockets;
 use nr_rev::{KeptBytes, Lock, Side};
 
 impl Sockets {
-    /// Changes a socket, if it is opened, and tells what undoes the change.
+    /// Changes a socket, if it is opened, and returns what undoes the change.
     pub(crate) fn edit(&mut self, socket: u32, edit: SocketEdit) -> SocketUndo
         requires { IfSome (slice_get self.old.sockets socket)
             (CanEditSocket self.old.queue_room self.old.byte_room edit) }

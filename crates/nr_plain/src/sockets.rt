@@ -5,7 +5,7 @@ ghost use Rattle.nr_rev.specs.Sides.{of_side};
 ghost use Rattle.nr_rev.specs.Socket.{new_socket};
 ghost use Rattle.nr_plain.specs.Edit.{with_changed};
 ghost use Rattle.nr_plain.specs.RowEdit.{CanEditRow, after_row_edit};
-ghost use Rattle.nr_plain.specs.Socket.{HasRoom, socket_shown, with_state};
+ghost use Rattle.nr_plain.specs.Socket.{HasRoom, socket_view, with_state};
 ghost use Rattle.nr_plain.specs.SocketEdit.{on_bytes, on_queue};
 
 use crate::row_edit::RowEdit;
@@ -15,8 +15,8 @@ use nr_rev::{RoomedList, Side};
 use std::alloc::{AllocError, Global};
 use std::marker::Model;
 
-/// The sockets opened so far: what each has of one size, and the queues and the bytes of them all in two blocks, where
-/// what stands behind a queue or a buffer moves when it grows or shrinks.
+/// The sockets opened so far: what each has of one size, and the queues and the bytes of them all in two blocks. When
+/// a queue or a buffer grows or shrinks, what is behind it in the block moves.
 #[derive(Drop)]
 pub(crate) struct Sockets {
     states: RoomedList<SocketState>,
@@ -29,9 +29,9 @@ impl Model for Sockets {
 
     ghost Value = { SocketTable };
 
-    ghost use Rattle.nr_plain.specs.Sockets.{table_shown, HasTheirRows};
+    ghost use Rattle.nr_plain.specs.Sockets.{table_view, HasTheirRows};
 
-    ghost view = { table_shown };
+    ghost view = { table_view };
 
     ghost invariant = { HasTheirRows };
 }
@@ -81,7 +81,7 @@ impl Sockets {
     /// A socket, if it is opened.
     #[tactic(auto, using(crate::proofs::SocketsLemmas::socket_laws))]
     pub(crate) fn get(&self, socket: u32) -> Option<PlainSocket<'_>>
-        ensures shown { option_map socket_shown result ≡ slice_get self.now.sockets socket }
+        ensures viewed { option_map socket_view result ≡ slice_get self.now.sockets socket }
         ensures room { IfSome result (HasRoom self.now.queue_room self.now.byte_room) }
     {
         let state = self.states.get(socket as usize)?;

@@ -36,7 +36,7 @@ impl PlainWorld {
             return Err(Refusal::FiringsFull);
         }
         let descriptor = entry.descriptor;
-        let row = self.row_of(descriptor)?;
+        let row = self.row_in(descriptor)?;
         let row = DescriptorRow {
             timers: row.timers.with(entry.side, None),
             ..row
@@ -56,7 +56,7 @@ impl PlainWorld {
             .firings
             .get(place as usize)
             .ok_or(Refusal::NoSuchFiring)?;
-        let row = self.row_of(entry.descriptor)?;
+        let row = self.row_in(entry.descriptor)?;
         let change = change_by_firing(entry.timer.function, entry.timer.sequence, row.descriptor)?;
         let edit = Edit::TakeFiring { place };
         match change {

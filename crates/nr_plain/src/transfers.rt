@@ -6,7 +6,7 @@ ghost use Rattle.nr_rev.specs.declared.step.Step.TheVariants as steps;
 ghost use Rattle.nr_rev.specs.Socket.{room_of};
 ghost use Rattle.nr_rev.specs.Step as step;
 ghost use Rattle.nr_rev.specs.WellFormed.{WellFormed};
-ghost use Rattle.nr_plain.specs.Buffer.{buffer_shown};
+ghost use Rattle.nr_plain.specs.Buffer.{buffer_view};
 ghost use Rattle.nr_plain.specs.Plan.{Advances, Plans, PlansUnlessMemory};
 
 use crate::buffer::PlainBuffer;
@@ -204,8 +204,8 @@ fn read_answer(count: u32, peer_closed: bool) -> Answer
 /// The bytes that there is room for.
 fn writable<'a>(buffer: PlainBuffer, bytes: &'a [u8]) -> &'a [u8]
     ensures bytes { result.now
-        ≡ take (min (room_of (buffer_shown buffer.entry)) (length bytes.now)) bytes.now }
-    ensures len { length result.now ≡ min (room_of (buffer_shown buffer.entry)) (length bytes.now) }
+        ≡ take (min (room_of (buffer_view buffer.entry)) (length bytes.now)) bytes.now }
+    ensures len { length result.now ≡ min (room_of (buffer_view buffer.entry)) (length bytes.now) }
     ensures small { length result.now < 2 ^ 32 }
 {
     let count = buffer.room().min(bytes.len());

@@ -8,11 +8,11 @@ ghost use Rattle.nr_rev.specs.WellFormed.{WellFormed};
 ghost use Rattle.nr_plain.specs.declared.edit.Edit.TheVariants as edit;
 ghost use Rattle.nr_plain.specs.Plan.{Plans};
 
-use crate::descriptor::{check, with_word};
+use crate::descriptor::{check, with_wait_word};
 use crate::edit::Edit;
 use crate::plan::Plan;
 use crate::world::PlainWorld;
-use nr_rev::{Answer, DescriptorRow, Refusal, Side, Status, Word};
+use nr_rev::{Answer, DescriptorRow, Refusal, Side, Status, WaitWord};
 
 impl PlainWorld {
     /// The plan of `pollreset`.
@@ -33,7 +33,7 @@ impl PlainWorld {
         if code != 0 {
             return Ok(Plan::new(Answer::Code(code)));
         }
-        let row = reworded(row, side, Word::Nil);
+        let row = reworded(row, side, WaitWord::Nil);
         Ok(Plan::new(Answer::Code(code)).then(Edit::Row { descriptor, row }))
     }
 
@@ -67,10 +67,14 @@ impl PlainWorld {
         let Status::Entering { descriptor, side } = status else {
             return Err(Refusal::NotThere);
         };
-        let row = self.row_of(descriptor)?;
+        let row = self.row_in(descriptor)?;
         let (answer, word, status) = match row.descriptor.words.of(side) {
-            Word::Nil => (Answer::Wait, Word::Wait, Status::Armed { descriptor, side }),
-            Word::Ready => (Answer::Code(0), Word::Nil, Status::Idle),
+            WaitWord::Nil => (
+                Answer::Wait,
+                WaitWord::Wait,
+                Status::Armed { descriptor, side },
+            ),
+            WaitWord::Ready => (Answer::Code(0), WaitWord::Nil, Status::Idle),
             _ => return Err(Refusal::DoubleWait),
         };
         Ok(moved(
@@ -90,7 +94,7 @@ impl PlainWorld {
         let Status::Armed { descriptor, side } = status else {
             return Err(Refusal::NotThere);
         };
-        let row = self.row_of(descriptor)?;
+        let row = self.row_in(descriptor)?;
         let code = check(side, row.descriptor);
         let status = if code == 0 {
             Status::Parking { descriptor, side }
@@ -109,11 +113,11 @@ impl PlainWorld {
         let Status::Parking { descriptor, side } = status else {
             return Err(Refusal::NotThere);
         };
-        let row = self.row_of(descriptor)?;
+        let row = self.row_in(descriptor)?;
         match row.descriptor.words.of(side) {
-            Word::Wait => {
+            WaitWord::Wait => {
                 let status = Status::Parked { descriptor, side };
-                let row = reworded(row, side, Word::Held(goroutine));
+                let row = reworded(row, side, WaitWord::Held(goroutine));
                 let count = self.one_waiter_more();
                 let plan = moved(Answer::Yes, goroutine, status, descriptor, row);
                 Ok(plan.then(Edit::Waiters { count }))
@@ -144,9 +148,9 @@ impl PlainWorld {
         let Status::Swapping { descriptor, side } = status else {
             return Err(Refusal::NotThere);
         };
-        let row = self.row_of(descriptor)?;
+        let row = self.row_in(descriptor)?;
         let (answer, status) = match row.descriptor.words.of(side) {
-            Word::Ready => (Answer::Yes, Status::Idle),
+            WaitWord::Ready => (Answer::Yes, Status::Idle),
             _ => (Answer::No, Status::Checking { descriptor, side }),
         };
         Ok(moved(
@@ -154,7 +158,7 @@ impl PlainWorld {
             goroutine,
             status,
             descriptor,
-            reworded(row, side, Word::Nil),
+            reworded(row, side, WaitWord::Nil),
         ))
     }
 
@@ -166,7 +170,7 @@ impl PlainWorld {
         let Status::Checking { descriptor, side } = status else {
             return Err(Refusal::NotThere);
         };
-        let row = self.row_of(descriptor)?;
+        let row = self.row_in(descriptor)?;
         let code = check(side, row.descriptor);
         let status = if code == 0 {
             Status::Entering { descriptor, side }
@@ -178,11 +182,11 @@ impl PlainWorld {
 }
 
 /// The row with another word at a side.
-fn reworded(row: DescriptorRow, side: Side, word: Word) -> DescriptorRow
-    ensures { result ≡ record row { descriptor = spec.with_word side word row.descriptor } }
+fn reworded(row: DescriptorRow, side: Side, word: WaitWord) -> DescriptorRow
+    ensures { result ≡ record row { descriptor = spec.with_wait_word side word row.descriptor } }
 {
     DescriptorRow {
-        descriptor: with_word(side, word, row.descriptor),
+        descriptor: with_wait_word(side, word, row.descriptor),
         ..row
     }
 }

@@ -25,9 +25,9 @@ impl Model for PlainWorld {
 
     ghost Value = { World };
 
-    ghost use Rattle.nr_plain.specs.World.{world_shown, HasRooms};
+    ghost use Rattle.nr_plain.specs.World.{world_view, HasRooms};
 
-    ghost view = { world_shown };
+    ghost view = { world_view };
 
     ghost invariant = { HasRooms };
 }

@@ -137,7 +137,7 @@ static WALKS: [(&str, &str, &str); 6] = [
         "si 7\np rd 0\np wd 0\np rseq 0\np wseq 0\np firings\np timers\np least\nsi 2\np wd 0\np info 0\np timers\np least\nrsi 3\np firings\np wd 0\n",
         "at 7\nrd 0 = 150\nwd 0 = 100\nrseq 0 = 2\nwseq 0 = 1\nfirings = 0\ntimers = 2\nleast = 100\nat 9\nwd 0 = -1\ninfo 0 = 8\ntimers = 1\nleast = 150\nat 6\nfirings = 1\nwd 0 = 100\n",
     ),
-    // A deadline past the greatest time stands at it.
+    // A deadline past the greatest time becomes that time.
     (
         r#"["sockopen",1,1]
 ["pollopen",0,0]
@@ -161,7 +161,7 @@ static WALKS: [(&str, &str, &str); 6] = [
     ),
 ];
 
-/// Recordings with their scripts and replies, as they stand in the examples.
+/// Recordings with their scripts and replies, as the examples have them.
 static EXAMPLES: [(&str, &str, &str); 3] = [
     // A wake-up that is lost.
     (
@@ -273,7 +273,7 @@ static READS: [(&str, &str); 2] = [
 ];
 
 #[test]
-fn each_reason_is_told_by_its_number(rt: HostRuntime) -> Result<(), AllocError> {
+fn each_reason_is_reported_by_its_number(rt: HostRuntime) -> Result<(), AllocError> {
     assert_all_refused(&rt, rt.alloc(), SMALL, REASONS.as_slice())
 }
 

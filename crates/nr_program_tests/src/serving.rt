@@ -24,7 +24,7 @@ enum Then {
     Fails,
     /// Bytes without end.
     GoesOn,
-    /// Bytes without end, but it can't be told that no reply comes any more.
+    /// Bytes without end, but `end_replies` fails.
     IsGone,
 }
 
@@ -195,7 +195,7 @@ static FAILING: [Part; 2] = [
 ];
 
 #[test]
-fn a_caller_who_fails_is_told_by_the_status(rt: HostRuntime) -> Result<(), AllocError> {
+fn a_caller_who_fails_is_reported_by_the_status(rt: HostRuntime) -> Result<(), AllocError> {
     let seen = [Seen::new(), Seen::new()];
     let played = serve(&rt, rt.alloc(), 1, FAILING.as_slice(), seen.as_slice())?;
     played.assert(&rt, ExitStatus::StreamFailed, "placed 1\n");

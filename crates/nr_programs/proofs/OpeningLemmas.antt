@@ -9,7 +9,7 @@ use Rattle.nr_recording.specs.declared.fault.ReadFault.TheVariants as read
 use Rattle.nr_snaps.specs.declared.fault.LoadFault.TheVariants as load
 use Rattle.nr_snaps.proofs.RefusedLemmas.{good_is_not_refused}
 use Rattle.nr_programs.specs.Opening.{IsFirstFault, fault_line}
-use Rattle.nr_programs.specs.Run.{Prints}
+use Rattle.nr_programs.specs.Run.{EndsPrinting}
 use Rattle.nr_programs.specs.declared.opening.OpenFault.{OpenFault}
 use Rattle.nr_programs.specs.declared.opening.OpenFault.TheVariants.{Read, Load}
 use Rattle.nr_programs.specs.declared.run.ExitStatus.{ExitStatus}
@@ -22,7 +22,7 @@ one_recording bytes r s one other =
     let second = reading_again bytes s other in
     cc
 
--- want of memory is all that can be told of it
+-- out of memory is all that it can report
 only_memory : (bytes : List ℕ) (fault : OpenFault) (r : Recording) → IsFirstFault bytes fault → IsTextOf bytes r → IsGood r → fault_line fault ≡ memory_line
 only_memory bytes (Read read.Memory) r first text good = refl
 only_memory bytes (Read (read.Line n fault)) r first text good =
@@ -34,7 +34,7 @@ only_memory bytes (Load (load.Refused n reason)) r first text good =
     absurd (good_is_not_refused first.0 (n - 1) reason first.2.2 (subst IsGood (sym same) good))
 
 -- so that is what is printed of it
-pub tells_memory : (bytes : List ℕ) (fault : OpenFault) (r : Recording) (old new : Outgoing) (status : ExitStatus)
-    → IsFirstFault bytes fault → IsTextOf bytes r → IsGood r → Prints (fault_line fault) Refused old new status → Prints memory_line Refused old new status
-tells_memory bytes fault r old new status first text good prints =
-    subst (λ told. Prints told Refused old new status) (only_memory bytes fault r first text good) prints
+pub prints_memory : (bytes : List ℕ) (fault : OpenFault) (r : Recording) (old new : Outgoing) (status : ExitStatus)
+    → IsFirstFault bytes fault → IsTextOf bytes r → IsGood r → EndsPrinting (fault_line fault) Refused old new status → EndsPrinting memory_line Refused old new status
+prints_memory bytes fault r old new status first text good prints =
+    subst (λ printed. EndsPrinting printed Refused old new status) (only_memory bytes fault r first text good) prints

@@ -1,3 +1,4 @@
+-- what callers need
 pub mod Opening
 pub mod Run
 pub mod Serving

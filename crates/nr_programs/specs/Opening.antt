@@ -20,7 +20,8 @@ abbrev pub IsFirstFault : List ℕ → OpenFault → Type 0
 IsFirstFault bytes (Read read.Memory) = Unit {0}
 IsFirstFault bytes (Read (read.Line n fault)) = reading bytes ≡ Err (read.Line n fault)
 IsFirstFault bytes (Load load.Memory) = Unit {0}
-IsFirstFault bytes (Load (load.Refused n reason)) = (r : Recording) × IsTextOf bytes r × IsLoadFault r (load.Refused n reason)
+IsFirstFault bytes (Load (load.Refused n reason)) =
+    (r : Recording) × IsTextOf bytes r × IsLoadFault r (load.Refused n reason)
 
 -- the line that a fault is printed as
 abbrev pub fault_line : OpenFault → List ℕ

@@ -51,7 +51,7 @@ impl Text for OpenFault {
 /// How many steps lie between two copies of the world.
 const COPY_EVERY: usize = 1_024;
 
-/// Reads the recording that the bytes are a text of, and replays it once. Else answers the first
+/// Reads the recording that the bytes are a text of, and replays it once. Else returns the first
 /// fault: of the lines, or, where they are all right, of the steps; or that there was no memory.
 pub(crate) fn open<W: Worlds + Drop>(alloc: Global, bytes: &[u8]) -> Result<Film<W>, OpenFault>
     ensures film { IfOk result (λ film. IsGoodText bytes.now film.recording) }

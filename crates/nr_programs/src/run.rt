@@ -5,7 +5,7 @@ ghost use Rattle.std.specs.Process.{exit_status};
 ghost use Rattle.nr_rev.specs.Run.{Recording, IsGood};
 ghost use Rattle.nr_recording.specs.Text.{IsTextOf};
 ghost use Rattle.nr_recording.specs.Faults.{memory_line};
-ghost use Rattle.nr_programs.specs.Run.{Runs, Walks, TellsFault, Checks, Prints, code_of, ok_line};
+ghost use Rattle.nr_programs.specs.Run.{Runs, Walks, PrintsFault, Checks, EndsPrinting, status_code, ok_line};
 ghost use Rattle.nr_programs.specs.declared.run.ExitStatus.TheVariants as statuses;
 
 use crate::opening::open;
@@ -45,7 +45,7 @@ pub enum ExitStatus {
 impl ExitStatus {
     /// The process's exit status: 0, 1, 2 or 3, in the order above.
     pub fn code(self) -> u8
-        ensures { result ≡ code_of self }
+        ensures { result ≡ status_code self }
     {
         match self {
             ExitStatus::Done => 0,
@@ -57,7 +57,7 @@ impl ExitStatus {
 }
 
 impl From<ExitStatus> for ExitCode {
-    ghost from_gives = { λ status code. exit_status code ≡ code_of status };
+    ghost from_gives = { λ status code. exit_status code ≡ status_code status };
 
     fn from(status: ExitStatus) -> ExitCode {
         ExitCode::from(status.code())
@@ -65,13 +65,13 @@ impl From<ExitStatus> for ExitCode {
 }
 
 /// Opens the recording, and answers the lines of the input on the output, one after the other, as
-/// a debugger does that stands at position 0 first: each reply is about the world after so many of
-/// the recording's first steps as the position says. A look, and a command that searches for a hit,
-/// may be refused memory, which is said; the command's reply can be asked for again.
+/// a debugger does that begins at position 0. Each reply is about the world after so many of the
+/// recording's first steps as the position says. A look, and a command that searches for a hit, may
+/// run out of memory, which is reported; the command's reply can be asked for again.
 ///
 /// `Done`: a line was `quit`, or the input's end was reached. `Refused`: the recording's first
 /// fault was printed, or `fault 108 memory`, as one line, and nothing was read. `StreamFailed`: a
-/// read or a write failed; then a first part of these texts is written, and nothing else.
+/// read or a write failed; then a prefix of these texts is written, and nothing else.
 pub fn run_bytes<W, R, I, O>(
     rt: &R,
     alloc: Global,
@@ -94,7 +94,7 @@ where
     // A recording whose steps all apply is walked, unless memory runs out before the first line.
     ensures good { (r : Recording) → IsTextOf bytes.now r → IsGood r
         → Walks input.old input.new output.old output.new r result
-        ⊎ TellsFault memory_line input.old input.new output.old output.new result }
+        ⊎ PrintsFault memory_line input.old input.new output.old output.new result }
 {
     match open::<W>(alloc, bytes) {
         Ok(film) => walk(rt, alloc, &film, input, output),
@@ -120,7 +120,7 @@ where
     requires input { input.old.failed ≡ false }
     requires output { output.old.failed ≡ false }
     ensures { Walks input.old input.new output.old output.new film.now.recording result
-        ⊎ TellsFault memory_line input.old input.new output.old output.new result }
+        ⊎ PrintsFault memory_line input.old input.new output.old output.new result }
 {
     let Ok((journal, seat)) = Journal::new(alloc, JOURNAL_ROOM) else {
         return refuse(&OutOfMemory, output);
@@ -138,20 +138,20 @@ where
     }
 }
 
-/// Prints the fault, as one line: `Refused`, or `StreamFailed` where a write failed; then a first part of it is written.
+/// Prints the fault, as one line: `Refused`, or `StreamFailed` where a write failed; then a prefix of it is written.
 pub fn refuse<T: Text, O: Write>(fault: &T, output: &mut Sink<O>) -> ExitStatus
-    ensures { Prints (T.text fault.now) statuses.Refused output.old output.new result }
+    ensures { EndsPrinting (T.text fault.now) statuses.Refused output.old output.new result }
 {
     print(fault, ExitStatus::Refused, output)
 }
 
-// Prints the text, and gives the wanted status where it went out whole.
+// Prints the text, and returns the given status where it went out whole.
 pub(crate) fn print<T: Text, O: Write>(
     text: &T,
     wanted: ExitStatus,
     output: &mut Sink<O>,
 ) -> ExitStatus
-    ensures { Prints (T.text text.now) wanted output.old output.new result }
+    ensures { EndsPrinting (T.text text.now) wanted output.old output.new result }
 {
     match output.print(text) {
         Ok(()) => wanted,
@@ -162,7 +162,7 @@ pub(crate) fn print<T: Text, O: Write>(
 /// Opens the recording, and prints `ok L steps`, where L is how many steps it has, as one line.
 ///
 /// `Refused`: the recording's first fault was printed, or `fault 108 memory`, as one line.
-/// `StreamFailed`: a write failed; then a first part of that line is written.
+/// `StreamFailed`: a write failed; then a prefix of that line is written.
 pub fn check_bytes<W: Worlds + Drop, O: Write>(
     alloc: Global,
     bytes: &[u8],
@@ -173,9 +173,9 @@ pub fn check_bytes<W: Worlds + Drop, O: Write>(
 
     // A recording whose steps all apply is accepted, unless memory runs out.
     ensures good { (r : Recording) → IsTextOf bytes.now r → IsGood r
-        → Prints (ok_line r) statuses.Done
+        → EndsPrinting (ok_line r) statuses.Done
         output.old output.new result
-        ⊎ Prints memory_line statuses.Refused
+        ⊎ EndsPrinting memory_line statuses.Refused
         output.old output.new result }
 {
     match open::<W>(alloc, bytes) {
@@ -186,7 +186,7 @@ pub fn check_bytes<W: Worlds + Drop, O: Write>(
 
 // Prints that the film has so many steps.
 fn accept<W: Worlds + Drop, O: Write>(film: &Film<W>, output: &mut Sink<O>) -> ExitStatus
-    ensures { Prints (ok_line film.now.recording) statuses.Done
+    ensures { EndsPrinting (ok_line film.now.recording) statuses.Done
         output.old output.new result }
 {
     let steps = Token::Number(film.len() as u64);

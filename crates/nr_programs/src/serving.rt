@@ -3,9 +3,9 @@
 ghost use Rattle.std.specs.Prelude.{◌≡◌, IfOk, true};
 ghost use Rattle.nr_rev.specs.Run.{Recording, IsGood};
 ghost use Rattle.nr_recording.specs.Text.{IsTextOf};
-ghost use Rattle.nr_programs.specs.Run.{Prints};
+ghost use Rattle.nr_programs.specs.Run.{EndsPrinting};
 ghost use Rattle.nr_serving.specs.Session.{IsShared, words_of};
-ghost use Rattle.nr_programs.specs.Serving.{ServesAll, Shares, Tells, placed_line, status_of};
+ghost use Rattle.nr_programs.specs.Serving.{ServesAll, Shares, PrintsSession, placed_line, exit_status_of};
 ghost use Rattle.nr_programs.specs.Sharing.{is_in_range};
 ghost use Rattle.nr_programs.specs.declared.run.TheConstants.{DELTAS_KEPT};
 ghost use Rattle.nr_programs.specs.declared.run.ExitStatus.TheVariants as statuses;
@@ -24,12 +24,12 @@ use std::io::Write;
 use std::sync::Wait;
 use std::thread::Threads;
 
-/// Opens the recording, serves the callers of each front in a thread of its own, all in one session, and prints
-/// `placed K` when the last of them has ended, where K is how many commands they placed.
+/// Opens the recording, and serves the callers of each front in a thread of its own, all in one session. Prints `placed
+/// K` when the last of them has ended, where K is how many commands they placed.
 ///
 /// `Done`: no connection failed. `StreamFailed`: one did, or a front's callers couldn't be had, or the last line couldn't
-/// be written. `Refused`: the recording's first fault was printed, or `fault 108 memory`, as one line; that stands in
-/// place of the last line where there is no memory to collect the history.
+/// be written. `Refused`: the recording's first fault was printed, or `fault 108 memory`, as one line. The latter
+/// replaces the last line where there is no memory to collect the history.
 pub fn serve_bytes<W, R, P, O>(
     rt: &R,
     alloc: Global,
@@ -59,7 +59,7 @@ where
     }
 }
 
-// Shares a film, and tells what came of it.
+// Shares a film, and prints what came of it.
 fn share_film<W, R, P, O>(
     rt: &R,
     alloc: Global,
@@ -111,9 +111,10 @@ where
     }
 }
 
-// Tells how many commands were placed, or that there was no memory: to share the recording, or for the history.
+// Prints how many commands were placed, or that there was no memory: to share the recording, or for the
+// history.
 fn tell<O: Write>(shared: &Result<Ended, Unshared>, output: &mut Sink<O>) -> ExitStatus
-    ensures { Tells shared.now output.old output.new result }
+    ensures { PrintsSession shared.now output.old output.new result }
 {
     // of tags there are as many as fronts, at least
     let Ok(ended) = shared else {
@@ -127,7 +128,7 @@ fn tell<O: Write>(shared: &Result<Ended, Unshared>, output: &mut Sink<O>) -> Exi
 
 // Prints how many commands were placed.
 fn tell_placed<O: Write>(history: &[u64], failed: bool, output: &mut Sink<O>) -> ExitStatus
-    ensures { Prints (placed_line history.now) (status_of failed) output.old output.new result }
+    ensures { EndsPrinting (placed_line history.now) (exit_status_of failed) output.old output.new result }
 {
     let placed = Token::Number(history.len() as u64);
     let line = [Token::Text(b"placed "), placed, Token::Text(b"\n")];

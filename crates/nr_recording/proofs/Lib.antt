@@ -6,7 +6,7 @@ pub mod Binds
 pub mod TextLaws
 pub mod Ranges
 pub mod Texts
-pub mod Shown
+pub mod PlainTextLemmas
 pub mod ReadBack
 pub mod Again
 pub mod Written

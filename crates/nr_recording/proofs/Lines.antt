@@ -25,13 +25,13 @@ value_of_refused line h =
       | false ↦ λ e. rw e refl
     ]) refl
 
--- an error that is not of memory is told as this fault
-told : {Y : Type 0} (category : Category) (read : Result Y Fault) → (¬ (category ≡ categories.Memory) → read ≡ Err fault.NotJson) → Fails (of_category category) read
-told categories.Io read h = h (λ e. cc)
-told categories.Syntax read h = h (λ e. cc)
-told categories.Data read h = h (λ e. cc)
-told categories.Eof read h = h (λ e. cc)
-told categories.Memory read h = tt
+-- an error that is not of memory is reported as this fault
+reported : {Y : Type 0} (category : Category) (read : Result Y Fault) → (¬ (category ≡ categories.Memory) → read ≡ Err fault.NotJson) → Fails (of_category category) read
+reported categories.Io read h = h (λ e. cc)
+reported categories.Syntax read h = h (λ e. cc)
+reported categories.Data read h = h (λ e. cc)
+reported categories.Eof read h = h (λ e. cc)
+reported categories.Memory read h = tt
 
-pub json_told : (line : List ℕ) (e : Error) → (¬ IsMemory e → IsUtf8 line → read line ≡ None) → Fails (of_json e) (value_of line)
-json_told line e h = told (category e) (value_of line) (λ other. value_of_refused line (h (λ memory. other (rw memory refl))))
+pub json_reported : (line : List ℕ) (e : Error) → (¬ IsMemory e → IsUtf8 line → read line ≡ None) → Fails (of_json e) (value_of line)
+json_reported line e h = reported (category e) (value_of line) (λ other. value_of_refused line (h (λ memory. other (rw memory refl))))

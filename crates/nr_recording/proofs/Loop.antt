@@ -33,7 +33,8 @@ stops (errors.Fault f) bytes seen line i lt is h so_far =
     let one : with_lines (suc i) seen (drop i (lines bytes)) ≡ Err (faults.Line (suc i) f) = rw (at_step (lines bytes) seen line i lt is, h) refl in
     rw (sym so_far ∙ one) refl
 
-pub ends : (bytes : List ℕ) (seen : Seen) (i : ℕ) → i ≡ length (lines bytes) → with_lines (suc i) seen (drop i (lines bytes)) ≡ with_lines 1 nothing (lines bytes) → reading bytes ≡ recording_at_end i seen
+pub ends : (bytes : List ℕ) (seen : Seen) (i : ℕ) → i ≡ length (lines bytes) → with_lines (suc i) seen (drop i (lines bytes)) ≡ with_lines 1 nothing (lines bytes)
+    → reading bytes ≡ recording_at_end i seen
 unfolding reading with_lines
 ends bytes seen i is so_far =
     let past : length (lines bytes) ≤ i = omega arith in
@@ -41,9 +42,10 @@ ends bytes seen i is so_far =
     rw (sym so_far ∙ one, ← is) refl
 
 -- a line for which there was no memory takes memory
-pub wanted : (bytes line : List ℕ) (i n : ℕ) (e : LineError) → i < length (lines bytes) → line ≡ get_or (lines bytes) i line → (e ≡ errors.Memory → line_takes_memory line ≡ true) → read_fault_at n e ≡ faults.Memory → text_takes_memory bytes ≡ true
-wanted bytes line i n errors.Memory lt is h told = list_any_at line_takes_memory (lines bytes) i line lt (rw (← is) (h refl))
-wanted bytes line i n (errors.Fault f) lt is h told = absurd cc
+pub wanted : (bytes line : List ℕ) (i n : ℕ) (e : LineError) → i < length (lines bytes) → line ≡ get_or (lines bytes) i line → (e ≡ errors.Memory → line_takes_memory line ≡ true)
+    → read_fault_at n e ≡ faults.Memory → text_takes_memory bytes ≡ true
+wanted bytes line i n errors.Memory lt is h reported = list_any_at line_takes_memory (lines bytes) i line lt (rw (← is) (h refl))
+wanted bytes line i n (errors.Fault f) lt is h reported = absurd cc
 
 -- what is behind the last line takes no memory
 pub never_wanted : (n : ℕ) (header : Option Header) (steps : List Step) → ¬ (with_header n header steps ≡ Err faults.Memory)

@@ -22,7 +22,7 @@ use Rattle.nr_recording.specs.Recording.{is_writable, are_writable, recording_of
 use Rattle.nr_recording.specs.declared.version.Version.{Version}
 use Rattle.nr_recording.specs.declared.version.Version.TheVariants.{One}
 use Rattle.nr_recording.specs.Version.{kind_in, may_end_with}
-use Rattle.nr_recording.specs.Arguments.{most_digits, bytes_named, bytes_of, moment_of, from_zero, time_of, first_by, number, bytes, time, ◌and◌}
+use Rattle.nr_recording.specs.Arguments.{most_digits, bytes_named, hex_of, i64_of, from_zero, time_of, first_by, number, bytes, time, ◌and◌}
 use Rattle.nr_recording.specs.Shapes.{step_from}
 use Rattle.nr_recording.specs.Steps.{first_of, step_in, step_of}
 use Rattle.nr_recording.specs.Header.{limit_of, limits_of, unsigned_at, member_count, header_of}
@@ -75,7 +75,7 @@ header_fits version d l e =
 
 -- ---- steps
 
-bytes_few : (d : Data) (bytes : List ℕ) → bytes_of d ≡ Some bytes → leb (length bytes) MOST_BYTES ≡ true
+bytes_few : (d : Data) (bytes : List ℕ) → hex_of d ≡ Some bytes → leb (length bytes) MOST_BYTES ≡ true
 bytes_few d bytes e =
     let named = then_some bytes_named (as_str d) bytes e in
     let kept = kept_some (ltb most_digits (length named.0)) (result_ok (decode_of named.0)) bytes named.2 in
@@ -88,7 +88,7 @@ bytes_few d bytes e =
     from_ok (Ok x) h = cc
     from_ok (Err x) h = absurd cc
 
--- what these arguments are read as, wherever they stand, has a property
+-- what these arguments are read as, wherever they are, has a property
 abbrev OnlyReads : {A : Type 0} → (A → Type 0) → (Items → Result (A × Items) Fault) → Type 0
 OnlyReads {A = A} P read = (ds : Items) (p : A × Items) → read ds ≡ Ok p → P p.0
 
@@ -108,10 +108,10 @@ abbrev AreFew : List ℕ → Type 0
 AreFew bytes = leb (length bytes) MOST_BYTES ≡ true
 
 few_bytes : OnlyReads AreFew bytes
-few_bytes = first_only AreFew bytes_of bytes_few
+few_bytes = first_only AreFew hex_of bytes_few
 
 time_least : OnlyReads (λ t. is_writable (Tick t) ≡ true) time
-time_least = first_only (λ t. is_writable (Tick t) ≡ true) time_of (λ d t e. let m = then_some from_zero (moment_of d) t e in from m.0 t m.2)
+time_least = first_only (λ t. is_writable (Tick t) ≡ true) time_of (λ d t e. let m = then_some from_zero (i64_of d) t e in from m.0 t m.2)
   where
     from : (z t : ℤ) → from_zero z ≡ Some t → is_writable (Tick t) ≡ true
     from (pos n) t h =

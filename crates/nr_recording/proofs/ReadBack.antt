@@ -88,5 +88,6 @@ header_read l h =
     let d : l.descriptors < 2 ^ 64 = omega arith in
     let g : l.goroutines < 2 ^ 64 = omega arith in
     let s : l.sockets < 2 ^ 64 = omega arith in
-    text_read (limits_data l) (IsNumber-decimal l.buffer b, (IsNumber-decimal l.descriptors d, (IsNumber-decimal l.goroutines g, (IsNumber-decimal 1 (lit< tt), (IsNumber-decimal l.sockets s, tt))))) (lit≤ tt)
+    text_read (limits_data l) (IsNumber-decimal l.buffer b, (IsNumber-decimal l.descriptors d, (IsNumber-decimal l.goroutines g, (IsNumber-decimal 1 (lit< tt), (IsNumber-decimal l.sockets s, tt)))))
+    (lit≤ tt)
     (rw (number_of-decimal l.buffer b, number_of-decimal l.descriptors d, number_of-decimal l.goroutines g, number_of-decimal 1 (lit< tt), number_of-decimal l.sockets s) refl)

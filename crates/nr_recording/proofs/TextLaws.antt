@@ -35,14 +35,14 @@ with_line_ok seen line next e =
     let short : length line ≤ MOST_LINE_BYTES = ltb-false _ _ g.0 in
     elim (choice (is_blank line) (Ok seen) (value_of line >>= λ d. with_value seen seen.header d) (Ok next) g.1) [
       | inl p ↦ inl (record { short = short; blank = p.0 }, same_ok {E = Fault} seen next p.1)
-      | inr p ↦ (let b = bind_ok (value_of line) (λ d. with_value seen seen.header d) next p.1 in inr (b.0, record { short = short; shown = p.0; value = b.1 }, b.2))
+      | inr p ↦ (let b = bind_ok (value_of line) (λ d. with_value seen seen.header d) next p.1 in inr (b.0, record { short = short; visible = p.0; value = b.1 }, b.2))
     ]
 
 value_then : (line : List ℕ) (d : Data) (seen next : Seen) → IsValueLine line d → with_value seen seen.header d ≡ Ok next → with_line seen line ≡ Ok next
 unfolding with_line
 value_then line d seen next is e =
     let long : ltb MOST_LINE_BYTES (length line) ≡ false = le-ltb _ _ is.short in
-    rw (long, is.shown, is.value) e
+    rw (long, is.visible, is.value) e
 
 skipped_then : (line : List ℕ) (seen : Seen) → IsSkipped line → with_line seen line ≡ Ok seen
 unfolding with_line
@@ -54,7 +54,8 @@ first_then : (n : ℕ) (seen next : Seen) (line : List ℕ) (rest : List (List �
 unfolding with_lines
 first_then n seen next line rest e = rw e refl
 
-first_ok : (n : ℕ) (seen last : Seen) (line : List ℕ) (rest : List (List ℕ)) → with_lines n seen (line ∷ rest) ≡ Ok last → (next : Seen) × (with_line seen line ≡ Ok next) × (with_lines (suc n) next rest ≡ Ok last)
+first_ok : (n : ℕ) (seen last : Seen) (line : List ℕ) (rest : List (List ℕ)) → with_lines n seen (line ∷ rest) ≡ Ok last
+    → (next : Seen) × (with_line seen line ≡ Ok next) × (with_lines (suc n) next rest ≡ Ok last)
 unfolding with_lines
 first_ok n seen last line rest e =
     let b = bind_ok (at_line n (with_line seen line)) (λ next. with_lines (suc n) next rest) last e in
@@ -83,7 +84,8 @@ record Continues (header : Header) (steps : List Step) (rest : List (List ℕ)) 
   ends : last ≡ after_header header (steps ++ es)
   fits : length (steps ++ es) ≤ MOST_STEPS
 
-steps_found : (rest : List (List ℕ)) (n : ℕ) (header : Header) (steps : List Step) (last : Seen) → length steps ≤ MOST_STEPS → with_lines n (after_header header steps) rest ≡ Ok last → Continues header steps rest last
+steps_found : (rest : List (List ℕ)) (n : ℕ) (header : Header) (steps : List Step) (last : Seen) → length steps ≤ MOST_STEPS → with_lines n (after_header header steps) rest ≡ Ok last
+    → Continues header steps rest last
 unfolding with_lines
 steps_found [] n header steps last le h = record { es = []; are = tt; ends = rw (append-nil steps) (sym (same_ok {E = ReadFault} (after_header header steps) last h)); fits = rw (append-nil steps) le }
 steps_found (line ∷ rest) n header steps last le h =
@@ -97,7 +99,12 @@ steps_found (line ∷ rest) n header steps last le h =
           let e = one.1.0 in
           let few : length (steps ++ e ∷ []) ≤ MOST_STEPS = grind (arith, length-append steps (e ∷ []), one.0) in
           let more = steps_found rest (suc n) header (steps ++ e ∷ []) last few (subst (λ (x : Seen). with_lines (suc n) x rest ≡ Ok last) (sym one.1.2) f.2) in
-          record { es = e ∷ more.es; are = inr ((v.0, v.1, one.1.1), more.are); ends = rw (← append_assoc steps (e ∷ []) more.es) more.ends; fits = rw (← append_assoc steps (e ∷ []) more.es) more.fits })
+          record {
+            es = e ∷ more.es;
+            are = inr ((v.0, v.1, one.1.1), more.are);
+            ends = rw (← append_assoc steps (e ∷ []) more.es) more.ends;
+            fits = rw (← append_assoc steps (e ∷ []) more.es) more.fits;
+          })
     ]
 
 lines_found : (rest : List (List ℕ)) (n m : ℕ) (last : Seen) (w : Recording) → with_lines n nothing rest ≡ Ok last → recording_at_end m last ≡ Ok w → (version : Version) × AreLinesOf version rest w
@@ -142,10 +149,12 @@ steps_again (line ∷ rest) (e ∷ es) n header steps are le =
           let few : eqb (length steps) MOST_STEPS ≡ false = grind arith in
           let one : with_value (after_header header steps) (Some header) v.0.0 ≡ Ok (after_header header (steps ++ e ∷ [])) = rw (few, v.0.2) refl in
           let room : length (steps ++ e ∷ []) + length es ≤ MOST_STEPS = omega (arith, length-append steps (e ∷ [])) in
-          first_then n _ _ line rest (value_then line v.0.0 (after_header header steps) _ v.0.1 one) ∙ steps_again rest es (suc n) header (steps ++ e ∷ []) v.1 room ∙ rw (append_assoc steps (e ∷ []) es) refl)
+          first_then n _ _ line rest (value_then line v.0.0 (after_header header steps) _ v.0.1 one) ∙ steps_again rest es (suc n) header (steps ++ e ∷ []) v.1 room
+          ∙ rw (append_assoc steps (e ∷ []) es) refl)
     ]
 
-lines_again : (version : Version) (rest : List (List ℕ)) (n : ℕ) (w : Recording) → AreLinesOf version rest w → with_lines n nothing rest ≡ Ok (after_header (record { version = version; limits = w.limits }) w.steps)
+lines_again : (version : Version) (rest : List (List ℕ)) (n : ℕ) (w : Recording) → AreLinesOf version rest w
+    → with_lines n nothing rest ≡ Ok (after_header (record { version = version; limits = w.limits }) w.steps)
 lines_again version [] n w are = absurd are
 lines_again version (line ∷ rest) n w are =
     let header : Header = record { version = version; limits = w.limits } in

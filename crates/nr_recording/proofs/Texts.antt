@@ -10,13 +10,14 @@ use Rattle.nr_rev.specs.declared.step.Step.{Step}
 use Rattle.nr_rev.specs.Run.{Recording}
 use Rattle.nr_recording.specs.Writing.{step_data, line_text, line_texts, text, AppendsPart}
 
-one_more_text : (all : List (List ℕ)) (line : List ℕ) (i : ℕ) (a b c : Option (List ℕ)) → i < length all → line ≡ get_or all i line → Appends a b (concat (take i all)) → Appends b c line → Appends a c (concat (take (i + 1) all))
+one_more_text : (all : List (List ℕ)) (line : List ℕ) (i : ℕ) (a b c : Option (List ℕ)) → i < length all → line ≡ get_or all i line → Appends a b (concat (take i all)) → Appends b c line
+    → Appends a c (concat (take (i + 1) all))
 one_more_text all line i a b c lt is before one =
     let e : concat (take (i + 1) all) ≡ concat (take i all) ++ line =
     rw (take_more all i line lt, concat-append, ← is) (ap (λ (x : List ℕ). concat (take i all) ++ x) (append-nil line)) in
     rw e (Appends-trans a b c (concat (take i all)) line before one)
 
--- the i-th step's line stands behind the header's
+-- the i-th step's line is behind the header's
 line_there : (w : Recording) (e : Step) (i : ℕ) → i < length w.steps → e ≡ get_or w.steps i e → line_text (step_data e) ≡ get_or (line_texts w) (i + 1) (line_text (step_data e))
 line_there w e i lt is =
     let f : Step → List ℕ = λ x. line_text (step_data x) in
@@ -34,7 +35,8 @@ concat_at : (all : List (List ℕ)) (line : List ℕ) (i : ℕ) → i < length a
 concat_at all line i lt is =
     ap concat (sym (take-append-drop i all)) ∙ concat-append (take i all) (drop i all) ∙ rw (drop-cons all i line lt, ← is) refl
 
-part_of_text : (all : List (List ℕ)) (line : List ℕ) (i : ℕ) (a b c : Option (List ℕ)) → i < length all → line ≡ get_or all i line → Appends a b (concat (take i all)) → AppendsPart b c line → AppendsPart a c (concat all)
+part_of_text : (all : List (List ℕ)) (line : List ℕ) (i : ℕ) (a b c : Option (List ℕ)) → i < length all → line ≡ get_or all i line → Appends a b (concat (take i all)) → AppendsPart b c line
+    → AppendsPart a c (concat all)
 part_of_text all line i a b c lt is before part =
     let front = concat (take i all) in
     let rest = concat (drop (suc i) all) in

@@ -22,12 +22,13 @@ use Rattle.nr_rev.specs.declared.sides.Mode.TheVariants as modes
 -- ---- one argument
 
 -- an unsigned number of 32 bits
-abbrev pub number_of : Data → Option ℕ
-number_of d = option_and_then (λ n. if nat_lt n (2 ^ 32) then Some n else None) (option_and_then as_u64 (as_number d))
+abbrev pub u32_of : Data → Option ℕ
+u32_of d = option_and_then (λ n. if nat_lt n (2 ^ 32) then Some n else None)
+    (option_and_then as_u64 (as_number d))
 
 -- an unsigned number of 64 bits
-abbrev pub tag_of : Data → Option ℕ
-tag_of d = option_and_then as_u64 (as_number d)
+abbrev pub u64_of : Data → Option ℕ
+u64_of d = option_and_then as_u64 (as_number d)
 
 -- 0 or 1
 abbrev pub bit_named : ℕ → Option Bool
@@ -35,11 +36,11 @@ bit_named n = if n == 0 then Some false else (if n == 1 then Some true else None
 
 -- a bit
 abbrev pub bit_of : Data → Option Bool
-bit_of d = option_and_then bit_named (tag_of d)
+bit_of d = option_and_then bit_named (u64_of d)
 
 -- a number of 64 bits with a sign
-abbrev pub moment_of : Data → Option ℤ
-moment_of d = option_and_then as_i64 (as_number d)
+abbrev pub i64_of : Data → Option ℤ
+i64_of d = option_and_then as_i64 (as_number d)
 
 -- not below 0
 abbrev pub from_zero : ℤ → Option ℤ
@@ -47,11 +48,12 @@ from_zero z = if int_lt z (pos 0) then None else Some z
 
 -- a time that is not below 0
 abbrev pub time_of : Data → Option ℤ
-time_of d = option_and_then from_zero (moment_of d)
+time_of d = option_and_then from_zero (i64_of d)
 
 -- the word for one side
 abbrev pub side_named : List ℕ → Option Side
-side_named text = if bytes_eq text (codes "r") then Some sides.Read else (if bytes_eq text (codes "w") then Some sides.Write else None)
+side_named text = if bytes_eq text (codes "r") then Some sides.Read
+    else (if bytes_eq text (codes "w") then Some sides.Write else None)
 
 -- one side
 abbrev pub side_of : Data → Option Side
@@ -59,7 +61,9 @@ side_of d = option_and_then side_named (as_str d)
 
 -- the word for one side or both
 abbrev pub mode_named : List ℕ → Option Mode
-mode_named text = if bytes_eq text (codes "r") then Some modes.Read else (if bytes_eq text (codes "w") then Some modes.Write else (if bytes_eq text (codes "rw") then Some modes.Both else None))
+mode_named text = if bytes_eq text (codes "r") then Some modes.Read
+    else (if bytes_eq text (codes "w") then Some modes.Write
+    else (if bytes_eq text (codes "rw") then Some modes.Both else None))
 
 -- one side or both
 abbrev pub mode_of : Data → Option Mode
@@ -74,8 +78,8 @@ abbrev pub bytes_named : List ℕ → Option (List ℕ)
 bytes_named text = if nat_lt most_digits (length text) then None else result_ok (decode_of text)
 
 -- bytes
-abbrev pub bytes_of : Data → Option (List ℕ)
-bytes_of d = option_and_then bytes_named (as_str d)
+abbrev pub hex_of : Data → Option (List ℕ)
+hex_of d = option_and_then bytes_named (as_str d)
 
 -- the bytes of a text take memory to read where it has an even number of digits, not too many
 abbrev pub digits_take_memory : List ℕ → Bool
@@ -102,11 +106,11 @@ none ds = Ok (tt, ds)
 
 -- a number of 32 bits
 abbrev pub number : Items → Result (ℕ × Items) Fault
-number ds = first_by number_of ds
+number ds = first_by u32_of ds
 
 -- a number of 64 bits
 abbrev pub tag : Items → Result (ℕ × Items) Fault
-tag ds = first_by tag_of ds
+tag ds = first_by u64_of ds
 
 -- 0 or 1
 abbrev pub bit : Items → Result (Bool × Items) Fault
@@ -114,7 +118,7 @@ bit ds = first_by bit_of ds
 
 -- a time with a sign
 abbrev pub moment : Items → Result (ℤ × Items) Fault
-moment ds = first_by moment_of ds
+moment ds = first_by i64_of ds
 
 -- a time that is not below 0
 abbrev pub time : Items → Result (ℤ × Items) Fault
@@ -130,11 +134,12 @@ mode ds = first_by mode_of ds
 
 -- bytes, as hexadecimal digits
 abbrev pub bytes : Items → Result (List ℕ × Items) Fault
-bytes ds = first_by bytes_of ds
+bytes ds = first_by hex_of ds
 
 infixr 20 ◌and◌
 -- some arguments, and then others
-abbrev pub ◌and◌ : {A B : Type 0} → (Items → Result (A × Items) Fault) → (Items → Result (B × Items) Fault) → Items → Result ((A × B) × Items) Fault
+abbrev pub ◌and◌ : {A B : Type 0} → (Items → Result (A × Items) Fault)
+    → (Items → Result (B × Items) Fault) → Items → Result ((A × B) × Items) Fault
 (first and second) ds = do
   x ← first ds
   y ← second x.1

@@ -32,6 +32,7 @@ fault_text fault.TooManySteps = codes "106 too many steps"
 abbrev pub memory_text : List ℕ
 memory_text = codes "fault 108 memory"
 
+-- the same, as a line
 abbrev pub memory_line : List ℕ
 memory_line = memory_text ++ codes "\n"
 
@@ -40,6 +41,7 @@ abbrev pub read_fault_text : ReadFault → List ℕ
 read_fault_text (reads.Line n f) = codes "line " ++ decimal n ++ codes ": fault " ++ fault_text f
 read_fault_text reads.Memory = memory_text
 
+-- the same, as a line
 abbrev pub read_fault_line : ReadFault → List ℕ
 read_fault_line f = read_fault_text f ++ codes "\n"
 

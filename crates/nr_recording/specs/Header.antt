@@ -13,9 +13,10 @@ use Rattle.nr_rev.specs.declared.limits.TheConstants.{MOST_GOROUTINES, MOST_SOCK
 
 -- the unsigned number at a key
 abbrev pub unsigned_at : List ℕ → Data → Result ℕ Fault
-unsigned_at key d = or_fault fault.Header (option_and_then as_u64 (option_and_then as_number (get key d)))
+unsigned_at key d =
+    or_fault fault.Header (option_and_then as_u64 (option_and_then as_number (get key d)))
 
--- how many members stand there
+-- how many members there are
 abbrev pub members_len : Members → ℕ
 members_len no_members = 0
 members_len (member k d ms) = suc (members_len ms)
@@ -41,9 +42,15 @@ limits_of version gor sock desc buf = do
   sockets ← limit_of MOST_SOCKETS sock
   descriptors ← limit_of MOST_DESCRIPTORS desc
   buffer ← limit_of (most_buffer version) buf
-  Ok (record { goroutines = goroutines; sockets = sockets; descriptors = descriptors; buffer = buffer })
+  Ok (record {
+    goroutines = goroutines;
+    sockets = sockets;
+    descriptors = descriptors;
+    buffer = buffer;
+  })
 
--- the limits of an object of this version, of the five keys and no other: its form is tested before the ranges
+-- the limits of an object of this version, of the five keys and no other: its form is tested before
+-- the ranges
 unfoldable pub header_of : Version → Data → Result Limits Fault
 header_of version d = do
   count ← or_fault fault.Header (member_count d)

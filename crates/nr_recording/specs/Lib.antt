@@ -1,11 +1,13 @@
+-- what callers need
 pub mod Faults
-pub mod Version
 pub mod Recording
+pub mod Reading
+pub mod Text
+pub mod Writing
+-- inner: what only definitions and proofs of this crate use
+pub mod Version
 pub mod Arguments
 pub mod Spelling
 pub mod Shapes
 pub mod Steps
 pub mod Header
-pub mod Reading
-pub mod Text
-pub mod Writing

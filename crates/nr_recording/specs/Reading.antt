@@ -1,4 +1,4 @@
--- The recording that bytes stand for, or the first fault.
+-- The recording that bytes mean, or the first fault.
 use Rattle.std.specs.Prelude.{◌≡◌, ℕ, suc, ◌==◌, ◌≤◌, true, false, List, [], ◌∷◌, ◌++◌, length, Bool, not, ◌&&◌, ◌||◌, Option, Some, None, Result, Ok, Err, IfSome, is_ok, nat_lt, if◌then◌else◌}
 use Rattle.std.specs.List.{slice_split, list_all, list_any}
 use Rattle.std.specs.Str.{is_utf8}
@@ -71,7 +71,8 @@ with_value seen (Some header) d =
 -- one more value takes memory: for the bytes of a step, or to keep a right step
 abbrev pub value_takes_memory : Seen → Option Header → Data → Bool
 value_takes_memory seen None d = false
-value_takes_memory seen (Some header) d = not (length seen.steps == MOST_STEPS) && (step_takes_memory header.version d || is_ok (step_of header.version d))
+value_takes_memory seen (Some header) d = not (length seen.steps == MOST_STEPS)
+    && (step_takes_memory header.version d || is_ok (step_of header.version d))
 
 -- what was seen, and one more line
 unfoldable pub with_line : Seen → List ℕ → Result Seen Fault
@@ -91,7 +92,7 @@ abbrev pub at_line : {A : Type 0} → ℕ → Result A Fault → Result A ReadFa
 at_line n (Ok x) = Ok x
 at_line n (Err f) = Err (errors.Line n f)
 
--- the same of what a function answers: want of memory has no line
+-- the same of what a function returns: out of memory has no line
 abbrev pub read_fault_at : ℕ → LineError → ReadFault
 read_fault_at n line.Memory = errors.Memory
 read_fault_at n (line.Fault f) = errors.Line n f
@@ -99,7 +100,8 @@ read_fault_at n (line.Fault f) = errors.Line n f
 -- the lines from number n on, behind what was seen
 unfoldable pub with_lines : ℕ → Seen → List (List ℕ) → Result Seen ReadFault
 with_lines n seen [] = Ok seen
-with_lines n seen (line ∷ rest) = at_line n (with_line seen line) >>= λ next. with_lines (suc n) next rest
+with_lines n seen (line ∷ rest) =
+    at_line n (with_line seen line) >>= λ next. with_lines (suc n) next rest
 
 -- ---- the whole text
 
@@ -108,7 +110,7 @@ abbrev pub with_header : ℕ → Option Header → List Step → Result Recordin
 with_header n None steps = Err (errors.Line n fault.Header)
 with_header n (Some header) steps = Ok (record { limits = header.limits; steps = steps })
 
--- what stands after the last line, whose number is n
+-- what comes after the last line, whose number is n
 abbrev pub recording_at_end : ℕ → Seen → Result Recording ReadFault
 recording_at_end n seen = with_header n seen.header seen.steps
 

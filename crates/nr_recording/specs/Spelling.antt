@@ -8,7 +8,8 @@ use Rattle.nr_rev.specs.declared.sides.Side.TheVariants as sides
 use Rattle.nr_rev.specs.declared.sides.Mode.{Mode}
 use Rattle.nr_rev.specs.declared.sides.Mode.TheVariants as modes
 
--- an argument of a step: a number of 32 bits, a tag of 64, a time with a sign, a side, a mode, a bit or bytes
+-- an argument of a step: a number of 32 bits, a tag of 64, a time with a sign, a side, a mode, a
+-- bit or bytes
 pub data Argument : Type 0 where
   numeral : ℕ → Argument
   tag : ℕ → Argument

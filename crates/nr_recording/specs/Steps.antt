@@ -100,7 +100,8 @@ abbrev pub first_of : Items → Option (Data × Items)
 first_of no_items = None
 first_of (item d ds) = Some (d, ds)
 
--- the step that the value of a line is: an array of a kind's name, its arguments, and what the version lets stand behind them
+-- the step that the value of a line is: an array of a kind's name, its arguments, and what the
+-- version lets follow them
 unfoldable pub step_of : Version → Data → Result Step Fault
 step_of version d = do
   parts ← or_fault fault.UnknownStep (option_and_then first_of (as_array d))
@@ -111,9 +112,11 @@ step_of version d = do
 
 -- a line with this name and these arguments takes memory to read
 abbrev pub named_takes_memory : Version → List ℕ → Items → Bool
-named_takes_memory version name ds = option_map_or (λ kind. kind_takes_memory kind ds) (kind_in version name) false
+named_takes_memory version name ds =
+    option_map_or (λ kind. kind_takes_memory kind ds) (kind_in version name) false
 
 -- the value of a line does
 unfoldable pub step_takes_memory : Version → Data → Bool
 step_takes_memory version d =
-    option_map_or (λ parts. option_map_or (λ name. named_takes_memory version name parts.1) (as_str parts.0) false) (option_and_then first_of (as_array d)) false
+    option_map_or (λ parts. option_map_or (λ name. named_takes_memory version name parts.1)
+    (as_str parts.0) false) (option_and_then first_of (as_array d)) false

@@ -19,12 +19,13 @@ pub record IsSkipped (line : List ℕ) : Type 0 where
 -- the line is JSON, and d its value
 pub record IsValueLine (line : List ℕ) (d : Data) : Type 0 where
   pub short : length line ≤ MOST_LINE_BYTES
-  pub shown : is_blank line ≡ false
+  pub visible : is_blank line ≡ false
   pub value : value_of line ≡ Ok d
 
 -- the line is a header of this version with these limits
 abbrev pub IsHeaderLine : Version → List ℕ → Limits → Type 0
-IsHeaderLine version line limits = (d : Data) × IsValueLine line d × (version_of d ≡ Ok version) × (header_of version d ≡ Ok limits)
+IsHeaderLine version line limits = (d : Data) × IsValueLine line d × (version_of d ≡ Ok version)
+    × (header_of version d ≡ Ok limits)
 
 -- the line is this step
 abbrev pub IsStepLine : Version → List ℕ → Step → Type 0
@@ -36,14 +37,16 @@ AreSteps version [] [] = ⊤
 AreSteps version [] (step ∷ steps) = ⊥
 AreSteps version (line ∷ rest) [] = IsSkipped line × AreSteps version rest []
 AreSteps version (line ∷ rest) (step ∷ steps) =
-    (IsSkipped line × AreSteps version rest (step ∷ steps)) ⊎ (IsStepLine version line step × AreSteps version rest steps)
+    (IsSkipped line × AreSteps version rest (step ∷ steps))
+    ⊎ (IsStepLine version line step × AreSteps version rest steps)
 
 -- skipped lines, a header, and the steps
 abbrev pub AreLinesOf : Version → List (List ℕ) → Recording → Type 0
 AreLinesOf version [] r = ⊥
 AreLinesOf version (line ∷ rest) r =
     (IsSkipped line × AreLinesOf version rest r)
-    ⊎ (IsHeaderLine version line r.limits × AreSteps version rest r.steps × (length r.steps ≤ MOST_STEPS))
+    ⊎ (IsHeaderLine version line r.limits × AreSteps version rest r.steps
+    × (length r.steps ≤ MOST_STEPS))
 
 -- the bytes are a text of the recording, in some version
 abbrev pub IsTextOf : List ℕ → Recording → Type 0

@@ -23,7 +23,7 @@ most_buffer One = MOST_BUFFER
 abbrev pub kind_in : Version → List ℕ → Option Kind
 kind_in One name = kind_named name
 
--- what is left of a step's line behind its arguments may stand there: in version 1 nothing may
+-- what is left of a step's line may follow its arguments: in version 1 nothing may
 abbrev pub may_end_with : Version → Items → Bool
 may_end_with One no_items = true
 may_end_with One (item d ds) = false

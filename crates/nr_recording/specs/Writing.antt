@@ -19,14 +19,18 @@ abbrev pub step_data : Step → Data
 step_data step = line_data (spelling_of step)
 
 -- each number of the step is in the range of its type
-abbrev pub IsTyped : Step → Type 0
-IsTyped step = AreInTypes (spelling_of step).1
+abbrev pub HasTypedArguments : Step → Type 0
+HasTypedArguments step = AreInTypes (spelling_of step).1
 
 -- ---- the whole text
 
 -- the JSON of the header, in version 1
 abbrev pub limits_data : Limits → Data
-limits_data l = object (member (codes "buf") (number (unsigned l.buffer)) (member (codes "desc") (number (unsigned l.descriptors)) (member (codes "gor") (number (unsigned l.goroutines)) (member (codes "netrev") (number (unsigned (version_number One))) (member (codes "sock") (number (unsigned l.sockets)) no_members)))))
+limits_data l = object (member (codes "buf") (number (unsigned l.buffer))
+    (member (codes "desc") (number (unsigned l.descriptors))
+    (member (codes "gor") (number (unsigned l.goroutines))
+    (member (codes "netrev") (number (unsigned (version_number One)))
+    (member (codes "sock") (number (unsigned l.sockets)) no_members)))))
 
 -- a value in compact form, and a line feed
 unfoldable pub line_text : Data → List ℕ
@@ -42,7 +46,7 @@ text r = concat (line_texts r)
 
 -- ---- what an error leaves written
 
--- just a first part of the text, and not all
+-- just a prefix of the text, and not all
 abbrev pub AppendsPart : Option (List ℕ) → Option (List ℕ) → List ℕ → Type 0
 AppendsPart old new bytes = (n : ℕ) × (n < length bytes) × Appends old new (take n bytes)
 
@@ -50,7 +54,7 @@ AppendsPart old new bytes = (n : ℕ) × (n < length bytes) × Appends old new (
 abbrev pub AppendsLines : Option (List ℕ) → Option (List ℕ) → List (List ℕ) → Type 0
 AppendsLines old new texts = (n : ℕ) × (n < length texts) × Appends old new (concat (take n texts))
 
--- a write is told to have failed
-abbrev pub tells_device : {A : Type 0} → Result A WriteFault → Bool
-tells_device (Err faults.Device) = true
-tells_device _ = false
+-- a write is reported to have failed
+abbrev pub is_device_failure : {A : Type 0} → Result A WriteFault → Bool
+is_device_failure (Err faults.Device) = true
+is_device_failure _ = false

@@ -2,7 +2,7 @@
 
 ghost use Rattle.std.specs.Prelude.{◌≡◌, true};
 ghost use Rattle.serde_json.specs.View.{view};
-ghost use Rattle.nr_recording.specs.Arguments.{number_of, side_named, side_of, mode_named, mode_of, bit_named, bit_of, time_of, rest_of, with_rest, first_takes_memory, number as number_in, side as side_in, mode as mode_in, tag as tag_in, bit as bit_in, moment as moment_in, time as time_in, bytes as bytes_in};
+ghost use Rattle.nr_recording.specs.Arguments.{u32_of, side_named, side_of, mode_named, mode_of, bit_named, bit_of, time_of, rest_of, with_rest, first_takes_memory, number as number_in, side as side_in, mode as mode_in, tag as tag_in, bit as bit_in, moment as moment_in, time as time_in, bytes as bytes_in};
 ghost use Rattle.nr_recording.specs.Faults.{ReadsBy};
 
 use crate::fault::{Fault, LineError};
@@ -14,8 +14,8 @@ use std::slice::Iter;
 
 const MOST_DIGITS: usize = 2 * MOST_BYTES;
 
-fn number_of(value: &Value) -> Option<u32>
-    ensures { result ≡ number_of (view value.now) }
+fn u32_of(value: &Value) -> Option<u32>
+    ensures { result ≡ u32_of (view value.now) }
 {
     u32::try_from(value.as_u64()?).ok()
 }
@@ -79,7 +79,7 @@ fn mode_of(value: &Value) -> Option<Mode>
 pub(crate) fn number(arguments: &mut Iter<'_, Value>) -> Result<u32, Fault>
     ensures { number_in (rest_of arguments.old) ≡ with_rest (rest_of arguments.new) result }
 {
-    arguments.next().and_then(number_of).ok_or(Fault::Arguments)
+    arguments.next().and_then(u32_of).ok_or(Fault::Arguments)
 }
 
 /// A number of 64 bits.

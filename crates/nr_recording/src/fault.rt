@@ -202,7 +202,7 @@ impl LineError {
 pub enum WriteFault {
     /// Memory ran out. Just some first lines went out, whole, and not all.
     Memory,
-    /// A write failed or took nothing. Just a first part of the text went out, and not all.
+    /// A write failed or took nothing. Just a prefix of the text went out, and not all.
     Device,
 }
 

@@ -5,16 +5,16 @@ ghost use Rattle.nr_rev.specs.Run.{Recording};
 ghost use Rattle.nr_recording.specs.Recording.{IsRecording};
 ghost use Rattle.nr_recording.specs.Reading.{reading};
 ghost use Rattle.nr_recording.specs.Text.{IsTextOf};
-ghost use Rattle.nr_recording.specs.Writing.{IsTyped, text};
+ghost use Rattle.nr_recording.specs.Writing.{HasTypedArguments, text};
 ghost use Rattle.nr_recording.specs.declared.recording.TheConstants.{MOST_BYTES, MOST_STEPS};
 ghost use Rattle.nr_recording.specs.declared.reading.TheConstants.{MOST_LINE_BYTES};
 
-/// What is written of a recording is a text of it, and is read as that recording. `IsTyped` says of
+/// What is written of a recording is a text of it, and is read as that recording. `HasTypedArguments` says of
 /// a step just what its type says: each number is in the range of its type.
 #[tactic(auto, using(crate::proofs::Written::text_is_text, crate::proofs::Written::text_read_again))]
 pub fn what_is_written_is_read_again()
-    ensures text { (r : Recording) → IsRecording r → All IsTyped r.steps → IsTextOf (text r) r }
-    ensures reading { (r : Recording) → IsRecording r → All IsTyped r.steps
+    ensures text { (r : Recording) → IsRecording r → All HasTypedArguments r.steps → IsTextOf (text r) r }
+    ensures reading { (r : Recording) → IsRecording r → All HasTypedArguments r.steps
         → reading (text r) ≡ Ok r }
 {}
 

@@ -17,7 +17,7 @@ use serde_json::Value;
 use std::alloc::Global;
 use std::marker::Model;
 
-#[tactic(auto, using(crate::proofs::Lines::value_of_valid, crate::proofs::Lines::json_told))]
+#[tactic(auto, using(crate::proofs::Lines::value_of_valid, crate::proofs::Lines::json_reported))]
 fn value(alloc: Global, line: &[u8]) -> Result<Value, LineError>
     ensures { ReadsBy view result (value_of line.now) }
 {
@@ -47,12 +47,12 @@ struct Header {
 
 /// What was read of the lines so far.
 #[derive(Drop)]
-struct Reader {
+struct RecordingReader {
     header: Option<Header>,
     steps: Vec<Step>,
 }
 
-impl Model for Reader {
+impl Model for RecordingReader {
     ghost use Rattle.nr_recording.specs.Reading.{Seen, IsSeen};
 
     ghost Value = { Seen };
@@ -62,11 +62,11 @@ impl Model for Reader {
     ghost invariant = { λ r. IsSeen (record { header = r.header; steps = r.steps.items }) };
 }
 
-impl Reader {
-    fn new(alloc: Global) -> Reader
+impl RecordingReader {
+    fn new(alloc: Global) -> RecordingReader
         ensures { result ≡ nothing }
     {
-        Reader {
+        RecordingReader {
             header: None,
             steps: Vec::new(alloc),
         }
@@ -124,7 +124,7 @@ fn read_lines(alloc: Global, bytes: &[u8]) -> Result<Recording, ReadFault>
     ensures exact { IsUnlessMemory result (reading bytes.now) }
     ensures memory { result ≡ Err ReadFault.Memory → text_takes_memory bytes.now ≡ true }
 {
-    let mut reader = Reader::new(alloc);
+    let mut reader = RecordingReader::new(alloc);
     let mut number = 0;
     for line in bytes.split(|byte| *byte == b'\n') {
         number += 1;
@@ -136,8 +136,8 @@ fn read_lines(alloc: Global, bytes: &[u8]) -> Result<Recording, ReadFault>
 }
 
 /// Reads the recording that the bytes are a text of: a line of JSON for the header and one for each
-/// step, and blank lines between. Else answers the first faulty line and the first thing that is
-/// wrong with it, or that memory ran out. Of a key that stands twice in the header the last value
+/// step, and blank lines between. Else returns the first faulty line and the first thing that is
+/// wrong with it, or that memory ran out. Of a key that comes twice in the header the last value
 /// counts.
 pub fn read(alloc: Global, bytes: &[u8]) -> Result<Recording, ReadFault>
     // What is read is the recording of that text.

@@ -55,9 +55,9 @@ impl Recording {
     ghost use Rattle.nr_recording.specs.Recording.{IsRecording, recording_of};
 
     /// The recording of these limits and steps. Fails for the first that holds: a limit is out of
-    /// its range (goroutines 1 to 4,096, sockets and descriptors 1 to 256, buffer 1 to 65,536
-    /// bytes); there are more than 1,000,000 steps; a step carries more than 65,536 bytes or sets
-    /// the clock below 0. The steps are then gone.
+    /// its range; there are more than 1,000,000 steps; a step carries more than 65,536 bytes or sets
+    /// the clock below 0. The steps are then gone. The ranges: goroutines 1 to 4,096, sockets and
+    /// descriptors 1 to 256, buffer 1 to 65,536 bytes.
     pub fn new(limits: Limits, steps: Vec<Step>) -> Result<Self, MakeFault>
         ensures { result ≡ recording_of limits steps.items }
     {

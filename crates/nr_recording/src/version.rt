@@ -1,4 +1,4 @@
-//! The versions of the format: what may stand in the lines of each.
+//! The versions of the format: what the lines of each may have.
 
 ghost use Rattle.std.specs.Prelude.{◌≡◌};
 ghost use Rattle.serde_json.specs.View.{items_view};
@@ -52,7 +52,7 @@ impl Version {
         }
     }
 
-    /// Whether this may stand behind a step's arguments.
+    /// Whether this may follow a step's arguments.
     #[tactic(auto, using(crate::proofs::Versions::one_ends_at_once))]
     pub(crate) fn may_end_with(self, rest: &[Value]) -> bool
         ensures { result ≡ may_end_with self (items_view rest.now) }

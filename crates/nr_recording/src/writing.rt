@@ -6,7 +6,7 @@ ghost use Rattle.serde_json.specs.View.{view};
 ghost use Rattle.serde_json.specs.Written.{has_float};
 ghost use Rattle.nr_recording.specs.Reading.{reading};
 ghost use Rattle.nr_recording.specs.Text.{IsTextOf};
-ghost use Rattle.nr_recording.specs.Writing.{limits_data, line_text, line_texts, text, tells_device, AppendsPart, AppendsLines};
+ghost use Rattle.nr_recording.specs.Writing.{limits_data, line_text, line_texts, text, is_device_failure, AppendsPart, AppendsLines};
 
 use crate::fault::WriteFault;
 use crate::recording::Recording;
@@ -47,7 +47,7 @@ fn write_line<W: Write>(alloc: Global, value: &Value, out: &mut Sink<W>) -> Resu
     ensures memory { result ≡ Err WriteFault.Memory → out.new ≡ out.old }
     ensures device { result ≡ Err WriteFault.Device
         → AppendsPart out.old.contents out.new.contents (line_text (view value.now)) }
-    ensures failed { out.new.failed ≡ (out.old.failed || tells_device result) }
+    ensures failed { out.new.failed ≡ (out.old.failed || is_device_failure result) }
 {
     let line = line_bytes(alloc, value)?;
     out.print(&line.as_slice())?;
@@ -55,9 +55,9 @@ fn write_line<W: Write>(alloc: Global, value: &Value, out: &mut Sink<W>) -> Resu
 }
 
 /// Writes the recording's text, in version 1: each value in compact form, keys in alphabetical
-/// order, hexadecimal in lower case, and a line feed after each line. What an error leaves written
-/// is told in `WriteFault`. A write that was interrupted is tried again. On a sink on which no write
-/// had failed before, that one failed is told just where one did, or took nothing.
+/// order, hexadecimal in lower case, and a line feed after each line. `WriteFault` says what an
+/// error leaves written. A write that was interrupted is tried again. On a sink on which no write
+/// had failed before, a failure is reported exactly where one failed, or took nothing.
 pub fn write<W: Write>(
     alloc: Global,
     recording: &Recording,
@@ -74,12 +74,12 @@ pub fn write<W: Write>(
     ensures memory { result ≡ Err WriteFault.Memory → AppendsLines
         out.old.contents out.new.contents (line_texts recording.now) }
 
-    // Just a first part of the text went out, and not all of it.
+    // Just a prefix of the text went out, and not all of it.
     ensures device { result ≡ Err WriteFault.Device
         → AppendsPart out.old.contents out.new.contents (text recording.now) }
 
-    // Where no write had failed before, one failed exactly where that is told.
-    ensures failed { out.new.failed ≡ (out.old.failed || tells_device result) }
+    // Where no write had failed before, one failed exactly where that is reported.
+    ensures failed { out.new.failed ≡ (out.old.failed || is_device_failure result) }
 {
     write_line(alloc, &limits_value(alloc, recording.limits())?, out)?;
     for step in recording.steps() {

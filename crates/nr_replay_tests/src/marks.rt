@@ -33,7 +33,7 @@ fn a_deleted_number_is_not_given_again(rt: HostRuntime) -> Result<(), Fail> {
 }
 
 #[test]
-fn at_most_64_marks_stand(rt: HostRuntime) -> Result<(), Fail> {
+fn at_most_64_marks_are_present(rt: HostRuntime) -> Result<(), Fail> {
     let mut marks = Marks::new();
     for number in 1..=64 {
         assert_eq!(rt; marks.add_watch(Cell::Clock), Ok(number));

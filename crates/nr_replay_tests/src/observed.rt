@@ -1,4 +1,4 @@
-//! A world that counts what is done to it, and is refused memory as it is told, for the tests.
+//! A world that counts what is done to it, and whose copies are refused as the test says.
 
 ghost use Rattle.std.specs.Prelude.{◌≡◌};
 
@@ -10,7 +10,7 @@ use std::alloc::Global;
 use std::marker::Model;
 use std::sync::atomic::{AtomicU32, Ordering};
 
-/// A world over lists that counts the calls that it gets, and whose copies may be refused memory. None of that is part of
+/// A world over lists that counts the calls that it gets, and whose copies may run out of memory. None of that is part of
 /// what it means.
 #[derive(Drop)]
 pub struct Observed {
@@ -65,9 +65,9 @@ impl Reversible for Observed {
     ghost use Rattle.nr_rev.specs.Step.{StepTo};
     ghost use Rattle.nr_rev.specs.WellFormed.{WellFormed};
     ghost use Rattle.nr_rev.specs.Worlds.{LosesBytes, bytes_left};
-    ghost use Rattle.nr_plain.specs.Delta.{PlainBack, delta_words};
+    ghost use Rattle.nr_plain.specs.Delta.{PlainBack, delta_weight};
     ghost use Rattle.nr_plain.specs.Plan.{world_reason};
-    ghost use Rattle.nr_plain.specs.ReversibleLaws.{PlainBack-unique, memory_is_no_reason, refused_has_no_step, words_are_within, steps_unique};
+    ghost use Rattle.nr_plain.specs.ReversibleLaws.{PlainBack-unique, memory_is_no_reason, refused_has_no_step, weight_is_within, steps_unique};
 
     type Op = Step;
 
@@ -89,7 +89,7 @@ impl Reversible for Observed {
 
     ghost back = { PlainBack };
 
-    ghost weight = { delta_words };
+    ghost weight = { delta_weight };
 
     ghost allowance = { λ _. 64 };
 
@@ -113,7 +113,7 @@ impl Reversible for Observed {
 
     ghost steps_unique = { steps_unique };
 
-    ghost allowance_is_within = { words_are_within };
+    ghost allowance_is_within = { weight_is_within };
 }
 
 impl Worlds for Observed {

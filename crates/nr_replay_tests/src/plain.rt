@@ -255,7 +255,7 @@ fn referred(alloc: Global, count: u32) -> Result<(CellValue, Result<Answer, Refu
     refer_once_more(&mut world, count)
 }
 
-/// Takes a second where it is proved, and two minutes of `rt try --test`, which wants `--seconds 300` for it.
+/// Takes a second where it is proved, and two minutes of `rt try --test`, which needs `--seconds 300` for it.
 #[test]
 fn a_lock_word_is_full_where_it_is_in_go(rt: HostRuntime) {
     assert_eq!(rt;
@@ -330,9 +330,13 @@ fn answer_of(world: &mut PlainWorld, step: &Step) -> Option<Answer>
     requires { WellFormed world.old }
     ensures { WellFormed world.new }
 {
-    let told = answer_of_a_copy(world, step).ok()?;
+    let reported = answer_of_a_copy(world, step).ok()?;
     let answer = apply(world, step).ok()?;
-    if answer == told { Some(answer) } else { None }
+    if answer == reported {
+        Some(answer)
+    } else {
+        None
+    }
 }
 
 /// What a buffer of socket 0 holds, where there is one, and memory to show it.
@@ -462,7 +466,7 @@ fn lengths(world: &PlainWorld) -> (CellValue, CellValue)
     (world.cell(Cell::Input(0)), world.cell(Cell::Output(0)))
 }
 
-/// What the step answers, at once or, where it was refused memory, which changed nothing, the next time.
+/// What the step answers: at once or, where it ran out of memory, which changed nothing, the next time.
 fn answer_in_two_tries(world: &mut PlainWorld, step: &Step) -> Result<Answer, Refusal>
     requires { WellFormed world.old }
     ensures { WellFormed world.new }

@@ -39,8 +39,8 @@ fn step_fault(rt: &HostRuntime, lines: &str) -> Result<Option<ReadFault>, Fail> 
     Ok(fault_of(rt, text.as_bytes()))
 }
 
-/// What a beginning of a good text with no blank line is: where a line ends there, as many steps as
-/// lines behind the header, else no JSON; and where nothing stands, no header.
+/// What a prefix of a good text with no blank line is: as many steps as lines behind the header,
+/// where it ends with a line; else no JSON. An empty one has no header.
 fn expected(beginning: &[u8], next: Option<&u8>) -> Result<usize, ReadFault> {
     let feeds = beginning.iter().filter(|byte| **byte == b'\n').count();
     let fault = match beginning.last() {
@@ -273,13 +273,13 @@ fn tells_a_failed_write(rt: HostRuntime) -> Result<(), Fail> {
             held: Vec::new(rt.alloc()),
             room,
         }));
-        let told = if room < text.len() {
+        let reported = if room < text.len() {
             Err(WriteFault::Device)
         } else {
             Ok(())
         };
-        assert_eq!(rt; write(rt.alloc(), &recording, &mut out), told);
-        assert_eq!(rt; out.has_failed(), told.is_err());
+        assert_eq!(rt; write(rt.alloc(), &recording, &mut out), reported);
+        assert_eq!(rt; out.has_failed(), reported.is_err());
         assert_eq!(rt; out.into_inner().stream.held.as_slice(), beginning);
     }
     Ok(())

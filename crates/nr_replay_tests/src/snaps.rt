@@ -42,7 +42,7 @@ fn a_film_has_a_copy_at_its_end(rt: HostRuntime) -> Result<(), Fail> {
 }
 
 #[test]
-fn a_refused_step_is_told_with_its_reason(rt: HostRuntime) -> Result<(), Fail> {
+fn a_refused_step_is_reported_with_its_reason(rt: HostRuntime) -> Result<(), Fail> {
     let fault = fault_of_the_last(rt.alloc()).ok_or("no fault")?;
     assert_eq!(rt;
         fault,

@@ -1,4 +1,4 @@
-//! What a walk takes, by what is told and by what a world counts.
+//! What a walk takes, by what it returns and by what a world counts.
 
 use crate::films::ticking;
 use crate::observed::Observed;
@@ -18,14 +18,14 @@ fn copies(film: &Film<Observed>) -> u32 {
     copies
 }
 
-/// Goes to a position that the film has: what it took, as it is told and as the worlds counted it, and how many deltas
+/// Goes to a position that the film has: what it took, as it returns it and as the worlds counted it, and how many deltas
 /// are kept.
 fn go(walker: &mut Walker<Observed>, n: usize) -> Option<(Moved, Moved, usize)> {
     if n > walker.film().len() {
         return None;
     }
     let (before, copied) = (walker.world().moves(), copies(walker.film()));
-    let told = walker.goto(n).ok()?;
+    let reported = walker.goto(n).ok()?;
     let made = copies(walker.film()).wrapping_sub(copied);
     let (applies, undos) = walker.world().moves();
     // a copy begins to count anew
@@ -35,11 +35,11 @@ fn go(walker: &mut Walker<Observed>, n: usize) -> Option<(Moved, Moved, usize)> 
         undos: undos.wrapping_sub(since.1) as usize,
         copies: made as usize,
     };
-    Some((told, counted, walker.kept()))
+    Some((reported, counted, walker.kept()))
 }
 
 #[test]
-fn a_walk_takes_what_it_tells(rt: HostRuntime) -> Result<(), Fail> {
+fn a_walk_takes_what_it_reports(rt: HostRuntime) -> Result<(), Fail> {
     let film = ticking(rt.alloc(), 192).ok_or("no film")?;
     let mut walker = Walker::new(rt.alloc(), &film, 32)?;
     for (n, applies, undos, copies, kept) in [
@@ -57,8 +57,8 @@ fn a_walk_takes_what_it_tells(rt: HostRuntime) -> Result<(), Fail> {
             undos,
             copies,
         };
-        let (told, counted, left) = go(&mut walker, n).ok_or("it can't go there")?;
-        assert!(rt; told == moved && counted == moved && left == kept);
+        let (reported, counted, left) = go(&mut walker, n).ok_or("it can't go there")?;
+        assert!(rt; reported == moved && counted == moved && left == kept);
     }
     assert_eq!(rt; walker.world().cell(Cell::Clock), CellValue::Time(191));
     Ok(())

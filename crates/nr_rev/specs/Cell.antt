@@ -16,13 +16,16 @@ abbrev pub value_or_absent : {A : Type 0} → (A → CellValue) → Option A →
 value_or_absent value None = Absent
 value_or_absent value (Some a) = value a
 
+-- what a cell of socket s shows; absent where s was not opened
 abbrev pub socket_value : ℕ → World → (Socket → CellValue) → CellValue
 socket_value s w value = value_or_absent value (slice_get w.sockets s)
 
 -- a free descriptor's cells have values too
 abbrev pub descriptor_value : ℕ → World → (Descriptor → CellValue) → CellValue
-descriptor_value d w value = value_or_absent (λ row. value row.descriptor) (slice_get w.descriptors d)
+descriptor_value d w value =
+    value_or_absent (λ row. value row.descriptor) (slice_get w.descriptors d)
 
+-- what a cell shows in a world: the counts, times, words and numbers that a debugger prints
 abbrev pub cell : World → Cell → CellValue
 cell w Cell.Clock = Time w.clock
 cell w Cell.Waiters = Number w.waiters
@@ -35,8 +38,8 @@ cell w (Cell.ReadSemaphore s) = socket_value s w (λ socket. Number socket.semap
 cell w (Cell.WriteSemaphore s) = socket_value s w (λ socket. Number socket.semaphores.write.count)
 cell w (Cell.Input s) = socket_value s w (λ socket. Number (length socket.buffers.read.bytes))
 cell w (Cell.Output s) = socket_value s w (λ socket. Number (length socket.buffers.write.bytes))
-cell w (Cell.ReadWord d) = descriptor_value d w (λ x. CellValue.Word x.words.read)
-cell w (Cell.WriteWord d) = descriptor_value d w (λ x. CellValue.Word x.words.write)
+cell w (Cell.ReadWord d) = descriptor_value d w (λ x. CellValue.WaitWord x.words.read)
+cell w (Cell.WriteWord d) = descriptor_value d w (λ x. CellValue.WaitWord x.words.write)
 cell w (Cell.ReadDeadline d) = descriptor_value d w (λ x. Time x.deadlines.read)
 cell w (Cell.WriteDeadline d) = descriptor_value d w (λ x. Time x.deadlines.write)
 cell w (Cell.ReadSequence d) = descriptor_value d w (λ x. Number x.sequences.read)
@@ -46,8 +49,10 @@ cell w (Cell.Info d) = descriptor_value d w (λ x. Number (summary x))
 
 -- the bytes that a socket's buffer holds: reading, the input
 abbrev pub bytes_of : World → ℕ → Side → Option (List ℕ)
-bytes_of w s side = option_map (λ (socket : Socket). (of_side side socket.buffers).bytes) (slice_get w.sockets s)
+bytes_of w s side =
+    option_map (λ (socket : Socket). (of_side side socket.buffers).bytes) (slice_get w.sockets s)
 
 -- the goroutines queued at a socket's semaphore, front first
 abbrev pub queue_of : World → ℕ → Side → Option (List ℕ)
-queue_of w s side = option_map (λ (socket : Socket). (of_side side socket.semaphores).queue) (slice_get w.sockets s)
+queue_of w s side =
+    option_map (λ (socket : Socket). (of_side side socket.semaphores).queue) (slice_get w.sockets s)

@@ -93,6 +93,6 @@ cell_number (Cell.WriteSequence i) = 17
 cell_number (Cell.DescriptorSequence i) = 18
 cell_number (Cell.Info i) = 19
 
--- the cell that shows what has this number, of what the index tells if there is one
+-- the cell with this number, of what the index names if there is one
 abbrev pub cell_numbered : ℕ → Option ℕ → Option Cell
 cell_numbered number index = find (λ cell. cell_number cell == number) (cells_at index)

@@ -6,8 +6,8 @@ use Rattle.nr_rev.specs.declared.sides.Side.{Side}
 use Rattle.nr_rev.specs.declared.sides.Side.TheVariants.{Read, Write}
 use Rattle.nr_rev.specs.declared.sides.Mode.{Mode}
 use Rattle.nr_rev.specs.declared.timer.TimerFunction.{TimerFunction}
-use Rattle.nr_rev.specs.declared.descriptor.Word.{Word}
-use Rattle.nr_rev.specs.declared.descriptor.Word.TheVariants.{Nil, Ready, Wait, Held}
+use Rattle.nr_rev.specs.declared.descriptor.WaitWord.{WaitWord}
+use Rattle.nr_rev.specs.declared.descriptor.WaitWord.TheVariants.{Nil, Ready, Wait, Held}
 use Rattle.nr_rev.specs.declared.refusal.Refusal.{Refusal}
 use Rattle.nr_rev.specs.declared.sides.Sides.{Sides}
 use Rattle.nr_rev.specs.Sides.{of_side, with_side, twice, is_read, names_side, covers_side, side_of_function}
@@ -17,6 +17,8 @@ use Rattle.nr_rev.specs.declared.timer.TimerOrder.{TimerOrder}
 use Rattle.nr_rev.specs.declared.timer.TimerOrder.TheVariants.{Arm, Stop}
 use Rattle.nr_rev.specs.declared.descriptor.Descriptor.{Descriptor}
 
+-- a descriptor as it is made, before its first opening: words nil, no deadline, no timer running,
+-- sequences and fdseq at 0
 abbrev pub never_opened : Descriptor
 never_opened =
     record {
@@ -30,32 +32,46 @@ never_opened =
       socket = 0;
     }
 
+-- whether a time is after 0: as a deadline, it is to come
 abbrev pub is_positive : ℤ → Bool
 is_positive t = int_lt (pos 0) t
 
+-- whether a time is before 0: as a deadline, it has passed
 abbrev pub is_negative : ℤ → Bool
 is_negative t = int_lt t (pos 0)
 
+-- whether the side's deadline has passed
 abbrev pub is_expired : Side → Descriptor → Bool
 is_expired side d = is_negative (of_side side d.deadlines)
 
--- the first that holds of: closing, 1; the side's deadline expired, 2; an event error, for reading only, 3; else 0
+-- the first that holds of: closing, 1; the side's deadline expired, 2; an event error, for reading
+-- only, 3; else 0
 abbrev pub check : Side → Descriptor → ℕ
 check side d =
-    if d.closing then 1 else (if is_expired side d then 2 else (if is_read side && d.event_error then 3 else 0))
+    if d.closing then 1 else (if is_expired side d then 2
+    else (if is_read side && d.event_error then 3 else 0))
 
+-- `pollInfo`, as a number: 1 closing, 2 an event error, 4 the read deadline expired, 8 the write
+-- deadline expired, added up
 abbrev pub summary : Descriptor → ℕ
-summary d = bit d.closing + 2 * bit d.event_error + 4 * bit (is_expired Read d) + 8 * bit (is_expired Write d)
+summary d = bit d.closing + 2 * bit d.event_error + 4 * bit (is_expired Read d)
+    + 8 * bit (is_expired Write d)
+
+-- whether two truth values are the same
+abbrev pub same_bool : Bool → Bool → Bool
+same_bool true b = b
+same_bool false b = not b
 
 -- one deadline for both sides, and it is to come
 abbrev pub is_combo : Descriptor → Bool
 is_combo d = is_positive d.deadlines.read && int_eq d.deadlines.read d.deadlines.write
 
-abbrev pub with_word : Side → Word → Descriptor → Descriptor
-with_word side word d = record d { words = with_side side word d.words }
+-- the descriptor with a new word on one side
+abbrev pub with_wait_word : Side → WaitWord → Descriptor → Descriptor
+with_wait_word side word d = record d { words = with_side side word d.words }
 
 -- Unblock: the new word, and the goroutine that is woken
-abbrev pub unblock : Word → Bool → Word × List ℕ
+abbrev pub unblock : WaitWord → Bool → WaitWord × List ℕ
 unblock Ready ioready = (Ready, [])
 unblock Nil ioready = (if ioready then Ready else Nil, [])
 unblock Wait ioready = (if ioready then Ready else Nil, [])
@@ -67,6 +83,7 @@ pub record Change : Type 0 where
   pub orders : List TimerOrder
   pub woken : List ℕ
 
+-- the change that gives no orders and wakes nobody
 abbrev pub quiet : Descriptor → Change
 quiet d = record { descriptor = d; orders = []; woken = [] }
 
@@ -80,21 +97,25 @@ and_then first next =
       woken = first.woken ++ second.woken;
     }
 
-abbrev pub and_if : Bool → (Descriptor → Change) → Change → Change
-and_if test next change = if test then and_then change next else change
+-- one change, and after it another where the test holds
+abbrev pub then_if : Change → Bool → (Descriptor → Change) → Change
+then_if first test next = if test then and_then first next else first
 
 -- a side's word is unblocked
 abbrev pub unblocked : Bool → Side → Descriptor → Change
 unblocked ioready side d =
-    let new : Word × List ℕ = unblock (of_side side d.words) ioready in
-    record { descriptor = with_word side new.0 d; orders = []; woken = new.1 }
+    let new : WaitWord × List ℕ = unblock (of_side side d.words) ioready in
+    record { descriptor = with_wait_word side new.0 d; orders = []; woken = new.1 }
 
+-- both sequences raised by one, reading first: reason 18 where one is at its last value
 abbrev pub both_raised : Sides ℕ → Result (Sides ℕ) Refusal
 both_raised sequences = do
   read ← raised_sequence sequences.read
   write ← raised_sequence sequences.write
   Ok (record { read = read; write = write })
 
+-- pollopen: the descriptor, opened for this socket. Words and deadlines are cleared, timers of
+-- before go stale, and an fdseq of 0 becomes 1
 abbrev pub opened_for : ℕ → Descriptor → Result Descriptor Refusal
 opened_for socket d = do
   sequences ← both_raised d.sequences
@@ -108,15 +129,17 @@ opened_for socket d = do
     socket = socket;
   })
 
+-- pollclose: the descriptor with its fdseq raised, so that events still under way are stale
 abbrev pub closed : Descriptor → Result Descriptor Refusal
 closed d = do
   fdseq ← raised_sequence d.fdseq
   Ok (record d { fdseq = fdseq })
 
--- a deadline that is to come is told from now; the greatest time stands for a later one
+-- a deadline that is to come is counted from now; the greatest time replaces a later one
 abbrev pub deadline_from : ℤ → ℤ → ℤ
 deadline_from clock t = if is_positive t then int_min (clock +ℤ t) (pos (2 ^ 63 - 1)) else t
 
+-- the descriptor with the deadline t, in nanoseconds of the clock, on the sides that the mode names
 abbrev pub with_deadlines : Mode → ℤ → Descriptor → Descriptor
 with_deadlines mode t d =
     record d {
@@ -127,6 +150,7 @@ with_deadlines mode t d =
           };
     }
 
+-- what a side's timer runs when it fires: the read timer serves both sides under combo
 abbrev pub timer_function : Side → Descriptor → TimerFunction
 timer_function Read d = if is_combo d then TimerFunction.Both else TimerFunction.Read
 timer_function Write d = TimerFunction.Write
@@ -142,7 +166,8 @@ timer_reset side d =
     record {
       descriptor = record d { running = with_side side (wants_timer side d) d.running };
       orders =
-          (if wants_timer side d then Arm side (of_side side d.deadlines) (timer_function side d) (of_side side d.sequences)
+          (if wants_timer side d then Arm side (of_side side d.deadlines) (timer_function side d)
+          (of_side side d.sequences)
           else Stop side)
           ∷ [];
       woken = [];
@@ -151,8 +176,10 @@ timer_reset side d =
 -- a side's timer after the deadlines of `old` became those of d
 abbrev pub timer_follows : Side → Descriptor → Descriptor → Result Change Refusal
 timer_follows side old d =
-    if not (of_side side d.running) then Ok (if wants_timer side d then timer_reset side d else quiet d)
-    else (if int_eq (of_side side old.deadlines) (of_side side d.deadlines) && (bit (is_combo old) == bit (is_combo d))
+    if not (of_side side d.running) then Ok (if wants_timer side d then timer_reset side d
+    else quiet d)
+    else (if int_eq (of_side side old.deadlines) (of_side side d.deadlines)
+    && same_bool (is_combo old) (is_combo d)
     then Ok (quiet d)
     else (do
       sequence ← raised_sequence (of_side side d.sequences)
@@ -161,8 +188,8 @@ timer_follows side old d =
 -- the sides whose deadline is past are unblocked, reading first
 abbrev pub expired_unblocked : Change → Change
 expired_unblocked change =
-    and_if (is_expired Write change.descriptor) (unblocked false Write)
-    (and_if (is_expired Read change.descriptor) (unblocked false Read) change)
+    then_if (then_if change (is_expired Read change.descriptor) (unblocked false Read))
+    (is_expired Write change.descriptor) (unblocked false Write)
 
 -- both timers after the deadlines of `old` became those of d, reading first
 abbrev pub both_follow : Descriptor → Descriptor → Result Change Refusal
@@ -171,6 +198,8 @@ both_follow old d = do
   write ← timer_follows Write old read.descriptor
   Ok (and_then read (λ _. write))
 
+-- setdeadline, for the time t from now: the deadlines are set, their timers follow, and a side
+-- whose deadline has passed is unblocked. A closing descriptor stays as it is
 abbrev pub change_by_deadline : ℤ → Mode → ℤ → Descriptor → Result Change Refusal
 change_by_deadline clock mode t old =
     if old.closing then Ok (quiet old) else (do
@@ -178,10 +207,13 @@ change_by_deadline clock mode t old =
       write ← timer_follows Write old read.descriptor
       Ok (expired_unblocked (and_then read (λ _. write))))
 
+-- the order to stop a side's timer, where the test holds
 abbrev pub stop_if : Bool → Side → List TimerOrder
 stop_if true side = Stop side ∷ []
 stop_if false side = []
 
+-- evict: the descriptor is closing, its sequences rise, its timers stop, and both sides are
+-- unblocked, reading first
 abbrev pub change_by_evict : Descriptor → Result Change Refusal
 change_by_evict d = do
   refused_if d.closing Refusal.AlreadyClosing
@@ -193,8 +225,10 @@ change_by_evict d = do
   }
   Ok (and_then (and_then stopped (unblocked false Read)) (unblocked false Write))
 
+-- the side's deadline passes, and the side is unblocked without readiness
 abbrev pub expire : Side → Descriptor → Change
-expire side d = unblocked false side (record d { deadlines = with_side side (negsuc 0) d.deadlines })
+expire side d =
+    unblocked false side (record d { deadlines = with_side side (negsuc 0) d.deadlines })
 
 -- whether a firing is the one that the descriptor waits for
 abbrev pub is_current : TimerFunction → ℕ → Descriptor → Bool
@@ -204,16 +238,21 @@ is_current function sequence d = sequence == of_side (side_of_function function)
 abbrev pub is_timed : TimerFunction → Descriptor → Bool
 is_timed TimerFunction.Read d = is_positive d.deadlines.read && d.running.read
 is_timed TimerFunction.Write d = is_positive d.deadlines.write && d.running.write
-is_timed TimerFunction.Both d = is_positive d.deadlines.read && d.running.read && is_positive d.deadlines.write
+is_timed TimerFunction.Both d =
+    is_positive d.deadlines.read && d.running.read && is_positive d.deadlines.write
 
 -- a current firing, None for a stale one
 abbrev pub change_by_firing : TimerFunction → ℕ → Descriptor → Result (Option Change) Refusal
 change_by_firing function sequence d =
     if not (is_current function sequence d) then Ok None else (do
       refused_unless (is_timed function d) Refusal.CorruptedDescriptor
-      Ok (Some (and_if (covers_side function Write) (expire Write) (and_if (covers_side function Read) (expire Read) (quiet d)))))
+      Ok (Some (then_if (then_if (quiet d) (covers_side function Read) (expire Read))
+          (covers_side function Write) (expire Write))))
 
+-- pollevent: the event error is set as reported, and the sides that the mode names become ready,
+-- reading first
 abbrev pub change_by_event : Mode → Bool → Descriptor → Change
 change_by_event mode error d =
-    and_if (names_side mode Write) (unblocked true Write)
-    (and_if (names_side mode Read) (unblocked true Read) (quiet (record d { event_error = error })))
+    then_if (then_if (quiet (record d { event_error = error })) (names_side mode Read)
+    (unblocked true Read))
+    (names_side mode Write) (unblocked true Write)

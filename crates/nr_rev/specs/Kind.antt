@@ -1,113 +1,65 @@
 -- The kinds of steps: their names, their numbers, and which kind a step is of.
-use Rattle.std.specs.Prelude.{ℕ, ◌==◌, List, [], ◌∷◌, Option, find, codes}
+use Rattle.std.specs.Prelude.{ℕ, ◌+◌, ◌==◌, Bool, List, [], ◌∷◌, map, Option, find, position, codes}
+use Rattle.std.specs.Option.{option_map_or}
 use Rattle.std.specs.Str.{bytes_eq}
 use Rattle.nr_rev.specs.declared.kind.Kind.{Kind}
 use Rattle.nr_rev.specs.declared.step.Step.{Step}
+use Rattle.nr_rev.specs.contracts.kind.KindPartialEq.TheImpl as kind_eq
+
+-- what `==` says of two kinds
+abbrev pub same_kind : Kind → Kind → Bool
+same_kind = (kind_eq.ghosts).eq
+
+-- each kind and how it is spelled, in the order of their numbers
+abbrev pub spelled_kinds : List (Kind × List ℕ)
+spelled_kinds =
+    (Kind.Spawn, codes "spawn") ∷
+    (Kind.Exit, codes "exit") ∷
+    (Kind.SockOpen, codes "sockopen") ∷
+    (Kind.Arrive, codes "arrive") ∷
+    (Kind.PeerClose, codes "peerclose") ∷
+    (Kind.SysRead, codes "sysread") ∷
+    (Kind.SysWrite, codes "syswrite") ∷
+    (Kind.Drain, codes "drain") ∷
+    (Kind.Incref, codes "incref") ∷
+    (Kind.IncrefClose, codes "increfclose") ∷
+    (Kind.Decref, codes "decref") ∷
+    (Kind.RwLock, codes "rwlock") ∷
+    (Kind.RwUnlock, codes "rwunlock") ∷
+    (Kind.Acquire, codes "acquire") ∷
+    (Kind.Release, codes "release") ∷
+    (Kind.PollOpen, codes "pollopen") ∷
+    (Kind.PollClose, codes "pollclose") ∷
+    (Kind.PollReset, codes "pollreset") ∷
+    (Kind.WaitBegin, codes "waitbegin") ∷
+    (Kind.BlockArm, codes "blockarm") ∷
+    (Kind.BlockCheck, codes "blockcheck") ∷
+    (Kind.ParkCommit, codes "parkcommit") ∷
+    (Kind.BlockSwap, codes "blockswap") ∷
+    (Kind.WaitCheck, codes "waitcheck") ∷
+    (Kind.SetDeadline, codes "setdeadline") ∷
+    (Kind.Evict, codes "evict") ∷
+    (Kind.PollEvent, codes "pollevent") ∷
+    (Kind.Tick, codes "tick") ∷
+    (Kind.Pop, codes "pop") ∷
+    (Kind.Fire, codes "fire") ∷
+    []
 
 -- how a kind is spelled
 abbrev pub kind_name : Kind → List ℕ
-kind_name Kind.Spawn = codes "spawn"
-kind_name Kind.Exit = codes "exit"
-kind_name Kind.SockOpen = codes "sockopen"
-kind_name Kind.Arrive = codes "arrive"
-kind_name Kind.PeerClose = codes "peerclose"
-kind_name Kind.SysRead = codes "sysread"
-kind_name Kind.SysWrite = codes "syswrite"
-kind_name Kind.Drain = codes "drain"
-kind_name Kind.Incref = codes "incref"
-kind_name Kind.IncrefClose = codes "increfclose"
-kind_name Kind.Decref = codes "decref"
-kind_name Kind.RwLock = codes "rwlock"
-kind_name Kind.RwUnlock = codes "rwunlock"
-kind_name Kind.Acquire = codes "acquire"
-kind_name Kind.Release = codes "release"
-kind_name Kind.PollOpen = codes "pollopen"
-kind_name Kind.PollClose = codes "pollclose"
-kind_name Kind.PollReset = codes "pollreset"
-kind_name Kind.WaitBegin = codes "waitbegin"
-kind_name Kind.BlockArm = codes "blockarm"
-kind_name Kind.BlockCheck = codes "blockcheck"
-kind_name Kind.ParkCommit = codes "parkcommit"
-kind_name Kind.BlockSwap = codes "blockswap"
-kind_name Kind.WaitCheck = codes "waitcheck"
-kind_name Kind.SetDeadline = codes "setdeadline"
-kind_name Kind.Evict = codes "evict"
-kind_name Kind.PollEvent = codes "pollevent"
-kind_name Kind.Tick = codes "tick"
-kind_name Kind.Pop = codes "pop"
-kind_name Kind.Fire = codes "fire"
+kind_name kind = option_map_or (λ row. row.1) (find (λ row. same_kind kind row.0) spelled_kinds) []
 
 -- all kinds, in the order of their numbers
 abbrev pub kinds : List Kind
-kinds =
-    Kind.Spawn ∷
-    Kind.Exit ∷
-    Kind.SockOpen ∷
-    Kind.Arrive ∷
-    Kind.PeerClose ∷
-    Kind.SysRead ∷
-    Kind.SysWrite ∷
-    Kind.Drain ∷
-    Kind.Incref ∷
-    Kind.IncrefClose ∷
-    Kind.Decref ∷
-    Kind.RwLock ∷
-    Kind.RwUnlock ∷
-    Kind.Acquire ∷
-    Kind.Release ∷
-    Kind.PollOpen ∷
-    Kind.PollClose ∷
-    Kind.PollReset ∷
-    Kind.WaitBegin ∷
-    Kind.BlockArm ∷
-    Kind.BlockCheck ∷
-    Kind.ParkCommit ∷
-    Kind.BlockSwap ∷
-    Kind.WaitCheck ∷
-    Kind.SetDeadline ∷
-    Kind.Evict ∷
-    Kind.PollEvent ∷
-    Kind.Tick ∷
-    Kind.Pop ∷
-    Kind.Fire ∷
-    []
+kinds = map (λ row. row.0) spelled_kinds
 
 -- the kind of this name
 abbrev pub kind_named : List ℕ → Option Kind
 kind_named name = find (λ kind. bytes_eq (kind_name kind) name) kinds
 
--- the kind's number, from 1 on
+-- the kind's number: its place among all kinds, from 1 on
 abbrev pub kind_number : Kind → ℕ
-kind_number Kind.Spawn = 1
-kind_number Kind.Exit = 2
-kind_number Kind.SockOpen = 3
-kind_number Kind.Arrive = 4
-kind_number Kind.PeerClose = 5
-kind_number Kind.SysRead = 6
-kind_number Kind.SysWrite = 7
-kind_number Kind.Drain = 8
-kind_number Kind.Incref = 9
-kind_number Kind.IncrefClose = 10
-kind_number Kind.Decref = 11
-kind_number Kind.RwLock = 12
-kind_number Kind.RwUnlock = 13
-kind_number Kind.Acquire = 14
-kind_number Kind.Release = 15
-kind_number Kind.PollOpen = 16
-kind_number Kind.PollClose = 17
-kind_number Kind.PollReset = 18
-kind_number Kind.WaitBegin = 19
-kind_number Kind.BlockArm = 20
-kind_number Kind.BlockCheck = 21
-kind_number Kind.ParkCommit = 22
-kind_number Kind.BlockSwap = 23
-kind_number Kind.WaitCheck = 24
-kind_number Kind.SetDeadline = 25
-kind_number Kind.Evict = 26
-kind_number Kind.PollEvent = 27
-kind_number Kind.Tick = 28
-kind_number Kind.Pop = 29
-kind_number Kind.Fire = 30
+kind_number kind = option_map_or (λ place. place + 1) (position (same_kind kind) kinds) 0
 
 -- the kind of this number
 abbrev pub kind_numbered : ℕ → Option Kind

@@ -1,3 +1,4 @@
+-- what callers need: contracts cite it, of other crates or of this crate's public functions
 pub mod Kind
 pub mod Limits
 pub mod Sides
@@ -12,10 +13,11 @@ pub mod World
 pub mod Step
 pub mod Cell
 pub mod CellName
-pub mod Weight
 pub mod Run
 pub mod WellFormed
 pub mod Reversible
 pub mod Transaction
 pub mod Worlds
 pub mod Worked
+-- inner: no contract cites it, only definitions do
+pub mod Weight

@@ -8,14 +8,17 @@ use Rattle.nr_rev.specs.Refusing.{◌>>=◌, ◌>>◌, refused_if, refused_unles
 use Rattle.nr_rev.specs.declared.lock.Lock.{Lock}
 use Rattle.nr_rev.specs.declared.lock.LockOutcome.{LockOutcome}
 
+-- the lock of a new socket: open, free, no references, nobody waits
 abbrev pub open_lock : Lock
 open_lock = record { closed = false; locked = twice false; references = 0; waiters = twice 0 }
 
+-- a truth value as a number: 1 if true, 0 if false
 abbrev pub bit : Bool → ℕ
 bit true = 1
 bit false = 0
 
--- the word: bit 0 closed, 1 read lock, 2 write lock, from 3 references, from 23 read waiters, from 43 write waiters
+-- the word: bit 0 closed, 1 read lock, 2 write lock, from 3 references, from 23 read waiters, from
+-- 43 write waiters
 abbrev pub lock_number : Lock → ℕ
 lock_number lock =
     bit lock.closed + 2 * bit lock.locked.read + 4 * bit lock.locked.write + 8 * lock.references
@@ -36,6 +39,7 @@ raised_field n = do
 abbrev pub last_of : Lock → Answer
 last_of lock = if lock.closed && (lock.references == 0) then Answer.Last else Answer.NotLast
 
+-- fdMutex.incref: one reference more, or No on a closed lock
 abbrev pub incref : Lock → Result LockOutcome Refusal
 incref lock =
     if lock.closed then Ok (answered Answer.No lock) else (do
@@ -53,12 +57,14 @@ incref_close lock =
         lock = record lock { closed = true; references = references; waiters = twice 0 };
       }))
 
+-- fdMutex.decref: one reference less: reason 7 where there is none
 abbrev pub decref : Lock → Result LockOutcome Refusal
 decref lock = do
   refused_if (lock.references == 0) Refusal.InconsistentLock
   let left : Lock = record lock { references = lock.references - 1 }
   Ok (answered (last_of left) left)
 
+-- fdMutex.rwlock: takes the side where it is free, else joins its waiters; No on a closed lock
 abbrev pub rw_lock : Side → Lock → Result LockOutcome Refusal
 rw_lock side lock =
     if lock.closed then Ok (answered Answer.No lock)
@@ -67,7 +73,8 @@ rw_lock side lock =
       Ok (answered Answer.Wait (record lock { waiters = with_side side waiters lock.waiters })))
     else (do
       references ← raised_field lock.references
-      Ok (answered Answer.Yes (record lock { locked = with_side side true lock.locked; references = references }))))
+      Ok (answered Answer.Yes
+          (record lock { locked = with_side side true lock.locked; references = references }))))
 
 -- one release of the side is owed where it had a waiter
 abbrev pub rw_unlock : Side → Lock → Result LockOutcome Refusal
@@ -79,4 +86,8 @@ rw_unlock side lock = do
     references = lock.references - 1;
     waiters = with_side side (waiters - 1) lock.waiters;
   }
-  Ok (record { answer = last_of left; owed = with_side side (min waiters 1) (twice 0); lock = left })
+  Ok (record {
+    answer = last_of left;
+    owed = with_side side (min waiters 1) (twice 0);
+    lock = left;
+  })

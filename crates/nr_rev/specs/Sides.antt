@@ -20,10 +20,12 @@ with_side Write new both = record both { write = new }
 abbrev pub twice : {A : Type 0} → A → Sides A
 twice a = record { read = a; write = a }
 
+-- whether the side is reading
 abbrev pub is_read : Side → Bool
 is_read Read = true
 is_read Write = false
 
+-- whether two sides are the same
 abbrev pub same_side : Side → Side → Bool
 same_side Read Read = true
 same_side Write Write = true

@@ -6,13 +6,16 @@ use Rattle.nr_rev.specs.declared.lock.Lock.{Lock}
 use Rattle.nr_rev.specs.Lock.{open_lock}
 use Rattle.nr_rev.specs.Semaphore.{Semaphore, new_semaphore}
 
+-- the bytes that a buffer holds, the oldest first, and how many it has room for
 pub record Buffer : Type 0 where
   pub bytes : List ℕ
   pub capacity : ℕ
 
+-- how many bytes more a buffer takes
 abbrev pub room_of : Buffer → ℕ
 room_of buffer = buffer.capacity - length buffer.bytes
 
+-- the lock word, the semaphores, the buffers, and whether the peer has closed
 pub record Socket : Type 0 where
   pub lock : Lock
   pub semaphores : Sides Semaphore
@@ -20,11 +23,15 @@ pub record Socket : Type 0 where
   pub buffers : Sides Buffer
   pub peer_closed : Bool
 
+-- a socket as it is opened, with room for this many bytes to read and to write
 abbrev pub new_socket : ℕ → ℕ → Socket
 new_socket read_capacity write_capacity =
     record {
       lock = open_lock;
       semaphores = twice new_semaphore;
-      buffers = record { read = record { bytes = []; capacity = read_capacity }; write = record { bytes = []; capacity = write_capacity } };
+      buffers = record {
+        read = record { bytes = []; capacity = read_capacity };
+        write = record { bytes = []; capacity = write_capacity };
+      };
       peer_closed = false;
     }

@@ -1,9 +1,10 @@
--- The thirty steps. Each row tests its reasons in order, and then says the answer and the next world.
+-- The thirty steps. Each row tests its reasons in order, and then says the answer and the next
+-- world.
 use Rattle.std.specs.Prelude.{◌≡◌, ℕ, ◌+◌, ◌-◌, ◌*◌, Bool, true, false, ◌&&◌, ◌||◌, not, ◌==◌, nat_lt, nat_le, min, ℤ, int_lt, int_le, if◌then◌else◌, List, [], ◌∷◌, ◌++◌, length, take, drop, remove, slice_get, slice_set, slice_index_or, Option, Some, None, Result, Ok, Err}
 use Rattle.nr_rev.specs.declared.sides.Side.{Side}
 use Rattle.nr_rev.specs.declared.sides.Side.TheVariants.{Read, Write}
 use Rattle.nr_rev.specs.declared.sides.Mode.{Mode}
-use Rattle.nr_rev.specs.declared.descriptor.Word.{Word}
+use Rattle.nr_rev.specs.declared.descriptor.WaitWord.{WaitWord}
 use Rattle.nr_rev.specs.declared.status.Status.{Status}
 use Rattle.nr_rev.specs.declared.status.Status.TheVariants.{Idle, Acquiring, Queued, Relock, Owing, Entering, Armed, Parking, Parked, Swapping, Checking, Gone}
 use Rattle.nr_rev.specs.declared.answer.Answer.{Answer}
@@ -21,7 +22,7 @@ use Rattle.nr_rev.specs.declared.timer.Timer.{Timer}
 use Rattle.nr_rev.specs.Timer.{IsTime}
 use Rattle.nr_rev.specs.declared.timer.TimerOrder.{TimerOrder}
 use Rattle.nr_rev.specs.declared.timer.TimerOrder.TheVariants.{Arm, Stop}
-use Rattle.nr_rev.specs.Descriptor.{never_opened, check, opened_for, closed, with_word, Change, change_by_deadline, change_by_evict, change_by_event, change_by_firing}
+use Rattle.nr_rev.specs.Descriptor.{never_opened, check, opened_for, closed, with_wait_word, Change, change_by_deadline, change_by_evict, change_by_event, change_by_firing}
 use Rattle.nr_rev.specs.Socket.{Socket, new_socket, room_of}
 use Rattle.nr_rev.specs.declared.descriptor.DescriptorRow.{DescriptorRow}
 use Rattle.nr_rev.specs.World.{World, is_free_number, least_entry, is_waited, with_status, with_socket, with_row, with_descriptor}
@@ -46,9 +47,11 @@ alive None = Err NoSuchGoroutine
 alive (Some Gone) = Err NoSuchGoroutine
 alive (Some status) = Ok status
 
+-- the status of goroutine g: reason 1 where there is no such goroutine, or it is gone
 abbrev pub status_of : ℕ → World → Result Status Refusal
 status_of g w = alive (slice_get w.goroutines g)
 
+-- whether a goroutine is idle
 abbrev pub is_idle : Status → Bool
 is_idle Idle = true
 is_idle _ = false
@@ -97,6 +100,8 @@ exit g w = do
 abbrev pub owing : ℕ → Sides ℕ → Status
 owing s owed = if owed.read + owed.write == 0 then Idle else Owing s owed.read owed.write
 
+-- after an operation on socket s's lock: its answer, the lock as it was left, and goroutine g's new
+-- status
 abbrev pub lock_left : ℕ → Status → ℕ → Socket → LockOutcome → World → Answer × World
 lock_left g status s socket left w =
     (left.answer, with_status g status (with_socket s (record socket { lock = left.lock }) w))
@@ -125,11 +130,14 @@ decref g s w = do
   left ← Lock.decref socket.lock
   Ok (lock_left g Idle s socket left w)
 
+-- whether a goroutine may try the lock of a side of s: it is idle, or has the semaphore that it
+-- waited for
 abbrev pub may_lock : ℕ → Side → Status → Bool
 may_lock s side Idle = true
 may_lock s side (Relock s' side') = (s == s') && same_side side side'
 may_lock s side _ = false
 
+-- the status after a try of the lock: acquiring the semaphore where the answer is Wait, else idle
 abbrev pub locker : ℕ → Side → Answer → Status
 locker s side Answer.Wait = Acquiring s side
 locker s side _ = Idle
@@ -153,6 +161,7 @@ rwunlock g s side w = do
 
 -- ---- semaphores
 
+-- the world with a new semaphore at a side of socket s
 abbrev pub with_semaphore : ℕ → Side → Socket → Semaphore → World → World
 with_semaphore s side socket semaphore w =
     with_socket s (record socket { semaphores = with_side side semaphore socket.semaphores }) w
@@ -170,7 +179,8 @@ acquire g w = do
   socket ← socket_of s w
   let semaphore : Semaphore = of_side side socket.semaphores
   let next : World = with_semaphore s side socket (acquired g semaphore) w
-  Ok (if is_free semaphore then (Yes, with_status g (Relock s side) next) else (Wait, with_status g (Queued s side) next))
+  Ok (if is_free semaphore then (Yes, with_status g (Relock s side) next)
+      else (Wait, with_status g (Queued s side) next))
 
 -- reason 2, unless owing
 abbrev pub owing_of : Status → Result (ℕ × Sides ℕ) Refusal
@@ -204,9 +214,13 @@ sockopen rc wc w = do
   sized wc w
   Ok (Number (length w.sockets), record w { sockets = w.sockets ++ new_socket rc wc ∷ [] })
 
+-- the socket with these bytes in a side's buffer
 abbrev pub with_buffer : Side → List ℕ → Socket → Socket
 with_buffer side bytes socket =
-    record socket { buffers = with_side side (record (of_side side socket.buffers) { bytes = bytes }) socket.buffers }
+    record socket {
+      buffers = with_side side (record (of_side side socket.buffers) { bytes = bytes })
+          socket.buffers;
+    }
 
 -- arrive: bytes come in
 abbrev pub arrive : ℕ → List ℕ → World → Outcome
@@ -224,6 +238,8 @@ peerclose s w = do
   refused_if socket.peer_closed PeerClosed
   Ok (Done, with_socket s (record socket { peer_closed = true }) w)
 
+-- the answer of a read of k bytes: k where there are any, else end of file from a closed peer, else
+-- try again
 abbrev pub read_answer : ℕ → Bool → Answer
 read_answer k peer_closed = if nat_lt 0 k then Got k else (if peer_closed then Eof else Again)
 
@@ -234,7 +250,10 @@ sysread g s n w = do
   socket ← socket_of s w
   sized n w
   let input : List ℕ = socket.buffers.read.bytes
-  Ok (read_answer (min n (length input)) socket.peer_closed, with_socket s (with_buffer Read (drop n input) socket) w)
+  Ok (
+    read_answer (min n (length input)) socket.peer_closed,
+    with_socket s (with_buffer Read (drop n input) socket) w,
+  )
 
 -- syswrite: the system call of a write
 abbrev pub syswrite : ℕ → ℕ → List ℕ → World → Outcome
@@ -258,6 +277,7 @@ drain s n w = do
 
 -- ---- descriptors
 
+-- the row of a descriptor that is made now: never opened, no timer armed
 abbrev pub new_row : DescriptorRow
 new_row = record { descriptor = never_opened; timers = twice None }
 
@@ -289,19 +309,24 @@ pollclose g d w = do
   Ok (Done, record (with_descriptor d row descriptor w) { free = d ∷ w.free })
 
 -- the timers after an order, and the next arming number
-abbrev pub after_order : TimerOrder → Sides (Option Timer) × ℕ → Result (Sides (Option Timer) × ℕ) Refusal
+abbrev pub after_order : TimerOrder → Sides (Option Timer) × ℕ
+    → Result (Sides (Option Timer) × ℕ) Refusal
 after_order (Arm side due function sequence) (timers, number) = do
   next ← raised_sequence number
-  let timer : Timer = record { due = due; number = number; function = function; sequence = sequence }
+  let timer : Timer =
+      record { due = due; number = number; function = function; sequence = sequence }
   Ok (with_side side (Some timer) timers, next)
 after_order (Stop side) (timers, number) = Ok (with_side side None timers, number)
 
-abbrev pub after_orders : List TimerOrder → Sides (Option Timer) × ℕ → Result (Sides (Option Timer) × ℕ) Refusal
+-- the same after several orders, in their order
+abbrev pub after_orders : List TimerOrder → Sides (Option Timer) × ℕ
+    → Result (Sides (Option Timer) × ℕ) Refusal
 after_orders [] before = Ok before
 after_orders (order ∷ orders) before = do
   after ← after_order order before
   after_orders orders after
 
+-- the status of a goroutine that is woken: one that was parked goes on to take up the word
 abbrev pub after_wake : Status → Status
 after_wake (Parked d side) = Swapping d side
 after_wake status = status
@@ -348,7 +373,11 @@ pollreset g d side w = do
   row ← open_row_of d w
   let code : ℕ = check side row.descriptor
   refused_if (code == 0 && is_waited d side w.goroutines) WaiterInside
-  Ok (Code code, if code == 0 then with_descriptor d row (with_word side Word.Nil row.descriptor) w else w)
+  Ok (
+    Code code,
+    if code == 0 then with_descriptor d row
+        (with_wait_word side WaitWord.Nil row.descriptor) w else w,
+  )
 
 -- waitbegin: runtime_pollWait, from its top
 abbrev pub waitbegin : ℕ → ℕ → Side → World → Outcome
@@ -364,29 +393,37 @@ abbrev pub entering_of : Status → Result (ℕ × Side) Refusal
 entering_of (Entering d side) = Ok (d, side)
 entering_of _ = Err NotThere
 
+-- the same for armed: about to check once more
 abbrev pub armed_of : Status → Result (ℕ × Side) Refusal
 armed_of (Armed d side) = Ok (d, side)
 armed_of _ = Err NotThere
 
+-- the same for parking: about to commit and park
 abbrev pub parking_of : Status → Result (ℕ × Side) Refusal
 parking_of (Parking d side) = Ok (d, side)
 parking_of _ = Err NotThere
 
+-- the same for swapping: about to take up the word
 abbrev pub swapping_of : Status → Result (ℕ × Side) Refusal
 swapping_of (Swapping d side) = Ok (d, side)
 swapping_of _ = Err NotThere
 
+-- the same for checking: about to check why it was woken
 abbrev pub checking_of : Status → Result (ℕ × Side) Refusal
 checking_of (Checking d side) = Ok (d, side)
 checking_of _ = Err NotThere
 
 -- the world with g's status and the side's word new
-abbrev pub with_wait : ℕ → Status → ℕ → Side → Word → DescriptorRow → World → World
-with_wait g status d side word row w = with_status g status (with_descriptor d row (with_word side word row.descriptor) w)
+abbrev pub with_wait : ℕ → Status → ℕ → Side → WaitWord → DescriptorRow → World → World
+with_wait g status d side word row w =
+    with_status g status (with_descriptor d row (with_wait_word side word row.descriptor) w)
 
-abbrev pub armed_by : ℕ → ℕ → Side → Word → DescriptorRow → World → Outcome
-armed_by g d side Word.Nil row w = Ok (Wait, with_wait g (Armed d side) d side Word.Wait row w)
-armed_by g d side Word.Ready row w = Ok (Code 0, with_wait g Idle d side Word.Nil row w)
+-- blockarm, by the word that it finds: nil becomes wait; ready is taken up, and the wait ends with
+-- code 0
+abbrev pub armed_by : ℕ → ℕ → Side → WaitWord → DescriptorRow → World → Outcome
+armed_by g d side WaitWord.Nil row w =
+    Ok (Wait, with_wait g (Armed d side) d side WaitWord.Wait row w)
+armed_by g d side WaitWord.Ready row w = Ok (Code 0, with_wait g Idle d side WaitWord.Nil row w)
 -- no well-formed world has another word here
 armed_by g d side _ row w = Err DoubleWait
 
@@ -407,9 +444,14 @@ blockcheck g w = do
   let code : ℕ = check side row.descriptor
   Ok (Code code, with_status g (if code == 0 then Parking d side else Swapping d side) w)
 
-abbrev pub committed_by : ℕ → ℕ → Side → Word → DescriptorRow → World → Answer × World
-committed_by g d side Word.Wait row w =
-    (Yes, record (with_wait g (Parked d side) d side (Word.Held g) row w) { waiters = w.waiters + 1 })
+-- parkcommit, by the word that it finds: wait becomes held by g, which parks; at any other g goes
+-- on to take up the word
+abbrev pub committed_by : ℕ → ℕ → Side → WaitWord → DescriptorRow → World → Answer × World
+committed_by g d side WaitWord.Wait row w = (
+  Yes,
+  record (with_wait g (Parked d side) d side (WaitWord.Held g) row w)
+      { waiters = w.waiters + 1 },
+)
 committed_by g d side _ row w = (No, with_status g (Swapping d side) w)
 
 -- parkcommit: netpollblockcommit
@@ -420,9 +462,11 @@ parkcommit g w = do
   row ← row_of d w
   Ok (committed_by g d side (of_side side row.descriptor.words) row w)
 
-abbrev pub swapped_by : ℕ → ℕ → Side → Word → DescriptorRow → World → Answer × World
-swapped_by g d side Word.Ready row w = (Yes, with_wait g Idle d side Word.Nil row w)
-swapped_by g d side _ row w = (No, with_wait g (Checking d side) d side Word.Nil row w)
+-- blockswap, by the word that it takes up: ready ends the wait; after any other g checks why it was
+-- woken
+abbrev pub swapped_by : ℕ → ℕ → Side → WaitWord → DescriptorRow → World → Answer × World
+swapped_by g d side WaitWord.Ready row w = (Yes, with_wait g Idle d side WaitWord.Nil row w)
+swapped_by g d side _ row w = (No, with_wait g (Checking d side) d side WaitWord.Nil row w)
 
 -- blockswap: netpollblock, the word is taken up
 abbrev pub blockswap : ℕ → World → Outcome
@@ -467,9 +511,11 @@ pop w = do
   refused_unless (int_le entry.timer.due w.clock) NoTimerDue
   refused_unless (nat_lt (length w.firings) (2 * w.limits.descriptors)) FiringsFull
   row ← row_of entry.descriptor w
-  let next : World = with_row entry.descriptor (record row { timers = with_side entry.side None row.timers }) w
+  let next : World =
+      with_row entry.descriptor (record row { timers = with_side entry.side None row.timers }) w
   Ok (Done, record next { firings = w.firings ++ entry ∷ [] })
 
+-- the world after a firing: unchanged by a stale one, else with the change of descriptor d made
 abbrev pub fired_with : ℕ → DescriptorRow → Option Change → World → Outcome
 fired_with d row None w = Ok (Stale, w)
 fired_with d row (Some change) w = do

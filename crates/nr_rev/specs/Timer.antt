@@ -16,6 +16,7 @@ IsTime t = FitsSigned w64 t
 abbrev pub is_before : Timer → Timer → Bool
 is_before a b = int_lt a.due b.due || (int_eq a.due b.due && nat_lt a.number b.number)
 
+-- the entry, or the other one where that goes off before it
 abbrev pub earlier_of : Entry → Option Entry → Entry
 earlier_of e None = e
 earlier_of e (Some other) = if is_before other.timer e.timer then other else e
@@ -25,6 +26,7 @@ abbrev pub least_of : List Entry → Option Entry
 least_of [] = None
 least_of (e ∷ es) = Some (earlier_of e (least_of es))
 
+-- the heap's entry of a side of descriptor d, where a timer is armed there
 abbrev pub entry_of : ℕ → Side → Option Timer → List Entry
 entry_of d side None = []
 entry_of d side (Some timer) = record { descriptor = d; side = side; timer = timer } ∷ []

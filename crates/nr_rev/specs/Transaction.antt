@@ -1,20 +1,29 @@
 -- Operations in a row, and the way back over them.
 use Rattle.std.specs.Prelude.{◌≡◌, ◌⊎◌, List, [], ◌∷◌}
 
--- the operations lead, in order, from old to new, and each gave a light delta that leads back over its step
-abbrev pub Applied : {State Op Answer Delta : Type 0} → (State → Op → Answer → State → Type 0) → (Delta → State → State → Type 0) → (Op → Answer → Delta → Type 0) → State → List Op → List Delta → State → Type 0
+-- the operations lead, in order, from old to new, and each gave a light delta that leads back over
+-- its step
+abbrev pub Applied : {State Op Answer Delta : Type 0} → (State → Op → Answer → State → Type 0)
+    → (Delta → State → State → Type 0) → (Op → Answer → Delta → Type 0) → State → List Op
+    → List Delta → State → Type 0
 Applied steps back light old [] deltas new = (deltas ≡ []) × (new ≡ old)
 Applied {State} {Op} {Answer} {Delta} steps back light old (op ∷ ops) deltas new =
-    (answer : Answer) × (mid : State) × (delta : Delta) × (rest : List Delta) × (deltas ≡ delta ∷ rest)
-    × steps old op answer mid × back delta mid old × light op answer delta × Applied steps back light mid ops rest new
+    (answer : Answer) × (mid : State) × (delta : Delta) × (rest : List Delta)
+    × (deltas ≡ delta ∷ rest)
+    × steps old op answer mid × back delta mid old × light op answer delta
+    × Applied steps back light mid ops rest new
 
 -- undoing the deltas, from the last to the first, leads from new back to old
-abbrev pub LeadsBack : {State Delta : Type 0} → (Delta → State → State → Type 0) → List Delta → State → State → Type 0
+abbrev pub LeadsBack : {State Delta : Type 0} → (Delta → State → State → Type 0) → List Delta
+    → State → State → Type 0
 LeadsBack back [] new old = new ≡ old
-LeadsBack {State} back (delta ∷ deltas) new old = (mid : State) × LeadsBack back deltas new mid × back delta mid old
+LeadsBack {State} back (delta ∷ deltas) new old =
+    (mid : State) × LeadsBack back deltas new mid × back delta mid old
 
 -- the first operation that doesn't apply after the ones before it is refused so
-abbrev pub FirstRefused : {State Op Answer Reason : Type 0} → (State → Op → Answer → State → Type 0) → (State → Op → Reason → Type 0) → State → List Op → Reason → Type 0
+abbrev pub FirstRefused : {State Op Answer Reason : Type 0} → (State → Op → Answer → State → Type 0)
+    → (State → Op → Reason → Type 0) → State → List Op → Reason → Type 0
 FirstRefused steps refuses old [] reason = ⊥
 FirstRefused {State} {Op} {Answer} steps refuses old (op ∷ ops) reason =
-    refuses old op reason ⊎ ((answer : Answer) × (mid : State) × steps old op answer mid × FirstRefused steps refuses mid ops reason)
+    refuses old op reason ⊎ ((answer : Answer) × (mid : State) × steps old op answer mid
+    × FirstRefused steps refuses mid ops reason)

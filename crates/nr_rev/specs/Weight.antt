@@ -1,10 +1,11 @@
--- How many words things weigh: one for a number, which has at most 64 bits, one for a truth value or for which variant
--- it is, one for each eight bytes, begun ones included. Whatever keeps a way back weighs it by these.
+-- How many words things weigh: one for a number, which has at most 64 bits, one for a truth value
+-- or for which variant it is, one for each eight bytes, begun ones included. Whatever keeps a way
+-- back weighs it by these.
 use Rattle.std.specs.Prelude.{ℕ, ◌+◌, ◌/◌, ℤ, Bool, List, length, Option, Some, None}
 use Rattle.nr_rev.specs.declared.sides.Side.{Side}
 use Rattle.nr_rev.specs.declared.sides.Sides.{Sides}
-use Rattle.nr_rev.specs.declared.descriptor.Word.{Word}
-use Rattle.nr_rev.specs.declared.descriptor.Word.TheVariants as word
+use Rattle.nr_rev.specs.declared.descriptor.WaitWord.{WaitWord}
+use Rattle.nr_rev.specs.declared.descriptor.WaitWord.TheVariants as word
 use Rattle.nr_rev.specs.declared.descriptor.Descriptor.{Descriptor}
 use Rattle.nr_rev.specs.declared.descriptor.DescriptorRow.{DescriptorRow}
 use Rattle.nr_rev.specs.declared.status.Status.{Status}
@@ -15,75 +16,95 @@ use Rattle.nr_rev.specs.declared.timer.TimerFunction.{TimerFunction}
 use Rattle.nr_rev.specs.declared.timer.Entry.{Entry}
 
 -- which variant it is
-abbrev pub variant_words : ℕ
-variant_words = 1
+abbrev pub variant_weight : ℕ
+variant_weight = 1
 
-abbrev pub number_words : ℕ → ℕ
-number_words n = 1
+-- a number weighs one word
+abbrev pub number_weight : ℕ → ℕ
+number_weight n = 1
 
-abbrev pub time_words : ℤ → ℕ
-time_words t = 1
+-- a time weighs one word
+abbrev pub time_weight : ℤ → ℕ
+time_weight t = 1
 
-abbrev pub bool_words : Bool → ℕ
-bool_words b = 1
+-- a truth value weighs one word
+abbrev pub bool_weight : Bool → ℕ
+bool_weight b = 1
 
-abbrev pub bytes_words : List ℕ → ℕ
-bytes_words bytes = (length bytes + 7) / 8
+-- bytes weigh a word for each eight, begun ones included
+abbrev pub bytes_weight : List ℕ → ℕ
+bytes_weight bytes = (length bytes + 7) / 8
 
-abbrev pub option_words : {A : Type 0} → (A → ℕ) → Option A → ℕ
-option_words words None = variant_words
-option_words words (Some a) = variant_words + words a
+-- what may be there weighs which variant it is, and its value
+abbrev pub option_weight : {A : Type 0} → (A → ℕ) → Option A → ℕ
+option_weight words None = variant_weight
+option_weight words (Some a) = variant_weight + words a
 
-abbrev pub side_words : Side → ℕ
-side_words side = variant_words
+-- a side weighs one word
+abbrev pub side_weight : Side → ℕ
+side_weight side = variant_weight
 
-abbrev pub sides_words : {A : Type 0} → (A → ℕ) → Sides A → ℕ
-sides_words words both = words both.read + words both.write
+-- what there is of both sides weighs as much as the two
+abbrev pub sides_weight : {A : Type 0} → (A → ℕ) → Sides A → ℕ
+sides_weight words both = words both.read + words both.write
 
-abbrev pub word_words : Word → ℕ
-word_words (word.Held g) = variant_words + number_words g
-word_words _ = variant_words
+-- a poll word weighs which variant it is, and the goroutine that it holds
+abbrev pub wait_word_weight : WaitWord → ℕ
+wait_word_weight (word.Held g) = variant_weight + number_weight g
+wait_word_weight _ = variant_weight
 
 -- a status that has a number and a side
-abbrev pub place_words : ℕ → Side → ℕ
-place_words n side = variant_words + number_words n + side_words side
+abbrev pub wait_weight : ℕ → Side → ℕ
+wait_weight n side = variant_weight + number_weight n + side_weight side
 
-abbrev pub status_words : Status → ℕ
-status_words status.Idle = variant_words
-status_words (status.Acquiring s side) = place_words s side
-status_words (status.Queued s side) = place_words s side
-status_words (status.Relock s side) = place_words s side
-status_words (status.Owing s reads writes) = variant_words + number_words s + number_words reads + number_words writes
-status_words (status.Entering d side) = place_words d side
-status_words (status.Armed d side) = place_words d side
-status_words (status.Parking d side) = place_words d side
-status_words (status.Parked d side) = place_words d side
-status_words (status.Swapping d side) = place_words d side
-status_words (status.Checking d side) = place_words d side
-status_words status.Gone = variant_words
+-- a status weighs which variant it is, and the numbers and side that it names
+abbrev pub status_weight : Status → ℕ
+status_weight status.Idle = variant_weight
+status_weight (status.Acquiring s side) = wait_weight s side
+status_weight (status.Queued s side) = wait_weight s side
+status_weight (status.Relock s side) = wait_weight s side
+status_weight (status.Owing s reads writes) =
+    variant_weight + number_weight s + number_weight reads + number_weight writes
+status_weight (status.Entering d side) = wait_weight d side
+status_weight (status.Armed d side) = wait_weight d side
+status_weight (status.Parking d side) = wait_weight d side
+status_weight (status.Parked d side) = wait_weight d side
+status_weight (status.Swapping d side) = wait_weight d side
+status_weight (status.Checking d side) = wait_weight d side
+status_weight status.Gone = variant_weight
 
-abbrev pub lock_words : Lock → ℕ
-lock_words lock =
-    bool_words lock.closed + sides_words bool_words lock.locked + number_words lock.references
-    + sides_words number_words lock.waiters
+-- a lock weighs its parts: closed, locked, references, waiters
+abbrev pub lock_weight : Lock → ℕ
+lock_weight lock =
+    bool_weight lock.closed + sides_weight bool_weight lock.locked + number_weight lock.references
+    + sides_weight number_weight lock.waiters
 
-abbrev pub function_words : TimerFunction → ℕ
-function_words function = variant_words
+-- a timer's function weighs one word
+abbrev pub function_weight : TimerFunction → ℕ
+function_weight function = variant_weight
 
-abbrev pub timer_words : Timer → ℕ
-timer_words timer =
-    time_words timer.due + number_words timer.number + function_words timer.function + number_words timer.sequence
+-- a timer weighs its parts: due, number, function, sequence
+abbrev pub timer_weight : Timer → ℕ
+timer_weight timer =
+    time_weight timer.due + number_weight timer.number + function_weight timer.function
+    + number_weight timer.sequence
 
-abbrev pub entry_words : Entry → ℕ
-entry_words entry = number_words entry.descriptor + side_words entry.side + timer_words entry.timer
+-- a heap entry weighs its descriptor number, its side and its timer
+abbrev pub entry_weight : Entry → ℕ
+entry_weight entry =
+    number_weight entry.descriptor + side_weight entry.side + timer_weight entry.timer
 
-abbrev pub descriptor_words : Descriptor → ℕ
-descriptor_words d =
-    sides_words word_words d.words + bool_words d.closing + bool_words d.event_error + sides_words time_words d.deadlines
-    + sides_words bool_words d.running
-    + sides_words number_words d.sequences
-    + number_words d.fdseq
-    + number_words d.socket
+-- a descriptor weighs its eight parts
+abbrev pub descriptor_weight : Descriptor → ℕ
+descriptor_weight d =
+    sides_weight wait_word_weight d.words + bool_weight d.closing + bool_weight d.event_error
+    + sides_weight time_weight d.deadlines
+    + sides_weight bool_weight d.running
+    + sides_weight number_weight d.sequences
+    + number_weight d.fdseq
+    + number_weight d.socket
 
-abbrev pub row_words : DescriptorRow → ℕ
-row_words row = descriptor_words row.descriptor + sides_words (option_words timer_words) row.timers
+-- a row weighs its descriptor and the timers armed for it
+abbrev pub row_weight : DescriptorRow → ℕ
+row_weight row =
+    descriptor_weight row.descriptor + sides_weight (option_weight timer_weight) row.timers

@@ -1,8 +1,8 @@
 -- What holds of every world that steps lead to.
 use Rattle.std.specs.Prelude.{◌≡◌, ℕ, ◌+◌, ◌*◌, ◌^◌, ◌<◌, ◌≤◌, Bool, true, false, ◌&&◌, ◌==◌, ◌⊎◌, ◌↔◌, ℤ, pos, ◌≤ℤ◌, List, length, sum_by, count_by, All, slice_get, Option, Some, None, option_map, option_and_then, IsTrue}
 use Rattle.nr_rev.specs.declared.sides.Side.{Side}
-use Rattle.nr_rev.specs.declared.descriptor.Word.{Word}
-use Rattle.nr_rev.specs.declared.descriptor.Word.TheVariants.{Nil, Ready, Held}
+use Rattle.nr_rev.specs.declared.descriptor.WaitWord.{WaitWord}
+use Rattle.nr_rev.specs.declared.descriptor.WaitWord.TheVariants.{Nil, Ready, Held}
 use Rattle.nr_rev.specs.declared.status.Status.{Status}
 use Rattle.nr_rev.specs.declared.status.Status.TheVariants.{Acquiring, Queued, Relock, Owing, Armed, Parking, Parked, Swapping}
 use Rattle.nr_rev.specs.Sides.{of_side, twice, same_side, covers_side, side_of_function}
@@ -18,12 +18,12 @@ use Rattle.nr_rev.specs.declared.descriptor.DescriptorRow.{DescriptorRow}
 use Rattle.nr_rev.specs.World.{World, is_free_number, wait_of}
 
 -- goroutine g, seen so, shows a
-abbrev pub Shows : {A : Type 0} → (Status → Option A) → List Status → ℕ → A → Type 0
-Shows view goroutines g a = option_and_then view (slice_get goroutines g) ≡ Some a
+abbrev pub HasView : {A : Type 0} → (Status → Option A) → List Status → ℕ → A → Type 0
+HasView view goroutines g a = option_and_then view (slice_get goroutines g) ≡ Some a
 
 -- goroutine g is inside a wait of d's side
 abbrev pub IsInside : List Status → ℕ → ℕ → Side → Type 0
-IsInside goroutines g d side = Shows wait_of goroutines g (d, side)
+IsInside goroutines g d side = HasView wait_of goroutines g (d, side)
 
 -- where a goroutine is parked
 abbrev pub parked_of : Status → Option (ℕ × Side)
@@ -43,8 +43,10 @@ owed_of (Owing s reads writes) = Some (reads, writes)
 owed_of _ = None
 
 -- d's word of a side
-abbrev pub HasWord : List DescriptorRow → ℕ → Side → Word → Type 0
-HasWord descriptors d side word = option_map (λ (row : DescriptorRow). of_side side row.descriptor.words) (slice_get descriptors d) ≡ Some word
+abbrev pub HasWaitWord : List DescriptorRow → ℕ → Side → WaitWord → Type 0
+HasWaitWord descriptors d side word =
+    option_map (λ (row : DescriptorRow). of_side side row.descriptor.words)
+    (slice_get descriptors d) ≡ Some word
 
 -- d is among the descriptors made, and isn't free
 abbrev pub IsOpen : List DescriptorRow → List ℕ → ℕ → Type 0
@@ -67,7 +69,8 @@ is_queued s side _ = false
 abbrev pub IsField : ℕ → Type 0
 IsField n = n < 2 ^ 20
 
-abbrev pub is_held : Word → Bool
+-- whether a word holds a goroutine
+abbrev pub is_held : WaitWord → Bool
 is_held (Held g) = true
 is_held _ = false
 
@@ -85,94 +88,139 @@ pub record EntryFits (d : Descriptor) (side : Side) (timer : Timer) : Type 0 whe
 
 -- a firing of d that isn't stale
 pub record IsDueFor (d : Descriptor) (firing : Entry) : Type 0 where
-  pub positive : (side : Side) → covers_side firing.timer.function side ≡ true → IsTrue (is_positive (of_side side d.deadlines))
+  pub positive : (side : Side) → covers_side firing.timer.function side ≡ true
+      → IsTrue (is_positive (of_side side d.deadlines))
   pub running : of_side firing.side d.running ≡ true
   pub function : firing.timer.function ≡ timer_function firing.side d
 
+-- a firing of d is at the side of its function, with a sequence no later than the present one; a
+-- current one still has its deadline to come
 pub record FiringFits (d : Descriptor) (firing : Entry) : Type 0 where
   pub side : firing.side ≡ side_of_function firing.timer.function
   pub sequence : firing.timer.sequence ≤ of_side firing.side d.sequences
   pub due : IsTime firing.timer.due
   pub current : firing.timer.sequence ≡ of_side firing.side d.sequences → IsDueFor d firing
 
+-- a descriptor's row: its armed timers fit its deadlines, no write timer runs under combo, none at
+-- all when closing, and its numbers have 64 bits
 pub record RowFits (row : DescriptorRow) : Type 0 where
-  pub entries : (side : Side) (timer : Timer) → of_side side row.timers ≡ Some timer → EntryFits row.descriptor side timer
+  pub entries : (side : Side) (timer : Timer) → of_side side row.timers ≡ Some timer
+      → EntryFits row.descriptor side timer
   pub combo : is_combo row.descriptor ≡ true → row.descriptor.running.write ≡ false
   pub closing : row.descriptor.closing ≡ true → row.descriptor.running ≡ twice false
   pub sequences : (side : Side) → of_side side row.descriptor.sequences < 2 ^ 64
   pub fdseq : row.descriptor.fdseq < 2 ^ 64
   pub times : (side : Side) → IsTime (of_side side row.descriptor.deadlines)
 
+-- the counts of a lock fit their fields of 20 bits
 pub record LockFits (lock : Lock) : Type 0 where
   pub references : IsField lock.references
   pub waiters : (side : Side) → IsField (of_side side lock.waiters)
 
+-- a socket under a buffer limit: its lock fits, its counts have 32 bits, its buffers hold no more
+-- than they have room for, from 1 to the limit
 pub record SocketFits (buffer : ℕ) (socket : Socket) : Type 0 where
   pub lock : LockFits socket.lock
   pub counts : (side : Side) → (of_side side socket.semaphores).count < 2 ^ 32
-  pub bytes : (side : Side) → length (of_side side socket.buffers).bytes ≤ (of_side side socket.buffers).capacity
-  pub capacities : (side : Side) → (0 < (of_side side socket.buffers).capacity) × ((of_side side socket.buffers).capacity ≤ buffer)
+  pub bytes : (side : Side) → length (of_side side socket.buffers).bytes ≤
+      (of_side side socket.buffers).capacity
+  pub capacities : (side : Side) → (0 < (of_side side socket.buffers).capacity)
+      × ((of_side side socket.buffers).capacity ≤ buffer)
 
--- where an entry or a firing stands: armed at a descriptor's side, or at a place of the firings
-pub data Stand : Type 0 where
-  ArmedAt : ℕ → Side → Stand
-  FiringAt : ℕ → Stand
+-- where an entry or a firing is: armed at a descriptor's side, or at a place of the firings
+pub data TimerPlace : Type 0 where
+  ArmedAt : ℕ → Side → TimerPlace
+  FiringAt : ℕ → TimerPlace
 
+-- the heap entry at a side of descriptor d, if a timer is armed there
 abbrev pub armed_at : ℕ → Side → DescriptorRow → Option Entry
-armed_at d side row = option_map (λ timer. record { descriptor = d; side = side; timer = timer }) (of_side side row.timers)
+armed_at d side row = option_map (λ timer. record { descriptor = d; side = side; timer = timer })
+    (of_side side row.timers)
 
--- what stands there
-abbrev pub standing : List DescriptorRow → List Entry → Stand → Option Entry
-standing descriptors firings (ArmedAt d side) = option_and_then (armed_at d side) (slice_get descriptors d)
-standing descriptors firings (FiringAt i) = slice_get firings i
+-- what is there
+abbrev pub timer_at : List DescriptorRow → List Entry → TimerPlace → Option Entry
+timer_at descriptors firings (ArmedAt d side) =
+    option_and_then (armed_at d side) (slice_get descriptors d)
+timer_at descriptors firings (FiringAt i) = slice_get firings i
 
 -- it has its descriptor's sequence
 abbrev pub IsCurrent : List DescriptorRow → Entry → Type 0
-IsCurrent descriptors e = option_map (λ (row : DescriptorRow). of_side e.side row.descriptor.sequences) (slice_get descriptors e.descriptor) ≡ Some e.timer.sequence
+IsCurrent descriptors e = option_map (λ (row : DescriptorRow). of_side e.side
+    row.descriptor.sequences) (slice_get descriptors e.descriptor) ≡ Some e.timer.sequence
 
-pub record GoroutinesFit (goroutines : List Status) (sockets : List Socket) (descriptors : List DescriptorRow) (free : List ℕ) : Type 0 where
-  pub one_inside : (g h d : ℕ) (side : Side) → IsInside goroutines g d side → IsInside goroutines h d side → g ≡ h
-  pub inside_open : (g d : ℕ) (side : Side) → IsInside goroutines g d side → IsOpen descriptors free d
-  pub sockets_named : (g s : ℕ) → Shows socket_named goroutines g s → s < length sockets
-  pub owed : (g reads writes : ℕ) → Shows owed_of goroutines g (reads, writes) → IsField reads × IsField writes × (0 < reads + writes)
+-- goroutines: at most one is inside a wait of a side, only of open descriptors; they name sockets
+-- that were opened; what they owe fits a field and is not nothing
+pub record GoroutinesFit (goroutines : List Status) (sockets : List Socket)
+    (descriptors : List DescriptorRow) (free : List ℕ) : Type 0 where
+  pub one_inside : (g h d : ℕ) (side : Side) → IsInside goroutines g d side
+      → IsInside goroutines h d side → g ≡ h
+  pub inside_open : (g d : ℕ) (side : Side) → IsInside goroutines g d side
+      → IsOpen descriptors free d
+  pub sockets_named : (g s : ℕ) → HasView socket_named goroutines g s → s < length sockets
+  pub owed : (g reads writes : ℕ) → HasView owed_of goroutines g (reads, writes)
+      → IsField reads × IsField writes × (0 < reads + writes)
 
-pub record WordsFit (goroutines : List Status) (descriptors : List DescriptorRow) (waiters : ℕ) : Type 0 where
+-- poll words: they hold just the parked goroutines, wait means that somebody is about to park or to
+-- take up the word, and the waiters are counted
+pub record WaitWordsFit (goroutines : List Status) (descriptors : List DescriptorRow) (waiters : ℕ)
+    : Type 0 where
   -- a word holds g exactly where g is parked there
-  pub held : (g d : ℕ) (side : Side) → HasWord descriptors d side (Held g) ↔ Shows parked_of goroutines g (d, side)
-  pub waited : (d : ℕ) (side : Side) → HasWord descriptors d side Word.Wait → (g : ℕ) × Shows awaiting_of goroutines g (d, side)
+  pub held : (g d : ℕ) (side : Side) → HasWaitWord descriptors d side (Held g)
+      ↔ HasView parked_of goroutines g (d, side)
+  pub waited : (d : ℕ) (side : Side) → HasWaitWord descriptors d side WaitWord.Wait
+      → (g : ℕ) × HasView awaiting_of goroutines g (d, side)
   pub counted : waiters ≡ sum_by held_count descriptors
 
+-- semaphore queues: they hold just the goroutines whose status is queued there
 pub record QueuesFit (goroutines : List Status) (sockets : List Socket) : Type 0 where
-  -- each goroutine with that queued status stands once, and no other
-  pub queued : (g s : ℕ) (side : Side) (socket : Socket) → slice_get sockets s ≡ Some socket → count_by (λ h. h == g) (of_side side socket.semaphores).queue ≡ bit (is_queued s side (slice_get goroutines g))
+  -- each goroutine with that queued status is in it once, and no other
+  pub queued : (g s : ℕ) (side : Side) (socket : Socket) → slice_get sockets s ≡ Some socket
+      → count_by (λ h. h == g) (of_side side socket.semaphores).queue
+      ≡ bit (is_queued s side (slice_get goroutines g))
 
-pub record TimersFit (descriptors : List DescriptorRow) (firings : List Entry) (next_arming : ℕ) : Type 0 where
+-- timers: armed ones and firings fit their descriptors, at most one of a side is current, and
+-- arming numbers are unique and below the next
+pub record TimersFit (descriptors : List DescriptorRow) (firings : List Entry) (next_arming : ℕ) :
+    Type 0 where
   pub entries_fit : (d : ℕ) (row : DescriptorRow) → slice_get descriptors d ≡ Some row → RowFits row
-  pub firings_fit : (i : ℕ) (firing : Entry) → slice_get firings i ≡ Some firing → (row : DescriptorRow) × (slice_get descriptors firing.descriptor ≡ Some row) × FiringFits row.descriptor firing
-  pub one_current : (p q : Stand) (e f : Entry) → standing descriptors firings p ≡ Some e → standing descriptors firings q ≡ Some f → e.descriptor ≡ f.descriptor → e.side ≡ f.side → IsCurrent descriptors e → IsCurrent descriptors f → p ≡ q
-  pub armed_before : (p : Stand) (e : Entry) → standing descriptors firings p ≡ Some e → e.timer.number < next_arming
-  pub armed_once : (p q : Stand) (e f : Entry) → standing descriptors firings p ≡ Some e → standing descriptors firings q ≡ Some f → e.timer.number ≡ f.timer.number → p ≡ q
+  pub firings_fit : (i : ℕ) (firing : Entry) → slice_get firings i ≡ Some firing
+      → (row : DescriptorRow) × (slice_get descriptors firing.descriptor ≡ Some row)
+      × FiringFits row.descriptor firing
+  pub one_current : (p q : TimerPlace) (e f : Entry) → timer_at descriptors firings p ≡ Some e
+      → timer_at descriptors firings q ≡ Some f → e.descriptor ≡ f.descriptor → e.side ≡ f.side
+      → IsCurrent descriptors e → IsCurrent descriptors f → p ≡ q
+  pub armed_before : (p : TimerPlace) (e : Entry) → timer_at descriptors firings p ≡ Some e
+      → e.timer.number < next_arming
+  pub armed_once : (p q : TimerPlace) (e f : Entry) → timer_at descriptors firings p ≡ Some e
+      → timer_at descriptors firings q ≡ Some f → e.timer.number ≡ f.timer.number → p ≡ q
   pub numbered : 0 < next_arming
   pub in_range : next_arming < 2 ^ 64
 
+-- free descriptor numbers: they were made, each is there once, is closing, and has nobody parked or
+-- waiting on its words
 pub record FreeFits (descriptors : List DescriptorRow) (free : List ℕ) : Type 0 where
   pub made : All (λ d. d < length descriptors) free
   pub once : (d : ℕ) → count_by (λ f. f == d) free ≤ 1
-  pub closing : (d : ℕ) (row : DescriptorRow) → is_free_number d free ≡ true → slice_get descriptors d ≡ Some row → row.descriptor.closing ≡ true
-  pub words : (d : ℕ) (side : Side) (word : Word) → is_free_number d free ≡ true → HasWord descriptors d side word → (word ≡ Nil) ⊎ (word ≡ Ready)
+  pub closing : (d : ℕ) (row : DescriptorRow) → is_free_number d free ≡ true
+      → slice_get descriptors d ≡ Some row → row.descriptor.closing ≡ true
+  pub words : (d : ℕ) (side : Side) (word : WaitWord) → is_free_number d free ≡ true
+      → HasWaitWord descriptors d side word → (word ≡ Nil) ⊎ (word ≡ Ready)
 
 -- the clock began at 0 and goes on
 pub record ClockFits (clock : ℤ) : Type 0 where
   pub begun : pos 0 ≤ℤ clock
   pub time : IsTime clock
 
+-- what every state that steps lead to keeps: the parts fit one another, and no table is past its
+-- limit
 pub record WellFormed (w : World) : Type 0 where
   pub goroutines : GoroutinesFit w.goroutines w.sockets w.descriptors w.free
-  pub words : WordsFit w.goroutines w.descriptors w.waiters
+  pub words : WaitWordsFit w.goroutines w.descriptors w.waiters
   pub queues : QueuesFit w.goroutines w.sockets
   pub timers : TimersFit w.descriptors w.firings w.next_arming
   pub free : FreeFits w.descriptors w.free
-  pub sockets : (s : ℕ) (socket : Socket) → slice_get w.sockets s ≡ Some socket → SocketFits w.limits.buffer socket
+  pub sockets : (s : ℕ) (socket : Socket) → slice_get w.sockets s ≡ Some socket
+      → SocketFits w.limits.buffer socket
   pub goroutines_limited : length w.goroutines ≤ w.limits.goroutines
   pub sockets_limited : length w.sockets ≤ w.limits.sockets
   pub descriptors_limited : length w.descriptors ≤ w.limits.descriptors

@@ -1,4 +1,4 @@
--- Recordings whose worlds are told by computing, and what is asked of them.
+-- Recordings whose worlds are computed, and what is asked of them.
 use Rattle.std.specs.Prelude.{ℕ, ◌+◌, pos, List, [], ◌∷◌, false, true, Result, Ok, Err, Option, Some, None}
 use Rattle.nr_rev.specs.declared.sides.Side.{Side}
 use Rattle.nr_rev.specs.declared.sides.Mode.{Mode}
@@ -20,12 +20,17 @@ use Rattle.nr_rev.specs.Run.{Recording, world_at}
 -- a recording of these steps, with room for four goroutines, two sockets and two descriptors
 abbrev pub recording : List Step → Recording
 recording steps =
-    record { limits = record { goroutines = 4; sockets = 2; descriptors = 2; buffer = 16 }; steps = steps }
+    record {
+      limits = record { goroutines = 4; sockets = 2; descriptors = 2; buffer = 16 };
+      steps = steps;
+    }
 
--- the reason of the first step that is refused, with that step's number; the first of the list has number k
+-- the reason of the first step that is refused, with that step's number; the first of the list has
+-- number k
 abbrev pub first_refused : ℕ → World → List Step → Option (ℕ × Refusal)
 first_refused k w [] = None
-first_refused k w (step ∷ steps) = elim (outcome w step) [ Ok a ↦ first_refused (k + 1) a.1 steps | Err reason ↦ Some (k, reason) ]
+first_refused k w (step ∷ steps) =
+    elim (outcome w step) [ Ok a ↦ first_refused (k + 1) a.1 steps | Err reason ↦ Some (k, reason) ]
 
 -- the number of the first step of a recording that is refused, from 1, and why
 abbrev pub first_refused_of : Recording → Option (ℕ × Refusal)
@@ -34,19 +39,22 @@ first_refused_of r = first_refused 1 (empty_world r.limits) r.steps
 -- the same of some steps where there is room for two goroutines, a socket and a descriptor
 abbrev pub reason_of : List Step → Option (ℕ × Refusal)
 reason_of steps =
-    first_refused 1 (empty_world (record { goroutines = 2; sockets = 1; descriptors = 1; buffer = 16 })) steps
+    first_refused 1
+    (empty_world (record { goroutines = 2; sockets = 1; descriptors = 1; buffer = 16 })) steps
 
 -- the answers of some steps, up to the first that is refused
 abbrev pub answers_from : World → List Step → List Answer
 answers_from w [] = []
-answers_from w (step ∷ steps) = elim (outcome w step) [ Ok a ↦ a.0 ∷ answers_from a.1 steps | Err reason ↦ [] ]
+answers_from w (step ∷ steps) =
+    elim (outcome w step) [ Ok a ↦ a.0 ∷ answers_from a.1 steps | Err reason ↦ [] ]
 
+-- the answers of a recording, up to the first step that is refused
 abbrev pub answers_of : Recording → List Answer
 answers_of r = answers_from (empty_world r.limits) r.steps
 
 -- what a cell shows at a position
-abbrev pub shown : Recording → ℕ → Cell → CellValue
-shown r n what = cell (world_at r n) what
+abbrev pub cell_after : Recording → ℕ → Cell → CellValue
+cell_after r n what = cell (world_at r n) what
 
 -- two goroutines want the lock of reading, and a third closes
 abbrev pub two_readers_and_a_close : Recording
@@ -64,7 +72,8 @@ one_reference_given_up_twice = recording (SockOpen 1 1 ∷ Incref 0 0 ∷ Decref
 abbrev pub a_release_without_hand_off : Recording
 a_release_without_hand_off =
     recording (
-    Spawn ∷ SockOpen 16 16 ∷ RwLock 0 0 Side.Read ∷ RwLock 1 0 Side.Read ∷ Acquire 1 ∷ RwUnlock 0 0 Side.Read
+    Spawn ∷ SockOpen 16 16 ∷ RwLock 0 0 Side.Read ∷ RwLock 1 0 Side.Read ∷ Acquire 1
+    ∷ RwUnlock 0 0 Side.Read
     ∷ Release 0 ∷ RwLock 0 0 Side.Read ∷ Acquire 1 ∷ RwLock 1 0 Side.Read ∷ []
     )
 
@@ -72,8 +81,10 @@ a_release_without_hand_off =
 abbrev pub a_read_through_the_poller : Recording
 a_read_through_the_poller =
     recording (
-    SockOpen 16 16 ∷ PollOpen 0 0 ∷ RwLock 0 0 Side.Read ∷ WaitBegin 0 0 Side.Read ∷ BlockArm 0 ∷ BlockCheck 0
-    ∷ ParkCommit 0 ∷ Arrive 0 (104 ∷ 105 ∷ []) ∷ PollEvent 0 1 Mode.Read false ∷ BlockSwap 0 ∷ SysRead 0 0 8
+    SockOpen 16 16 ∷ PollOpen 0 0 ∷ RwLock 0 0 Side.Read ∷ WaitBegin 0 0 Side.Read ∷ BlockArm 0
+    ∷ BlockCheck 0
+    ∷ ParkCommit 0 ∷ Arrive 0 (104 ∷ 105 ∷ []) ∷ PollEvent 0 1 Mode.Read false ∷ BlockSwap 0
+    ∷ SysRead 0 0 8
     ∷ RwUnlock 0 0 Side.Read ∷ []
     )
 
@@ -81,7 +92,8 @@ a_read_through_the_poller =
 abbrev pub an_event_before_the_parking : Recording
 an_event_before_the_parking =
     recording (
-    SockOpen 16 16 ∷ PollOpen 0 0 ∷ RwLock 0 0 Side.Read ∷ WaitBegin 0 0 Side.Read ∷ BlockArm 0 ∷ BlockCheck 0
+    SockOpen 16 16 ∷ PollOpen 0 0 ∷ RwLock 0 0 Side.Read ∷ WaitBegin 0 0 Side.Read ∷ BlockArm 0
+    ∷ BlockCheck 0
     ∷ PollEvent 0 1 Mode.Read false ∷ ParkCommit 0 ∷ BlockSwap 0 ∷ []
     )
 
@@ -108,13 +120,15 @@ a_stale_firing_of_both_deadlines =
 -- now and the time to wait are more than the greatest time
 abbrev pub a_deadline_past_the_greatest_time : Recording
 a_deadline_past_the_greatest_time =
-    recording (SockOpen 1 1 ∷ PollOpen 0 0 ∷ Tick (pos 5) ∷ SetDeadline 0 0 Mode.Read (pos 9223372036854775807) ∷ [])
+    recording (SockOpen 1 1 ∷ PollOpen 0 0 ∷ Tick (pos 5)
+    ∷ SetDeadline 0 0 Mode.Read (pos 9223372036854775807) ∷ [])
 
 -- an event of before the closing comes after the opening
 abbrev pub a_descriptor_opened_again : Recording
 a_descriptor_opened_again =
     recording (
-    SockOpen 16 16 ∷ PollOpen 0 0 ∷ Evict 0 0 ∷ PollClose 0 0 ∷ PollOpen 0 0 ∷ PollEvent 0 1 Mode.Read false ∷ []
+    SockOpen 16 16 ∷ PollOpen 0 0 ∷ Evict 0 0 ∷ PollClose 0 0 ∷ PollOpen 0 0
+    ∷ PollEvent 0 1 Mode.Read false ∷ []
     )
 
 -- a third timer is due, and two firings wait to be run
@@ -124,7 +138,8 @@ a_firing_too_many =
       limits = record { goroutines = 1; sockets = 1; descriptors = 1; buffer = 1 };
       steps =
           SockOpen 1 1 ∷ PollOpen 0 0 ∷ SetDeadline 0 0 Mode.Read (pos 1) ∷ Tick (pos 1) ∷ Pop
-          ∷ SetDeadline 0 0 Mode.Read (pos 1) ∷ Tick (pos 2) ∷ Pop ∷ SetDeadline 0 0 Mode.Read (pos 1) ∷ Tick (pos 3) ∷ Pop
+          ∷ SetDeadline 0 0 Mode.Read (pos 1) ∷ Tick (pos 2) ∷ Pop
+          ∷ SetDeadline 0 0 Mode.Read (pos 1) ∷ Tick (pos 3) ∷ Pop
           ∷ [];
     }
 
@@ -152,10 +167,11 @@ a_lock_with_one_waiter =
 abbrev pub a_lock_full_of_references : Lock
 a_lock_full_of_references = record open_lock { references = 1048575 }
 
--- an operation's answer, the releases owed of reading and of writing, and the number of the lock that it leaves
-abbrev pub left_by : Result LockOutcome Refusal → Result (Answer × ℕ × ℕ × ℕ) Refusal
-left_by (Ok left) = Ok (left.answer, left.owed.read, left.owed.write, lock_number left.lock)
-left_by (Err reason) = Err reason
+-- an operation's answer, the releases owed of reading and of writing, and the number of the lock
+-- that it leaves
+abbrev pub lock_left_by : Result LockOutcome Refusal → Result (Answer × ℕ × ℕ × ℕ) Refusal
+lock_left_by (Ok left) = Ok (left.answer, left.owed.read, left.owed.write, lock_number left.lock)
+lock_left_by (Err reason) = Err reason
 
 -- a world with one goroutine and one socket, with this lock
 abbrev pub world_with_lock : Lock → World

@@ -12,17 +12,30 @@ use Rattle.nr_rev.specs.declared.descriptor.Descriptor.{Descriptor}
 use Rattle.nr_rev.specs.Socket.{Socket}
 use Rattle.nr_rev.specs.declared.descriptor.DescriptorRow.{DescriptorRow}
 
+-- the machine's state: tables of goroutines, sockets and descriptors, each indexed by number, the
+-- timer queue's firings, and counters
 pub record World : Type 0 where
+  -- how many goroutines, sockets and descriptors there may be, and how many bytes a buffer may have
   pub limits : Limits
+  -- the status of each goroutine, by its number, from 0
   pub goroutines : List Status
+  -- the sockets, by number, from 0
   pub sockets : List Socket
+  -- the descriptors and the timers armed for them, by number, from 0; closed ones stay
   pub descriptors : List DescriptorRow
+  -- timers that went off and were not run yet, by number, from 0: the first that went off first
   pub firings : List Entry
+  -- numbers of closed descriptors, the one closed last first: it is opened again first
   pub free : List ℕ
+  -- now, in nanoseconds from the beginning of the recording
   pub clock : ℤ
+  -- how many poll words hold a parked goroutine: `netpollWaiters`
   pub waiters : ℕ
+  -- the number that the next timer armed gets: the first one got 1
   pub next_arming : ℕ
 
+-- the state before the first step: goroutine 0 idle, nothing opened, the clock at 0, arming numbers
+-- from 1
 abbrev pub empty_world : Limits → World
 empty_world limits =
     record {
@@ -45,6 +58,7 @@ is_free_number d free = list_any (λ f. d == f) free
 abbrev pub entries_of : List DescriptorRow → List Entry
 entries_of descriptors = entries_from 0 (map (λ row. row.timers) descriptors)
 
+-- the heap entry that goes off first, if any timer is armed
 abbrev pub least_entry : World → Option Entry
 least_entry w = least_of (entries_of w.descriptors)
 
@@ -58,22 +72,27 @@ wait_of (Swapping d side) = Some (d, side)
 wait_of (Checking d side) = Some (d, side)
 wait_of _ = None
 
-abbrev pub is_place : ℕ → Side → Option (ℕ × Side) → Bool
-is_place d side None = false
-is_place d side (Some place) = (d == place.0) && same_side side place.1
+-- whether a goroutine's place in a wait, if it is in one, is this descriptor and side
+abbrev pub is_wait_at : ℕ → Side → Option (ℕ × Side) → Bool
+is_wait_at d side None = false
+is_wait_at d side (Some place) = (d == place.0) && same_side side place.1
 
 -- whether a goroutine is inside a wait of the descriptor and side
 abbrev pub is_waited : ℕ → Side → List Status → Bool
-is_waited d side goroutines = list_any (λ status. is_place d side (wait_of status)) goroutines
+is_waited d side goroutines = list_any (λ status. is_wait_at d side (wait_of status)) goroutines
 
+-- the world with a new status of goroutine g
 abbrev pub with_status : ℕ → Status → World → World
 with_status g status w = record w { goroutines = slice_set w.goroutines g status }
 
+-- the world with a new socket s
 abbrev pub with_socket : ℕ → Socket → World → World
 with_socket s socket w = record w { sockets = slice_set w.sockets s socket }
 
+-- the world with a new row of descriptor d: its state and its timers
 abbrev pub with_row : ℕ → DescriptorRow → World → World
 with_row d row w = record w { descriptors = slice_set w.descriptors d row }
 
+-- the world with a new state of descriptor d, whose row this is; its timers stay
 abbrev pub with_descriptor : ℕ → DescriptorRow → Descriptor → World → World
 with_descriptor d row descriptor w = with_row d (record row { descriptor = descriptor }) w

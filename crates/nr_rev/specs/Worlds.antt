@@ -13,6 +13,7 @@ abbrev pub refusal_of : Outcome → Option Refusal
 refusal_of (Ok left) = None
 refusal_of (Err reason) = Some reason
 
+-- how many bytes a read gave, by its answer
 abbrev pub bytes_got : Answer → ℕ
 bytes_got (Got k) = k
 bytes_got _ = 0

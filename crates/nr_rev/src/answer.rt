@@ -1,6 +1,6 @@
 //! What a step answers.
 
-/// The answer of a step that applies. Which answers a kind has stands at the kind, in `Step`.
+/// The answer of a step that applies. `Step` says at each kind which answers it has.
 #[derive(Clone, Copy, Debug, PartialEq, Eq)]
 pub enum Answer {
     /// The number of what was made: a goroutine, a socket or a descriptor.

@@ -1,6 +1,6 @@
 //! The value of a cell.
 
-use crate::descriptor::Word;
+use crate::descriptor::WaitWord;
 use crate::status::Status;
 
 /// The value of a cell.
@@ -13,7 +13,7 @@ pub enum CellValue {
     /// A time in nanoseconds: that of a deadline, of a timer or now.
     Time(i64),
     /// A poll word.
-    Word(Word),
+    WaitWord(WaitWord),
     /// Where a goroutine is.
     Status(Status),
 }

@@ -10,7 +10,7 @@ use crate::timer::Timer;
 
 /// A poll word, `rg` or `wg` of `pollDesc`: what is known of one side of a descriptor, or who waits there.
 #[derive(Clone, Copy, Debug, PartialEq, Eq)]
-pub enum Word {
+pub enum WaitWord {
     /// Nothing is known, and nobody waits.
     Nil,
     /// The side is ready, or was found ready and nobody took it up yet.
@@ -21,11 +21,11 @@ pub enum Word {
     Held(u32),
 }
 
-impl Word {
+impl WaitWord {
     ghost use Rattle.std.specs.Prelude.{◌≡◌, ◌≢◌, MatchBool};
 
     /// Whether it is the same word as another.
-    pub fn is(self, other: Word) -> bool
+    pub fn is(self, other: WaitWord) -> bool
         ensures { MatchBool result (self ≡ other) (self ≢ other) }
     {
         self == other
@@ -36,10 +36,10 @@ impl Word {
 #[derive(Clone, Copy, Debug, PartialEq, Eq)]
 pub struct Descriptor {
     /// The poll words, `rg` and `wg`.
-    pub words: Sides<Word>,
+    pub words: Sides<WaitWord>,
     /// It is being closed, so that nothing waits on it any more.
     pub closing: bool,
-    /// The last event told of an error.
+    /// The last event reported an error.
     pub event_error: bool,
     /// The deadlines, `rd` and `wd`, in nanoseconds: positive to come, negative past, 0 none.
     pub deadlines: Sides<i64>,
@@ -81,7 +81,7 @@ pub fn both_raised(sequences: Sides<u64>) -> Result<Sides<u64>, Refusal>
     Ok(Sides { read, write })
 }
 
-/// A deadline told from now, in nanoseconds, made a time; the greatest time stands for a later one. One that is past, or
+/// A deadline counted from now, in nanoseconds, made a time; the greatest time replaces a later one. One that is past, or
 /// none, stays.
 pub fn deadline_from(clock: i64, time: i64) -> i64
     ensures { result ≡ spec.deadline_from clock time }

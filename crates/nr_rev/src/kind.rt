@@ -1,6 +1,6 @@
 //! The kinds of recorded steps: their names and numbers.
 
-ghost use Rattle.std.specs.Prelude.{◌≡◌};
+ghost use Rattle.std.specs.Prelude.{◌≡◌, ◌<◌, ◌≤◌};
 ghost use Rattle.nr_rev.specs.Kind.{kind_name, kind_named, kind_number, kind_numbered, kind_of};
 
 use crate::step::Step;
@@ -9,69 +9,69 @@ use crate::step::Step;
 #[derive(Clone, Copy, Debug, PartialEq, Eq)]
 pub enum Kind {
     Spawn = 1,
-    Exit = 2,
-    SockOpen = 3,
-    Arrive = 4,
-    PeerClose = 5,
-    SysRead = 6,
-    SysWrite = 7,
-    Drain = 8,
-    Incref = 9,
-    IncrefClose = 10,
-    Decref = 11,
-    RwLock = 12,
-    RwUnlock = 13,
-    Acquire = 14,
-    Release = 15,
-    PollOpen = 16,
-    PollClose = 17,
-    PollReset = 18,
-    WaitBegin = 19,
-    BlockArm = 20,
-    BlockCheck = 21,
-    ParkCommit = 22,
-    BlockSwap = 23,
-    WaitCheck = 24,
-    SetDeadline = 25,
-    Evict = 26,
-    PollEvent = 27,
-    Tick = 28,
-    Pop = 29,
-    Fire = 30,
+    Exit,
+    SockOpen,
+    Arrive,
+    PeerClose,
+    SysRead,
+    SysWrite,
+    Drain,
+    Incref,
+    IncrefClose,
+    Decref,
+    RwLock,
+    RwUnlock,
+    Acquire,
+    Release,
+    PollOpen,
+    PollClose,
+    PollReset,
+    WaitBegin,
+    BlockArm,
+    BlockCheck,
+    ParkCommit,
+    BlockSwap,
+    WaitCheck,
+    SetDeadline,
+    Evict,
+    PollEvent,
+    Tick,
+    Pop,
+    Fire,
 }
 
-/// All kinds, in the order of their numbers.
-const KINDS: [Kind; 30] = [
-    Kind::Spawn,
-    Kind::Exit,
-    Kind::SockOpen,
-    Kind::Arrive,
-    Kind::PeerClose,
-    Kind::SysRead,
-    Kind::SysWrite,
-    Kind::Drain,
-    Kind::Incref,
-    Kind::IncrefClose,
-    Kind::Decref,
-    Kind::RwLock,
-    Kind::RwUnlock,
-    Kind::Acquire,
-    Kind::Release,
-    Kind::PollOpen,
-    Kind::PollClose,
-    Kind::PollReset,
-    Kind::WaitBegin,
-    Kind::BlockArm,
-    Kind::BlockCheck,
-    Kind::ParkCommit,
-    Kind::BlockSwap,
-    Kind::WaitCheck,
-    Kind::SetDeadline,
-    Kind::Evict,
-    Kind::PollEvent,
-    Kind::Tick,
-    Kind::Pop,
-    Kind::Fire,
+/// Each kind with its name, in the order of their numbers.
+const KINDS: [(Kind, &str); 30] = [
+    (Kind::Spawn, "spawn"),
+    (Kind::Exit, "exit"),
+    (Kind::SockOpen, "sockopen"),
+    (Kind::Arrive, "arrive"),
+    (Kind::PeerClose, "peerclose"),
+    (Kind::SysRead, "sysread"),
+    (Kind::SysWrite, "syswrite"),
+    (Kind::Drain, "drain"),
+    (Kind::Incref, "incref"),
+    (Kind::IncrefClose, "increfclose"),
+    (Kind::Decref, "decref"),
+    (Kind::RwLock, "rwlock"),
+    (Kind::RwUnlock, "rwunlock"),
+    (Kind::Acquire, "acquire"),
+    (Kind::Release, "release"),
+    (Kind::PollOpen, "pollopen"),
+    (Kind::PollClose, "pollclose"),
+    (Kind::PollReset, "pollreset"),
+    (Kind::WaitBegin, "waitbegin"),
+    (Kind::BlockArm, "blockarm"),
+    (Kind::BlockCheck, "blockcheck"),
+    (Kind::ParkCommit, "parkcommit"),
+    (Kind::BlockSwap, "blockswap"),
+    (Kind::WaitCheck, "waitcheck"),
+    (Kind::SetDeadline, "setdeadline"),
+    (Kind::Evict, "evict"),
+    (Kind::PollEvent, "pollevent"),
+    (Kind::Tick, "tick"),
+    (Kind::Pop, "pop"),
+    (Kind::Fire, "fire"),
 ];
 
 impl Kind {
@@ -79,43 +79,13 @@ impl Kind {
     pub fn name(self) -> &'static str
         ensures { result.now ≡ kind_name self }
     {
-        match self {
-            Kind::Spawn => "spawn",
-            Kind::Exit => "exit",
-            Kind::SockOpen => "sockopen",
-            Kind::Arrive => "arrive",
-            Kind::PeerClose => "peerclose",
-            Kind::SysRead => "sysread",
-            Kind::SysWrite => "syswrite",
-            Kind::Drain => "drain",
-            Kind::Incref => "incref",
-            Kind::IncrefClose => "increfclose",
-            Kind::Decref => "decref",
-            Kind::RwLock => "rwlock",
-            Kind::RwUnlock => "rwunlock",
-            Kind::Acquire => "acquire",
-            Kind::Release => "release",
-            Kind::PollOpen => "pollopen",
-            Kind::PollClose => "pollclose",
-            Kind::PollReset => "pollreset",
-            Kind::WaitBegin => "waitbegin",
-            Kind::BlockArm => "blockarm",
-            Kind::BlockCheck => "blockcheck",
-            Kind::ParkCommit => "parkcommit",
-            Kind::BlockSwap => "blockswap",
-            Kind::WaitCheck => "waitcheck",
-            Kind::SetDeadline => "setdeadline",
-            Kind::Evict => "evict",
-            Kind::PollEvent => "pollevent",
-            Kind::Tick => "tick",
-            Kind::Pop => "pop",
-            Kind::Fire => "fire",
-        }
+        KINDS[self.number() as usize - 1].1
     }
 
     /// The number, from 1 on.
     pub fn number(self) -> u8
-        ensures { result ≡ kind_number self }
+        ensures value { result ≡ kind_number self }
+        ensures range { (0 < result) × (result ≤ 30) }
     {
         self as u8
     }
@@ -126,7 +96,7 @@ impl Kind {
     {
         KINDS
             .iter()
-            .copied()
+            .map(|row| row.0)
             .find(|kind| kind.name().as_bytes() == name)
     }
 
@@ -134,7 +104,10 @@ impl Kind {
     pub fn numbered(number: u8) -> Option<Kind>
         ensures { result ≡ kind_numbered number }
     {
-        KINDS.iter().copied().find(|kind| kind.number() == number)
+        KINDS
+            .iter()
+            .map(|row| row.0)
+            .find(|kind| kind.number() == number)
     }
 }
 

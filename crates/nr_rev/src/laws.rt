@@ -16,8 +16,8 @@ ghost use Rattle.nr_rev.specs.declared.descriptor.DescriptorRow.{DescriptorRow};
 ghost use Rattle.nr_rev.specs.World.{World, empty_world};
 ghost use Rattle.nr_rev.specs.declared.refusal.Refusal.TheVariants.{CorruptedDescriptor};
 ghost use Rattle.nr_rev.specs.declared.step.Step.{Step};
-ghost use Rattle.nr_rev.specs.declared.descriptor.Word.{Word};
-ghost use Rattle.nr_rev.specs.declared.descriptor.Word.TheVariants.{Nil, Ready, Held};
+ghost use Rattle.nr_rev.specs.declared.descriptor.WaitWord.{WaitWord};
+ghost use Rattle.nr_rev.specs.declared.descriptor.WaitWord.TheVariants.{Nil, Ready, Held};
 ghost use Rattle.nr_rev.specs.declared.status.Status.TheVariants.{Entering, Swapping};
 ghost use Rattle.nr_rev.specs.Run.{Recording, world_at};
 ghost use Rattle.nr_rev.specs.Step.{IsTimely, outcome};
@@ -25,7 +25,7 @@ ghost use Rattle.nr_rev.specs.declared.cell.Cell.{Cell};
 ghost use Rattle.nr_rev.specs.CellName.{cell_index, cell_name, cell_named, cell_number, cell_numbered};
 ghost use Rattle.nr_rev.specs.declared.kind.Kind.{Kind};
 ghost use Rattle.nr_rev.specs.Kind.{kind_name, kind_named, kind_number, kind_numbered, kinds};
-ghost use Rattle.nr_rev.specs.WellFormed.{WellFormed, HasWord, IsInside, Shows, socket_named, Stand, standing};
+ghost use Rattle.nr_rev.specs.WellFormed.{WellFormed, HasWaitWord, IsInside, HasView, socket_named, TimerPlace, timer_at};
 ghost use Rattle.nr_rev.specs.declared.limits.TheConstants.{MOST_GOROUTINES, MOST_SOCKETS, MOST_DESCRIPTORS, MOST_BUFFER};
 
 /// The world that a recording begins with.
@@ -41,12 +41,12 @@ pub fn steps_keep_well_formedness()
 
 /// Words at the places where a goroutine takes them up: nil or ready at blockarm, and none that holds a goroutine at blockswap.
 pub fn words_where_taken_up()
-    ensures arm { (w : World) (g d : ℕ) (side : Side) (word : Word) → WellFormed w
+    ensures arm { (w : World) (g d : ℕ) (side : Side) (word : WaitWord) → WellFormed w
         → slice_get w.goroutines g ≡ Some (Entering d side)
-        → HasWord w.descriptors d side word → (word ≡ Nil) ⊎ (word ≡ Ready) }
+        → HasWaitWord w.descriptors d side word → (word ≡ Nil) ⊎ (word ≡ Ready) }
     ensures swap { (w : World) (g k d : ℕ) (side : Side) → WellFormed w
         → slice_get w.goroutines g ≡ Some (Swapping d side)
-        → ¬ HasWord w.descriptors d side (Held k) }
+        → ¬ HasWaitWord w.descriptors d side (Held k) }
 {}
 
 /// No step of a well-formed world is refused for a corrupted descriptor.
@@ -65,10 +65,10 @@ pub fn what_is_named_is_there()
     ensures place { (w : World) (g d : ℕ) (side : Side) → WellFormed w
         → IsInside w.goroutines g d side
         → (row : DescriptorRow) × (slice_get w.descriptors d ≡ Some row) }
-    ensures socket { (w : World) (g s : ℕ) → WellFormed w → Shows socket_named w.goroutines g s
+    ensures socket { (w : World) (g s : ℕ) → WellFormed w → HasView socket_named w.goroutines g s
         → (socket : Socket) × (slice_get w.sockets s ≡ Some socket) }
-    ensures entry { (w : World) (p : Stand) (e : Entry) → WellFormed w
-        → standing w.descriptors w.firings p ≡ Some e
+    ensures entry { (w : World) (p : TimerPlace) (e : Entry) → WellFormed w
+        → timer_at w.descriptors w.firings p ≡ Some e
         → (row : DescriptorRow) × (slice_get w.descriptors e.descriptor ≡ Some row) }
 {}
 

@@ -3,7 +3,7 @@
 //!
 //! The machine is that of Go's network poller: socket locks after `internal/poll/fd_mutex.go`, descriptors, waits and
 //! deadlines after `runtime/netpoll.go`. Semaphores, sockets, timers and the order of reasons are rules of its own. The
-//! definitions stand in `specs/`: `Step` has the thirty steps, `World` the state, `WellFormed` what holds of every world
+//! definitions are in `specs/`: `Step` has the thirty steps, `World` the state, `WellFormed` what holds of every world
 //! that steps lead to, `Cell` what can be read, and `Run` a recording's positions.
 #![tactic(auto)]
 
@@ -34,7 +34,7 @@ pub use bytes::Bytes;
 pub use cell::Cell;
 pub use cell_value::CellValue;
 pub use descriptor::{
-    Descriptor, DescriptorRow, Word, both_raised, deadline_from, raised_sequence,
+    Descriptor, DescriptorRow, WaitWord, both_raised, deadline_from, raised_sequence,
 };
 pub use kept::KeptBytes;
 pub use kind::Kind;

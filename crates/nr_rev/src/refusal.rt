@@ -4,7 +4,7 @@ ghost use Rattle.std.specs.Prelude.{◌≡◌};
 ghost use Rattle.nr_rev.specs.Refusing.{refusal_number};
 
 /// Why a step does not apply. The number is what netrev prints. Of several reasons, that which the definition of the
-/// step tests first is told. Those that go with a panic or a throw of Go are from `internal/poll/fd_mutex.go` and
+/// step tests first is the one reported. Those that go with a panic or a throw of Go are from `internal/poll/fd_mutex.go` and
 /// `runtime/netpoll.go`; the others are rules of this machine.
 #[derive(Clone, Copy, Debug, PartialEq, Eq)]
 pub enum Refusal {
@@ -39,7 +39,7 @@ pub enum Refusal {
     NoTimerDue = 13,
     /// Twice as many firings wait as there may be descriptors.
     FiringsFull = 14,
-    /// No firing stands at this place.
+    /// No firing is at this place.
     NoSuchFiring = 15,
     /// The bytes that arrive do not all fit.
     NoRoom = 16,

@@ -31,7 +31,7 @@ pub trait Reversible {
     /// The operation may give this answer and lead from the old state to the new one.
     ghost steps: { Self → Self.Op → Self.Answer → Self → Type 0 };
 
-    /// Why the operation does not apply in the state, want of memory aside.
+    /// Why the operation does not apply in the state, out of memory aside.
     ghost reason: { Self → Self.Op → Option Refusal };
 
     /// Holds of the operations that take memory in the state, and so may be refused it.

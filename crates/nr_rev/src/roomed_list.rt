@@ -119,9 +119,9 @@ impl<T: Copy> RoomedList<T> {
         self.items.get(place).copied()
     }
 
-    /// Puts the item in the place of the one that stands there, which it gives back. Where there is no such
+    /// Puts the item in the place of the one there, which it returns. Where there is no such
     /// place it gives back the item itself.
-    #[tactic(auto, using(crate::proofs::Lists::set_read_back, crate::proofs::Lists::read_is_there))]
+    #[tactic(auto, using(crate::proofs::ListUpdateLemmas::set_read_back, crate::proofs::ListUpdateLemmas::read_is_there))]
     pub fn replace(&mut self, place: usize, item: T) -> T
         ensures items { self.new ≡ record self.old { items = slice_set self.old.items place item } }
         ensures back { slice_set self.new.items place result ≡ self.old.items }

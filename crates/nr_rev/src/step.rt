@@ -4,7 +4,7 @@ use crate::bytes::Bytes;
 use crate::sides::{Mode, Side};
 
 /// One recorded step. Each kind is what one goroutine, the system or the clock does at once, so that steps of several
-/// goroutines can stand in any order. Goroutines, sockets and descriptors are named by number, from 0, in the order in
+/// goroutines can be in any order. Goroutines, sockets and descriptors are named by number, from 0, in the order in
 /// which they were made; a free descriptor's number is used again.
 #[derive(Drop)]
 pub enum Step {
@@ -95,13 +95,13 @@ pub enum Step {
         goroutine: u32,
         descriptor: u32,
     },
-    /// `runtime_pollReset`: the word is nil again, where nothing stands against a wait. Answers the `Code` of the check.
+    /// `runtime_pollReset`: the word is nil again, where nothing forbids a wait. Answers the `Code` of the check.
     PollReset {
         goroutine: u32,
         descriptor: u32,
         side: Side,
     },
-    /// `runtime_pollWait`, from its top: a goroutine goes into a wait, where nothing stands against it. Answers the `Code` of
+    /// `runtime_pollWait`, from its top: a goroutine goes into a wait, where nothing forbids it. Answers the `Code` of
     /// the check.
     WaitBegin {
         goroutine: u32,
@@ -143,7 +143,7 @@ pub enum Step {
         goroutine: u32,
         descriptor: u32,
     },
-    /// `netpollready` for the descriptor and the tag that the system has with it, with the error that the event tells.
+    /// `netpollready` for the descriptor and the tag that the system has with it, with the error that the event reports.
     /// Answers `Done`, or `Stale` for an old tag or a free descriptor.
     PollEvent {
         descriptor: u32,

@@ -7,9 +7,9 @@ ghost use Rattle.nr_rev.specs.Cell.{bytes_of, queue_of};
 ghost use Rattle.nr_rev.specs.Refusing.{raised_sequence};
 ghost use Rattle.nr_rev.specs.Run.{next_of, world_at};
 ghost use Rattle.nr_rev.specs.Step.{outcome};
-ghost use Rattle.nr_rev.specs.Worked.{a_deadline_past_the_greatest_time, a_descriptor_opened_again, a_drained_output, a_firing_too_many, a_lock_full_of_references, a_lock_with_one_waiter, a_lock_with_three_waiters, a_read_through_the_poller, a_release_without_hand_off, a_stale_firing_of_both_deadlines, an_error_while_reading_waits, an_event_before_the_parking, answers_of, first_refused_of, left_by, one_reference_given_up_twice, reason_of, shown, two_readers_and_a_close, world_with_lock};
+ghost use Rattle.nr_rev.specs.Worked.{a_deadline_past_the_greatest_time, a_descriptor_opened_again, a_drained_output, a_firing_too_many, a_lock_full_of_references, a_lock_with_one_waiter, a_lock_with_three_waiters, a_read_through_the_poller, a_release_without_hand_off, a_stale_firing_of_both_deadlines, an_error_while_reading_waits, an_event_before_the_parking, answers_of, first_refused_of, lock_left_by, one_reference_given_up_twice, reason_of, cell_after, two_readers_and_a_close, world_with_lock};
 ghost use Rattle.nr_rev.specs.declared.sides.Side.{Side};
-ghost use Rattle.nr_rev.specs.declared.descriptor.Word.{Word};
+ghost use Rattle.nr_rev.specs.declared.descriptor.WaitWord.{WaitWord};
 ghost use Rattle.nr_rev.specs.declared.status.Status.{Status};
 ghost use Rattle.nr_rev.specs.declared.refusal.Refusal.{Refusal};
 ghost use Rattle.nr_rev.specs.declared.answer.Answer.{Answer};
@@ -21,10 +21,10 @@ ghost use Rattle.nr_rev.specs.declared.step.Step.{Step};
 /// sides; `rwunlock` one of its side; `incref` of a full word, where Go panics, is refused and changes nothing.
 pub fn lock_words_hold()
     ensures three_waiters { lock_number a_lock_with_three_waiters ≡ 8796109799434 }
-    ensures three_waiters_closed { left_by (incref_close a_lock_with_three_waiters)
+    ensures three_waiters_closed { lock_left_by (incref_close a_lock_with_three_waiters)
         ≡ Ok (Answer.Yes, 2, 1, 19) }
     ensures one_waiter { lock_number a_lock_with_one_waiter ≡ 8388618 }
-    ensures one_waiter_unlocked { left_by (rw_unlock Side.Read a_lock_with_one_waiter)
+    ensures one_waiter_unlocked { lock_left_by (rw_unlock Side.Read a_lock_with_one_waiter)
         ≡ Ok (Answer.NotLast, 1, 0, 0) }
     ensures full { lock_number a_lock_full_of_references ≡ 8388600 }
     ensures full_refused { incref a_lock_full_of_references ≡ Err Refusal.FieldOverflow }
@@ -37,14 +37,14 @@ pub fn lock_words_hold()
 
 /// Two readers of one socket and a close: the lock word and the goroutines on the way.
 pub fn lock_recording_holds()
-    ensures lock_at_start { shown two_readers_and_a_close 0 (Cell.Lock 0) ≡ CellValue.Absent }
-    ensures lock_at_four { shown two_readers_and_a_close 4 (Cell.Lock 0) ≡ CellValue.Number 8 }
-    ensures lock_at_six { shown two_readers_and_a_close 6 (Cell.Lock 0) ≡ CellValue.Number 8388626 }
-    ensures waiter_at_six { shown two_readers_and_a_close 6 (Cell.Goroutine 1)
+    ensures lock_at_start { cell_after two_readers_and_a_close 0 (Cell.Lock 0) ≡ CellValue.Absent }
+    ensures lock_at_four { cell_after two_readers_and_a_close 4 (Cell.Lock 0) ≡ CellValue.Number 8 }
+    ensures lock_at_six { cell_after two_readers_and_a_close 6 (Cell.Lock 0) ≡ CellValue.Number 8388626 }
+    ensures waiter_at_six { cell_after two_readers_and_a_close 6 (Cell.Goroutine 1)
         ≡ CellValue.Status (Status.Acquiring 0 Side.Read) }
-    ensures lock_at_eight { shown two_readers_and_a_close 8 (Cell.Lock 0) ≡ CellValue.Number 17 }
-    ensures lock_at_ten { shown two_readers_and_a_close 10 (Cell.Lock 0) ≡ CellValue.Number 9 }
-    ensures closer_at_ten { shown two_readers_and_a_close 10 (Cell.Goroutine 2)
+    ensures lock_at_eight { cell_after two_readers_and_a_close 8 (Cell.Lock 0) ≡ CellValue.Number 17 }
+    ensures lock_at_ten { cell_after two_readers_and_a_close 10 (Cell.Lock 0) ≡ CellValue.Number 9 }
+    ensures closer_at_ten { cell_after two_readers_and_a_close 10 (Cell.Goroutine 2)
         ≡ CellValue.Status Status.Gone }
     ensures all_apply { first_refused_of two_readers_and_a_close ≡ None }
     ensures given_up_twice { first_refused_of one_reference_given_up_twice
@@ -56,38 +56,38 @@ pub fn lock_recording_holds()
 pub fn queue_recording_holds()
     ensures queue_at_five { queue_of (world_at a_release_without_hand_off 5) 0 Side.Read
         ≡ Some (1 ∷ []) }
-    ensures semaphore_at_seven { shown a_release_without_hand_off 7 (Cell.ReadSemaphore 0)
+    ensures semaphore_at_seven { cell_after a_release_without_hand_off 7 (Cell.ReadSemaphore 0)
         ≡ CellValue.Number 1 }
     ensures queue_at_seven { queue_of (world_at a_release_without_hand_off 7) 0 Side.Read
         ≡ Some [] }
-    ensures woken_at_seven { shown a_release_without_hand_off 7 (Cell.Goroutine 1)
+    ensures woken_at_seven { cell_after a_release_without_hand_off 7 (Cell.Goroutine 1)
         ≡ CellValue.Status (Status.Acquiring 0 Side.Read) }
-    ensures lock_at_seven { shown a_release_without_hand_off 7 (Cell.Lock 0) ≡ CellValue.Number 0 }
-    ensures semaphore_at_ten { shown a_release_without_hand_off 10 (Cell.ReadSemaphore 0)
+    ensures lock_at_seven { cell_after a_release_without_hand_off 7 (Cell.Lock 0) ≡ CellValue.Number 0 }
+    ensures semaphore_at_ten { cell_after a_release_without_hand_off 10 (Cell.ReadSemaphore 0)
         ≡ CellValue.Number 0 }
-    ensures lock_at_ten { shown a_release_without_hand_off 10 (Cell.Lock 0)
+    ensures lock_at_ten { cell_after a_release_without_hand_off 10 (Cell.Lock 0)
         ≡ CellValue.Number 8388618 }
-    ensures woken_at_ten { shown a_release_without_hand_off 10 (Cell.Goroutine 1)
+    ensures woken_at_ten { cell_after a_release_without_hand_off 10 (Cell.Goroutine 1)
         ≡ CellValue.Status (Status.Acquiring 0 Side.Read) }
     ensures all_apply { first_refused_of a_release_without_hand_off ≡ None }
 {}
 
 /// A read that waits for its bytes, from the lock over the park of `runtime/netpoll.go` to the bytes.
 pub fn read_recording_holds()
-    ensures lock_at_three { shown a_read_through_the_poller 3 (Cell.Lock 0) ≡ CellValue.Number 10 }
-    ensures word_at_one { shown a_read_through_the_poller 1 (Cell.ReadWord 0) ≡ CellValue.Absent }
-    ensures word_at_two { shown a_read_through_the_poller 2 (Cell.ReadWord 0)
-        ≡ CellValue.Word Word.Nil }
-    ensures word_at_five { shown a_read_through_the_poller 5 (Cell.ReadWord 0)
-        ≡ CellValue.Word Word.Wait }
-    ensures word_at_seven { shown a_read_through_the_poller 7 (Cell.ReadWord 0)
-        ≡ CellValue.Word (Word.Held 0) }
-    ensures word_at_nine { shown a_read_through_the_poller 9 (Cell.ReadWord 0)
-        ≡ CellValue.Word Word.Ready }
-    ensures word_at_ten { shown a_read_through_the_poller 10 (Cell.ReadWord 0)
-        ≡ CellValue.Word Word.Nil }
-    ensures waiters_at_seven { shown a_read_through_the_poller 7 Cell.Waiters ≡ CellValue.Number 1 }
-    ensures waiters_at_nine { shown a_read_through_the_poller 9 Cell.Waiters ≡ CellValue.Number 0 }
+    ensures lock_at_three { cell_after a_read_through_the_poller 3 (Cell.Lock 0) ≡ CellValue.Number 10 }
+    ensures word_at_one { cell_after a_read_through_the_poller 1 (Cell.ReadWord 0) ≡ CellValue.Absent }
+    ensures word_at_two { cell_after a_read_through_the_poller 2 (Cell.ReadWord 0)
+        ≡ CellValue.WaitWord WaitWord.Nil }
+    ensures word_at_five { cell_after a_read_through_the_poller 5 (Cell.ReadWord 0)
+        ≡ CellValue.WaitWord WaitWord.Wait }
+    ensures word_at_seven { cell_after a_read_through_the_poller 7 (Cell.ReadWord 0)
+        ≡ CellValue.WaitWord (WaitWord.Held 0) }
+    ensures word_at_nine { cell_after a_read_through_the_poller 9 (Cell.ReadWord 0)
+        ≡ CellValue.WaitWord WaitWord.Ready }
+    ensures word_at_ten { cell_after a_read_through_the_poller 10 (Cell.ReadWord 0)
+        ≡ CellValue.WaitWord WaitWord.Nil }
+    ensures waiters_at_seven { cell_after a_read_through_the_poller 7 Cell.Waiters ≡ CellValue.Number 1 }
+    ensures waiters_at_nine { cell_after a_read_through_the_poller 9 Cell.Waiters ≡ CellValue.Number 0 }
     ensures input_at_eight { bytes_of (world_at a_read_through_the_poller 8) 0 Side.Read
         ≡ Some (104 ∷ 105 ∷ []) }
     ensures input_at_eleven { bytes_of (world_at a_read_through_the_poller 11) 0 Side.Read
@@ -100,19 +100,19 @@ pub fn read_recording_holds()
 
 /// An event between the last check and the parking: the commit finds the word ready, so nobody parks.
 pub fn early_event_recording_holds()
-    ensures word_at_four { shown an_event_before_the_parking 4 (Cell.ReadWord 0)
-        ≡ CellValue.Word Word.Nil }
-    ensures word_at_five { shown an_event_before_the_parking 5 (Cell.ReadWord 0)
-        ≡ CellValue.Word Word.Wait }
-    ensures word_at_six { shown an_event_before_the_parking 6 (Cell.ReadWord 0)
-        ≡ CellValue.Word Word.Wait }
-    ensures word_at_seven { shown an_event_before_the_parking 7 (Cell.ReadWord 0)
-        ≡ CellValue.Word Word.Ready }
-    ensures word_at_eight { shown an_event_before_the_parking 8 (Cell.ReadWord 0)
-        ≡ CellValue.Word Word.Ready }
-    ensures word_at_nine { shown an_event_before_the_parking 9 (Cell.ReadWord 0)
-        ≡ CellValue.Word Word.Nil }
-    ensures waiters_at_eight { shown an_event_before_the_parking 8 Cell.Waiters
+    ensures word_at_four { cell_after an_event_before_the_parking 4 (Cell.ReadWord 0)
+        ≡ CellValue.WaitWord WaitWord.Nil }
+    ensures word_at_five { cell_after an_event_before_the_parking 5 (Cell.ReadWord 0)
+        ≡ CellValue.WaitWord WaitWord.Wait }
+    ensures word_at_six { cell_after an_event_before_the_parking 6 (Cell.ReadWord 0)
+        ≡ CellValue.WaitWord WaitWord.Wait }
+    ensures word_at_seven { cell_after an_event_before_the_parking 7 (Cell.ReadWord 0)
+        ≡ CellValue.WaitWord WaitWord.Ready }
+    ensures word_at_eight { cell_after an_event_before_the_parking 8 (Cell.ReadWord 0)
+        ≡ CellValue.WaitWord WaitWord.Ready }
+    ensures word_at_nine { cell_after an_event_before_the_parking 9 (Cell.ReadWord 0)
+        ≡ CellValue.WaitWord WaitWord.Nil }
+    ensures waiters_at_eight { cell_after an_event_before_the_parking 8 Cell.Waiters
         ≡ CellValue.Number 0 }
     ensures goroutines_at_nine { (world_at an_event_before_the_parking 9).goroutines
         ≡ Status.Idle ∷ [] }
@@ -122,15 +122,15 @@ pub fn early_event_recording_holds()
 /// An error event refuses a wait for reading alone, an event with an old tag does nothing, and bytes that are
 /// drained leave the output.
 pub fn event_and_output_recordings_hold()
-    ensures summary { shown an_error_while_reading_waits 4 (Cell.Info 0) ≡ CellValue.Number 2 }
-    ensures written { shown an_error_while_reading_waits 4 (Cell.WriteWord 0)
-        ≡ CellValue.Word Word.Ready }
-    ensures reader { shown an_error_while_reading_waits 4 (Cell.Goroutine 0)
+    ensures summary { cell_after an_error_while_reading_waits 4 (Cell.Info 0) ≡ CellValue.Number 2 }
+    ensures written { cell_after an_error_while_reading_waits 4 (Cell.WriteWord 0)
+        ≡ CellValue.WaitWord WaitWord.Ready }
+    ensures reader { cell_after an_error_while_reading_waits 4 (Cell.Goroutine 0)
         ≡ CellValue.Status Status.Idle }
-    ensures read_at_four { shown an_error_while_reading_waits 4 (Cell.ReadWord 0)
-        ≡ CellValue.Word Word.Nil }
-    ensures read_at_five { shown an_error_while_reading_waits 5 (Cell.ReadWord 0)
-        ≡ CellValue.Word Word.Nil }
+    ensures read_at_four { cell_after an_error_while_reading_waits 4 (Cell.ReadWord 0)
+        ≡ CellValue.WaitWord WaitWord.Nil }
+    ensures read_at_five { cell_after an_error_while_reading_waits 5 (Cell.ReadWord 0)
+        ≡ CellValue.WaitWord WaitWord.Nil }
     ensures answers { answers_of an_error_while_reading_waits
         ≡ Answer.Number 0 ∷ Answer.Number 0 ∷ Answer.Done ∷ Answer.Code 3 ∷ Answer.Stale ∷ [] }
     ensures output { bytes_of (world_at a_drained_output 2) 0 Side.Write ≡ Some (104 ∷ 105 ∷ []) }
@@ -139,46 +139,46 @@ pub fn event_and_output_recordings_hold()
 
 /// Deadlines that share a timer and then part: a firing that is no longer current expires nothing.
 pub fn deadline_recording_holds()
-    ensures firings_at_six { shown a_stale_firing_of_both_deadlines 6 Cell.Firings
+    ensures firings_at_six { cell_after a_stale_firing_of_both_deadlines 6 Cell.Firings
         ≡ CellValue.Number 1 }
-    ensures write_at_six { shown a_stale_firing_of_both_deadlines 6 (Cell.WriteDeadline 0)
+    ensures write_at_six { cell_after a_stale_firing_of_both_deadlines 6 (Cell.WriteDeadline 0)
         ≡ CellValue.Time (pos 100) }
-    ensures read_at_seven { shown a_stale_firing_of_both_deadlines 7 (Cell.ReadDeadline 0)
+    ensures read_at_seven { cell_after a_stale_firing_of_both_deadlines 7 (Cell.ReadDeadline 0)
         ≡ CellValue.Time (pos 150) }
-    ensures write_at_seven { shown a_stale_firing_of_both_deadlines 7 (Cell.WriteDeadline 0)
+    ensures write_at_seven { cell_after a_stale_firing_of_both_deadlines 7 (Cell.WriteDeadline 0)
         ≡ CellValue.Time (pos 100) }
-    ensures read_sequence_at_seven { shown a_stale_firing_of_both_deadlines 7 (Cell.ReadSequence 0)
+    ensures read_sequence_at_seven { cell_after a_stale_firing_of_both_deadlines 7 (Cell.ReadSequence 0)
         ≡ CellValue.Number 2 }
-    ensures write_sequence_at_seven { shown a_stale_firing_of_both_deadlines 7
+    ensures write_sequence_at_seven { cell_after a_stale_firing_of_both_deadlines 7
         (Cell.WriteSequence 0) ≡ CellValue.Number 1 }
-    ensures firings_at_seven { shown a_stale_firing_of_both_deadlines 7 Cell.Firings
+    ensures firings_at_seven { cell_after a_stale_firing_of_both_deadlines 7 Cell.Firings
         ≡ CellValue.Number 0 }
-    ensures timers_at_seven { shown a_stale_firing_of_both_deadlines 7 Cell.Timers
+    ensures timers_at_seven { cell_after a_stale_firing_of_both_deadlines 7 Cell.Timers
         ≡ CellValue.Number 2 }
-    ensures least_at_seven { shown a_stale_firing_of_both_deadlines 7 Cell.Least
+    ensures least_at_seven { cell_after a_stale_firing_of_both_deadlines 7 Cell.Least
         ≡ CellValue.Time (pos 100) }
-    ensures write_at_nine { shown a_stale_firing_of_both_deadlines 9 (Cell.WriteDeadline 0)
+    ensures write_at_nine { cell_after a_stale_firing_of_both_deadlines 9 (Cell.WriteDeadline 0)
         ≡ CellValue.Time (negsuc 0) }
-    ensures summary_at_nine { shown a_stale_firing_of_both_deadlines 9 (Cell.Info 0)
+    ensures summary_at_nine { cell_after a_stale_firing_of_both_deadlines 9 (Cell.Info 0)
         ≡ CellValue.Number 8 }
-    ensures timers_at_nine { shown a_stale_firing_of_both_deadlines 9 Cell.Timers
+    ensures timers_at_nine { cell_after a_stale_firing_of_both_deadlines 9 Cell.Timers
         ≡ CellValue.Number 1 }
-    ensures least_at_nine { shown a_stale_firing_of_both_deadlines 9 Cell.Least
+    ensures least_at_nine { cell_after a_stale_firing_of_both_deadlines 9 Cell.Least
         ≡ CellValue.Time (pos 150) }
     ensures all_apply { first_refused_of a_stale_firing_of_both_deadlines ≡ None }
 {}
 
-/// The greatest time stands for a later one, a descriptor opened again has new numbers, so that an event of before
+/// The greatest time replaces a later one, a descriptor opened again has new numbers, so that an event of before
 /// is stale, and a timer does not fire where the firings that wait are twice the limit of descriptors.
 pub fn deadline_limits_hold()
-    ensures greatest_time { shown a_deadline_past_the_greatest_time 4 (Cell.ReadDeadline 0)
+    ensures greatest_time { cell_after a_deadline_past_the_greatest_time 4 (Cell.ReadDeadline 0)
         ≡ CellValue.Time (pos 9223372036854775807) }
-    ensures descriptor_sequence { shown a_descriptor_opened_again 6 (Cell.DescriptorSequence 0)
+    ensures descriptor_sequence { cell_after a_descriptor_opened_again 6 (Cell.DescriptorSequence 0)
         ≡ CellValue.Number 2 }
-    ensures read_sequence { shown a_descriptor_opened_again 6 (Cell.ReadSequence 0)
+    ensures read_sequence { cell_after a_descriptor_opened_again 6 (Cell.ReadSequence 0)
         ≡ CellValue.Number 3 }
-    ensures read_word { shown a_descriptor_opened_again 6 (Cell.ReadWord 0)
-        ≡ CellValue.Word Word.Nil }
+    ensures read_word { cell_after a_descriptor_opened_again 6 (Cell.ReadWord 0)
+        ≡ CellValue.WaitWord WaitWord.Nil }
     ensures answers { answers_of a_descriptor_opened_again
         ≡ Answer.Number 0 ∷ Answer.Number 0 ∷ Answer.Done ∷ Answer.Done ∷ Answer.Number 0
         ∷ Answer.Stale ∷ [] }

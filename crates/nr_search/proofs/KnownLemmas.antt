@@ -25,7 +25,8 @@ split : (a b : ℕ) → (a < b) ⊎ (b ≤ a)
 split a b = grind arith
 
 -- where nothing is found in a segment, it is one more on the way of which no hit is known
-pub nearer-next : (known : ℕ → Slot) (nth : ℕ → ℕ) (k : ℕ) (found : Found) → ((j : ℕ) → j < k → has_hit (known (nth j)) ≡ false) → Agrees (known (nth k)) found → is_hit found ≡ false → (j : ℕ) → j < k + 1 → has_hit (known (nth j)) ≡ false
+pub nearer-next : (known : ℕ → Slot) (nth : ℕ → ℕ) (k : ℕ) (found : Found) → ((j : ℕ) → j < k → has_hit (known (nth j)) ≡ false) → Agrees (known (nth k)) found → is_hit found ≡ false → (j : ℕ)
+    → j < k + 1 → has_hit (known (nth j)) ≡ false
 nearer-next known nth k found before is none j below =
     elim (split j k) [
       | inl less ↦ before j less

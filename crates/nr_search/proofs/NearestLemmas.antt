@@ -1,7 +1,7 @@
 -- The nearest hit of more and more positions.
 use Rattle.std.proofs.Common.{◌≡◌, ◌⊎◌, inl, inr, ℕ, zero, suc, ◌+◌, ◌<◌, ◌≤◌, true, false, List, [], ◌∷◌, length, refl, sym, ap, ◌∙◌, subst, arith}
-use Rattle.nr_search.specs.Nearest.{NoneHits, IsFound, first_of, found_after, last_below}
-use Rattle.nr_search.specs.Search.{is_hit, is_settled}
+use Rattle.nr_search.specs.Nearest.{NoneHits, IsFound, first_hit_of, found_after, last_hit_below}
+use Rattle.nr_search.specs.Search.{is_hit, is_decided}
 use Rattle.nr_search.specs.declared.direction.Direction.{Direction}
 use Rattle.nr_search.specs.declared.direction.Direction.TheVariants.{Forward, Backward}
 use Rattle.nr_search.specs.declared.found.Found.{Found}
@@ -19,9 +19,9 @@ first-or-behind p q h = grind arith
 
 -- some marks are not none
 not-none : (marks ms : List ℕ) → marks ≡ ms → ms ≡ [] → 0 < length marks → ⊥
-not-none marks ms told none some = let e : 0 < length {A = ℕ} [] = subst (λ ns. 0 < length ns) (told ∙ none) some in omega (arith, e)
+not-none marks ms reported none some = let e : 0 < length {A = ℕ} [] = subst (λ ns. 0 < length ns) (reported ∙ none) some in omega (arith, e)
 
--- a hit is told by its position and its marks
+-- a hit is its position and its marks
 hit-is : (h : at.Hit) (p : ℕ) (ms : List ℕ) → h.position ≡ p → h.marks.items ≡ ms → Hit h ≡ Hit (record { position = p; marks = record { items = ms } })
 hit-is h p ms place marks =
     ap (λ q. Hit (record { position = q; marks = h.marks })) place ∙ ap (λ ns. Hit (record { position = p; marks = record { items = ns } })) marks
@@ -35,10 +35,11 @@ module _ (hits : ℕ → List ℕ) where
   found-first direction low = record { none = λ q a b. absurd (omega arith) }
 
   -- one position more, where marks hit
-  found-hit : (direction : Direction) (low b m : ℕ) (ms : List ℕ) (found : Found) → is_settled direction found ≡ false → low ≤ b → m ∷ ms ≡ hits b → IsFound direction hits low b found → IsFound direction hits low (b + 1) (found_after found b (m ∷ ms))
-  found-hit Forward low b m ms Nothing unsettled a is rest = record { above = a; below = omega arith; told = is; some = omega arith; nearest = λ q c d e. rest.none q c e }
-  found-hit Forward low b m ms (Hit h) unsettled a is rest = cc
-  found-hit Backward low b m ms found unsettled a is rest = record { above = a; below = omega arith; told = is; some = omega arith; nearest = λ q c d e. absurd (omega arith) }
+  found-hit : (direction : Direction) (low b m : ℕ) (ms : List ℕ) (found : Found) → is_decided direction found ≡ false → low ≤ b → m ∷ ms ≡ hits b → IsFound direction hits low b found
+      → IsFound direction hits low (b + 1) (found_after found b (m ∷ ms))
+  found-hit Forward low b m ms Nothing undecided a is rest = record { above = a; below = omega arith; reported = is; some = omega arith; nearest = λ q c d e. rest.none q c e }
+  found-hit Forward low b m ms (Hit h) undecided a is rest = cc
+  found-hit Backward low b m ms found undecided a is rest = record { above = a; below = omega arith; reported = is; some = omega arith; nearest = λ q c d e. absurd (omega arith) }
 
   -- and where none does
   found-miss : (direction : Direction) (low b : ℕ) (found : Found) → hits b ≡ [] → IsFound direction hits low b found → IsFound direction hits low (b + 1) found
@@ -48,27 +49,30 @@ module _ (hits : ℕ → List ℕ) where
       record {
         above = rest.above;
         below = omega (arith, rest.below);
-        told = rest.told;
+        reported = rest.reported;
         some = rest.some;
         nearest = λ q c d e. elim (last-or-before q b d) [ inl less ↦ rest.nearest q c less e | inr same ↦ at-once q b [] same h ];
       }
 
   -- one position more
-  found-next : (direction : Direction) (low b : ℕ) (found : Found) (here : List ℕ) → is_settled direction found ≡ false → low ≤ b → here ≡ hits b → IsFound direction hits low b found → IsFound direction hits low (b + 1) (found_after found b here)
-  found-next direction low b found (m ∷ ms) unsettled a is rest = found-hit direction low b m ms found unsettled a is rest
-  found-next direction low b found [] unsettled a is rest = found-miss direction low b found (sym is) rest
+  found-next : (direction : Direction) (low b : ℕ) (found : Found) (here : List ℕ) → is_decided direction found ≡ false → low ≤ b → here ≡ hits b → IsFound direction hits low b found
+      → IsFound direction hits low (b + 1) (found_after found b here)
+  found-next direction low b found (m ∷ ms) undecided a is rest = found-hit direction low b m ms found undecided a is rest
+  found-next direction low b found [] undecided a is rest = found-miss direction low b found (sym is) rest
 
   -- what is found then
-  pub found-then : (direction : Direction) (low b : ℕ) (found found' : Found) (here : List ℕ) → is_settled direction found ≡ false → low ≤ b → here ≡ hits b → IsFound direction hits low b found → found' ≡ found_after found b here → IsFound direction hits low (b + 1) found'
-  found-then direction low b found found' here unsettled a is rest then' =
-      subst (IsFound direction hits low (b + 1)) (sym then') (found-next direction low b found here unsettled a is rest)
+  pub found-then : (direction : Direction) (low b : ℕ) (found found' : Found) (here : List ℕ) → is_decided direction found ≡ false → low ≤ b → here ≡ hits b → IsFound direction hits low b found
+      → found' ≡ found_after found b here → IsFound direction hits low (b + 1) found'
+  found-then direction low b found found' here undecided a is rest then' =
+      subst (IsFound direction hits low (b + 1)) (sym then') (found-next direction low b found here undecided a is rest)
 
-  -- what is settled stays so
-  pub found-settled : (direction : Direction) (low b high : ℕ) (found : Found) → is_settled direction found ≡ true → b ≤ high → IsFound direction hits low b found → IsFound direction hits low high found
-  found-settled Forward low b high (Hit p) settled more rest =
-      record { above = rest.above; below = omega (arith, rest.below); told = rest.told; some = rest.some; nearest = λ q c d e. rest.nearest q c (omega (arith, e, rest.below)) e }
-  found-settled Forward low b high Nothing settled more rest = cc
-  found-settled Backward low b high found settled more rest = cc
+  -- what is decided stays so
+  pub found-decided : (direction : Direction) (low b high : ℕ) (found : Found) → is_decided direction found ≡ true → b ≤ high → IsFound direction hits low b found
+      → IsFound direction hits low high found
+  found-decided Forward low b high (Hit p) decided more rest =
+      record { above = rest.above; below = omega (arith, rest.below); reported = rest.reported; some = rest.some; nearest = λ q c d e. rest.nearest q c (omega (arith, e, rest.below)) e }
+  found-decided Forward low b high Nothing decided more rest = cc
+  found-decided Backward low b high found decided more rest = cc
 
   -- all positions are looked at
   pub found-whole : (direction : Direction) (low b high : ℕ) (found : Found) → b ≡ high → IsFound direction hits low b found → IsFound direction hits low high found
@@ -77,7 +81,7 @@ module _ (hits : ℕ → List ℕ) where
   -- position 0, the last on the way back, behind which none hits
   found-start : (n : ℕ) (here : List ℕ) → 0 < n → here ≡ hits 0 → NoneHits hits 1 n → IsFound Backward hits 0 n (found_after Nothing 0 here)
   found-start n (m ∷ ms) some is none =
-      record { above = omega arith; below = some; told = is; some = omega arith; nearest = λ q a b c. none.none q c b }
+      record { above = omega arith; below = some; reported = is; some = omega arith; nearest = λ q a b c. none.none q c b }
   found-start n [] some is none =
       record { none = λ q a b. elim (first-or-behind 0 q a) [ inl behind ↦ none.none q behind b | inr same ↦ at-once q 0 [] same (sym is) ] }
 
@@ -89,87 +93,89 @@ module _ (hits : ℕ → List ℕ) where
   pub found-before-start : (n : ℕ) (found : Found) → is_hit found ≡ true → IsFound Backward hits 1 n found → IsFound Backward hits 0 n found
   found-before-start n Nothing hit none = cc
   found-before-start n (Hit h) hit found =
-      record { above = omega arith; below = found.below; told = found.told; some = found.some; nearest = λ q a b c. found.nearest q (omega (arith, found.above, c)) b c }
+      record { above = omega arith; below = found.below; reported = found.reported; some = found.some; nearest = λ q a b c. found.nearest q (omega (arith, found.above, c)) b c }
 
   -- ---- what is found is the one that the definition computes
 
   -- forwards, by which marks hit at the first position
-  found-at-first : (count p : ℕ) (here : List ℕ) (found : Found) → hits p ≡ here → IsFound Forward hits p (p + suc count) found → (IsFound Forward hits (p + 1) (p + 1 + count) found → found ≡ first_of hits count (p + 1)) → found ≡ found_after (first_of hits count (p + 1)) p here
+  found-at-first : (count p : ℕ) (here : List ℕ) (found : Found) → hits p ≡ here → IsFound Forward hits p (p + suc count) found
+      → (IsFound Forward hits (p + 1) (p + 1 + count) found → found ≡ first_hit_of hits count (p + 1)) → found ≡ found_after (first_hit_of hits count (p + 1)) p here
   found-at-first count p (m ∷ ms) Nothing is found rest = let none = found.none p (omega arith) (omega arith) in cc
   found-at-first count p (m ∷ ms) (Hit h) is found rest =
       elim (first-or-behind p h.position found.above) [
         | inl behind ↦ let none = found.nearest p (omega arith) (omega arith) (omega arith) in cc
-        | inr same ↦ hit-is h p (m ∷ ms) same (found.told ∙ at-once h.position p (m ∷ ms) same is)
+        | inr same ↦ hit-is h p (m ∷ ms) same (found.reported ∙ at-once h.position p (m ∷ ms) same is)
       ]
   found-at-first count p [] Nothing is found rest =
       rest (record { none = λ q a b. found.none q (omega arith) (omega arith) })
   found-at-first count p [] (Hit h) is found rest =
       elim (first-or-behind p h.position found.above) [
         | inl behind ↦
-            rest (record { above = behind; below = omega (arith, found.below); told = found.told; some = found.some; nearest = λ k a b c. found.nearest k (omega arith) (omega arith) c })
-        | inr same ↦ absurd (not-none h.marks.items (hits h.position) found.told (at-once h.position p [] same is) found.some)
+            rest (record { above = behind; below = omega (arith, found.below); reported = found.reported; some = found.some; nearest = λ k a b c. found.nearest k (omega arith) (omega arith) c })
+        | inr same ↦ absurd (not-none h.marks.items (hits h.position) found.reported (at-once h.position p [] same is) found.some)
       ]
 
-  pub first_of-found : (count p : ℕ) (found : Found) → IsFound Forward hits p (p + count) found → found ≡ first_of hits count p
-  first_of-found zero p Nothing found = refl
-  first_of-found zero p (Hit h) found = absurd (omega (arith, found.above, found.below))
-  first_of-found (suc count) p found is = found-at-first count p (hits p) found refl is (first_of-found count (p + 1) found)
+  pub first_hit_of-found : (count p : ℕ) (found : Found) → IsFound Forward hits p (p + count) found → found ≡ first_hit_of hits count p
+  first_hit_of-found zero p Nothing found = refl
+  first_hit_of-found zero p (Hit h) found = absurd (omega (arith, found.above, found.below))
+  first_hit_of-found (suc count) p found is = found-at-first count p (hits p) found refl is (first_hit_of-found count (p + 1) found)
 
   -- backwards, by which marks hit at the last position
-  found-at-last : (n : ℕ) (here : List ℕ) (found : Found) → hits n ≡ here → IsFound Backward hits 0 (suc n) found → (IsFound Backward hits 0 n found → found ≡ last_below hits n) → found ≡ found_after (last_below hits n) n here
+  found-at-last : (n : ℕ) (here : List ℕ) (found : Found) → hits n ≡ here → IsFound Backward hits 0 (suc n) found → (IsFound Backward hits 0 n found → found ≡ last_hit_below hits n)
+      → found ≡ found_after (last_hit_below hits n) n here
   found-at-last n (m ∷ ms) Nothing is found rest = let none = found.none n (omega arith) (omega arith) in cc
   found-at-last n (m ∷ ms) (Hit h) is found rest =
       elim (split h.position n) [
         | inl before ↦ let none = found.nearest n (omega arith) (omega arith) before in cc
-        | inr last ↦ let same : h.position ≡ n = omega (arith, found.below) in hit-is h n (m ∷ ms) same (found.told ∙ at-once h.position n (m ∷ ms) same is)
+        | inr last ↦ let same : h.position ≡ n = omega (arith, found.below) in hit-is h n (m ∷ ms) same (found.reported ∙ at-once h.position n (m ∷ ms) same is)
       ]
   found-at-last n [] Nothing is found rest = rest (record { none = λ q a b. found.none q (omega arith) (omega arith) })
   found-at-last n [] (Hit h) is found rest =
       elim (split h.position n) [
         | inl before ↦
-            rest (record { above = omega arith; below = before; told = found.told; some = found.some; nearest = λ k a b c. found.nearest k a (omega arith) c })
+            rest (record { above = omega arith; below = before; reported = found.reported; some = found.some; nearest = λ k a b c. found.nearest k a (omega arith) c })
         | inr last ↦
             let same : h.position ≡ n = omega (arith, found.below) in
-            absurd (not-none h.marks.items (hits h.position) found.told (at-once h.position n [] same is) found.some)
+            absurd (not-none h.marks.items (hits h.position) found.reported (at-once h.position n [] same is) found.some)
       ]
 
-  pub last_below-found : (n : ℕ) (found : Found) → IsFound Backward hits 0 n found → found ≡ last_below hits n
-  last_below-found zero Nothing found = refl
-  last_below-found zero (Hit h) found = absurd (omega (arith, found.below))
-  last_below-found (suc n) found is = found-at-last n (hits n) found refl is (last_below-found n found)
+  pub last_hit_below-found : (n : ℕ) (found : Found) → IsFound Backward hits 0 n found → found ≡ last_hit_below hits n
+  last_hit_below-found zero Nothing found = refl
+  last_hit_below-found zero (Hit h) found = absurd (omega (arith, found.below))
+  last_hit_below-found (suc n) found is = found-at-last n (hits n) found refl is (last_hit_below-found n found)
 
   -- ---- and what it computes is found
 
   first-is : (count p : ℕ) (here : List ℕ) (found : Found) → hits p ≡ here → IsFound Forward hits (p + 1) (p + 1 + count) found → IsFound Forward hits p (p + suc count) (found_after found p here)
-  first-is count p (m ∷ ms) found is rest = record { above = omega arith; below = omega arith; told = sym is; some = omega arith; nearest = λ q a b c. absurd (omega arith) }
+  first-is count p (m ∷ ms) found is rest = record { above = omega arith; below = omega arith; reported = sym is; some = omega arith; nearest = λ q a b c. absurd (omega arith) }
   first-is count p [] Nothing is rest =
       record { none = λ q a b. elim (first-or-behind p q a) [ inl behind ↦ rest.none q behind (omega arith) | inr same ↦ at-once q p [] same is ] }
   first-is count p [] (Hit h) is rest =
       record {
         above = omega (arith, rest.above);
         below = omega (arith, rest.below);
-        told = rest.told;
+        reported = rest.reported;
         some = rest.some;
         nearest = λ k a b c. elim (first-or-behind p k a) [ inl behind ↦ rest.nearest k behind (omega arith) c | inr same ↦ at-once k p [] same is ];
       }
 
-  pub first_of-is : (count p : ℕ) → IsFound Forward hits p (p + count) (first_of hits count p)
-  first_of-is zero p = record { none = λ q a b. absurd (omega arith) }
-  first_of-is (suc count) p = first-is count p (hits p) (first_of hits count (p + 1)) refl (first_of-is count (p + 1))
+  pub first_hit_of-is : (count p : ℕ) → IsFound Forward hits p (p + count) (first_hit_of hits count p)
+  first_hit_of-is zero p = record { none = λ q a b. absurd (omega arith) }
+  first_hit_of-is (suc count) p = first-is count p (hits p) (first_hit_of hits count (p + 1)) refl (first_hit_of-is count (p + 1))
 
   last-is : (n : ℕ) (here : List ℕ) (found : Found) → hits n ≡ here → IsFound Backward hits 0 n found → IsFound Backward hits 0 (suc n) (found_after found n here)
-  last-is n (m ∷ ms) found is rest = record { above = omega arith; below = omega arith; told = sym is; some = omega arith; nearest = λ q a b c. absurd (omega arith) }
+  last-is n (m ∷ ms) found is rest = record { above = omega arith; below = omega arith; reported = sym is; some = omega arith; nearest = λ q a b c. absurd (omega arith) }
   last-is n [] Nothing is rest =
       record { none = λ q a b. elim (split q n) [ inl before ↦ rest.none q a before | inr last ↦ at-once q n [] (omega arith) is ] }
   last-is n [] (Hit h) is rest =
       record {
         above = rest.above;
         below = omega (arith, rest.below);
-        told = rest.told;
+        reported = rest.reported;
         some = rest.some;
         nearest = λ k a b c. elim (split k n) [ inl before ↦ rest.nearest k a before c | inr last ↦ at-once k n [] (omega arith) is ];
       }
 
-  pub last_below-is : (n : ℕ) → IsFound Backward hits 0 n (last_below hits n)
-  last_below-is zero = record { none = λ q a b. absurd (omega arith) }
-  last_below-is (suc n) = last-is n (hits n) (last_below hits n) refl (last_below-is n)
+  pub last_hit_below-is : (n : ℕ) → IsFound Backward hits 0 n (last_hit_below hits n)
+  last_hit_below-is zero = record { none = λ q a b. absurd (omega arith) }
+  last_hit_below-is (suc n) = last-is n (hits n) (last_hit_below hits n) refl (last_hit_below-is n)

@@ -5,7 +5,7 @@ use Rattle.std.proofs.lemmas.List.{get_or-replicate, length-replicate, map_more,
 use Rattle.std.proofs.lemmas.List.Elements.{All-head, All-tail}
 use Rattle.std.proofs.lemmas.Option.{slice_get-get_or, slice_get_past}
 use Rattle.nr_search.specs.Known.{AreTrue, IsLeftOpen, IsTrue, has_hit, is_searched, or_unknown, slot_of}
-use Rattle.nr_search.specs.Reports.{AddsTo, IsReport, noted, or_else, said_by, said_in}
+use Rattle.nr_search.specs.Reports.{AddsTo, IsReport, noted, first_known, said_by, said_in}
 use Rattle.nr_search.specs.Segments.{nth_segment}
 use Rattle.nr_search.specs.declared.found.Found.{Found}
 use Rattle.nr_search.specs.declared.segments.Span.{Span}
@@ -17,15 +17,15 @@ use Rattle.nr_search.proofs.SegmentLemmas.{nth-within}
 -- ---- what is said first
 
 -- nothing is said
-or_else-none : (slot : Slot) → or_else slot Unknown ≡ slot
-or_else-none Unknown = refl
-or_else-none Refused = refl
-or_else-none (Searched found) = refl
+first_known-none : (slot : Slot) → first_known slot Unknown ≡ slot
+first_known-none Unknown = refl
+first_known-none Refused = refl
+first_known-none (Searched found) = refl
 
-or_else-thrice : (a b c : Slot) → or_else (or_else a b) c ≡ or_else a (or_else b c)
-or_else-thrice Unknown b c = refl
-or_else-thrice Refused b c = refl
-or_else-thrice (Searched found) b c = refl
+first_known-thrice : (a b c : Slot) → first_known (first_known a b) c ≡ first_known a (first_known b c)
+first_known-thrice Unknown b c = refl
+first_known-thrice Refused b c = refl
+first_known-thrice (Searched found) b c = refl
 
 within-or-past : (s n : ℕ) → (s < n) ⊎ (n ≤ s)
 within-or-past s n = grind arith
@@ -37,15 +37,15 @@ said-here : (report : Report) (s : ℕ) → s ≡ report.segment → said_by rep
 said-here report s here = grind arith
 
 -- what all reports say and one more
-said-more : (before : List Report) (report : Report) (s : ℕ) → said_in (before ++ report ∷ []) s ≡ or_else (said_in before s) (said_by report s)
-said-more [] report s = or_else-none (said_by report s)
+said-more : (before : List Report) (report : Report) (s : ℕ) → said_in (before ++ report ∷ []) s ≡ first_known (said_in before s) (said_by report s)
+said-more [] report s = first_known-none (said_by report s)
 said-more (first ∷ before) report s =
-    ap (or_else (said_by first s)) (said-more before report s) ∙ sym (or_else-thrice (said_by first s) (said_in before s) (said_by report s))
+    ap (first_known (said_by first s)) (said-more before report s) ∙ sym (first_known-thrice (said_by first s) (said_in before s) (said_by report s))
 
-noted-more : (rows : List (List Report)) (row : List Report) (s : ℕ) → noted (rows ++ row ∷ []) s ≡ or_else (noted rows s) (said_in row s)
-noted-more [] row s = or_else-none (said_in row s)
-noted-more (first ∷ rows) row s =
-    ap (or_else (said_in first s)) (noted-more rows row s) ∙ sym (or_else-thrice (said_in first s) (noted rows s) (said_in row s))
+noted-more : (by_worker : List (List Report)) (one_worker : List Report) (s : ℕ) → noted (by_worker ++ one_worker ∷ []) s ≡ first_known (noted by_worker s) (said_in one_worker s)
+noted-more [] one_worker s = first_known-none (said_in one_worker s)
+noted-more (first ∷ by_worker) one_worker s =
+    ap (first_known (said_in first s)) (noted-more by_worker one_worker s) ∙ sym (first_known-thrice (said_in first s) (noted by_worker s) (said_in one_worker s))
 
 -- ---- what is known then
 
@@ -54,30 +54,34 @@ same-or-other a b = grind arith
 
 -- before the first report
 pub adds-none : (slots : List Slot) → AddsTo slots (λ s. Unknown) slots
-adds-none slots = record { each = λ s within. sym (or_else-none (slot_of slots s)); count = refl }
+adds-none slots = record { each = λ s within. sym (first_known-none (slot_of slots s)); count = refl }
 
 -- what is said behind what was said
-adds-next : (slots slots' slots'' : List Slot) (said more all : ℕ → Slot) → ((s : ℕ) → all s ≡ or_else (said s) (more s)) → AddsTo slots said slots' → AddsTo slots' more slots'' → AddsTo slots all slots''
+adds-next : (slots slots' slots'' : List Slot) (said more all : ℕ → Slot) → ((s : ℕ) → all s ≡ first_known (said s) (more s)) → AddsTo slots said slots' → AddsTo slots' more slots''
+    → AddsTo slots all slots''
 adds-next slots slots' slots'' said more all both first second =
     record {
       each = λ s within.
-          second.each s (omega (arith, first.count, within)) ∙ ap (λ slot. or_else slot (more s)) (first.each s within)
-          ∙ or_else-thrice (slot_of slots s) (said s) (more s) ∙ ap (or_else (slot_of slots s)) (sym (both s));
+          second.each s (omega (arith, first.count, within)) ∙ ap (λ slot. first_known slot (more s)) (first.each s within)
+          ∙ first_known-thrice (slot_of slots s) (said s) (more s) ∙ ap (first_known (slot_of slots s)) (sym (both s));
       count = second.count ∙ first.count;
     }
 
-pub adds-report : (slots slots' slots'' : List Slot) (reports : List Report) (i : ℕ) (report : Report) → i < length reports → report ≡ get_or reports i report → AddsTo slots (said_in (take i reports)) slots' → AddsTo slots' (said_by report) slots'' → AddsTo slots (said_in (take (i + 1) reports)) slots''
+pub adds-report : (slots slots' slots'' : List Slot) (reports : List Report) (i : ℕ) (report : Report) → i < length reports → report ≡ get_or reports i report
+    → AddsTo slots (said_in (take i reports)) slots' → AddsTo slots' (said_by report) slots'' → AddsTo slots (said_in (take (i + 1) reports)) slots''
 adds-report slots slots' slots'' reports i report within read =
     let more : take (i + 1) reports ≡ take i reports ++ report ∷ [] = take_more reports i report within ∙ ap (λ r. take i reports ++ r ∷ []) (sym read) in
     adds-next slots slots' slots'' (said_in (take i reports)) (said_by report) (said_in (take (i + 1) reports))
     (λ s. ap (λ rs. said_in rs s) more ∙ said-more (take i reports) report s)
 
 module _ {X : Type 0} (items : X → List Report) where
-  pub adds-row : (slots slots' slots'' : List Slot) (rows : List X) (i : ℕ) (row : X) → i < length rows → row ≡ get_or rows i row → AddsTo slots (noted (map items (take i rows))) slots' → AddsTo slots' (said_in (items row)) slots'' → AddsTo slots (noted (map items (take (i + 1) rows))) slots''
-  adds-row slots slots' slots'' rows i row within read =
-      let more : map items (take (i + 1) rows) ≡ map items (take i rows) ++ items row ∷ [] = map_more items rows i row within ∙ ap (λ r. map items (take i rows) ++ items r ∷ []) (sym read) in
-      adds-next slots slots' slots'' (noted (map items (take i rows))) (said_in (items row)) (noted (map items (take (i + 1) rows)))
-      (λ s. ap (λ rs. noted rs s) more ∙ noted-more (map items (take i rows)) (items row) s)
+  pub adds-one_worker : (slots slots' slots'' : List Slot) (by_worker : List X) (i : ℕ) (one_worker : X) → i < length by_worker → one_worker ≡ get_or by_worker i one_worker
+      → AddsTo slots (noted (map items (take i by_worker))) slots' → AddsTo slots' (said_in (items one_worker)) slots'' → AddsTo slots (noted (map items (take (i + 1) by_worker))) slots''
+  adds-one_worker slots slots' slots'' by_worker i one_worker within read =
+      let more : map items (take (i + 1) by_worker) ≡ map items (take i by_worker) ++ items one_worker ∷ [] =
+      map_more items by_worker i one_worker within ∙ ap (λ r. map items (take i by_worker) ++ items r ∷ []) (sym read) in
+      adds-next slots slots' slots'' (noted (map items (take i by_worker))) (said_in (items one_worker)) (noted (map items (take (i + 1) by_worker)))
+      (λ s. ap (λ rs. noted rs s) more ∙ noted-more (map items (take i by_worker)) (items one_worker) s)
 
 -- a table in which nothing was known has what is said
 blank : (n s : ℕ) → s < n → slot_of (replicate n Unknown) s ≡ Unknown
@@ -86,7 +90,7 @@ blank n s within =
 
 pub table-is : (n : ℕ) (said : ℕ → Slot) (table : List Slot) → AddsTo (replicate n Unknown) said table → (s : ℕ) → s < n → slot_of table s ≡ said s
 table-is n said table adds s within =
-    adds.each s (omega (arith, length-replicate n Unknown, within)) ∙ ap (λ slot. or_else slot (said s)) (blank n s within)
+    adds.each s (omega (arith, length-replicate n Unknown, within)) ∙ ap (λ slot. first_known slot (said s)) (blank n s within)
 
 -- ---- what is known is true
 
@@ -94,10 +98,10 @@ module _ (span : Span) (hits : ℕ → List ℕ) where
   unknown-true : (s : ℕ) → IsTrue span hits s Unknown
   unknown-true s = record { found = λ found said. absurd (grind (arith, said)) }
 
-  or_else-true : (s : ℕ) (slot said : Slot) → IsTrue span hits s slot → IsTrue span hits s said → IsTrue span hits s (or_else slot said)
-  or_else-true s Unknown said first second = second
-  or_else-true s Refused said first second = first
-  or_else-true s (Searched found) said first second = first
+  first_known-true : (s : ℕ) (slot said : Slot) → IsTrue span hits s slot → IsTrue span hits s said → IsTrue span hits s (first_known slot said)
+  first_known-true s Unknown said first second = second
+  first_known-true s Refused said first second = first
+  first_known-true s (Searched found) said first second = first
 
   said-true : (report : Report) (s : ℕ) → IsReport span hits report → IsTrue span hits s (said_by report s)
   said-true report s is =
@@ -106,22 +110,26 @@ module _ (span : Span) (hits : ℕ → List ℕ) where
         | inr other ↦ subst (IsTrue span hits s) (sym (said-other report s other)) (unknown-true s)
       ]
 
-  row-true : (reports : List Report) (s : ℕ) → All (IsReport span hits) reports → IsTrue span hits s (said_in reports s)
-  row-true [] s each = unknown-true s
-  row-true (report ∷ reports) s each =
-      or_else-true s (said_by report s) (said_in reports s) (said-true report s (All-head (IsReport span hits) report reports each)) (row-true reports s (All-tail (IsReport span hits) report reports each))
+  one_worker-true : (reports : List Report) (s : ℕ) → All (IsReport span hits) reports → IsTrue span hits s (said_in reports s)
+  one_worker-true [] s each = unknown-true s
+  one_worker-true (report ∷ reports) s each =
+      first_known-true s (said_by report s) (said_in reports s) (said-true report s (All-head (IsReport span hits) report reports each))
+      (one_worker-true reports s (All-tail (IsReport span hits) report reports each))
 
   module _ {X : Type 0} (items : X → List Report) where
-    rows-true : (rows : List X) (s : ℕ) → All (λ row. All (IsReport span hits) (items row)) rows → IsTrue span hits s (noted (map items rows) s)
-    rows-true [] s each = unknown-true s
-    rows-true (row ∷ rows) s each =
-        or_else-true s (said_in (items row) s) (noted (map items rows) s) (row-true (items row) s (All-head (λ r. All (IsReport span hits) (items r)) row rows each)) (rows-true rows s (All-tail (λ r. All (IsReport span hits) (items r)) row rows each))
+    by_worker-true : (by_worker : List X) (s : ℕ) → All (λ one_worker. All (IsReport span hits) (items one_worker)) by_worker → IsTrue span hits s (noted (map items by_worker) s)
+    by_worker-true [] s each = unknown-true s
+    by_worker-true (one_worker ∷ by_worker) s each =
+        first_known-true s (said_in (items one_worker) s) (noted (map items by_worker) s)
+        (one_worker-true (items one_worker) s (All-head (λ r. All (IsReport span hits) (items r)) one_worker by_worker each))
+        (by_worker-true by_worker s (All-tail (λ r. All (IsReport span hits) (items r)) one_worker by_worker each))
 
-    pub table-true : (n : ℕ) (rows : List X) (table : List Slot) → All (λ row. All (IsReport span hits) (items row)) rows → AddsTo (replicate n Unknown) (noted (map items rows)) table → AreTrue span hits (slot_of table)
-    table-true n rows table each adds =
+    pub table-true : (n : ℕ) (by_worker : List X) (table : List Slot) → All (λ one_worker. All (IsReport span hits) (items one_worker)) by_worker
+        → AddsTo (replicate n Unknown) (noted (map items by_worker)) table → AreTrue span hits (slot_of table)
+    table-true n by_worker table each adds =
         record {
           each = λ s. elim (within-or-past s n) [
-            | inl within ↦ subst (IsTrue span hits s) (sym (table-is n (noted (map items rows)) table adds s within)) (rows-true rows s each)
+            | inl within ↦ subst (IsTrue span hits s) (sym (table-is n (noted (map items by_worker)) table adds s within)) (by_worker-true by_worker s each)
             | inr past ↦
                 let none : slot_of table s ≡ Unknown = ap or_unknown (slice_get_past table s (omega (arith, past, adds.count, length-replicate n Unknown))) in
                 subst (IsTrue span hits s) (sym none) (unknown-true s)

@@ -12,7 +12,8 @@ use Rattle.nr_search.specs.declared.found.Found.TheVariants.{Hit, Nothing}
 use Rattle.nr_search.specs.declared.segments.Span.{Span}
 
 -- each segment has a position that is searched
-pub some-between : (after last every first count s : ℕ) → after < last → first * every ≤ after → after < (first + 1) * every → (first + count) * every < last + every → first ≤ s → s < first + count → from_of after every s < to_of last every s
+pub some-between : (after last every first count s : ℕ) → after < last → first * every ≤ after → after < (first + 1) * every → (first + count) * every < last + every → first ≤ s → s < first + count
+    → from_of after every s < to_of last every s
 some-between after last every first count s some begins enters needed low high =
     let below : (first + 1) * every ≤ (s + 1) * every = mul-le-mul_right every (omega arith) in
     let above : (s + 1) * every ≤ (first + count) * every = mul-le-mul_right every (omega arith) in
@@ -21,7 +22,7 @@ some-between after last every first count s some begins enters needed low high =
 split : (a b : ℕ) → (a < b) ⊎ (b ≤ a)
 split a b = grind arith
 
--- the segment up to which none hits when k segments are settled: forwards all before it, backwards it and all behind it
+-- the segment up to which none hits when k segments are decided: forwards all before it, backwards it and all behind it
 abbrev pub border : Direction → ℕ → ℕ → ℕ → ℕ
 border Forward first count k = first + k
 border Backward first count k = first + (count - k)
@@ -50,12 +51,13 @@ module _ (hits : ℕ → List ℕ) (after last every : ℕ) where
       elim (split ((s + 1) * every) q) [ inl behind ↦ passed q a b behind | inr before ↦ none.none q (omega arith) (omega arith) ]
 
   -- the nearest hit of the first segment with one is the nearest
-  hit-forward : (s p : ℕ) (ms : List ℕ) → Passed Forward hits after last (s * every) → IsNearest Forward hits (from_of after every s + 1) (to_of last every s + 1) p ms → IsNearest Forward hits (after + 1) (last + 1) p ms
+  hit-forward : (s p : ℕ) (ms : List ℕ) → Passed Forward hits after last (s * every) → IsNearest Forward hits (from_of after every s + 1) (to_of last every s + 1) p ms
+      → IsNearest Forward hits (after + 1) (last + 1) p ms
   hit-forward s p ms passed found =
       record {
         above = omega (arith, found.above);
         below = omega (arith, found.below);
-        told = found.told;
+        reported = found.reported;
         some = found.some;
         nearest = λ q a b c. elim (split (s * every) q) [
           | inl behind ↦ found.nearest q (omega arith) (omega (arith, found.below, c)) c
@@ -63,12 +65,13 @@ module _ (hits : ℕ → List ℕ) (after last every : ℕ) where
         ];
       }
 
-  hit-backward : (s p : ℕ) (ms : List ℕ) → Passed Backward hits after last ((s + 1) * every) → IsNearest Backward hits (from_of after every s + 1) (to_of last every s + 1) p ms → IsNearest Backward hits (after + 1) (last + 1) p ms
+  hit-backward : (s p : ℕ) (ms : List ℕ) → Passed Backward hits after last ((s + 1) * every) → IsNearest Backward hits (from_of after every s + 1) (to_of last every s + 1) p ms
+      → IsNearest Backward hits (after + 1) (last + 1) p ms
   hit-backward s p ms passed found =
       record {
         above = omega (arith, found.above);
         below = omega (arith, found.below);
-        told = found.told;
+        reported = found.reported;
         some = found.some;
         nearest = λ q a b c. elim (split ((s + 1) * every) q) [
           | inl behind ↦ passed q (omega arith) (omega arith) behind
@@ -77,7 +80,9 @@ module _ (hits : ℕ → List ℕ) (after last every : ℕ) where
       }
 
 module _ (hits : ℕ → List ℕ) where
-  next-passed : (direction : Direction) (after last every first count k : ℕ) → k < count → Passed direction hits after last (border direction first count k * every) → NoneHits hits (from_of after every (nth_segment direction first count k) + 1) (to_of last every (nth_segment direction first count k) + 1) → Passed direction hits after last (border direction first count (k + 1) * every)
+  next-passed : (direction : Direction) (after last every first count k : ℕ) → k < count → Passed direction hits after last (border direction first count k * every)
+      → NoneHits hits (from_of after every (nth_segment direction first count k) + 1) (to_of last every (nth_segment direction first count k) + 1)
+      → Passed direction hits after last (border direction first count (k + 1) * every)
   next-passed Forward after last every first count k below passed none =
       let next : first + k + 1 ≡ first + (k + 1) = omega arith in
       subst (λ b. Passed Forward hits after last (b * every)) next (past-forward hits after last every (first + k) passed none)
@@ -87,13 +92,16 @@ module _ (hits : ℕ → List ℕ) where
       subst (λ b. Passed Backward hits after last (b * every)) next
       (past-backward hits after last every (first + (count - 1 - k)) (subst (λ b. Passed Backward hits after last (b * every)) now passed) none)
 
-  next-hit : (direction : Direction) (after last every first count k p : ℕ) (ms : List ℕ) → k < count → Passed direction hits after last (border direction first count k * every) → IsNearest direction hits (from_of after every (nth_segment direction first count k) + 1) (to_of last every (nth_segment direction first count k) + 1) p ms → IsNearest direction hits (after + 1) (last + 1) p ms
+  next-hit : (direction : Direction) (after last every first count k p : ℕ) (ms : List ℕ) → k < count → Passed direction hits after last (border direction first count k * every)
+      → IsNearest direction hits (from_of after every (nth_segment direction first count k) + 1) (to_of last every (nth_segment direction first count k) + 1) p ms
+      → IsNearest direction hits (after + 1) (last + 1) p ms
   next-hit Forward after last every first count k p ms below passed found = hit-forward hits after last every (first + k) p ms passed found
   next-hit Backward after last every first count k p ms below passed found =
       let now : first + (count - k) ≡ first + (count - 1 - k) + 1 = omega arith in
       hit-backward hits after last every (first + (count - 1 - k)) p ms (subst (λ b. Passed Backward hits after last (b * every)) now passed) found
 
-  none-first : (direction : Direction) (after last every first count : ℕ) → first * every ≤ after → last ≤ (first + count) * every → Passed direction hits after last (border direction first count 0 * every)
+  none-first : (direction : Direction) (after last every first count : ℕ) → first * every ≤ after → last ≤ (first + count) * every
+      → Passed direction hits after last (border direction first count 0 * every)
   none-first Forward after last every first count begins ends = λ q a b c.
       let same : first + 0 ≡ first = omega arith in
       let low : q ≤ first * every = subst (λ s. q ≤ s * every) same c in
@@ -103,7 +111,8 @@ module _ (hits : ℕ → List ℕ) where
       let high : (first + count) * every < q = subst (λ s. s * every < q) same c in
       absurd (omega arith)
 
-  none-last : (direction : Direction) (after last every first count : ℕ) → first * every ≤ after → last ≤ (first + count) * every → Passed direction hits after last (border direction first count count * every) → NoneHits hits (after + 1) (last + 1)
+  none-last : (direction : Direction) (after last every first count : ℕ) → first * every ≤ after → last ≤ (first + count) * every
+      → Passed direction hits after last (border direction first count count * every) → NoneHits hits (after + 1) (last + 1)
   none-last Forward after last every first count begins ends passed =
       record { none = λ q a b. passed q (omega arith) (omega arith) (omega arith) }
   none-last Backward after last every first count begins ends passed =
@@ -115,12 +124,14 @@ module _ (hits : ℕ → List ℕ) where
   passed-first span = none-first span.direction span.after span.last span.every span.first span.count span.begins span.ends
 
   -- one segment more, where nothing is found
-  pub passed-next : (span : Span) (k : ℕ) (found : Found) → k < span.count → is_hit found ≡ false → ArePassed span hits k → IsFoundIn span hits (nth_segment span.direction span.first span.count k) found → ArePassed span hits (k + 1)
+  pub passed-next : (span : Span) (k : ℕ) (found : Found) → k < span.count → is_hit found ≡ false → ArePassed span hits k
+      → IsFoundIn span hits (nth_segment span.direction span.first span.count k) found → ArePassed span hits (k + 1)
   passed-next span k Nothing below miss passed found = next-passed span.direction span.after span.last span.every span.first span.count k below passed found
   passed-next span k (Hit p) below miss passed found = cc
 
   -- and where there is a hit
-  pub passed-hit : (span : Span) (k : ℕ) (found : Found) → k < span.count → is_hit found ≡ true → ArePassed span hits k → IsFoundIn span hits (nth_segment span.direction span.first span.count k) found → IsFound span.direction hits (span.after + 1) (span.last + 1) found
+  pub passed-hit : (span : Span) (k : ℕ) (found : Found) → k < span.count → is_hit found ≡ true → ArePassed span hits k → IsFoundIn span hits (nth_segment span.direction span.first span.count k) found
+      → IsFound span.direction hits (span.after + 1) (span.last + 1) found
   passed-hit span k Nothing below hit passed found = cc
   passed-hit span k (Hit h) below hit passed found = next-hit span.direction span.after span.last span.every span.first span.count k h.position h.marks.items below passed found
 

@@ -27,6 +27,7 @@ abbrev pub or_unknown : Option Slot → Slot
 or_unknown (Some slot) = slot
 or_unknown None = Unknown
 
+-- the slot of a segment, unknown where there is none
 abbrev pub slot_of : List Slot → ℕ → Slot
 slot_of slots s = or_unknown (slice_get slots s)
 

@@ -16,20 +16,21 @@ found_after found p [] = found
 found_after found p (m ∷ ms) = Hit (record { position = p; marks = record { items = m ∷ ms } })
 
 -- the first of so many positions from p on where a mark hits, by which marks hit at each
-abbrev pub first_of : (ℕ → List ℕ) → ℕ → ℕ → Found
-first_of hits zero p = Nothing
-first_of hits (suc count) p = found_after (first_of hits count (p + 1)) p (hits p)
+abbrev pub first_hit_of : (ℕ → List ℕ) → ℕ → ℕ → Found
+first_hit_of hits zero p = Nothing
+first_hit_of hits (suc count) p = found_after (first_hit_of hits count (p + 1)) p (hits p)
 
 -- the last position below n where a mark hits
-abbrev pub last_below : (ℕ → List ℕ) → ℕ → Found
-last_below hits zero = Nothing
-last_below hits (suc n) = found_after (last_below hits n) n (hits n)
+abbrev pub last_hit_below : (ℕ → List ℕ) → ℕ → Found
+last_hit_below hits zero = Nothing
+last_hit_below hits (suc n) = found_after (last_hit_below hits n) n (hits n)
 
--- The nearest hit from position n, with the numbers of the marks that hit there. Forwards: the first
--- of the positions behind n, up to the end of the recording. Backwards: the last of those before it.
+-- The nearest hit from position n, with the numbers of the marks that hit there. Forwards: the
+-- first of the positions behind n, up to the end of the recording. Backwards: the last of those
+-- before it.
 abbrev pub nearest_hit : Direction → Recording → List NumberedMark → ℕ → Found
-nearest_hit Forward r marks n = first_of (hits_at r marks) (length r.steps - n) (n + 1)
-nearest_hit Backward r marks n = last_below (hits_at r marks) n
+nearest_hit Forward r marks n = first_hit_of (hits_at r marks) (length r.steps - n) (n + 1)
+nearest_hit Backward r marks n = last_hit_below (hits_at r marks) n
 
 -- q is nearer than p
 abbrev pub Nearer : Direction → ℕ → ℕ → Type 0
@@ -37,12 +38,13 @@ Nearer Forward q p = q < p
 Nearer Backward q p = p < q
 
 -- These marks hit at p, some at least, and none hits from low to below high where that is nearer.
-pub record IsNearest (way : Direction) (hits : ℕ → List ℕ) (low high p : ℕ) (ms : List ℕ) : Type 0 where
-  pub above : low ≤ p
-  pub below : p < high
-  pub told : ms ≡ hits p
-  pub some : 0 < length ms
-  pub nearest : (q : ℕ) → low ≤ q → q < high → Nearer way q p → hits q ≡ []
+pub record IsNearest (way : Direction) (hits : ℕ → List ℕ) (low high p : ℕ) (ms : List ℕ) : Type 0
+  where
+    pub above : low ≤ p
+    pub below : p < high
+    pub reported : ms ≡ hits p
+    pub some : 0 < length ms
+    pub nearest : (q : ℕ) → low ≤ q → q < high → Nearer way q p → hits q ≡ []
 
 -- no mark hits from low to below high
 pub record NoneHits (hits : ℕ → List ℕ) (low high : ℕ) : Type 0 where
@@ -53,7 +55,7 @@ abbrev pub IsFound : Direction → (ℕ → List ℕ) → ℕ → ℕ → Found 
 IsFound direction hits low high (Hit h) = IsNearest direction hits low high h.position h.marks.items
 IsFound direction hits low high Nothing = NoneHits hits low high
 
--- the numbers that are told rise, and are those of marks that were made, so many at most
+-- the numbers that are returned rise, and are those of marks that were made, so many at most
 abbrev pub Rises : ℕ → Found → Type 0
 Rises made (Hit h) = RisesWithin 0 h.marks.items made
 Rises made Nothing = Unit {0}

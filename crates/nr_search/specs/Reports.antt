@@ -18,10 +18,10 @@ pub record IsReport (span : Span) (hits : ℕ → List ℕ) (report : Report) : 
   pub holds : IsTrue span hits report.segment report.slot
 
 -- what is known already, or else what is said then
-abbrev pub or_else : Slot → Slot → Slot
-or_else (Searched found) said = Searched found
-or_else Refused said = Refused
-or_else Unknown said = said
+abbrev pub first_known : Slot → Slot → Slot
+first_known (Searched found) said = Searched found
+first_known Refused said = Refused
+first_known Unknown said = said
 
 -- what a report says of segment s
 abbrev pub said_by : Report → ℕ → Slot
@@ -30,15 +30,15 @@ said_by report s = if report.segment == s then report.slot else Unknown
 -- What one worker's reports say of segment s: what the first report of it says.
 abbrev pub said_in : List Report → ℕ → Slot
 said_in [] s = Unknown
-said_in (report ∷ reports) s = or_else (said_by report s) (said_in reports s)
+said_in (report ∷ reports) s = first_known (said_by report s) (said_in reports s)
 
--- What is noted of segment s by the reports of all workers, a row for each: what the first report of
--- it says, in the rows' order.
+-- What is noted of segment s by the reports of all workers, a row for each: what the first report
+-- of it says, in the rows' order.
 abbrev pub noted : List (List Report) → ℕ → Slot
 noted [] s = Unknown
-noted (row ∷ rows) s = or_else (said_in row s) (noted rows s)
+noted (one_worker ∷ by_worker) s = first_known (said_in one_worker s) (noted by_worker s)
 
 -- Of each segment is known what was known, or else what is said of it.
 pub record AddsTo (slots : List Slot) (said : ℕ → Slot) (slots' : List Slot) : Type 0 where
-  pub each : (s : ℕ) → s < length slots → slot_of slots' s ≡ or_else (slot_of slots s) (said s)
+  pub each : (s : ℕ) → s < length slots → slot_of slots' s ≡ first_known (slot_of slots s) (said s)
   pub count : length slots' ≡ length slots

@@ -15,12 +15,13 @@ is_hit (Hit h) = true
 is_hit Nothing = false
 
 -- no position farther forward is nearer
-abbrev pub is_settled : Direction → Found → Bool
-is_settled Forward (Hit h) = true
-is_settled Forward Nothing = false
-is_settled Backward found = false
+abbrev pub is_decided : Direction → Found → Bool
+is_decided Forward (Hit h) = true
+is_decided Forward Nothing = false
+is_decided Backward found = false
 
--- The values, place by place, are those that the marks watch in the world.
-pub record Remembers (w : World) (marks : List NumberedMark) (values : List CellValue) : Type 0 where
-  pub each : (i : ℕ) (m : NumberedMark) → slice_get marks i ≡ Some m
-      → slice_get values i ≡ Some (watched w m.item)
+-- The values, one by one, are those that the marks watch in the world.
+pub record Remembers (w : World) (marks : List NumberedMark) (values : List CellValue) : Type 0
+  where
+    pub each : (i : ℕ) (m : NumberedMark) → slice_get marks i ≡ Some m
+        → slice_get values i ≡ Some (watched w m.item)

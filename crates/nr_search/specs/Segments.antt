@@ -1,4 +1,5 @@
--- The segments of a film: between neighbouring copies, and from the last one to the end, numbered from 0.
+-- The segments of a film: between neighbouring copies, and from the last one to the end, numbered
+-- from 0.
 use Rattle.std.specs.Prelude.{ℕ, ◌+◌, ◌-◌, ◌*◌, max, min}
 use Rattle.nr_search.specs.declared.direction.Direction.{Direction}
 use Rattle.nr_search.specs.declared.direction.Direction.TheVariants.{Forward, Backward}
@@ -8,9 +9,11 @@ abbrev pub nth_segment : Direction → ℕ → ℕ → ℕ → ℕ
 nth_segment Forward first count k = first + k
 nth_segment Backward first count k = first + (count - 1 - k)
 
--- A segment's positions, of those behind `after` and up to `last`: behind the one number, and up to the other.
+-- A segment's positions, of those behind `after` and up to `last`: behind the one number, and up to
+-- the other.
 abbrev pub from_of : ℕ → ℕ → ℕ → ℕ
 from_of after every s = max after (s * every)
 
+-- where they end: at the next copy, or at `last`
 abbrev pub to_of : ℕ → ℕ → ℕ → ℕ
 to_of last every s = min last ((s + 1) * every)

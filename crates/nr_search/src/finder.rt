@@ -18,13 +18,13 @@ use std::alloc::AllocError;
 use std::marker::PhantomData;
 use std::thread::Threads;
 
-/// How a search is done. `nearest_hit` takes any way and answers the same for each, so who calls it can stay generic over
+/// How a search is done. `nearest_hit` takes any way and returns the same for each, so who calls it can stay generic over
 /// the ways that there are.
 pub trait Finder {
     /// What starts the threads.
     type Runtime: Threads + Sync;
 
-    /// What is told who searches.
+    /// What learns who searches.
     type Gate: Gate + Sync;
 
     /// How many workers search: 1 where the caller's thread searches alone.
@@ -35,7 +35,7 @@ pub trait Finder {
         ensures many { IfSome result (λ many. many.now ≡ count self.now) }
         ensures alone { IfNone result (count self.now ≡ 1) };
 
-    /// What they are told as a search begins. Whatever it is, they find the same.
+    /// What they begin a search with. Whatever it is, they find the same.
     fn claims(&self) -> Claims;
 }
 
@@ -102,9 +102,9 @@ impl<F: Finder> Finder for &F {
     }
 }
 
-/// The nearest position from n where a mark hits, with the numbers of the marks that hit there: forwards the least above
-/// n, up to the end; backwards the greatest below n. Memory is wanted for copies of the film's worlds, and for what several workers report; for nothing where no
-/// mark stands, or where no position but the start lies that way.
+/// The nearest position from n where a mark hits, with the numbers of the marks that hit there: forwards the least above n,
+/// up to the end; backwards the greatest below n. Copies of the film's worlds take memory, and what several workers report.
+/// Nothing does where there is no mark, or where no position but the start lies that way.
 pub fn nearest_hit<W: Worlds + Drop + Sync, F: Finder>(
     finder: &F,
     film: &Film<W>,
@@ -114,10 +114,10 @@ pub fn nearest_hit<W: Worlds + Drop + Sync, F: Finder>(
 ) -> Result<Found, AllocError>
     requires { n ≤ length film.now.recording.steps }
     ensures found { IfOk result (λ found. found
-        ≡ nearest_hit direction film.now.recording marks.now.standing n) }
+        ≡ nearest_hit direction film.now.recording marks.now.present n) }
     ensures rising { IfOk result (Rises marks.now.made) }
     ensures copy { OnErr result (NeedsCopy direction film.now.recording n) }
-    ensures marks { OnErr result (0 < length marks.now.standing) }
+    ensures marks { OnErr result (0 < length marks.now.present) }
 {
     if marks.as_slice().is_empty() {
         return Ok(Found::Nothing);
@@ -126,12 +126,12 @@ pub fn nearest_hit<W: Worlds + Drop + Sync, F: Finder>(
         Direction::Forward => {
             search_between(finder, film, marks, Direction::Forward, n, film.len())
         }
-        Direction::Backward => last_below(finder, film, marks, n),
+        Direction::Backward => last_hit_below(finder, film, marks, n),
     }
 }
 
 // The greatest hit below position n. Position 0 is the last one on the way, and needs no copy.
-fn last_below<W: Worlds + Drop + Sync, F: Finder>(
+fn last_hit_below<W: Worlds + Drop + Sync, F: Finder>(
     finder: &F,
     film: &Film<W>,
     marks: &Marks,
@@ -139,7 +139,7 @@ fn last_below<W: Worlds + Drop + Sync, F: Finder>(
 ) -> Result<Found, AllocError>
     requires { n ≤ length film.now.recording.steps }
     ensures found { IfOk result
-        (IsFound Backward (hits_at film.now.recording marks.now.standing) 0 n) }
+        (IsFound Backward (hits_at film.now.recording marks.now.present) 0 n) }
     ensures copy { OnErr result (1 < n) }
 {
     if n == 0 {
@@ -164,7 +164,7 @@ fn search_between<W: Worlds + Drop + Sync, F: Finder>(
     requires order { after ≤ last }
     requires within { last ≤ length film.now.recording.steps }
     ensures found { IfOk result
-        (IsFound direction (hits_at film.now.recording marks.now.standing)
+        (IsFound direction (hits_at film.now.recording marks.now.present)
         (after + 1) (last + 1)) }
     ensures copy { OnErr result (after < last) }
 {
@@ -174,6 +174,6 @@ fn search_between<W: Worlds + Drop + Sync, F: Finder>(
     let search = Search::new(film, marks, direction, after, last);
     match finder.workers() {
         Some(many) => search_by(many, &search, &finder.claims()),
-        None => search.settle(&[]),
+        None => search.decide(&[]),
     }
 }

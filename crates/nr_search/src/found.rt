@@ -2,7 +2,7 @@
 
 ghost use Rattle.std.specs.Prelude.{◌≡◌};
 ghost use Rattle.nr_search.specs.Nearest.{found_after};
-ghost use Rattle.nr_search.specs.Search.{is_hit, is_settled};
+ghost use Rattle.nr_search.specs.Search.{is_hit, is_decided};
 
 use crate::direction::Direction;
 use arrayvec::ArrayVec;
@@ -65,8 +65,8 @@ impl Found {
     }
 
     // Whether no position farther forward can change it.
-    pub(crate) fn is_settled(&self, direction: Direction) -> bool
-        ensures { result ≡ is_settled direction self.now }
+    pub(crate) fn is_decided(&self, direction: Direction) -> bool
+        ensures { result ≡ is_decided direction self.now }
     {
         match (direction, self) {
             (Direction::Forward, Found::Hit(_)) => true,

@@ -1,6 +1,6 @@
 //! A look at who searches.
 
-/// Is told when a worker begins to search a segment, and when it has searched it. Workers are counted from 1.
+/// Learns when a worker begins to search a segment, and when it has searched it. Workers are counted from 1.
 pub trait Gate {
     /// The worker is about to search a segment.
     fn enter(&self, worker: usize);
@@ -9,7 +9,7 @@ pub trait Gate {
     fn leave(&self, worker: usize);
 }
 
-/// A gate that always stands open.
+/// A gate that is always open.
 #[derive(Clone, Copy, Debug)]
 pub struct Open;
 

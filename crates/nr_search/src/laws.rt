@@ -9,7 +9,7 @@ ghost use Rattle.nr_search.specs.declared.direction.Direction.TheVariants.{Forwa
 ghost use Rattle.nr_search.specs.declared.workers.TheConstants.{LEAST_WORKERS, MOST_WORKERS};
 
 /// The nearest hit from position n is forwards the least hit above n, up to the end, and backwards the greatest below
-/// n; and there is none just where none of those positions hits.
+/// n. There is none exactly where none of those positions hits.
 pub fn the_nearest_hit_is_nearest()
     ensures forward { (r : Recording) (marks : List NumberedMark) (n : ℕ) → n ≤ length r.steps
         → IsFound Forward (hits_at r marks) (n + 1) (length r.steps + 1)

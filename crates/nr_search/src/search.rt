@@ -12,7 +12,7 @@ use crate::direction::Direction;
 use crate::found::Found;
 use crate::segments::Span;
 use crate::slot::{Report, Slot, note_all, slot_at};
-use crate::stretch::{Standing, search_stretch, world_at};
+use crate::stretch::{WorldAt, search_stretch, world_at};
 use nr_marks::Marks;
 use nr_rev::Worlds;
 use nr_snaps::Film;
@@ -55,19 +55,19 @@ impl<'a, W: Worlds + Drop> Search<'a, W> {
         }
     }
 
-    /// The nearest hit of a segment. The world at hand is led through it, where it stands at its beginning, and else a
-    /// copy; afterwards the world at hand stands at its end, if the search came there.
+    /// The nearest hit of a segment. The world at hand is led through it, if it is at its beginning, else a copy.
+    /// Afterwards the world at hand is at its end, if the search came there.
     pub fn search_segment(
         &self,
         s: usize,
-        held: &mut Option<Standing<W>>,
+        held: &mut Option<WorldAt<W>>,
     ) -> Result<Found, AllocError>
         requires first { self.now.span.first ≤ s }
         requires last { s < self.now.span.first + self.now.span.count }
         requires held { IfSome held.old (λ h.
             IsFrame W.is_well_formed W.world W.steps self.now.film.now h.position h.world) }
         ensures found { IfOk result (IsFoundIn self.now.span
-            (hits_at self.now.film.now.recording self.now.marks.now.standing) s) }
+            (hits_at self.now.film.now.recording self.now.marks.now.present) s) }
         ensures held { IfSome held.new (λ h.
             IsFrame W.is_well_formed W.world W.steps self.now.film.now h.position h.world) }
     {
@@ -75,8 +75,8 @@ impl<'a, W: Worlds + Drop> Search<'a, W> {
         let mut world = world_at(self.film, held.take(), from)?;
         let direction = self.span.direction;
         let found = search_stretch(self.film, self.marks, direction, &mut world, from, to);
-        if !found.is_settled(direction) {
-            *held = Some(Standing {
+        if !found.is_decided(direction) {
+            *held = Some(WorldAt {
                 position: to,
                 world,
             });
@@ -85,20 +85,20 @@ impl<'a, W: Worlds + Drop> Search<'a, W> {
     }
 
     // The nearest hit of a segment, by what is known of it, or else by a search.
-    fn settle_segment(
+    fn decide_segment(
         &self,
         known: &[Slot],
         s: usize,
-        held: &mut Option<Standing<W>>,
+        held: &mut Option<WorldAt<W>>,
     ) -> Result<Found, AllocError>
         requires first { self.now.span.first ≤ s }
         requires last { s < self.now.span.first + self.now.span.count }
         requires known { AreTrue self.now.span
-            (hits_at self.now.film.now.recording self.now.marks.now.standing) (slot_of known.now) }
+            (hits_at self.now.film.now.recording self.now.marks.now.present) (slot_of known.now) }
         requires held { IfSome held.old (λ h.
             IsFrame W.is_well_formed W.world W.steps self.now.film.now h.position h.world) }
         ensures found { IfOk result (IsFoundIn self.now.span
-            (hits_at self.now.film.now.recording self.now.marks.now.standing) s) }
+            (hits_at self.now.film.now.recording self.now.marks.now.present) s) }
         ensures agrees { IfOk result (Agrees (slot_of known.now s)) }
         ensures searched { OnErr result (is_searched (slot_of known.now s) ≡ false) }
         ensures held { IfSome held.new (λ h.
@@ -112,19 +112,19 @@ impl<'a, W: Worlds + Drop> Search<'a, W> {
     }
 
     /// The nearest hit: segment by segment on the way, by what is known of each, or else by a search of it. The first
-    /// segment with a hit decides: memory that was refused for others changes nothing then.
-    pub fn settle(&self, known: &[Slot]) -> Result<Found, AllocError>
+    /// segment with a hit decides: that others ran out of memory changes nothing then.
+    pub fn decide(&self, known: &[Slot]) -> Result<Found, AllocError>
         requires { AreTrue self.now.span
-            (hits_at self.now.film.now.recording self.now.marks.now.standing) (slot_of known.now) }
+            (hits_at self.now.film.now.recording self.now.marks.now.present) (slot_of known.now) }
         ensures found { IfOk result (IsFound self.now.span.direction
-            (hits_at self.now.film.now.recording self.now.marks.now.standing)
+            (hits_at self.now.film.now.recording self.now.marks.now.present)
             (self.now.span.after + 1) (self.now.span.last + 1)) }
         ensures open { OnErr result (IsLeftOpen self.now.span (slot_of known.now)) }
     {
         let mut held = None;
         for k in 0..self.span.count {
             let s = self.span.nth(k);
-            let found = self.settle_segment(known, s, &mut held)?;
+            let found = self.decide_segment(known, s, &mut held)?;
             if found.is_hit() {
                 return Ok(found);
             }
@@ -133,22 +133,26 @@ impl<'a, W: Worlds + Drop> Search<'a, W> {
     }
 
     /// The nearest hit, by what the workers report, a row for each worker. Of a segment the first report counts; where
-    /// there is none, it is searched here. Want of memory is told only where a segment on the way isn't searched by the
+    /// there is none, it is searched here. It runs out of memory only where a segment on the way isn't searched by the
     /// report that counts, and none before it has a hit. The table has a slot for each segment, where nothing is known yet.
-    pub fn settle_by(&self, rows: &[Vec<Report>], table: &mut [Slot]) -> Result<Found, AllocError>
+    pub fn decide_by(
+        &self,
+        by_worker: &[Vec<Report>],
+        table: &mut [Slot],
+    ) -> Result<Found, AllocError>
         requires table { table.old
             ≡ replicate (self.now.span.first + self.now.span.count) Unknown }
-        requires reports { All (λ row. All (IsReport self.now.span
-            (hits_at self.now.film.now.recording self.now.marks.now.standing)) row.items) rows.now }
+        requires reports { All (λ one_worker. All (IsReport self.now.span
+            (hits_at self.now.film.now.recording self.now.marks.now.present)) one_worker.items) by_worker.now }
         ensures found { IfOk result (IsFound self.now.span.direction
-            (hits_at self.now.film.now.recording self.now.marks.now.standing)
+            (hits_at self.now.film.now.recording self.now.marks.now.present)
             (self.now.span.after + 1) (self.now.span.last + 1)) }
         ensures open { OnErr result (IsLeftOpen self.now.span
-            (noted (map (λ row. row.items) rows.now))) }
+            (noted (map (λ one_worker. one_worker.items) by_worker.now))) }
     {
-        for reports in rows {
+        for reports in by_worker {
             note_all(table, reports.as_slice());
         }
-        self.settle(table)
+        self.decide(table)
     }
 }

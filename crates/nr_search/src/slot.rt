@@ -13,7 +13,7 @@ use std::alloc::{AllocError, Global};
 pub(crate) enum Slot {
     /// Nothing: it was skipped, or the report of it was lost.
     Unknown,
-    /// A worker was refused memory for it.
+    /// A worker ran out of memory for it.
     Refused,
     /// It was searched.
     Searched(Found),

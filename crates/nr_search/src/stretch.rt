@@ -3,7 +3,7 @@
 ghost use Rattle.std.specs.Prelude.{◌≡◌, ◌<◌, ◌≤◌, ◌+◌, length, slice_get, false, IfOk, IfSome};
 ghost use Rattle.nr_marks.specs.Hit.{hits_at, numbered};
 ghost use Rattle.nr_search.specs.Nearest.{IsFound};
-ghost use Rattle.nr_search.specs.Search.{Remembers, is_settled};
+ghost use Rattle.nr_search.specs.Search.{Remembers, is_decided};
 ghost use Rattle.nr_marks.specs.declared.marks.TheConstants.{MOST_MARKS};
 ghost use Rattle.nr_snaps.specs.Film.{IsFrame};
 
@@ -27,7 +27,7 @@ fn next_step<W: Worlds + Drop>(film: &Film<W>, n: usize) -> Option<NextStep>
     NextStep::at(n, film.step(n))
 }
 
-// Leads the world from position n to the next one, and gives the numbers of the marks that hit there. The values are those
+// Leads the world from position n to the next one, and returns the numbers of the marks that hit there. The values are those
 // that the marks watch at position n, and then at the next one.
 #[inline(always)]
 fn go_on<W: Worlds + Drop>(
@@ -52,7 +52,7 @@ fn go_on<W: Worlds + Drop>(
     look(marks, values, hits, world, next_step(film, n + 1));
 }
 
-/// The nearest hit of those behind position `at` and up to position `to`. The world stands at `at` and is led on: to `to`,
+/// The nearest hit of those behind position `at` and up to position `to`. The world is at `at` and is led on: to `to`,
 /// unless a hit ends the search.
 pub(crate) fn search_stretch<W: Worlds + Drop>(
     film: &Film<W>,
@@ -65,9 +65,9 @@ pub(crate) fn search_stretch<W: Worlds + Drop>(
     requires frame { IsFrame W.is_well_formed W.world W.steps film.now at world.old }
     requires order { at ≤ to }
     requires within { to ≤ length film.now.recording.steps }
-    ensures found { IsFound direction (hits_at film.now.recording marks.now.standing)
+    ensures found { IsFound direction (hits_at film.now.recording marks.now.present)
         (at + 1) (to + 1) result }
-    ensures led { is_settled direction result ≡ false
+    ensures led { is_decided direction result ≡ false
         → IsFrame W.is_well_formed W.world W.steps film.now to world.new }
 {
     let marks = marks.as_slice();
@@ -78,21 +78,21 @@ pub(crate) fn search_stretch<W: Worlds + Drop>(
     for n in at..to {
         go_on(film, marks, &mut values, &mut hits, world, n);
         found.look_at(n + 1, &hits);
-        if found.is_settled(direction) {
+        if found.is_decided(direction) {
             return found;
         }
     }
     found
 }
 
-/// A world, and where it stands.
+/// A world, and its position.
 #[derive(Drop)]
-pub(crate) struct Standing<W: Worlds + Drop> {
+pub(crate) struct WorldAt<W: Worlds + Drop> {
     pub position: usize,
     pub world: W,
 }
 
-impl<W: Worlds + Drop> Standing<W> {
+impl<W: Worlds + Drop> WorldAt<W> {
     // Leads the world on to position n.
     fn lead_to(self, film: &Film<W>, n: usize) -> W
         requires frame { IsFrame W.is_well_formed W.world W.steps film.now self.position self.world }
@@ -108,10 +108,10 @@ impl<W: Worlds + Drop> Standing<W> {
     }
 }
 
-/// The world at position n: the one at hand, where it stands there; else a copy of the film's copy below, led on.
+/// The world at position n: the one at hand, if it is there; else a copy of the film's copy below, led on.
 pub(crate) fn world_at<W: Worlds + Drop>(
     film: &Film<W>,
-    held: Option<Standing<W>>,
+    held: Option<WorldAt<W>>,
     n: usize,
 ) -> Result<W, AllocError>
     requires held { IfSome held (λ h. IsFrame W.is_well_formed W.world W.steps film.now h.position h.world) }
@@ -133,7 +133,7 @@ fn copy_at<W: Worlds + Drop>(film: &Film<W>, n: usize) -> Result<W, AllocError>
         return Err(AllocError);
     };
     let every = film.every();
-    let below = Standing {
+    let below = WorldAt {
         position: n / every * every,
         world,
     };
@@ -142,7 +142,7 @@ fn copy_at<W: Worlds + Drop>(film: &Film<W>, n: usize) -> Result<W, AllocError>
 
 /// The numbers of the marks that hit at position 0, rising.
 pub(crate) fn hits_at_start<W: Worlds + Drop>(film: &Film<W>, marks: &Marks) -> Numbers
-    ensures { result.items ≡ hits_at film.now.recording marks.now.standing 0 }
+    ensures { result.items ≡ hits_at film.now.recording marks.now.present 0 }
 {
     let start = film.snap_below(0);
     marks.hits(start, start, next_step(film, 0))

@@ -13,7 +13,7 @@ use crate::found::Found;
 use crate::gate::Gate;
 use crate::search::Search;
 use crate::slot::{Report, Slot, unknown};
-use crate::stretch::Standing;
+use crate::stretch::WorldAt;
 use nr_rev::Worlds;
 use std::alloc::{AllocError, Global};
 use std::marker::Model;
@@ -72,31 +72,31 @@ impl<R: Threads + Sync, G: Gate + Sync> ManyWorkers<R, G> {
     }
 }
 
-/// What the workers of a search tell each other. No proof rests on what it holds: told of claims that nobody made, or of a
-/// hit that there isn't, a search takes longer and finds the same.
+/// What the workers of a search share. No proof rests on what it holds: with claims that nobody made, or a hit that there
+/// isn't, a search takes longer and finds the same.
 #[derive(Drop)]
 pub struct Claims {
     // How many segments on the way are claimed.
     next: AtomicUsize,
-    // The place on the way of the nearest segment where a hit is known: those behind it need no search.
+    // The number on the way of the nearest segment where a hit is known: those behind it need no search.
     hint: AtomicUsize,
 }
 
 impl Claims {
     /// Nothing is claimed, and no hit is known.
     pub fn new() -> Claims {
-        Claims::told(0, usize::MAX)
+        Claims::preset(0, usize::MAX)
     }
 
-    /// So many segments are claimed, and a hit is known in the segment at the place `hint` on the way, counted from 0.
-    pub fn told(claimed: usize, hint: usize) -> Claims {
+    /// So many segments are claimed, and a hit is known in the segment of number `hint` on the way, counted from 0.
+    pub fn preset(claimed: usize, hint: usize) -> Claims {
         Claims {
             next: AtomicUsize::new(claimed),
             hint: AtomicUsize::new(hint),
         }
     }
 
-    // The place on the way of the next segment, unless a hit is known before it.
+    // The number on the way of the next segment, unless a hit is known before it.
     fn claim(&self, count: usize) -> Option<usize>
         ensures { IfSome result (λ k. k < count) }
     {
@@ -107,7 +107,7 @@ impl Claims {
         Some(k)
     }
 
-    // Tells the others of a hit at a place on the way.
+    // Leaves the others a hit's number on the way.
     fn tell(&self, k: usize, slot: &Slot) {
         if let Slot::Searched(Found::Hit(_)) = slot {
             self.hint.fetch_min(k, Ordering::SeqCst);
@@ -115,11 +115,11 @@ impl Claims {
     }
 }
 
-// What a worker's search of a segment comes to: it is said to be searched, or to be refused memory.
+// What a worker's search of a segment comes to: it was searched, or ran out of memory.
 fn searched<W: Worlds + Drop>(
     search: &Search<'_, W>,
     s: usize,
-    held: &mut Option<Standing<W>>,
+    held: &mut Option<WorldAt<W>>,
 ) -> Slot
     requires first { search.now.span.first ≤ s }
     requires last { s < search.now.span.first + search.now.span.count }
@@ -127,7 +127,7 @@ fn searched<W: Worlds + Drop>(
         IsFrame W.is_well_formed W.world W.steps search.now.film.now h.position h.world) }
     ensures known { is_known result ≡ true }
     ensures is { IsTrue search.now.span
-        (hits_at search.now.film.now.recording search.now.marks.now.standing) s result }
+        (hits_at search.now.film.now.recording search.now.marks.now.present) s result }
     ensures held { IfSome held.new (λ h.
         IsFrame W.is_well_formed W.world W.steps search.now.film.now h.position h.world) }
 {
@@ -143,7 +143,7 @@ fn work<W: Worlds + Drop, G: Gate>(
     worker: usize,
 ) -> Vec<Report>
     ensures { All (IsReport search.now.span
-        (hits_at search.now.film.now.recording search.now.marks.now.standing)) result.items }
+        (hits_at search.now.film.now.recording search.now.marks.now.present)) result.items }
 {
     let mut reports = Vec::new(alloc);
     let mut held = None;
@@ -168,16 +168,16 @@ fn gather<W: Worlds + Drop + Sync, R: Threads + Sync, G: Gate + Sync>(
     search: &Search<'_, W>,
     claims: &Claims,
 ) -> Result<Vec<Vec<Report>>, AllocError>
-    ensures { IfOk result (λ rows. All (λ row. All (IsReport search.now.span
-        (hits_at search.now.film.now.recording search.now.marks.now.standing))
-        row.items) rows.items) }
+    ensures { IfOk result (λ by_worker. All (λ one_worker. All (IsReport search.now.span
+        (hits_at search.now.film.now.recording search.now.marks.now.present))
+        one_worker.items) by_worker.items) }
 {
     let alloc = many.alloc;
     let gate = &many.gate;
     let worker = |i: usize| -> Vec<Report>
         requires { IsSync W.row × IsSync G.row × (i < MOST_WORKERS) }
         ensures { All (IsReport search.entry.now.span
-            (hits_at search.entry.now.film.now.recording search.entry.now.marks.now.standing))
+            (hits_at search.entry.now.film.now.recording search.entry.now.marks.now.present))
             result.items }
     { work(search, alloc, claims, gate, i + 1) };
     map_indices(&many.rt, alloc, many.workers, &worker)
@@ -190,10 +190,10 @@ pub(crate) fn search_by<W: Worlds + Drop + Sync, R: Threads + Sync, G: Gate + Sy
     claims: &Claims,
 ) -> Result<Found, AllocError>
     ensures { IfOk result (IsFound search.now.span.direction
-        (hits_at search.now.film.now.recording search.now.marks.now.standing)
+        (hits_at search.now.film.now.recording search.now.marks.now.present)
         (search.now.span.after + 1) (search.now.span.last + 1)) }
 {
     let mut table = unknown(many.alloc, search.span.first + search.span.count)?;
-    let rows = gather(many, search, claims)?;
-    search.settle_by(rows.as_slice(), table.as_mut_slice())
+    let by_worker = gather(many, search, claims)?;
+    search.decide_by(by_worker.as_slice(), table.as_mut_slice())
 }

@@ -7,10 +7,10 @@ use Rattle.std.specs.List.{All, AllPairs, Contains}
 use Rattle.std.proofs.lemmas.List.{append_cancel_left, map-append}
 use Rattle.std.proofs.lemmas.List.Elements.{All-append, All-cons, All-head, All-map, All-nil, All-push, All-tail, All-weaker, Contains-push}
 use Rattle.std.proofs.lemmas.List.Quantifiers.{all_pairs_push}
-use Rattle.nr_journal.specs.Pass.{CatchesUp, Gains}
+use Rattle.nr_journal.specs.Pass.{CatchesUp, SeesOthers}
 use Rattle.nr_journal.specs.Rule.{Covers, IsOthers, StartsWith, informed}
-use Rattle.nr_journal.specs.declared.view.Stand.{Stand}
-use Rattle.nr_front.specs.Desk.{Desk}
+use Rattle.nr_journal.specs.declared.view.PassState.{PassState}
+use Rattle.nr_front.specs.FrontState.{FrontState}
 use Rattle.nr_serving.specs.Session.{HasOwn, IsHistory, IsSeenBy, words_of}
 use Rattle.nr_serving.specs.declared.fronts.Done.{Done}
 
@@ -24,40 +24,43 @@ covers_on : (tag : ℕ) (xs ys zs : List ℕ) → Covers ys tag xs → Covers zs
 covers_on tag xs ys zs (a, p, others) (b, q, more) = (a ++ b, q ∙ ap (λ (l : List ℕ). l ++ b) p ∙ append_assoc xs a b, All-append (IsOthers tag) a b others more)
 
 -- who saw the history has all of its own words in it
-pub own_seen : (room : ℕ) (words : List ℕ) (stand : Stand) → IsSeenBy room words stand → HasOwn words stand
-own_seen room words stand s =
-    let more : Covers s.after.seen stand.tag s.before.seen = subst (λ (t : ℕ). Covers s.after.seen t s.before.seen) s.tag (s.gains.0, s.gains.1, s.gains.2) in
-    subst (λ (w : List ℕ). Covers w stand.tag stand.seen) (sym s.is) (covers_on stand.tag stand.seen s.before.seen s.after.seen s.others more)
+pub own_seen : (room : ℕ) (words : List ℕ) (pass_state : PassState) → IsSeenBy room words pass_state → HasOwn words pass_state
+own_seen room words pass_state s =
+    let more : Covers s.after.seen pass_state.tag s.before.seen = subst (λ (t : ℕ). Covers s.after.seen t s.before.seen) s.tag (s.sees_others.0, s.sees_others.1, s.sees_others.2) in
+    subst (λ (w : List ℕ). Covers w pass_state.tag pass_state.seen) (sym s.is) (covers_on pass_state.tag pass_state.seen s.before.seen s.after.seen s.others more)
 
 -- the pass that looks last
-pub seen_last : (room : ℕ) (given : Result (Vec ℕ) AllocError) (old new : Stand) → Gains old new → CatchesUp room old new → IfOk given (λ words. words.items ≡ new.seen) → IfOk given (λ words. IsSeenBy room words.items old)
-seen_last room (Ok words) old new gains caught_up is = record {
+pub seen_last : (room : ℕ) (given : Result (Vec ℕ) AllocError) (old new : PassState) → SeesOthers old new → CatchesUp room old new → IfOk given (λ words. words.items ≡ new.seen)
+    → IfOk given (λ words. IsSeenBy room words.items old)
+seen_last room (Ok words) old new sees_others caught_up is = record {
   before = old;
   after = new;
   others = ([], sym (append-nil old.seen), All-nil (IsOthers old.tag));
   tag = refl;
-  gains = gains;
+  sees_others = sees_others;
   caught_up = caught_up;
   is = is;
 }
-seen_last room (Err fault) old new gains caught_up is = tt
+seen_last room (Err fault) old new sees_others caught_up is = tt
 
 -- it took in what another had seen before
-pub seen_before : (room : ℕ) (given : Result (Vec ℕ) AllocError) (old mid : Stand) (told : List ℕ) → Gains (informed old told) mid → IfOk given (λ words. IsSeenBy room words.items mid) → IfOk given (λ words. IsSeenBy room words.items old)
-seen_before room (Ok words) old mid told g s = record {
+pub seen_before : (room : ℕ) (given : Result (Vec ℕ) AllocError) (old mid : PassState) (reported : List ℕ) → SeesOthers (informed old reported) mid
+    → IfOk given (λ words. IsSeenBy room words.items mid) → IfOk given (λ words. IsSeenBy room words.items old)
+seen_before room (Ok words) old mid reported g s = record {
   before = s.before;
   after = s.after;
   others = covers_on old.tag old.seen mid.seen s.before.seen (g.0, g.1, g.2) (subst (λ (t : ℕ). Covers s.before.seen t mid.seen) g.3 s.others);
   tag = s.tag ∙ g.3;
-  gains = s.gains;
+  sees_others = s.sees_others;
   caught_up = s.caught_up;
   is = s.is;
 }
-seen_before room (Err fault) old mid told g s = tt
+seen_before room (Err fault) old mid reported g s = tt
 
 -- What a pass had seen was taken in, and then it saw the history and found no word of its own.
-own_more : (room : ℕ) (words fin told : List ℕ) (mid own later : Stand) → IsSeenBy room words mid → words ≡ fin → StartsWith mid.seen own.seen → Gains (informed own told) later → StartsWith later.seen fin → HasOwn words own
-own_more room words fin told mid own later s is (x, p) g (y, q) =
+own_more : (room : ℕ) (words fin reported : List ℕ) (mid own later : PassState) → IsSeenBy room words mid → words ≡ fin → StartsWith mid.seen own.seen → SeesOthers (informed own reported) later
+    → StartsWith later.seen fin → HasOwn words own
+own_more room words fin reported mid own later s is (x, p) g (y, q) =
     let c = own_seen room words mid s in
     let whole : words ≡ own.seen ++ (x ++ c.0) = c.1 ∙ ap (λ (l : List ℕ). l ++ c.0) p ∙ append_assoc own.seen x c.0 in
     let long : own.seen ++ ((x ++ c.0) ++ y) ≡ own.seen ++ g.0 =
@@ -65,36 +68,42 @@ own_more room words fin told mid own later s is (x, p) g (y, q) =
     (x ++ c.0, whole, all_front (IsOthers own.tag) (x ++ c.0) y (subst (All (IsOthers own.tag)) (sym (append_cancel_left own.seen ((x ++ c.0) ++ y) g.0 long)) g.2))
 
 -- one pass more has its own words in the history
-pub others_more : (room : ℕ) (given : Result (Vec ℕ) AllocError) (rest all : List Done) (other : Done) (met mid fin later : Stand) (told more : List ℕ) → all ≡ rest ++ other ∷ [] → IfOk given (λ words. IsSeenBy room words.items mid) → IfOk given (λ words. words.items ≡ fin.seen) → StartsWith mid.seen other.pass.stand.seen → met ≡ informed other.pass.stand told → Gains (informed met more) later → StartsWith later.seen fin.seen → IfOk given (λ words. All (λ d. HasOwn words.items d.pass.stand) rest) → IfOk given (λ words. All (λ d. HasOwn words.items d.pass.stand) all)
-others_more room (Ok words) rest all other met mid fin later told more split s is first was gains last own =
-    let g : Gains (informed (informed other.pass.stand told) more) later = subst (λ (t : Stand). Gains (informed t more) later) was gains in
-    subst (All (λ d. HasOwn words.items d.pass.stand)) (sym split)
-    (All-push (λ d. HasOwn words.items d.pass.stand) rest other own (own_more room words.items fin.seen more mid other.pass.stand later s is first g last))
-others_more room (Err fault) rest all other met mid fin later told more split s is first was gains last own = tt
+pub others_more : (room : ℕ) (given : Result (Vec ℕ) AllocError) (rest all : List Done) (other : Done) (met mid fin later : PassState) (reported more : List ℕ) → all ≡ rest ++ other ∷ []
+    → IfOk given (λ words. IsSeenBy room words.items mid) → IfOk given (λ words. words.items ≡ fin.seen) → StartsWith mid.seen other.pass.pass_state.seen
+    → met ≡ informed other.pass.pass_state reported → SeesOthers (informed met more) later → StartsWith later.seen fin.seen → IfOk given (λ words. All (λ d. HasOwn words.items d.pass.pass_state) rest)
+    → IfOk given (λ words. All (λ d. HasOwn words.items d.pass.pass_state) all)
+others_more room (Ok words) rest all other met mid fin later reported more split s is first was sees_others last own =
+    let g : SeesOthers (informed (informed other.pass.pass_state reported) more) later = subst (λ (t : PassState). SeesOthers (informed t more) later) was sees_others in
+    subst (All (λ d. HasOwn words.items d.pass.pass_state)) (sym split)
+    (All-push (λ d. HasOwn words.items d.pass.pass_state) rest other own (own_more room words.items fin.seen more mid other.pass.pass_state later s is first g last))
+others_more room (Err fault) rest all other met mid fin later reported more split s is first was sees_others last own = tt
 
 -- none of the others is left
-pub others_none : (given : Result (Vec ℕ) AllocError) (all : List Done) → all ≡ [] → IfOk given (λ words. All (λ d. HasOwn words.items d.pass.stand) all)
-others_none (Ok words) all none = subst (All (λ d. HasOwn words.items d.pass.stand)) (sym none) (All-nil (λ d. HasOwn words.items d.pass.stand))
+pub others_none : (given : Result (Vec ℕ) AllocError) (all : List Done) → all ≡ [] → IfOk given (λ words. All (λ d. HasOwn words.items d.pass.pass_state) all)
+others_none (Ok words) all none = subst (All (λ d. HasOwn words.items d.pass.pass_state)) (sym none) (All-nil (λ d. HasOwn words.items d.pass.pass_state))
 others_none (Err fault) all none = tt
 
 -- the history of those that ended
-pub history_of : (room : ℕ) (given : Result (Vec ℕ) AllocError) (rest all : List Done) (last : Done) → all ≡ rest ++ last ∷ [] → IfOk given (λ words. IsSeenBy room words.items last.pass.stand) → IfOk given (λ words. All (λ d. HasOwn words.items d.pass.stand) rest) → IfSome (words_of given) (IsHistory room (map (λ d. d.pass.stand) all))
+pub history_of : (room : ℕ) (given : Result (Vec ℕ) AllocError) (rest all : List Done) (last : Done) → all ≡ rest ++ last ∷ [] → IfOk given (λ words. IsSeenBy room words.items last.pass.pass_state)
+    → IfOk given (λ words. All (λ d. HasOwn words.items d.pass.pass_state) rest) → IfSome (words_of given) (IsHistory room (map (λ d. d.pass.pass_state) all))
 history_of room (Ok words) rest all last split s own = record {
-  own = subst (λ (l : List Done). All (HasOwn words.items) (map (λ d. d.pass.stand) l)) (sym split)
-      (All-map (HasOwn words.items) (λ d. d.pass.stand) (rest ++ last ∷ []) (All-push (λ d. HasOwn words.items d.pass.stand) rest last own (own_seen room words.items last.pass.stand s)));
+  own = subst (λ (l : List Done). All (HasOwn words.items) (map (λ d. d.pass.pass_state) l)) (sym split)
+      (All-map (HasOwn words.items) (λ d. d.pass.pass_state) (rest ++ last ∷ [])
+      (All-push (λ d. HasOwn words.items d.pass.pass_state) rest last own (own_seen room words.items last.pass.pass_state s)));
   whole = inl (
-    last.pass.stand,
-    subst (λ (l : List Stand). Contains l last.pass.stand) (sym (ap (map (λ d. d.pass.stand)) split ∙ map-append (λ d. d.pass.stand) rest (last ∷ []))) (Contains-push (map (λ d. d.pass.stand) rest) last.pass.stand),
+    last.pass.pass_state,
+    subst (λ (l : List PassState). Contains l last.pass.pass_state) (sym (ap (map (λ d. d.pass.pass_state)) split ∙ map-append (λ d. d.pass.pass_state) rest (last ∷ [])))
+        (Contains-push (map (λ d. d.pass.pass_state) rest) last.pass.pass_state),
     s,
   );
 }
 history_of room (Err fault) rest all last split s own = tt
 
 -- there was none
-pub no_history : (room : ℕ) (all : List Done) (words : List ℕ) → all ≡ [] → words ≡ [] → IsHistory room (map (λ d. d.pass.stand) all) words
+pub no_history : (room : ℕ) (all : List Done) (words : List ℕ) → all ≡ [] → words ≡ [] → IsHistory room (map (λ d. d.pass.pass_state) all) words
 no_history room all words none empty = record {
-  own = subst (λ (l : List Done). All (HasOwn words) (map (λ d. d.pass.stand) l)) (sym none) (All-nil (HasOwn words));
-  whole = inr (ap (map (λ d. d.pass.stand)) none, empty);
+  own = subst (λ (l : List Done). All (HasOwn words) (map (λ d. d.pass.pass_state) l)) (sym none) (All-nil (HasOwn words));
+  whole = inr (ap (map (λ d. d.pass.pass_state)) none, empty);
 }
 
 -- a number that isn't below another isn't one that is
@@ -102,13 +111,17 @@ differs : (tag least greater : ℕ) → tag < least → least ≤ greater → ta
 differs tag least greater below above is = omega (arith, below, above, is)
 
 -- one front more, with a greater tag
-pub apart_more : {A : Type 0} (fronts all : List (Desk × A)) (front : Desk × A) (least : ℕ) → all ≡ fronts ++ front ∷ [] → AllPairs (λ one other. one ≢ other) (map (λ f. f.0.stand.tag) fronts) → All (λ f. f.0.stand.tag < least) fronts → least ≤ front.0.stand.tag → AllPairs (λ one other. one ≢ other) (map (λ f. f.0.stand.tag) all)
+pub apart_more : {A : Type 0} (fronts all : List (FrontState × A)) (front : FrontState × A) (least : ℕ) → all ≡ fronts ++ front ∷ []
+    → AllPairs (λ one other. one ≢ other) (map (λ f. f.0.pass_state.tag) fronts) → All (λ f. f.0.pass_state.tag < least) fronts → least ≤ front.0.pass_state.tag
+    → AllPairs (λ one other. one ≢ other) (map (λ f. f.0.pass_state.tag) all)
 apart_more {A} fronts all front least split apart below above =
-    let lower = All-map (λ t. t < least) (λ f. f.0.stand.tag) fronts below in
-    subst (AllPairs (λ one other. one ≢ other)) (sym (ap (map {A = Desk × A} {B = ℕ} (λ f. f.0.stand.tag)) split ∙ map-append (λ f. f.0.stand.tag) fronts (front ∷ [])))
-    (all_pairs_push (λ one other. one ≢ other) (map (λ f. f.0.stand.tag) fronts) front.0.stand.tag apart (λ k d lt. differs _ least _ (lower k d lt) above))
+    let lower = All-map (λ t. t < least) (λ f. f.0.pass_state.tag) fronts below in
+    subst (AllPairs (λ one other. one ≢ other)) (sym (ap (map {A = FrontState × A} {B = ℕ} (λ f. f.0.pass_state.tag)) split ∙ map-append (λ f. f.0.pass_state.tag) fronts (front ∷ [])))
+    (all_pairs_push (λ one other. one ≢ other) (map (λ f. f.0.pass_state.tag) fronts) front.0.pass_state.tag apart (λ k d lt. differs _ least _ (lower k d lt) above))
 
-pub below_more : {A : Type 0} (fronts all : List (Desk × A)) (front : Desk × A) (least more : ℕ) → all ≡ fronts ++ front ∷ [] → All (λ f. f.0.stand.tag < least) fronts → least ≤ front.0.stand.tag → front.0.stand.tag < more → All (λ f. f.0.stand.tag < more) all
+pub below_more : {A : Type 0} (fronts all : List (FrontState × A)) (front : FrontState × A) (least more : ℕ) → all ≡ fronts ++ front ∷ [] → All (λ f. f.0.pass_state.tag < least) fronts
+    → least ≤ front.0.pass_state.tag → front.0.pass_state.tag < more → All (λ f. f.0.pass_state.tag < more) all
 below_more {A} fronts all front least more split below above under =
-    subst (All (λ f. f.0.stand.tag < more)) (sym split)
-    (All-push (λ f. f.0.stand.tag < more) fronts front (All-weaker (λ f. f.0.stand.tag < least) (λ f. f.0.stand.tag < more) (λ f one. omega (arith, one, above, under)) fronts below) under)
+    subst (All (λ f. f.0.pass_state.tag < more)) (sym split)
+    (All-push (λ f. f.0.pass_state.tag < more) fronts front (All-weaker (λ f. f.0.pass_state.tag < least) (λ f. f.0.pass_state.tag < more) (λ f one. omega (arith, one, above, under)) fronts below)
+    under)

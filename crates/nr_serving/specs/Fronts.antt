@@ -1,49 +1,51 @@
 -- What becomes of a front that is served.
 use Rattle.std.specs.Prelude.{◌≡◌, Bool, ◌||◌, List, [], ◌∷◌, ◌++◌, None, Result, is_err}
 use Rattle.std.specs.List.{list_any}
-use Rattle.nr_front.specs.Desk.{Desk, pass_of}
+use Rattle.nr_front.specs.FrontState.{FrontState, pass_of}
 use Rattle.nr_lines.specs.Engine as engine
 use Rattle.nr_lines.specs.declared.ending.End.{End}
 use Rattle.nr_lines.specs.declared.ending.LineEnd.{LineEnd}
 use Rattle.nr_serving.specs.declared.fronts.Done.{Done}
 
--- A front that stood as d served a caller and stands as d' then: it answered some lines, as this ending says. Of a
--- connection no bytes are known, and so neither are the lines.
-abbrev pub Serves : Result End LineEnd → Desk → Desk → Type 0
-Serves ending d d' = engine.Serves None None None None d d' ending
+-- A front that was d served a caller and is d' then: it answered some lines, as this ending says.
+-- Of a connection no bytes are known, and so neither are the lines.
+abbrev pub ServesCaller : Result End LineEnd → FrontState → FrontState → Type 0
+ServesCaller ending d d' = engine.AnswersLines None None None None d d' ending
 
--- Callers are served one after the other: with each the front goes on where it stood, and this is how serving each of
--- them ended.
-abbrev pub Serving : List (Result End LineEnd) → Desk → Desk → Type 0
-Serving [] d d' = d' ≡ d
-Serving (ending ∷ endings) d d' = (mid : Desk) × Serves ending d mid × Serving endings mid d'
+-- Callers are served one after the other: with each the front goes on where it was, and this is how
+-- serving each of them ended.
+abbrev pub ServesCallers : List (Result End LineEnd) → FrontState → FrontState → Type 0
+ServesCallers [] d d' = d' ≡ d
+ServesCallers (ending ∷ endings) d d' =
+    (mid : FrontState) × ServesCaller ending d mid × ServesCallers endings mid d'
 
--- The course of a front: how serving each of its callers ended, whether it had no more of them before its time, and
--- where the front stood in the end.
+-- The course of a front: how serving each of its callers ended, whether it had no more of them
+-- before its time, and what the front was in the end.
 pub record Course : Type 0 where
   pub endings : List (Result End LineEnd)
   pub cut_off : Bool
-  pub last : Desk
+  pub last : FrontState
 
 -- its callers couldn't be had any more, or a connection failed
 abbrev pub has_failed : Course → Bool
 has_failed course = course.cut_off || list_any is_err course.endings
 
--- A front that stood there was served, and this is what came back: a failure is told just where there was one.
-pub record IsServed (start : Desk) (done : Done) : Type 0 where
+-- This front was served, and this is what came back: a failure is reported exactly where there was
+-- one.
+pub record IsServed (start : FrontState) (done : Done) : Type 0 where
   pub course : Course
-  pub serving : Serving course.endings start course.last
+  pub serving : ServesCallers course.endings start course.last
   pub failed : done.failed ≡ has_failed course
   pub pass : done.pass ≡ pass_of course.last
   pub same : course.last.table ≡ start.table
 
--- Fronts that stood there were served, and this came back of each.
-abbrev pub AreServed : List Desk → List Done → Type 0
+-- These fronts were served, and this came back of each.
+abbrev pub AreServed : List FrontState → List Done → Type 0
 AreServed [] [] = Unit {0}
 AreServed (start ∷ starts) (done ∷ dones) = IsServed start done × AreServed starts dones
 AreServed [] (done ∷ dones) = ⊥
 AreServed (start ∷ starts) [] = ⊥
 
--- What came back of them stands behind what was there.
-abbrev pub Adds : List Desk → List Done → List Done → Type 0
+-- What came back of them follows what was there.
+abbrev pub Adds : List FrontState → List Done → List Done → Type 0
 Adds starts old new = (more : List Done) × (new ≡ old ++ more) × AreServed starts more

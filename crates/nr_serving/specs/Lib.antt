@@ -1,2 +1,3 @@
+-- what callers need
 pub mod Fronts
 pub mod Session

@@ -5,72 +5,76 @@ use Rattle.std.specs.Global.{Vec}
 use Rattle.std.specs.declared.alloc.AllocError.{AllocError}
 use Rattle.atomic_table.specs.Seated.{TableId}
 use Rattle.nr_rev.specs.Run.{Recording}
-use Rattle.nr_journal.specs.Pass.{CatchesUp, Gains}
-use Rattle.nr_journal.specs.Rule.{Covers, entering, room_of}
-use Rattle.nr_journal.specs.declared.view.Stand.{Stand}
-use Rattle.nr_front.specs.Desk.{Desk, opened}
+use Rattle.nr_journal.specs.Pass.{CatchesUp, SeesOthers}
+use Rattle.nr_journal.specs.Rule.{Covers, entering, journal_room}
+use Rattle.nr_journal.specs.declared.view.PassState.{PassState}
+use Rattle.nr_front.specs.FrontState.{FrontState, opened_front}
 use Rattle.nr_front.specs.Replica.{at_start}
-use Rattle.nr_serving.specs.Fronts.{Course, Serving, has_failed}
+use Rattle.nr_serving.specs.Fronts.{Course, ServesCallers, has_failed}
 use Rattle.nr_serving.specs.declared.fronts.Done.{Done}
 
 -- A front of this journal and recording that has seen no word. Its walker hasn't walked, and keeps
 -- so many deltas at most; and so many workers search.
-abbrev pub IsFresh : TableId → Recording → ℕ → ℕ → Desk → Type 0
-IsFresh table r depth workers desk =
+abbrev pub IsFresh : TableId → Recording → ℕ → ℕ → FrontState → Type 0
+IsFresh table r depth workers front_state =
     (tag : ℕ) × (every : ℕ)
-    × (desk ≡ opened (record { table = table; stand = entering tag }) r workers (at_start every depth))
+    × (front_state ≡ opened_front (record { table = table; pass_state = entering tag }) r workers
+    (at_start every depth))
 
 -- one of them failed
 abbrev pub any_failed : List Done → Bool
 any_failed done = list_any (λ d. d.failed) done
 
--- the words, unless memory was refused for them
+-- the words, unless memory ran out for them
 abbrev pub words_of : Result (Vec ℕ) AllocError → Option (List ℕ)
 words_of (Ok words) = Some words.items
 words_of (Err fault) = None
 
 -- The history begins with what this pass has seen, and all words of the pass's own are among it.
-abbrev pub HasOwn : List ℕ → Stand → Type 0
-HasOwn history stand = Covers history stand.tag stand.seen
+abbrev pub HasOwn : List ℕ → PassState → Type 0
+HasOwn history pass_state = Covers history pass_state.tag pass_state.seen
 
--- The pass saw words of others, until one look more found no word, or all were seen that there is room for. What it had
--- seen then is the history.
-pub record IsSeenBy (room : ℕ) (history : List ℕ) (stand : Stand) : Type 0 where
-  pub before : Stand
-  pub after : Stand
-  pub others : Covers before.seen stand.tag stand.seen
-  pub tag : before.tag ≡ stand.tag
-  pub gains : Gains before after
+-- The pass saw words of others, until one look more found no word, or all were seen that there is
+-- room for. What it had seen then is the history.
+pub record IsSeenBy (room : ℕ) (history : List ℕ) (pass_state : PassState) : Type 0 where
+  pub before : PassState
+  pub after : PassState
+  pub others : Covers before.seen pass_state.tag pass_state.seen
+  pub tag : before.tag ≡ pass_state.tag
+  pub sees_others : SeesOthers before after
   pub caught_up : CatchesUp room before after
   pub is : history ≡ after.seen
 
--- The history of the passes that stood so in the end: each has all of its own words in it, and one of them saw it to its
--- end. Where there was no pass it is empty.
-pub record IsHistory (room : ℕ) (stands : List Stand) (history : List ℕ) : Type 0 where
-  pub own : All (HasOwn history) stands
-  pub whole : ((stand : Stand) × Contains stands stand × IsSeenBy room history stand)
-      ⊎ ((stands ≡ []) × (history ≡ []))
+-- The history of the passes that knew this in the end: each has all of its own words in it, and one
+-- of them saw it to its end. Where there was no pass it is empty.
+pub record IsHistory (room : ℕ) (pass_states : List PassState) (history : List ℕ) : Type 0 where
+  pub own : All (HasOwn history) pass_states
+  pub whole : ((pass_state : PassState) × Contains pass_states pass_state
+      × IsSeenBy room history pass_state)
+      ⊎ ((pass_states ≡ []) × (history ≡ []))
 
 -- The course began with a fresh front.
-pub record BeginsFresh (table : TableId) (r : Recording) (depth workers : ℕ) (course : Course) : Type 0 where
-  pub start : Desk
+pub record BeginsFresh (table : TableId) (r : Recording) (depth workers : ℕ) (course : Course) :
+    Type 0 where
+  pub start : FrontState
   pub fresh : IsFresh table r depth workers start
-  pub serving : Serving course.endings start course.last
+  pub serving : ServesCallers course.endings start course.last
 
 -- what the front's pass knew in the end
-abbrev pub last_stand : Course → Stand
-last_stand course = course.last.stand
+abbrev pub last_pass_state : Course → PassState
+last_pass_state course = course.last.pass_state
 
 -- So many fronts shared the session, each with a walker of this depth and so many workers, and no
--- two with one tag.
--- What was placed is the history, unless memory was refused for it, and a failure is told just where
--- one of the fronts failed.
-pub record IsShared (r : Recording) (room fronts depth workers : ℕ) (history : Option (List ℕ)) (failed : Bool) : Type 0 where
+-- two with one tag. What was placed is the history, unless memory ran out for it, and a failure is
+-- reported exactly where one of the fronts failed.
+pub record IsShared (r : Recording) (room fronts depth workers : ℕ) (history : Option (List ℕ))
+    (failed : Bool) : Type 0 where
   pub table : TableId
-  pub room_is : room_of table ≡ room
+  pub room_is : journal_room table ≡ room
   pub courses : List Course
   pub counted : length courses ≡ fronts
   pub served : All (BeginsFresh table r depth workers) courses
-  pub apart : AllPairs (λ one other. one ≢ other) (map (λ course. course.last.stand.tag) courses)
-  pub one_history : IfSome history (IsHistory room (map last_stand courses))
-  pub told : failed ≡ list_any has_failed courses
+  pub apart : AllPairs (λ one other. one ≢ other)
+      (map (λ course. course.last.pass_state.tag) courses)
+  pub one_history : IfSome history (IsHistory room (map last_pass_state courses))
+  pub reported : failed ≡ list_any has_failed courses

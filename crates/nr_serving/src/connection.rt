@@ -7,10 +7,10 @@ ghost use Rattle.nr_serving.specs.declared.connection.TheConstants.{AT_ONCE, MOS
 use std::io;
 use std::io::{Read, Write};
 
-/// How many bytes are read away at once.
+/// How many bytes `read_away` reads at once.
 const AT_ONCE: usize = 512;
 
-/// How often is read at most for that.
+/// How often it reads at most.
 const MOST_READS: usize = 64;
 
 /// A caller, who is read and written through a shared reference.
@@ -48,11 +48,11 @@ pub trait Connections {
     fn next(&mut self) -> Next<Self::Connection>;
 }
 
-/// A connection as a reader. Nothing is known of what it gives.
+/// A connection as a reader. Nothing is known of what it returns.
 #[derive(Drop)]
-pub struct Reader<'a, C: Connection>(pub &'a C);
+pub struct ConnectionReader<'a, C: Connection>(pub &'a C);
 
-impl<C: Connection> Read for Reader<'_, C> {
+impl<C: Connection> Read for ConnectionReader<'_, C> {
     ghost remaining = { λ _. None };
 
     fn read(&mut self, buf: &mut [u8]) -> io::Result<usize> {
@@ -62,9 +62,9 @@ impl<C: Connection> Read for Reader<'_, C> {
 
 /// A connection as a writer. Nothing is known of what it took.
 #[derive(Drop)]
-pub struct Writer<'a, C: Connection>(pub &'a C);
+pub struct ConnectionWriter<'a, C: Connection>(pub &'a C);
 
-impl<C: Connection> Write for Writer<'_, C> {
+impl<C: Connection> Write for ConnectionWriter<'_, C> {
     ghost contents = { λ _. None };
 
     fn write(&mut self, buf: &[u8]) -> io::Result<usize> {
@@ -84,7 +84,7 @@ pub trait Ports {
     fn open(&mut self, front: usize) -> Self::Callers;
 }
 
-/// Reads on, and lets go what comes, until no more does or a read fails, but no more than 64 times 512 bytes.
+/// Reads on, and drops what comes, until no more does or a read fails, but no more than 64 times 512 bytes.
 pub fn read_away<R: Read>(reader: &mut R)
     ensures { (bytes : List ℕ) × Consumes (R.remaining reader.old) (R.remaining reader.new) bytes
         × (length bytes ≤ MOST_READS * AT_ONCE) }

@@ -3,10 +3,12 @@
 ghost use Rattle.std.specs.Prelude.{◌≡◌, ◌+◌, ◌≤◌, ◌∷◌, ◌++◌, [], map, vec_len, vec_capacity, IfSome, IfNone};
 ghost use Rattle.std.specs.List.{All};
 ghost use Rattle.nr_lines.specs.Engine as engine;
-ghost use Rattle.nr_serving.specs.Fronts.{Adds, IsServed, Serves};
+ghost use Rattle.nr_serving.specs.Fronts.{Adds, IsServed, ServesCaller};
 ghost use denote.Param.Send.{IsSend, IsSync};
 
-use crate::connection::{Connection, Connections, Next, Reader, Writer, read_away};
+use crate::connection::{
+    Connection, ConnectionReader, ConnectionWriter, Connections, Next, read_away,
+};
 use nr_front::Front;
 use nr_journal::{Journal, Pass};
 use nr_lines::{End, LineEnd, serve};
@@ -52,7 +54,7 @@ where
     F: Finder,
     requires { front.old.table ≡ journal.now }
     ensures table { front.new.table ≡ front.old.table }
-    ensures serves { engine.Serves (I.remaining reader) (I.remaining result.reader)
+    ensures serves { engine.AnswersLines (I.remaining reader) (I.remaining result.reader)
         (O.contents writer) (O.contents result.writer)
         front.old front.new result.ending }
 {
@@ -66,7 +68,7 @@ where
     }
 }
 
-// Serves a caller. What it sends behind `quit` is read away, since closing a connection with unread bytes may lose the
+// Serves a caller. `read_away` drops what it sends after `quit`: closing a connection with unread bytes may lose the
 // last reply on its way.
 fn serve_caller<R, W, F, C>(
     rt: &R,
@@ -82,16 +84,22 @@ where
     C: Connection,
     requires { front.old.table ≡ journal.now }
     ensures table { front.new.table ≡ front.old.table }
-    ensures serves { Serves result front.old front.new }
+    ensures serves { ServesCaller result front.old front.new }
 {
-    let mut served = converse(rt, Reader(connection), Writer(connection), front, journal);
+    let mut served = converse(
+        rt,
+        ConnectionReader(connection),
+        ConnectionWriter(connection),
+        front,
+        journal,
+    );
     if matches!(served.ending, Ok(End::Quit)) && connection.end_replies().is_ok() {
         read_away(&mut served.reader);
     }
     served.ending
 }
 
-// Serves a front's callers one after the other, and gives its pass back.
+// Serves a front's callers one after the other, and returns its pass.
 fn serve_one<R, W, F, C>(
     rt: &R,
     journal: &Journal,
@@ -131,8 +139,8 @@ where
     unreachable!()
 }
 
-/// Serves each front in a thread of its own, and where none can be started in this one, once all others are started. What
-/// comes of them stands behind what is there, in their order.
+/// Serves each front in a thread of its own. Where none can be started, this thread serves the front, once all others are
+/// started. What comes of them follows what is there, in their order.
 pub fn serve_each<R, W, F, C>(
     rt: &R,
     journal: &Journal,

@@ -5,6 +5,8 @@ mod connection;
 mod fronts;
 mod session;
 
-pub use connection::{Connection, Connections, Next, Ports, Reader, Writer, read_away};
+pub use connection::{
+    Connection, ConnectionReader, ConnectionWriter, Connections, Next, Ports, read_away,
+};
 pub use fronts::{Done, Served, converse, serve_each};
 pub use session::{Ended, Shape, Unshared, share};

@@ -5,7 +5,7 @@ ghost use Rattle.std.specs.List.{All, AllPairs};
 ghost use Rattle.nr_walker.specs.declared.walker.TheConstants.{LEAST_DEPTH, MOST_DEPTH};
 ghost use Rattle.nr_journal.specs.declared.rule.TheConstants.{MOST_WORDS};
 ghost use Rattle.nr_serving.specs.declared.session.Unshared.TheVariants as unshared;
-ghost use Rattle.nr_journal.specs.Rule.{entering, room_of};
+ghost use Rattle.nr_journal.specs.Rule.{entering, journal_room};
 ghost use Rattle.nr_serving.specs.Session.{HasOwn, IsFresh, IsHistory, IsSeenBy, IsShared, any_failed, words_of};
 
 use crate::connection::{Connections, Ports};
@@ -19,10 +19,10 @@ use std::alloc::{AllocError, Global};
 use std::sync::Wait;
 use std::thread::Threads;
 
-/// What a session leaves that is over.
+/// What a session leaves in the end.
 #[derive(Drop)]
 pub struct Ended {
-    /// The words of the commands that were placed, in their order, unless memory was refused for them.
+    /// The words of the commands that were placed, in their order, unless memory ran out for them.
     pub history: Result<Vec<u64>, AllocError>,
     /// A front had no callers any more before its time, or a read or a write failed.
     pub failed: bool,
@@ -60,8 +60,8 @@ impl From<AllocError> for Unshared {
 fn enter(journal: &Journal, seat: &mut Seat, least: &mut u8) -> Result<Pass, Unshared>
     requires { seat.old.table ≡ journal.now }
     ensures table { seat.new.table ≡ journal.now }
-    ensures entered { IfOk result (λ pass. (pass.table ≡ journal.now) × (pass.stand ≡ entering pass.stand.tag)) }
-    ensures rises { IfOk result (λ pass. (least.old ≤ pass.stand.tag) × (pass.stand.tag < least.new)) }
+    ensures entered { IfOk result (λ pass. (pass.table ≡ journal.now) × (pass.pass_state ≡ entering pass.pass_state.tag)) }
+    ensures rises { IfOk result (λ pass. (least.old ≤ pass.pass_state.tag) × (pass.pass_state.tag < least.new)) }
 {
     let Ok(pass) = journal.enter(journal.split(seat)) else {
         return Err(Unshared::NoTag);
@@ -91,7 +91,7 @@ where
     requires depth { (LEAST_DEPTH ≤ depth) × (depth ≤ MOST_DEPTH) }
     ensures table { seat.new.table ≡ journal.now }
     ensures fresh { IfOk result (IsFresh journal.now film.now.recording depth (F.count finder)) }
-    ensures rises { IfOk result (λ front. (least.old ≤ front.stand.tag) × (front.stand.tag < least.new)) }
+    ensures rises { IfOk result (λ front. (least.old ≤ front.pass_state.tag) × (front.pass_state.tag < least.new)) }
 {
     let pass = enter(journal, seat, least)?;
     match Front::new(alloc, pass, film, finder, depth) {
@@ -119,7 +119,7 @@ where
         fronts.items) }
     ensures count { IfOk result (λ fronts. vec_len fronts ≡ shape.fronts) }
     ensures apart { IfOk result (λ fronts.
-        AllPairs (λ one other. one ≢ other) (map (λ f. f.0.stand.tag) fronts.items)) }
+        AllPairs (λ one other. one ≢ other) (map (λ f. f.0.pass_state.tag) fronts.items)) }
 {
     let mut fronts = Vec::with_capacity(alloc, shape.fronts)?;
     let mut least = 0;
@@ -138,11 +138,11 @@ where
     Ok(fronts)
 }
 
-// Gives the history of the fronts that ended, and whether one failed.
+// Returns the history of the fronts that ended, and whether one failed.
 fn finish(alloc: Global, journal: &Journal, mut done: Vec<Done>) -> Ended
     requires { All (λ d. d.pass.table ≡ journal.now) done.items }
     ensures history { IfSome (words_of result.history)
-        (IsHistory (room_of journal.now) (map (λ d. d.pass.stand) done.items)) }
+        (IsHistory (journal_room journal.now) (map (λ d. d.pass.pass_state) done.items)) }
     ensures failed { result.failed ≡ any_failed done.items }
 {
     let failed = done.as_slice().iter().any(|one| one.failed);
@@ -153,8 +153,8 @@ fn finish(alloc: Global, journal: &Journal, mut done: Vec<Done>) -> Ended
     Ended { history, failed }
 }
 
-// Lets a pass see all that those of the others had seen, and then on until there is nothing; gives what it has seen then;
-// and lets each of the others see that too, which shows that no word among it that it hadn't seen is its own.
+// Lets a pass see all that those of the others had seen, and then on until there is nothing. Returns what it has seen then.
+// Lets each of the others see that too, which proves that no word among it that is new to the other is the other's own.
 fn collect(
     alloc: Global,
     journal: &Journal,
@@ -164,9 +164,9 @@ fn collect(
     requires last { last.old.table ≡ journal.now }
     requires done { All (λ d. d.pass.table ≡ journal.now) done.items }
     ensures table { last.new.table ≡ last.old.table }
-    ensures seen { IfOk result (λ words. words.items ≡ last.new.stand.seen) }
-    ensures last { IfOk result (λ words. IsSeenBy (room_of journal.now) words.items last.old.stand) }
-    ensures others { IfOk result (λ words. All (λ d. HasOwn words.items d.pass.stand) done.items) }
+    ensures seen { IfOk result (λ words. words.items ≡ last.new.pass_state.seen) }
+    ensures last { IfOk result (λ words. IsSeenBy (journal_room journal.now) words.items last.old.pass_state) }
+    ensures others { IfOk result (λ words. All (λ d. HasOwn words.items d.pass.pass_state) done.items) }
 {
     let Some(mut other) = take_done(journal, &mut done) else {
         return journal.finish(alloc, last);
@@ -189,12 +189,12 @@ fn take_done(journal: &Journal, done: &mut Vec<Done>) -> Option<Done>
     done.pop()
 }
 
-/// Opens the fronts, each with a debugger of its own over the film, serves each in a thread of its own until its callers
-/// end, and gives the history that they placed.
+/// Opens the fronts, each with a debugger of its own over the film. Serves each in a thread of its own until its callers
+/// end, and returns the history that they placed.
 ///
 /// An error comes before any caller is served. `NoTag` means that the journal had no tag left for a front: it has
-/// `MOST_PASSES`. The contract doesn't say when an error comes. Memory that is refused for the history behind the last
-/// caller is told in its place.
+/// `MOST_PASSES`. The contract doesn't say when an error comes. Where the history runs out of memory, after the last
+/// caller, `Ended` says so in its place.
 pub fn share<W, F, R, P>(
     rt: &R,
     alloc: Global,

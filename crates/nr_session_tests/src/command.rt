@@ -4,6 +4,7 @@ use arrayvec::ArrayVec;
 use nr_command::{
     Checkpoint, CheckpointFault, Checkpoints, Command, Line, LineFault, Query, Reply,
 };
+use nr_journal::GREATEST_OPCODE;
 use nr_marks::{Break, Mark, NumberedMark};
 use nr_replay_tests::Counted;
 use nr_rev::{Bytes, Cell, Kind, Side};
@@ -49,12 +50,12 @@ fn words_hold_opcode_tag_and_argument(rt: HostRuntime) -> Result<(), Fail> {
 
 #[test]
 fn other_numbers_are_no_words(rt: HostRuntime) -> Result<(), Fail> {
-    // a continue with an argument, opcodes 0 and 12, no steps, 2^32 steps, a break before step 0, a kind 31, and the
-    // clock of something
+    // a continue with an argument, opcode 0 and one above the greatest, no steps, 2^32 steps, a break before step 0, a
+    // kind 31, and the clock of something
     let others = [
         327_683,
         0,
-        12,
+        GREATEST_OPCODE + 1,
         1,
         281_474_976_710_657,
         65_542,
@@ -145,8 +146,8 @@ fn lists_are_printed_line_by_line(rt: HostRuntime) -> Result<(), Fail> {
             direction: Direction::Backward,
         }),
     ];
-    for told in printed {
-        assert_eq!(rt; told, Ok(()));
+    for reported in printed {
+        assert_eq!(rt; reported, Ok(()));
     }
     let text =
         b"marks 3\n1 break rwlock\n2 break @7\n3 watch rg 0\nat 5 by 1 3\nat 5 of 12 reverse\n";

@@ -37,7 +37,7 @@ enum User {
 enum Answered {
     At(usize),
     AtStart,
-    Stands { position: usize, last: usize },
+    Position { position: usize, last: usize },
     NothingOwed,
     Full,
     /// None of these.
@@ -49,7 +49,7 @@ impl Answered {
         match reply {
             Ok(Reply::At(position)) => Answered::At(position),
             Ok(Reply::AtStart) => Answered::AtStart,
-            Ok(Reply::Position { position, last, .. }) => Answered::Stands { position, last },
+            Ok(Reply::Position { position, last, .. }) => Answered::Position { position, last },
             Err(FrontFault::Full) => Answered::Full,
             _ => Answered::Otherwise,
         }
@@ -98,7 +98,7 @@ fn ask_all<R: Threads + Sync>(
     Ok(answers)
 }
 
-/// What two passes and one that has seen nothing tell of a journal.
+/// What two passes and one that has seen nothing know of a journal.
 #[derive(Drop)]
 struct Ended {
     /// How many words the two have seen.
@@ -165,9 +165,9 @@ fn one_back() -> Call {
     Call::Run(Command::ReverseStep(NonZeroU32::MIN))
 }
 
-/// It stands there, in a recording of nine steps.
-fn stands_at(position: usize) -> Answered {
-    Answered::Stands { position, last: 9 }
+/// It is there, in a recording of nine steps.
+fn is_at(position: usize) -> Answered {
+    Answered::Position { position, last: 9 }
 }
 
 #[test]
@@ -183,8 +183,8 @@ fn a_command_counts_at_its_place(rt: HostRuntime) -> Result<(), Fail> {
     let wanted = [
         Answered::At(3),
         Answered::At(2),
-        stands_at(2),
-        stands_at(2),
+        is_at(2),
+        is_at(2),
         Answered::NothingOwed,
     ];
     assert_eq!(rt; answers.as_slice(), wanted.as_slice());
@@ -202,7 +202,7 @@ fn the_other_order_has_other_replies(rt: HostRuntime) -> Result<(), Fail> {
         (User::Other, Call::Look),
     ];
     let (answers, ended) = play(&rt, rt.alloc(), 4, calls.as_slice()).ok_or("not played")?;
-    let wanted = [Answered::AtStart, Answered::At(3), stands_at(3)];
+    let wanted = [Answered::AtStart, Answered::At(3), is_at(3)];
     assert_eq!(rt; answers.as_slice(), wanted.as_slice());
     assert_eq!(rt; ended.seen, (2, 2));
     assert_eq!(rt; ended.words.as_slice(), [65794, 196609].as_slice());
@@ -218,12 +218,7 @@ fn a_full_journal_takes_no_command(rt: HostRuntime) -> Result<(), Fail> {
         (User::One, one_back()),
     ];
     let (answers, ended) = play(&rt, rt.alloc(), 1, calls.as_slice()).ok_or("not played")?;
-    let wanted = [
-        Answered::At(3),
-        Answered::Full,
-        stands_at(3),
-        Answered::Full,
-    ];
+    let wanted = [Answered::At(3), Answered::Full, is_at(3), Answered::Full];
     assert_eq!(rt; answers.as_slice(), wanted.as_slice());
     assert_eq!(rt; ended.seen, (1, 1));
     Ok(())
@@ -244,7 +239,7 @@ fn wait_for_both<R: Threads + Sync>(journal: &Journal, front: &mut Ticking<'_, R
     requires { front.old.table ≡ journal.now }
     ensures { front.new.table ≡ journal.now }
 {
-    let done = Answered::Stands {
+    let done = Answered::Position {
         position: 200,
         last: 300,
     };

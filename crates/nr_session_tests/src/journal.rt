@@ -10,7 +10,7 @@ use std::thread::{Threads, for_each_mut, join};
 
 /// A word with opcode 3 and the pass's tag.
 fn word_of(pass: &Pass, argument: u32) -> u64
-    ensures { HasOpcode result × (tag_of result ≡ pass.now.stand.tag) }
+    ensures { HasOpcode result × (tag_of result ≡ pass.now.pass_state.tag) }
 {
     3 + 256 * u64::from(pass.tag()) + 65_536 * u64::from(argument)
 }
@@ -81,19 +81,19 @@ fn two_threads_place_a_hundred_words_each(rt: HostRuntime) -> Result<(), Fail> {
 
 /// A pass with its journal.
 #[derive(Drop)]
-struct Desk<'a> {
+struct Participant<'a> {
     journal: &'a Journal,
     pass: Pass,
     has_placed: bool,
     ghost belongs: { pass.table ≡ journal.now },
 }
 
-impl<'a> Desk<'a> {
-    fn enter(journal: &'a Journal, seat: Seat) -> Option<Desk<'a>>
+impl<'a> Participant<'a> {
+    fn enter(journal: &'a Journal, seat: Seat) -> Option<Participant<'a>>
         requires { seat.table ≡ journal.now }
     {
         match journal.enter(seat) {
-            Ok(pass) => Some(Desk {
+            Ok(pass) => Some(Participant {
                 journal,
                 pass,
                 has_placed: false,
@@ -108,32 +108,37 @@ impl<'a> Desk<'a> {
 }
 
 /// Each places a word, in a thread of its own where there is one.
-fn place_each<R: Threads + Sync>(rt: &R, desks: &mut [Desk<'_>]) {
-    for_each_mut(rt, desks, 8, &|_, desk: &mut Desk<'_>| desk.place());
+fn place_each<R: Threads + Sync>(rt: &R, participants: &mut [Participant<'_>]) {
+    for_each_mut(
+        rt,
+        participants,
+        8,
+        &|_, participant: &mut Participant<'_>| participant.place(),
+    );
 }
 
 #[test]
 fn one_of_eight_finds_seven_words_and_no_room(rt: HostRuntime) -> Result<(), Fail> {
     let (journal, mut seat) = Journal::new(rt.alloc(), 7)?;
-    let mut desks = Vec::new(rt.alloc());
+    let mut participants = Vec::new(rt.alloc());
     for _ in 0..8 {
         let next = journal.split(&mut seat);
-        if let Some(desk) = Desk::enter(&journal, next) {
-            desks.push(desk)?;
+        if let Some(participant) = Participant::enter(&journal, next) {
+            participants.push(participant)?;
         }
     }
-    assert_eq!(rt; desks.len(), 8);
-    place_each(&rt, desks.as_mut_slice());
+    assert_eq!(rt; participants.len(), 8);
+    place_each(&rt, participants.as_mut_slice());
     let mut without = 0u32;
-    for (tag, desk) in desks.iter().enumerate() {
-        assert_eq!(rt; usize::from(desk.pass.tag()), tag);
-        if !desk.has_placed {
+    for (tag, participant) in participants.iter().enumerate() {
+        assert_eq!(rt; usize::from(participant.pass.tag()), tag);
+        if !participant.has_placed {
             without = without.wrapping_add(1);
-            assert_eq!(rt; desk.pass.seen(), 7);
+            assert_eq!(rt; participant.pass.seen(), 7);
         }
     }
     assert_eq!(rt; without, 1);
-    drop(desks);
+    drop(participants);
     let Ok(mut late) = journal.enter(seat) else {
         panic!(rt; "no tag")
     };

@@ -22,7 +22,7 @@ struct Script {
     left: usize,
     /// So many bytes of the replies can be written; then writes fail.
     room: usize,
-    /// Of the copies of the film's world that it wants those are refused whose bits are set, from the lowest on.
+    /// Of the copies of the film's world that it asks for those are refused whose bits are set, from the lowest on.
     refused: u32,
 }
 
@@ -173,7 +173,7 @@ fn anothers_command_comes_first(rt: HostRuntime) -> Result<(), Fail> {
 }
 
 #[test]
-fn a_full_journal_is_told(rt: HostRuntime) -> Result<(), Fail> {
+fn a_full_journal_is_reported(rt: HostRuntime) -> Result<(), Fail> {
     let second = undisturbed("rsi\nprint clock\nq\nsi");
     let text = "fault 303 journal full\nclock = 3\nbye\n";
     let (one, other, seen) = play(

@@ -151,7 +151,7 @@ fn any_number_of_workers_finds_the_same(rt: HostRuntime) -> Result<(), Fail> {
     Ok(())
 }
 
-/// Workers who are told, as each search begins, of claims that nobody made and of a hit that there need not be.
+/// Workers who begin each search with claims that nobody made and a hit that there need not be.
 #[derive(Drop)]
 struct Misled<R: Threads + Sync> {
     many: ManyWorkers<R, Open>,
@@ -171,7 +171,7 @@ impl<R: Threads + Sync> Finder for Misled<R> {
     }
 
     fn claims(&self) -> Claims {
-        Claims::told(self.claimed, self.hint)
+        Claims::preset(self.claimed, self.hint)
     }
 }
 

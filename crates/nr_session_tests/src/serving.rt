@@ -81,7 +81,7 @@ struct Wires<'a> {
     given: &'a AtomicBool,
     more: &'a AtomicBool,
     answered: &'a AtomicBool,
-    told: &'a AtomicBool,
+    reported: &'a AtomicBool,
     first_waits: bool,
 }
 
@@ -94,7 +94,7 @@ impl<'a> Ports for Wires<'a> {
                 line: b"stepi 3\n".as_slice(),
                 given: self.given,
                 waits: if self.first_waits {
-                    Some(self.told)
+                    Some(self.reported)
                 } else {
                     None
                 },
@@ -109,7 +109,7 @@ impl<'a> Ports for Wires<'a> {
                 } else {
                     Some(self.answered)
                 },
-                written: self.told,
+                written: self.reported,
             }
         };
         Caller { wire: Some(wire) }
@@ -138,12 +138,12 @@ fn share_between<R: Threads + Wait + Sync>(
     first_waits: bool,
 ) -> Option<Ended> {
     let (given, answered) = (AtomicBool::new(false), AtomicBool::new(false));
-    let (more, told) = (AtomicBool::new(false), AtomicBool::new(false));
+    let (more, reported) = (AtomicBool::new(false), AtomicBool::new(false));
     let mut wires = Wires {
         given: &given,
         more: &more,
         answered: &answered,
-        told: &told,
+        reported: &reported,
         first_waits,
     };
     share_over(rt, alloc, &mut wires)

@@ -21,7 +21,7 @@ fn front<'f, W: Worlds + Drop + Sync, R: Threads + Sync>(
 ) -> Result<Lone<'f, W, R>, &'static str>
 where
     W::Delta: Drop,
-    requires { pass.stand.seen ≡ [] }
+    requires { pass.pass_state.seen ≡ [] }
     ensures { IfOk result (λ front. front.table ≡ pass.table) }
 {
     match Front::new(alloc, pass, film, OneWorker::new(), 64) {

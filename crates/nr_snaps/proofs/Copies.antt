@@ -3,10 +3,11 @@ use Rattle.std.proofs.Common.{◌≡◌, ℕ, ◌/◌, ◌<◌, ◌≤◌, List,
 use Rattle.std.proofs.Math.Nat.{div-mul-le_self}
 use Rattle.std.proofs.lemmas.Nat.{le-div}
 use Rattle.std.specs.List.{slice_get}
-use Rattle.nr_rev.proofs.Lists.{slice_get-push_cases}
+use Rattle.nr_rev.proofs.ListUpdateLemmas.{slice_get-push_cases}
 
 -- what holds of each item, and of one more
-pub each-push : {X : Type 0} (P : ℕ → X → Type 0) (xs : List X) (x : X) → ((i : ℕ) (item : X) → slice_get xs i ≡ Some item → P i item) → P (length xs) x → (i : ℕ) (item : X) → slice_get (xs ++ x ∷ []) i ≡ Some item → P i item
+pub each-push : {X : Type 0} (P : ℕ → X → Type 0) (xs : List X) (x : X) → ((i : ℕ) (item : X) → slice_get xs i ≡ Some item → P i item) → P (length xs) x → (i : ℕ) (item : X)
+    → slice_get (xs ++ x ∷ []) i ≡ Some item → P i item
 each-push P xs x each last i item read =
     elim (slice_get-push_cases xs x item i read) [
       | inl old ↦ each i item old

@@ -1,16 +1,17 @@
 -- A replay has one state at each position, and its steps apply.
 use Rattle.std.proofs.Common.{◌≡◌, ℕ, zero, suc, ◌+◌, Ok, Some, refl, sym, ap, ◌∙◌, subst, arith, add-one}
 use Rattle.std.specs.Prelude.{IsOk}
-use Rattle.nr_rev.specs.Run.{Recording, world_at, AppliesAt, Stands}
+use Rattle.nr_rev.specs.Run.{Recording, world_at, AppliesAt, IsWorldAt}
 use Rattle.nr_rev.specs.Step.{outcome}
 use Rattle.nr_rev.specs.World.{World}
 use Rattle.nr_rev.specs.declared.answer.Answer.{Answer}
 use Rattle.nr_rev.specs.declared.step.Step.{Step}
-use Rattle.nr_rev.proofs.Runs.{IsGoodTo, IsGoodTo-next, Stands-next}
+use Rattle.nr_rev.proofs.RunLemmas.{IsGoodTo, IsGoodTo-next, IsWorldAt-next}
 use Rattle.nr_snaps.specs.Replay.{LeadsOn, Replays}
 use Rattle.nr_snaps.specs.Film.{Reel, IsFrame}
 
-module _ {State : Type 0} (steps : State → Step → Answer → State → Type 0) (unique : (old : State) (op : Step) (a b : Answer) (new other : State) → steps old op a new → steps old op b other → (a ≡ b) × (new ≡ other)) (r : Recording) where
+module _ {State : Type 0} (steps : State → Step → Answer → State → Type 0)
+    (unique : (old : State) (op : Step) (a b : Answer) (new other : State) → steps old op a new → steps old op b other → (a ≡ b) × (new ≡ other)) (r : Recording) where
   -- a step leads on from a state to one other
   LeadsOn-unique : (n : ℕ) (old a b : State) → LeadsOn steps r n old a → LeadsOn steps r n old b → a ≡ b
   LeadsOn-unique n old a b p q =
@@ -26,12 +27,14 @@ module _ {State : Type 0} (steps : State → Step → Answer → State → Type 
       let same = Replays-unique origin n p.0 q.0 p.1 q.1 in
       LeadsOn-unique n q.0 a b (subst (λ s. LeadsOn steps r n s a) same p.2) q.2
 
-module _ {State : Type 0} (is_well_formed : State → Type 0) (world : State → World) (steps : State → Step → Answer → State → Type 0) (steps_are : (old : State) (step : Step) (answer : Answer) (new : State) → steps old step answer new → outcome (world old) step ≡ Ok (answer, world new)) where
+module _ {State : Type 0} (is_well_formed : State → Type 0) (world : State → World) (steps : State → Step → Answer → State → Type 0)
+    (steps_are : (old : State) (step : Step) (answer : Answer) (new : State) → steps old step answer new → outcome (world old) step ≡ Ok (answer, world new)) where
   -- the state that the step after a frame leads on to is the next frame
-  pub IsFrame-next : (film : Reel State) (n : ℕ) (old new : State) → IsFrame is_well_formed world steps film n old → LeadsOn steps film.recording n old new → is_well_formed new → IsFrame is_well_formed world steps film (n + 1) new
+  pub IsFrame-next : (film : Reel State) (n : ℕ) (old new : State) → IsFrame is_well_formed world steps film n old → LeadsOn steps film.recording n old new → is_well_formed new
+      → IsFrame is_well_formed world steps film (n + 1) new
   IsFrame-next film n old new frame leads fits =
       record {
-        stands = Stands-next is_well_formed world film.recording n leads.step leads.answer old new frame.stands leads.next (steps_are old leads.step leads.answer new leads.leads) fits;
+        is_at = IsWorldAt-next is_well_formed world film.recording n leads.step leads.answer old new frame.is_at leads.next (steps_are old leads.step leads.answer new leads.leads) fits;
         replays = rw add-one (old, frame.replays, leads);
       }
 
@@ -39,14 +42,14 @@ module _ {State : Type 0} (is_well_formed : State → Type 0) (world : State →
   pub LeadsOn-applies : (r : Recording) (n : ℕ) (old new : State) → world old ≡ world_at r n → LeadsOn steps r n old new → AppliesAt r n × (world new ≡ world_at r (n + 1))
   LeadsOn-applies r n old new there leads =
       let made = steps_are old leads.step leads.answer new leads.leads in
-      let stands : Stands (λ (s : State). Unit {0}) world r n old = record { well_formed = tt; there = there } in
+      let is_at : IsWorldAt (λ (s : State). Unit {0}) world r n old = record { well_formed = tt; there = there } in
       let ok : IsOk (outcome (world old) leads.step) = rw made refl in (
         record {
           step = leads.step;
           next = leads.next;
           applies = subst (λ w. IsOk (outcome w leads.step)) there ok;
         },
-        (Stands-next (λ (s : State). Unit {0}) world r n leads.step leads.answer old new stands leads.next made tt).there,
+        (IsWorldAt-next (λ (s : State). Unit {0}) world r n leads.step leads.answer old new is_at leads.next made tt).there,
       )
 
   -- steps that were replayed from position 0 apply

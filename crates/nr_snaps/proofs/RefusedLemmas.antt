@@ -26,7 +26,7 @@ good_is_not_refused r n reason refused good =
     let no : false ≡ true = subst IsOk refused.refused applies in
     absurd (grind (arith, no))
 
--- nor is one that stands before another that is refused
+-- nor is one that comes before another that is refused
 not_before : (r : Recording) (n m : ℕ) (reason why : Refusal) → IsRefusedAt r n reason → IsRefusedAt r m why → ¬ (n < m)
 not_before r n m reason why first second less =
     let next = get_of_take r.steps n m less ∙ first.next in

@@ -7,11 +7,12 @@ use Rattle.nr_rev.specs.declared.refusal.Refusal.TheVariants.{Memory}
 use Rattle.nr_snaps.specs.declared.fault.LoadFault.{LoadFault}
 use Rattle.nr_snaps.specs.declared.fault.LoadFault.TheVariants as fault
 
--- The steps before the one of this number, counted from 1, apply, and it is refused for the reason, which is
--- not want of memory.
+-- The steps before the one of this number, counted from 1, apply, and it is refused for the reason,
+-- which is not being out of memory.
 abbrev pub IsStepFault : Recording → LoadFault → Type 0
 IsStepFault r fault.Memory = ⊥
-IsStepFault r (fault.Refused step reason) = (0 < step) × (reason ≢ Memory) × IsRefusedAt r (step - 1) reason
+IsStepFault r (fault.Refused step reason) =
+    (0 < step) × (reason ≢ Memory) × IsRefusedAt r (step - 1) reason
 
 -- a step's fault, or there was no memory
 abbrev pub IsLoadFault : Recording → LoadFault → Type 0
@@ -24,5 +25,6 @@ load_fault_text (fault.Refused step reason) =
     codes "step " ++ decimal step ++ codes ": fault 107 reason " ++ decimal (refusal_number reason)
 load_fault_text fault.Memory = memory_text
 
+-- the same, as a line
 abbrev pub load_fault_line : LoadFault → List ℕ
 load_fault_line f = load_fault_text f ++ codes "\n"

@@ -1,33 +1,37 @@
 -- A film: a recording whose steps all apply, with copies of its replay.
 use Rattle.std.specs.Prelude.{◌≡◌, ℕ, ◌+◌, ◌*◌, ◌/◌, ◌≤◌, List, length, slice_get, Some}
-use Rattle.nr_rev.specs.Run.{IsGood, Recording, Stands}
+use Rattle.nr_rev.specs.Run.{IsGood, Recording, IsWorldAt}
 use Rattle.nr_rev.specs.World.{World}
 use Rattle.nr_rev.specs.declared.answer.Answer.{Answer}
 use Rattle.nr_rev.specs.declared.step.Step.{Step}
 use Rattle.nr_snaps.specs.Replay.{Replays}
 use Rattle.nr_snaps.specs.declared.film.TheConstants.{LEAST_EVERY, MOST_EVERY}
 
--- what is seen of a film: the recording, how many steps lie between two copies, and the state that the replay begins with
+-- what is seen of a film: the recording, how many steps lie between two copies, and the state that
+-- the replay begins with
 pub record Reel (State : Type 0) : Type 0 where
   pub recording : Recording
   pub every : ℕ
   pub origin : State
 
-module _ {State : Type 0} (is_well_formed : State → Type 0) (world : State → World) (steps : State → Step → Answer → State → Type 0) where
-  -- the very state that the replay has at position n; it is well formed and means the position's world
+module _ {State : Type 0} (is_well_formed : State → Type 0) (world : State → World)
+    (steps : State → Step → Answer → State → Type 0) where
+  -- the very state that the replay has at position n; it is well formed and means the position's
+  -- world
   pub record IsFrame (film : Reel State) (n : ℕ) (state : State) : Type 0 where
-    pub stands : Stands is_well_formed world film.recording n state
+    pub is_at : IsWorldAt is_well_formed world film.recording n state
     pub replays : Replays steps film.recording film.origin n state
 
   -- the copies after position 0: one at each multiple of `every` up to the end
   pub record HasCopies (film : Reel State) (later : List State) : Type 0 where
     pub count : length later ≡ length film.recording.steps / film.every
-    pub each : (i : ℕ) (copy : State) → slice_get later i ≡ Some copy → IsFrame film ((i + 1) * film.every) copy
+    pub each : (i : ℕ) (copy : State) → slice_get later i ≡ Some copy
+        → IsFrame film ((i + 1) * film.every) copy
 
   -- what holds of each film
   pub record IsFilm (film : Reel State) (later : List State) : Type 0 where
     pub least : LEAST_EVERY ≤ film.every
     pub most : film.every ≤ MOST_EVERY
     pub good : IsGood film.recording
-    pub origin : Stands is_well_formed world film.recording 0 film.origin
+    pub origin : IsWorldAt is_well_formed world film.recording 0 film.origin
     pub copies : HasCopies film later

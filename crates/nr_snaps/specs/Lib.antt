@@ -1,3 +1,5 @@
-pub mod Replay
+-- what callers need
 pub mod Film
 pub mod Fault
+-- inner: what only definitions and proofs of this crate use
+pub mod Replay

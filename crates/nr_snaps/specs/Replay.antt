@@ -5,13 +5,16 @@ use Rattle.nr_rev.specs.declared.answer.Answer.{Answer}
 use Rattle.nr_rev.specs.declared.step.Step.{Step}
 
 -- the step after position n leads from the old state to the new one
-pub record LeadsOn {State : Type 0} (steps : State → Step → Answer → State → Type 0) (r : Recording) (n : ℕ) (old new : State) : Type 0 where
+pub record LeadsOn {State : Type 0} (steps : State → Step → Answer → State → Type 0) (r : Recording)
+    (n : ℕ) (old new : State) : Type 0 where
   pub step : Step
   pub next : slice_get r.steps n ≡ Some step
   pub answer : Answer
   pub leads : steps old step answer new
 
 -- the first n steps of the recording lead, one after the other, from the origin to the state
-abbrev pub Replays : {State : Type 0} → (State → Step → Answer → State → Type 0) → Recording → State → ℕ → State → Type 0
+abbrev pub Replays : {State : Type 0} → (State → Step → Answer → State → Type 0) → Recording → State
+    → ℕ → State → Type 0
 Replays steps r origin zero state = state ≡ origin
-Replays {State} steps r origin (suc n) state = (before : State) × Replays steps r origin n before × LeadsOn steps r n before state
+Replays {State} steps r origin (suc n) state =
+    (before : State) × Replays steps r origin n before × LeadsOn steps r n before state

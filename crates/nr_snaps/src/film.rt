@@ -1,4 +1,4 @@
-//! A film: a recording whose steps all apply, with copies of its world.
+//! A film: a recording whose steps all apply, with copies (snapshots) of its world.
 
 ghost use Rattle.std.specs.Prelude.{◌≡◌, ◌<◌, ◌≤◌, ◌+◌, ◌*◌, ◌/◌, length, slice_get, IfOk, OnOk, OnErr};
 ghost use Rattle.std.specs.Option.{option_copied};
@@ -80,8 +80,8 @@ impl<W: Worlds + Drop> Film<W> {
         &self.later[copy - 1]
     }
 
-    /// Leads a world from position n to the next one, and gives the way back. Refused memory, which
-    /// only a step is that takes bytes out of a buffer, it stays.
+    /// Leads a world from position n to the next one, and returns the way back. Only a step that
+    /// takes bytes out of a buffer can run out of memory; then the world stays.
     #[inline(always)]
     pub fn apply(&self, world: &mut W, n: usize) -> Result<W::Delta, AllocError>
         requires frame { IsFrame W.is_well_formed W.world W.steps self.now n world.old }

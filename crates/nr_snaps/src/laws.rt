@@ -24,7 +24,7 @@ pub fn the_numbers()
 {}
 
 /// A recording that is refused at a step is not good, and it is refused at that step alone, for that reason alone. So what
-/// `load` tells of a recording is exactly where, and exactly why.
+/// `load` reports of a recording is exactly where, and exactly why.
 pub fn a_refused_recording_is_not_good()
     ensures bad { (r : Recording) (step : ℕ) (reason : Refusal) → IsLoadFault r (Refused step reason) → ¬ IsGood r }
     ensures exact { (r : Recording) (step other : ℕ) (reason why : Refusal) → IsLoadFault r (Refused step reason)

@@ -1,7 +1,7 @@
 //! Replays a recording once, and keeps copies of the world on the way.
 
 ghost use Rattle.std.specs.Prelude.{◌≡◌, ◌≢◌, ◌≤◌, ◌<◌, ◌+◌, length, IfOk, IfErr, OnOk, OnErr};
-ghost use Rattle.nr_rev.specs.Run.{IsGood, IsRefusedFor, Stands};
+ghost use Rattle.nr_rev.specs.Run.{IsGood, IsRefusedFor, IsWorldAt};
 ghost use Rattle.nr_rev.specs.declared.refusal.Refusal.TheVariants.{Memory};
 ghost use Rattle.nr_snaps.specs.Fault.{IsLoadFault, IsStepFault};
 ghost use Rattle.nr_snaps.specs.Film.{HasCopies, IsFrame, Reel};
@@ -22,9 +22,8 @@ impl Snaps {
     /// Replays the recording once, and keeps a copy of the world at position 0 and at each `every`
     /// steps after it, up to the end.
     ///
-    /// `LoadFault::Refused` tells the first step that does not apply, by its number from 1, with its
-    /// reason. Memory is wanted for the world at position 0, for the copies and for the list of
-    /// them, and for no step.
+    /// `LoadFault::Refused` has the first step that does not apply, by its number from 1, with its
+    /// reason. The world at position 0, the copies and the list of them take memory; no step does.
     pub fn load<W: Worlds + Drop>(
         alloc: Global,
         recording: Recording,
@@ -35,7 +34,7 @@ impl Snaps {
         ensures film { IfOk result (λ film. film
             ≡ record { recording = recording; every = every; origin = film.origin }) }
         ensures origin { IfOk result (λ film.
-            Stands W.is_well_formed W.world recording 0 film.origin) }
+            IsWorldAt W.is_well_formed W.world recording 0 film.origin) }
         ensures good { OnOk result (IsGood recording) }
         ensures fault { IfErr result (IsLoadFault recording) }
     {
@@ -52,7 +51,7 @@ impl Snaps {
     }
 }
 
-// Replays all steps, and gives the copies after position 0.
+// Replays all steps, and returns the copies after position 0.
 fn replay<W: Worlds + Drop>(
     alloc: Global,
     start: &W,
@@ -61,7 +60,7 @@ fn replay<W: Worlds + Drop>(
 ) -> Result<Vec<W>, LoadFault>
     ghost film: { Reel W }
     requires is { film ≡ record { recording = recording.now; every = every; origin = start.now } }
-    requires origin { Stands W.is_well_formed W.world recording.now 0 start.now }
+    requires origin { IsWorldAt W.is_well_formed W.world recording.now 0 start.now }
     requires some { 0 < every }
     ensures copies { IfOk result (λ later.
         HasCopies W.is_well_formed W.world W.steps film later.items) }
@@ -98,7 +97,7 @@ fn play<W: Worlds>(
 ) -> Result<(), LoadFault>
     ghost film: { Reel W }
     requires is { film.recording ≡ recording.now }
-    requires origin { Stands W.is_well_formed W.world recording.now 0 film.origin }
+    requires origin { IsWorldAt W.is_well_formed W.world recording.now 0 film.origin }
     requires frame { IsFrame W.is_well_formed W.world W.steps film from world.old }
     requires order { from ≤ to }
     requires within { to ≤ length recording.now.steps }
@@ -119,7 +118,7 @@ fn play<W: Worlds>(
 // Applies the step after position n, and keeps no way back. It takes no memory.
 #[inline(always)]
 fn advance<W: Worlds>(world: &mut W, recording: &Recording, n: usize) -> Result<(), Refusal>
-    requires stands { Stands W.is_well_formed W.world recording.now n world.old }
+    requires is_at { IsWorldAt W.is_well_formed W.world recording.now n world.old }
     requires below { n < length recording.now.steps }
     ensures leads { OnOk result (LeadsOn W.steps recording.now n world.old world.new) }
     ensures well_formed { W.is_well_formed world.new }

@@ -10,8 +10,8 @@ ghost use Rattle.nr_sockbuf.specs.Op.{TakesMemory, sock_reason};
 ghost use Rattle.nr_sockbuf.specs.Sock.{SockParts};
 ghost use Rattle.nr_sockbuf.specs.Machine.{ArriveAgrees, DrainAgrees, IsThere, PeerCloseAgrees, SockLoses, SockOpenAgrees, SysReadAgrees, SysWriteAgrees};
 
-/// At the buffers of a socket that is there, a step gives the answer, the buffers and the reason that the machine's step
-/// gives, once the goroutine is idle; and an opening does, where the machine has room for a socket more.
+/// At the buffers of a socket that is there, a step has the answer, the buffers and the reason that the machine's step
+/// has, once the goroutine is idle. So does an opening, where the machine has room for a socket more.
 pub fn steps_are_of_the_machine()
     ensures sockopen { (rc wc : ℕ) (w : World) → SockOpenAgrees rc wc w }
     ensures arrive { (s : ℕ) (bytes : List ℕ) (socket : Socket) (w : World) → IsThere s socket w → ArriveAgrees s bytes socket w }

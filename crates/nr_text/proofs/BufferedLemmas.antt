@@ -6,7 +6,7 @@ use Rattle.std.proofs.KnownBytes.{Appends-trans}
 use Rattle.std.specs.Io.KnownBytes.{Appends}
 use Rattle.std.specs.Prelude.{OnErr, OnOk}
 use Rattle.std.specs.Result.{IsErr}
-use Rattle.nr_text.specs.Buffered.{Buffering, HasSent, IsCut, IsOut, Stands, Writes}
+use Rattle.nr_text.specs.Buffered.{Buffering, HasSent, IsCut, IsOut, SentOrCut, Writes}
 use Rattle.nr_text.specs.Streams.{saturating_count}
 use Rattle.nr_text.specs.declared.buffered.WriteFailed.{WriteFailed}
 
@@ -22,7 +22,8 @@ holds start sent piece b has = record {
 -- behind what is out some more bytes are put out, and counted
 behind : (start c c' : Option (List ℕ)) (out bytes : List ℕ) (n o o' : ℕ) → n ≤ length bytes → Appends start c out → o ≡ saturating_count (length out) → IsOut bytes n c c' o o'
     → Appends start c' (out ++ take n bytes) × (o' ≡ saturating_count (length (out ++ take n bytes)))
-behind start c c' out bytes n o o' within before count more = (Appends-trans start c c' out (take n bytes) before more.written, omega (arith, count, more.count, length-append out (take n bytes), length-take-le n bytes within))
+behind start c c' out bytes n o o' within before count more =
+    (Appends-trans start c c' out (take n bytes) before more.written, omega (arith, count, more.count, length-append out (take n bytes), length-take-le n bytes within))
 
 -- all that was held is put out
 pub puts_all : (start c' : Option (List ℕ)) (sent : List ℕ) (b : Buffering) (o' : ℕ) → HasSent start sent b → IsOut b.held (length b.held) b.contents c' b.out o'
@@ -67,7 +68,7 @@ cut_before start sent more b cut = record {
 -- a piece behind another is a longer piece
 pub writes_then : (u v w : Buffering) (one two : List ℕ) (result : Result Unit WriteFailed) → Writes u v one (Ok tt) → Writes v w two result → Writes u w (one ++ two) result
 writes_then u v w one two result first then = record {
-  behind = λ start sent has. subst (λ s. Stands start s w result) (append_assoc sent one two) (then.behind start (sent ++ one) (first.behind start sent has));
+  behind = λ start sent has. subst (λ s. SentOrCut start s w result) (append_assoc sent one two) (then.behind start (sent ++ one) (first.behind start sent has));
 }
 
 -- a write that failed in a piece failed in a longer one
@@ -81,7 +82,7 @@ writes_cut u v one two e (Err _) fails cut = record {
 pub puts : (start c' : Option (List ℕ)) (sent : List ℕ) (b : Buffering) (o' : ℕ) (result : Result Unit WriteFailed) → HasSent start sent b
     → OnOk result (IsOut b.held (length b.held) b.contents c' b.out o')
     → OnErr result ((n : ℕ) × (n < length b.held) × IsOut b.held n b.contents c' b.out o')
-    → Stands start (sent ++ []) (record { contents = c'; held = []; out = o' }) result
+    → SentOrCut start (sent ++ []) (record { contents = c'; held = []; out = o' }) result
 puts start c' sent b o' (Ok _) has ok err = puts_all start c' sent b o' has ok
 puts start c' sent b o' (Err _) has ok err = puts_some start c' sent b err.0 o' has err.1 err.2
 
@@ -89,12 +90,12 @@ puts start c' sent b o' (Err _) has ok err = puts_some start c' sent b err.0 o' 
 pub puts_directly : (start c' : Option (List ℕ)) (sent piece held : List ℕ) (b : Buffering) (o' : ℕ) (result : Result Unit WriteFailed) → b.held ≡ [] → held ≡ [] → HasSent start sent b
     → OnOk result (IsOut piece (length piece) b.contents c' b.out o')
     → OnErr result ((n : ℕ) × (n < length piece) × IsOut piece n b.contents c' b.out o')
-    → Stands start (sent ++ piece) (record { contents = c'; held = held; out = o' }) result
+    → SentOrCut start (sent ++ piece) (record { contents = c'; held = held; out = o' }) result
 puts_directly start c' sent piece held b o' result none still has ok err =
     let behind = subst (λ h. HasSent start (sent ++ piece) (record b { held = h })) (ap (λ h. h ++ piece) none) (holds start sent piece b has) in
     let done = puts start c' (sent ++ piece) (record b { held = piece }) o' result behind ok err in
-    subst (λ h. Stands start (sent ++ piece) (record { contents = c'; held = h; out = o' }) result) (sym still)
-    (subst (λ s. Stands start s (record { contents = c'; held = []; out = o' }) result) (append-nil (sent ++ piece)) done)
+    subst (λ h. SentOrCut start (sent ++ piece) (record { contents = c'; held = h; out = o' }) result) (sym still)
+    (subst (λ s. SentOrCut start s (record { contents = c'; held = []; out = o' }) result) (append-nil (sent ++ piece)) done)
 
 appends_none : (known : Option (List ℕ)) → Appends known known []
 appends_none None = tt
@@ -110,11 +111,12 @@ begins b none no_count = record {
 }
 
 -- a write failed, whatever the error says
-pub cut_is_told : (start : Option (List ℕ)) (sent : List ℕ) (b : Buffering) (result : Result Unit WriteFailed) → IsErr result → IsCut start sent b → Stands start sent b result
-cut_is_told start sent b (Ok _) fails cut = absurd (grind (arith, fails))
-cut_is_told start sent b (Err _) fails cut = cut
+pub cut_is_counted : (start : Option (List ℕ)) (sent : List ℕ) (b : Buffering) (result : Result Unit WriteFailed) → IsErr result → IsCut start sent b → SentOrCut start sent b result
+cut_is_counted start sent b (Ok _) fails cut = absurd (grind (arith, fails))
+cut_is_counted start sent b (Err _) fails cut = cut
 
 -- a text that was begun at this writer, and of which a piece was sent
-pub from_begun : (b b' begun : Buffering) (piece : List ℕ) (result : Result Unit WriteFailed) → begun ≡ record b { out = 0 } → b.held ≡ [] → Writes begun b' piece result → Stands b.contents piece b' result
+pub from_begun : (b b' begun : Buffering) (piece : List ℕ) (result : Result Unit WriteFailed) → begun ≡ record b { out = 0 } → b.held ≡ [] → Writes begun b' piece result
+    → SentOrCut b.contents piece b' result
 from_begun b b' begun piece result is none writes =
     writes.behind b.contents [] (subst (HasSent b.contents []) (sym is) (begins (record b { out = 0 }) none refl))

@@ -1,7 +1,11 @@
 -- The texts of parts, one after the other.
-use Rattle.std.proofs.Common.{◌≡◌, ℕ, suc, ◌<◌, List, [], ◌∷◌, ◌++◌, length, get_or, take, drop, flat_map, refl, sym, ap, ◌∙◌, append-nil, take-append-drop, drop-cons}
+use Rattle.std.proofs.Common.{◌≡◌, ℕ, suc, ◌<◌, ◌≤◌, List, [], ◌∷◌, ◌++◌, length, get_or, take, drop, flat_map, Result, Ok, Err, refl, sym, ap, subst, ◌∙◌, append-nil, take-append-drop, take_all, drop-cons}
 use Rattle.std.proofs.lemmas.Grind.{flat_map-append}
+use Rattle.std.specs.Result.{IsErr}
+use Rattle.nr_text.specs.Buffered.{Buffering, Writes}
 use Rattle.nr_text.specs.Text.{text_of_parts}
+use Rattle.nr_text.specs.declared.buffered.WriteFailed.{WriteFailed}
+use Rattle.nr_text.proofs.BufferedLemmas.{writes_cut, writes_then}
 
 pub text_of_parts_is : {X : Type 0} (f : X → List ℕ) (xs : List X) → text_of_parts f xs ≡ flat_map f xs
 text_of_parts_is f [] = refl
@@ -9,8 +13,19 @@ text_of_parts_is f (x ∷ []) = sym (append-nil (f x))
 text_of_parts_is f (x ∷ y ∷ xs) = ap (λ t. f x ++ t) (text_of_parts_is f (y ∷ xs))
 
 -- the parts before the i-th, the i-th, and those after it
-pub parts_at : {X : Type 0} (f : X → List ℕ) (xs : List X) (i : ℕ) (d : X) → i < length xs
+parts_at : {X : Type 0} (f : X → List ℕ) (xs : List X) (i : ℕ) (d : X) → i < length xs
     → flat_map f xs ≡ flat_map f (take i xs) ++ (f (get_or xs i d) ++ flat_map f (drop (suc i) xs))
 parts_at f xs i d h =
     ap (flat_map f) (sym (take-append-drop i xs)) ∙ flat_map-append f (take i xs) (drop i xs)
     ∙ ap (λ ys. flat_map f (take i xs) ++ flat_map f ys) (drop-cons xs i d h)
+
+-- the parts before the i-th are sent, and a write failed in that one: so it failed in all of them
+pub all_cut : {X : Type 0} (f : X → List ℕ) (xs : List X) (i : ℕ) (x : X) (u v w : Buffering) (e : WriteFailed) (result : Result (Unit {0}) WriteFailed)
+    → i < length xs → x ≡ get_or xs i x → IsErr result → Writes u v (flat_map f (take i xs)) (Ok tt) → Writes v w (f x) (Err e) → Writes u w (flat_map f xs) result
+all_cut f xs i x u v w e result within is fails sent cut =
+    let part = writes_cut v w (f (get_or xs i x)) (flat_map f (drop (suc i) xs)) e result fails (subst (λ y. Writes v w (f y) (Err e)) is cut) in
+    subst (λ t. Writes u w t result) (sym (parts_at f xs i x within)) (writes_then u v w (flat_map f (take i xs)) _ result sent part)
+
+-- no part is left
+pub all_sent : {X : Type 0} (f : X → List ℕ) (xs : List X) (i : ℕ) (u v : Buffering) → length xs ≤ i → Writes u v (flat_map f (take i xs)) (Ok tt) → Writes u v (flat_map f xs) (Ok tt)
+all_sent f xs i u v all sent = subst (λ t. Writes u v t (Ok tt)) (ap (flat_map f) (take_all i xs all)) sent

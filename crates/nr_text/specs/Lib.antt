@@ -1,3 +1,4 @@
+-- what callers need
 pub mod Streams
 pub mod Buffered
 pub mod Text

@@ -3,7 +3,8 @@ use Rattle.std.specs.Prelude.{◌≡◌, ℕ, ◌-◌, ◌^◌, ◌<◌, min, Bo
 use Rattle.std.specs.Io.KnownBytes.{Appends}
 use Rattle.nr_text.specs.declared.sink.CutShort.{CutShort}
 
--- what is seen of a source: the bytes that it has left, where they are known, and whether a read failed
+-- what is seen of a source: the bytes that it has left, where they are known, and whether a read
+-- failed
 pub record Incoming : Type 0 where
   pub remaining : Option (List ℕ)
   pub failed : Bool
@@ -21,15 +22,16 @@ saturating_count n = min n (2 ^ 64 - 1)
 abbrev pub WritesAll : Outgoing → Outgoing → List ℕ → Type 0
 WritesAll old new text = Appends old.contents new.contents text × (new.failed ≡ old.failed)
 
--- A write failed when exactly the first n bytes of the text were out, and not the next, and n is told as this count.
+-- A write failed when exactly the first n bytes of the text were out, and not the next, and this
+-- count reports n.
 pub record WritesPrefix (old new : Outgoing) (text : List ℕ) (count : ℕ) : Type 0 where
   pub n : ℕ
   pub within : n < length text
-  pub told : count ≡ saturating_count n
+  pub count_is : count ≡ saturating_count n
   pub out : Appends old.contents new.contents (take n text)
   pub failed : new.failed ≡ true
 
--- The whole text was written; or a write failed, and how much is out is told.
+-- The whole text was written; or a write failed, and how much is out is reported.
 abbrev pub Prints : Outgoing → Outgoing → List ℕ → Result (Unit {0}) CutShort → Type 0
 Prints old new text (Ok _) = WritesAll old new text
 Prints old new text (Err cut) = WritesPrefix old new text cut.0

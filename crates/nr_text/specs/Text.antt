@@ -6,11 +6,12 @@ use Rattle.nr_text.specs.declared.token.Token.TheVariants as tokens
 
 -- a byte as two digits, in lower case
 abbrev pub hex_pair : ℕ → List ℕ
-hex_pair b = slice_index (codes "0123456789abcdef") (b / 16) ∷ slice_index (codes "0123456789abcdef") (b % 16) ∷ []
+hex_pair b = slice_index (codes "0123456789abcdef") (b / 16)
+    ∷ slice_index (codes "0123456789abcdef") (b % 16) ∷ []
 
 -- a number of a row, behind a space
-abbrev pub next_number : ℕ → List ℕ
-next_number n = codes " " ++ decimal n
+abbrev pub spaced_number : ℕ → List ℕ
+spaced_number n = codes " " ++ decimal n
 
 -- the text of a part
 abbrev pub token_text : Token → List ℕ
@@ -18,7 +19,7 @@ token_text (tokens.Text text) = text.now
 token_text (tokens.Number n) = decimal n
 token_text (tokens.Time t) = signed_decimal t
 token_text (tokens.Hex bytes) = flat_map hex_pair bytes.now
-token_text (tokens.Numbers numbers) = flat_map next_number numbers.now
+token_text (tokens.Numbers numbers) = flat_map spaced_number numbers.now
 
 -- the texts of these one after the other
 abbrev pub text_of_parts : {X : Type 0} → (X → List ℕ) → List X → List ℕ

@@ -3,7 +3,7 @@
 ghost use Rattle.std.specs.Prelude.{◌≡◌, ◌+◌, ◌<◌, ◌≤◌, ◌++◌, ℕ, [], length, OnErr, OnOk};
 ghost use Rattle.std.specs.Io.{WritesAtMost};
 ghost use Rattle.std.specs.Io.KnownBytes.{WriteAppends};
-ghost use Rattle.nr_text.specs.Buffered.{IsOut, Stands, Writes};
+ghost use Rattle.nr_text.specs.Buffered.{IsOut, SentOrCut, Writes};
 ghost use Rattle.nr_text.specs.declared.buffered.TheConstants.{ROOM};
 
 use crate::text::Text;
@@ -71,7 +71,7 @@ impl<W: Write> Buffered<W> {
     // Writes a text whole: all of it is out, or a write failed.
     pub(crate) fn print<T: Text>(&mut self, text: &T) -> Result<(), WriteFailed>
         requires { self.old.held ≡ [] }
-        ensures out { Stands self.old.contents (T.text text.now) self.new result }
+        ensures out { SentOrCut self.old.contents (T.text text.now) self.new result }
         ensures empty { self.new.held ≡ [] }
     {
         self.begin();

@@ -2,7 +2,7 @@
 
 ghost use Rattle.std.specs.Prelude.{ℕ, List};
 ghost use Rattle.nr_text.specs.Buffered.{Writes};
-ghost use Rattle.nr_text.specs.Text.{hex_pair, next_number, text_of_parts};
+ghost use Rattle.nr_text.specs.Text.{hex_pair, spaced_number, text_of_parts};
 
 use crate::buffered::{Buffered, WriteFailed};
 use itoa::Buffer;
@@ -30,9 +30,9 @@ impl Text for u8 {
     }
 }
 
-/// A number in a row of numbers stands behind a space.
+/// A number in a row of numbers has a space before it.
 impl Text for u32 {
-    ghost text = { next_number };
+    ghost text = { spaced_number };
 
     fn send<W: Write>(&self, w: &mut Buffered<W>) -> Result<(), WriteFailed> {
         let mut digits = Buffer::new();

@@ -10,7 +10,7 @@ use std::io::Write;
 /// A part of a text.
 #[derive(Clone, Copy)]
 pub enum Token<'a> {
-    /// It stands as it is.
+    /// It is written as it is.
     Text(&'static [u8]),
     /// In decimal digits.
     Number(u64),

@@ -6,7 +6,7 @@ use Rattle.std.proofs.lemmas.List.Edits.{Swapped, length-swap}
 use Rattle.std.proofs.lemmas.Bool.{cases_eq}
 use Rattle.nr_rev.specs.declared.timer.Entry.{Entry}
 use Rattle.nr_timers.specs.Order.{at, blank, is_less}
-use Rattle.nr_timers.specs.Line.{parent, Leads, OnLine, moved_up, moved_down, Ordered, OrderedAbove, OrderedBelow, OrderedAround, Raised, Sunk, Settled}
+use Rattle.nr_timers.specs.Line.{parent, Leads, OnLine, moved_up, moved_down, Ordered, OrderedAbove, OrderedBelow, OrderedAround, Raised, Sunk, Sifted}
 use Rattle.nr_timers.specs.LineLaws.{Leads-le, Leads-lt, OnLine-le, OnLine-cases}
 use Rattle.nr_timers.specs.Change.{Inserted, Removed, refilled, TakenBack, InsertedBack, RemovedBack}
 use Rattle.nr_timers.proofs.OrderLemmas.{less_once, not_less-trans, same_less}
@@ -100,14 +100,16 @@ at-moved_down (suc n) new p q lt h =
     let size = length-moved_down n new (parent p) in
     (at-swap (moved_down n new (parent p)) p (parent p) (omega arith) (omega arith)).0 ∙ at-moved_down n new (parent p) q (omega arith) h.1
 
-pub uninserted : (old mid new : List Entry) (q last len : ℕ) (entry : Entry) → 0 < length old → len ≡ length old → last ≡ len - 1 → ((n : ℕ) × Leads n last q × (mid ≡ moved_down n old last)) → new ≡ take (length mid - 1) mid → InsertedBack q old new
+pub uninserted : (old mid new : List Entry) (q last len : ℕ) (entry : Entry) → 0 < length old → len ≡ length old → last ≡ len - 1 → ((n : ℕ) × Leads n last q × (mid ≡ moved_down n old last))
+    → new ≡ take (length mid - 1) mid → InsertedBack q old new
 uninserted old mid new q last len entry some size is moved e =
     let last_is : last ≡ length old - 1 = omega arith in
     let size_mid : length mid ≡ length old = size_of old mid last q moved in
     let lines : Leads moved.0 (length old - 1) q = subst (λ x. Leads moved.0 x q) last_is moved.1 in
     (some, moved.0, lines, e ∙ ap (λ n. take (n - 1) mid) size_mid ∙ ap (take (length old - 1)) (moved.2 ∙ ap (moved_down moved.0 old) last_is))
 
-pub uninserted_entry : (old mid : List Entry) (q last len : ℕ) (entry : Entry) → 0 < length old → len ≡ length old → last ≡ len - 1 → ((n : ℕ) × Leads n last q × (mid ≡ moved_down n old last)) → entry ≡ at mid (length mid - 1) → entry ≡ at old q
+pub uninserted_entry : (old mid : List Entry) (q last len : ℕ) (entry : Entry) → 0 < length old → len ≡ length old → last ≡ len - 1 → ((n : ℕ) × Leads n last q × (mid ≡ moved_down n old last))
+    → entry ≡ at mid (length mid - 1) → entry ≡ at old q
 uninserted_entry old mid q last len entry some size is moved e =
     let size_mid : length mid ≡ length old = size_of old mid last q moved in
     let last_is : length mid - 1 ≡ last = omega arith in
@@ -143,8 +145,8 @@ not_moved rest new p q e (suc n, h, is) = let lt = Leads-lt n p q h in absurd (o
 -- up or down
 module _ (old mid : List Entry) (p up : ℕ) (within : p < length old) (raised : Raised old p (at old p) up mid) (moved : (n : ℕ) × Leads n p up × (mid ≡ moved_up n old p)) where
   module _ (lt : up < p) where
-    pub settled_up : Settled old p up mid
-    settled_up = inl (lt, raised)
+    pub sifted_up : Sifted old p up mid
+    sifted_up = inl (lt, raised)
 
     pub around_up : OrderedAround old p → OrderedAbove old p
     around_up h =
@@ -174,8 +176,8 @@ module _ (old mid : List Entry) (p up : ℕ) (within : p < length old) (raised :
     not_less : 0 < p → is_less (at old p) (at old (parent p)) ≡ false
     not_less some = let e = stays in subst (λ x. is_less (at old p) (at old (parent x)) ≡ false) e (raised.highest (omega arith))
 
-    pub settled_down : (new : List Entry) (q : ℕ) → Sunk mid p (at mid p) q new → Settled old p q new
-    settled_down new q sunk = inr (not_less, subst (λ xs. Sunk xs p (at xs p) q new) same_mid sunk)
+    pub sifted_down : (new : List Entry) (q : ℕ) → Sunk mid p (at mid p) q new → Sifted old p q new
+    sifted_down new q sunk = inr (not_less, subst (λ xs. Sunk xs p (at xs p) q new) same_mid sunk)
 
     pub around_down : OrderedAround old p → OrderedBelow mid p
     around_down h =
@@ -245,12 +247,14 @@ module _ (old : List Entry) (p : ℕ) (within : p < length old) where
       let size2 : length (take p old) ≡ p = length-take-le p old (omega arith) in
       ext_get_or blank (refilled old p) (take p old) (omega arith) (λ i lt. at_refilled i (omega arith) (λ e. omega arith) ∙ sym (get_or-take p old i blank (omega arith)))
 
-  removed_back : (rest new : List Entry) (q : ℕ) (entry : Entry) → rest ≡ refilled old p → entry ≡ at old p → length new ≡ length old - 1 → ((p ≡ length new) × (q ≡ p) ⊎ (p < length new) × (q < length new)) → TakenBack p q new rest → RemovedBack p q entry new old
+  removed_back : (rest new : List Entry) (q : ℕ) (entry : Entry) → rest ≡ refilled old p → entry ≡ at old p → length new ≡ length old - 1
+      → ((p ≡ length new) × (q ≡ p) ⊎ (p < length new) × (q < length new)) → TakenBack p q new rest → RemovedBack p q entry new old
   removed_back rest new q entry e is size places back = (
     places,
     rest,
     back,
-    sym (ap (λ n. swap (rest ++ entry ∷ []) p n) size ∙ ap (λ xs. swap (xs ++ entry ∷ []) p (length old - 1)) e ∙ ap (λ (x : Entry). swap (refilled old p ++ x ∷ []) p (length old - 1)) is ∙ refilled_back),
+    sym (ap (λ n. swap (rest ++ entry ∷ []) p n) size ∙ ap (λ xs. swap (xs ++ entry ∷ []) p (length old - 1)) e ∙ ap (λ (x : Entry). swap (refilled old p ++ x ∷ []) p (length old - 1)) is
+        ∙ refilled_back),
   )
 
   -- its two ends
@@ -291,8 +295,8 @@ module _ (old : List Entry) (p : ℕ) (within : p < length old) where
         less_moved : 0 < p → (v : Bool) → is_less (at rest p) (at rest (parent p)) ≡ v → is_less (at old (length old - 1)) (at old (parent p)) ≡ v
         less_moved some v h = let more = size_rest in let there = inside in same_less _ _ _ _ v was_at (sym (same_but (parent p) (omega arith) (λ e. omega arith))) h
 
-        pub settled_removed : Settled rest p q new → Removed old p q new
-        settled_removed (inl (lt, raised)) =
+        pub sifted_removed : Sifted rest p q new → Removed old p q new
+        sifted_removed (inl (lt, raised)) =
             let more = size_rest in
             let there = inside in
             inr (inl (record {
@@ -302,7 +306,7 @@ module _ (old : List Entry) (p : ℕ) (within : p < length old) where
               less = less_moved (omega arith) true (raised.greater p (0, refl) lt);
               raised = Raised-over rest old new p (at old (length old - 1)) (omega arith) was_at same_but q raised;
             }))
-        settled_removed (inr (not_less, sunk)) =
+        sifted_removed (inr (not_less, sunk)) =
             let more = size_rest in
             let there = inside in
             inr (inr (record {
@@ -312,8 +316,8 @@ module _ (old : List Entry) (p : ℕ) (within : p < length old) where
               sunk = Sunk-over rest old new p (at old (length old - 1)) (omega arith) was_at same_but q sunk;
             }))
 
-        pub settled_back : TakenBack p q new rest → RemovedBack p q entry new old
-        settled_back back = let more = size_rest in let there = inside in removed_back rest new q entry is entry_is (omega arith) (inr (omega arith, omega arith)) back
+        pub sifted_back : TakenBack p q new rest → RemovedBack p q entry new old
+        sifted_back back = let more = size_rest in let there = inside in removed_back rest new q entry is entry_is (omega arith) (inr (omega arith, omega arith)) back
 
 -- what is left when the last entry was taken off
 pub refilled_is : (old mid rest : List Entry) (p n : ℕ) → n ≡ length old → mid ≡ swap old p (n - 1) → rest ≡ take (length mid - 1) mid → rest ≡ refilled old p

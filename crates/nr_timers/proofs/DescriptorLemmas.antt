@@ -1,8 +1,8 @@
 -- A heap's entries are those of the timers that descriptors have: as many, and the least at place 0.
 use Rattle.std.proofs.Common.{◌≡◌, ◌≢◌, ◌⊎◌, inl, inr, ⊎_elim, ℕ, zero, suc, ◌+◌, ◌<◌, ◌≤◌, Bool, true, false, if◌then◌else◌, List, [], ◌∷◌, ◌++◌, length, Option, Some, None, refl, sym, ap, ◌∙◌, subst, arith}
 use Rattle.std.specs.Prelude.{slice_get, slice_index_or}
-use Rattle.nr_rev.proofs.BothSides.{of_side-twice}
-use Rattle.nr_rev.proofs.Entries.{In, entry_in, in_append, least_in}
+use Rattle.nr_rev.proofs.SideLemmas.{of_side-twice}
+use Rattle.nr_rev.proofs.HeapEntryLemmas.{In, entry_in, in_append, least_in}
 use Rattle.std.proofs.lemmas.Option.{none-some, same_Some}
 use Rattle.nr_rev.specs.declared.sides.Side.{Side}
 use Rattle.nr_rev.specs.declared.sides.Side.TheVariants.{Read, Write}

@@ -166,7 +166,7 @@ Apart-pushed f xs e h other p q lt lt_q same =
     )
     (cases_lt p (length xs))
 
--- a removal, as its way back tells it
+-- a removal, as its way back says it
 module _ (p q : ℕ) (e : Entry) (new old : List Entry) (back : RemovedBack p q e new old) where
   both_ways : Drawn new back.1 × Drawn back.1 new
   both_ways = Drawn-back new back.1 p q back.0 back.2
@@ -221,7 +221,7 @@ module _ (p q : ℕ) (e : Entry) (new old : List Entry) (back : RemovedBack p q 
       (ap f (at_pushed back.1 e there.0 there.1 ∙ there.2) ∙ same ∙ ap f (sym (at_last back.1 e))) in
       omega arith
 
--- an insertion, as its way back tells it
+-- an insertion, as its way back says it
 module _ (q : ℕ) (new old : List Entry) (back : InsertedBack q new old) where
   mid_is : old ++ at new q ∷ [] ≡ moved_down back.1 new (length new - 1)
   mid_is =
@@ -243,7 +243,8 @@ module _ (q : ℕ) (new old : List Entry) (back : InsertedBack q new old) where
       let some = back.0 in
       let size = length-moved_down back.1 new (length new - 1) in
       subst (λ (ys : List Entry). Drawn ys new) (sym mid_is)
-      (subst (λ (ys : List Entry). Drawn (moved_down back.1 new (length new - 1)) ys) (moved_up-moved_down back.1 new (length new - 1) (omega arith)) (Drawn-up back.1 (moved_down back.1 new (length new - 1)) (length new - 1) (omega arith)))
+      (subst (λ (ys : List Entry). Drawn (moved_down back.1 new (length new - 1)) ys) (moved_up-moved_down back.1 new (length new - 1) (omega arith))
+      (Drawn-up back.1 (moved_down back.1 new (length new - 1)) (length new - 1) (omega arith)))
 
   -- all that was there is left
   pub Has-kept : (x : Entry) → Has x old → Has x new

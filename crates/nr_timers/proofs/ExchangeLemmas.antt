@@ -9,7 +9,8 @@ use Rattle.nr_timers.specs.LineLaws.{Leads-more, OnLine-cases, OnLine-more, OnLi
 use Rattle.nr_timers.proofs.OrderLemmas.{less_once, not_less-trans, same_less}
 use Rattle.nr_timers.proofs.LineLemmas.{Leads-between}
 
-module _ (old new : List Entry) (p : ℕ) (above : 0 < p) (within : p < length old) (size : length new ≡ length old) (less : is_less (at old p) (at old (parent p)) ≡ true) (swapped : Swapped (at old) (at new) p (parent p)) where
+module _ (old new : List Entry) (p : ℕ) (above : 0 < p) (within : p < length old) (size : length new ≡ length old) (less : is_less (at old p) (at old (parent p)) ≡ true)
+    (swapped : Swapped (at old) (at new) p (parent p)) where
   -- up one place
   pub OrderedAbove-up : OrderedAbove old p → OrderedAbove new (parent p)
   OrderedAbove-up h = record {
@@ -61,7 +62,8 @@ module _ (old new : List Entry) (p : ℕ) (above : 0 < p) (within : p < length o
             ∙ swapped.2 k (λ e. off (0, e) (omega arith)) (λ e. off (1, (above, e)) (omega arith));
       }
 
-module _ (old new : List Entry) (p c : ℕ) (above : 0 < c) (is_child : parent c ≡ p) (within : c < length old) (size : length new ≡ length old) (less : is_less (at old c) (at old p) ≡ true) (least : (i : ℕ) → 0 < i → i < length old → parent i ≡ p → is_less (at old i) (at old c) ≡ false) (swapped : Swapped (at old) (at new) c p) where
+module _ (old new : List Entry) (p c : ℕ) (above : 0 < c) (is_child : parent c ≡ p) (within : c < length old) (size : length new ≡ length old) (less : is_less (at old c) (at old p) ≡ true)
+    (least : (i : ℕ) → 0 < i → i < length old → parent i ≡ p → is_less (at old i) (at old c) ≡ false) (swapped : Swapped (at old) (at new) c p) where
   -- down one place
   pub OrderedBelow-down : OrderedBelow old p → OrderedBelow new c
   OrderedBelow-down h = record {
@@ -72,7 +74,8 @@ module _ (old new : List Entry) (p c : ℕ) (above : 0 < c) (is_child : parent c
         (λ e. same_less _ _ (at old i) (at old c) false (swapped.2 i not_c (λ e2. omega arith)) (ap (at new) e ∙ swapped.1) (least i i_above (omega arith) e))
         (
         λ not_beside. ⊎_elim
-        (λ e. same_less _ _ (at old c) (at old (parent p)) false (ap (at new) e ∙ swapped.1) (ap (λ j. at new (parent j)) e ∙ swapped.2 (parent p) (λ e2. omega arith) (λ e2. omega arith)) (h.across c above within is_child (omega arith)))
+        (λ e. same_less _ _ (at old c) (at old (parent p)) false (ap (at new) e ∙ swapped.1) (ap (λ j. at new (parent j)) e ∙ swapped.2 (parent p) (λ e2. omega arith) (λ e2. omega arith))
+        (h.across c above within is_child (omega arith)))
         (λ not_p. same_less _ _ (at old i) (at old (parent i)) false (swapped.2 i not_c not_p) (swapped.2 (parent i) not_below not_beside) (h.others i i_above (omega arith) not_beside))
         (cases_eq i p)
         )
@@ -112,7 +115,8 @@ module _ (old new : List Entry) (p c : ℕ) (above : 0 < c) (is_child : parent c
             (below k on_line lower);
         least = λ k i on_line lower i_above i_within beside. ⊎_elim
             (λ e. same_less _ _ _ _ false refl (ap (at old) e) (least i i_above (omega arith) (beside ∙ ap parent e ∙ is_child)))
-            (λ rest. same_less _ _ _ _ false (sym (swapped.2 i (λ e. omega arith) (λ e. omega arith))) (sym (swapped.2 k (λ e. omega arith) (λ e. omega arith))) (h.least k i on_line rest.0 i_above i_within beside))
+            (λ rest. same_less _ _ _ _ false (sym (swapped.2 i (λ e. omega arith) (λ e. omega arith))) (sym (swapped.2 k (λ e. omega arith) (λ e. omega arith)))
+            (h.least k i on_line rest.0 i_above i_within beside))
             (below k on_line lower);
         lowest = λ i i_above i_within child. same_less _ _ _ _ false (sym (swapped.2 i (λ e. omega arith) (λ e. omega arith))) (sym swapped.0) (h.lowest i i_above i_within child);
         others = λ k lt off.

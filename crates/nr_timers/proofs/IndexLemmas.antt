@@ -10,11 +10,12 @@ use Rattle.nr_timers.specs.Order.{at, blank}
 use Rattle.nr_timers.specs.Index.{key, Absent, Keyed, free, IsIndexed}
 use Rattle.nr_timers.proofs.LineLemmas.{at-swap}
 
--- what the index tells
+-- what the index holds
 pub keyed : (xs : List Entry) (ix : List ℕ) → IsIndexed xs ix → Keyed xs (length ix)
 keyed xs ix h = record {
   below = h.below;
-  once = λ p q within within_q same. let a = h.found p within in let b = h.found q within_q in let e : get_or ix (key (at xs p)) 0 ≡ get_or ix (key (at xs q)) 0 = ap (λ k. get_or ix k 0) same in omega arith;
+  once = λ p q within within_q same. let a = h.found p within in let b = h.found q within_q in let e : get_or ix (key (at xs p)) 0 ≡ get_or ix (key (at xs q)) 0 = ap (λ k. get_or ix k 0) same in
+      omega arith;
 }
 
 free_positive : (n : ℕ) → 0 < n → free n ≡ 0
@@ -71,7 +72,9 @@ module _ (xs : List Entry) (ix : List ℕ) (h : IsIndexed xs ix) where
         let lt = h.below b wb in
         let two = sum_by-set free (set ix (key (at xs a)) (b + 1)) (key (at xs b)) (a + 1) 0 (omega arith) in
         let mid_b : 0 < get_or (set ix (key (at xs a)) (b + 1)) (key (at xs b)) 0 =
-        ⊎_elim (λ e. let s = get_or-set_same ix (key (at xs a)) (b + 1) 0 (h.below a wa) in let t : get_or (set ix (key (at xs a)) (b + 1)) (key (at xs b)) 0 ≡ get_or (set ix (key (at xs a)) (b + 1)) (key (at xs a)) 0 = ap (λ k. get_or (set ix (key (at xs a)) (b + 1)) k 0) e in omega arith)
+        ⊎_elim (λ e. let s = get_or-set_same ix (key (at xs a)) (b + 1) 0 (h.below a wa) in
+        let t : get_or (set ix (key (at xs a)) (b + 1)) (key (at xs b)) 0 ≡ get_or (set ix (key (at xs a)) (b + 1)) (key (at xs a)) 0 = ap (λ k. get_or (set ix (key (at xs a)) (b + 1)) k 0) e in
+        omega arith)
         (λ other. let s = get_or-set_other ix (key (at xs a)) (key (at xs b)) (b + 1) 0 other in let f = h.found b wb in omega arith)
         (cases_eq (key (at xs b)) (key (at xs a))) in
         let fa = h.found a wa in
@@ -85,7 +88,8 @@ module _ (xs : List Entry) (ix : List ℕ) (h : IsIndexed xs ix) where
     pub IsIndexed-swap : IsIndexed (swap xs a b) (set (set ix (key (at xs a)) (b + 1)) (key (at xs b)) (a + 1))
     IsIndexed-swap =
         let size = length-swap xs a b in
-        let size_ix : length (set (set ix (key (at xs a)) (b + 1)) (key (at xs b)) (a + 1)) ≡ length ix = length-set (set ix (key (at xs a)) (b + 1)) (key (at xs b)) (a + 1) ∙ length-set ix (key (at xs a)) (b + 1) in
+        let size_ix : length (set (set ix (key (at xs a)) (b + 1)) (key (at xs b)) (a + 1)) ≡ length ix =
+        length-set (set ix (key (at xs a)) (b + 1)) (key (at xs b)) (a + 1) ∙ length-set ix (key (at xs a)) (b + 1) in
         record {
           below = λ p lt.
               ⊎_elim (λ e. same_below _ (at xs b) _ (ap (at (swap xs a b)) e ∙ sw.0) (let x = h.below b wb in omega arith))
@@ -110,18 +114,22 @@ module _ (xs : List Entry) (ix : List ℕ) (h : IsIndexed xs ix) where
               )
               (cases_eq p a);
           within = λ k some.
-              ⊎_elim (λ e. let v : get_or (set (set ix (key (at xs a)) (b + 1)) (key (at xs b)) (a + 1)) k 0 ≡ a + 1 = ap (λ j. get_or (set (set ix (key (at xs a)) (b + 1)) (key (at xs b)) (a + 1)) j 0) e ∙ at_b in omega arith)
+              ⊎_elim (λ e. let v : get_or (set (set ix (key (at xs a)) (b + 1)) (key (at xs b)) (a + 1)) k 0
+              ≡ a + 1 = ap (λ j. get_or (set (set ix (key (at xs a)) (b + 1)) (key (at xs b)) (a + 1)) j 0) e ∙ at_b in omega arith)
               (λ nb. ⊎_elim
-              (λ e. let v : get_or (set (set ix (key (at xs a)) (b + 1)) (key (at xs b)) (a + 1)) k 0 ≡ b + 1 = ap (λ j. get_or (set (set ix (key (at xs a)) (b + 1)) (key (at xs b)) (a + 1)) j 0) e ∙ at_a_always in omega arith)
+              (λ e. let v : get_or (set (set ix (key (at xs a)) (b + 1)) (key (at xs b)) (a + 1)) k 0 ≡ b + 1 = ap (λ j. get_or (set (set ix (key (at xs a)) (b + 1)) (key (at xs b)) (a + 1)) j 0) e
+              ∙ at_a_always in omega arith)
               (λ na. let v = at_other k na nb in let w = h.within k (omega arith) in omega arith)
               (cases_eq k (key (at xs a))))
               (cases_eq k (key (at xs b)));
           kept = λ k some.
               ⊎_elim
-              (λ e. let v : get_or (set (set ix (key (at xs a)) (b + 1)) (key (at xs b)) (a + 1)) k 0 - 1 ≡ a = ap (λ j. get_or (set (set ix (key (at xs a)) (b + 1)) (key (at xs b)) (a + 1)) j 0 - 1) e ∙ ap (λ x. x - 1) at_b ∙ omega arith in
+              (λ e. let v : get_or (set (set ix (key (at xs a)) (b + 1)) (key (at xs b)) (a + 1)) k 0 - 1
+              ≡ a = ap (λ j. get_or (set (set ix (key (at xs a)) (b + 1)) (key (at xs b)) (a + 1)) j 0 - 1) e ∙ ap (λ x. x - 1) at_b ∙ omega arith in
               ap (λ x. key (at (swap xs a b) x)) v ∙ ap key sw.0 ∙ sym e)
               (λ nb. ⊎_elim
-              (λ e. let v : get_or (set (set ix (key (at xs a)) (b + 1)) (key (at xs b)) (a + 1)) k 0 - 1 ≡ b = ap (λ j. get_or (set (set ix (key (at xs a)) (b + 1)) (key (at xs b)) (a + 1)) j 0 - 1) e ∙ ap (λ x. x - 1) at_a_always ∙ omega arith in
+              (λ e. let v : get_or (set (set ix (key (at xs a)) (b + 1)) (key (at xs b)) (a + 1)) k 0 - 1
+              ≡ b = ap (λ j. get_or (set (set ix (key (at xs a)) (b + 1)) (key (at xs b)) (a + 1)) j 0 - 1) e ∙ ap (λ x. x - 1) at_a_always ∙ omega arith in
               ap (λ x. key (at (swap xs a b) x)) v ∙ ap key sw.1 ∙ sym e)
               (λ na.
               let v = at_other k na nb in
@@ -160,7 +168,8 @@ module _ (xs : List Entry) (ix : List ℕ) (h : IsIndexed xs ix) where
         let there : (k : ℕ) → k ≢ key e → get_or (set ix (key e) (length xs + 1)) k 0 ≡ get_or ix k 0 = λ k n. get_or-set_other ix (key e) k (length xs + 1) 0 n in
         record {
           below = λ p lt.
-              ⊎_elim (λ before. same_below _ (at xs p) _ (first p before) (let x = h.below p before in omega arith)) (λ ge. let is : p ≡ length xs = omega arith in same_below _ e _ (ap (at (xs ++ e ∷ [])) is ∙ last) (omega arith)) (cases_lt p (length xs));
+              ⊎_elim (λ before. same_below _ (at xs p) _ (first p before) (let x = h.below p before in omega arith))
+              (λ ge. let is : p ≡ length xs = omega arith in same_below _ e _ (ap (at (xs ++ e ∷ [])) is ∙ last) (omega arith)) (cases_lt p (length xs));
           found = λ p lt.
               ⊎_elim (λ before. ap (λ x. get_or (set ix (key e) (length xs + 1)) (key x) 0) (first p before) ∙ there (key (at xs p)) (absent p before) ∙ h.found p before)
               (λ ge. let is : p ≡ length xs = omega arith in ap (λ x. get_or (set ix (key e) (length xs + 1)) (key x) 0) (ap (at (xs ++ e ∷ [])) is ∙ last) ∙ here ∙ ap (λ x. x + 1) (sym is))
@@ -188,7 +197,8 @@ module _ (xs : List Entry) (ix : List ℕ) (h : IsIndexed xs ix) where
         let f0 = h.found (length xs - 1) (omega arith) in
         let size_ix = length-set ix (key (at xs (length xs - 1))) 0 in
         let here : get_or (set ix (key (at xs (length xs - 1))) 0) (key (at xs (length xs - 1))) 0 ≡ 0 = get_or-set_same ix (key (at xs (length xs - 1))) 0 0 k0 in
-        let there : (k : ℕ) → k ≢ key (at xs (length xs - 1)) → get_or (set ix (key (at xs (length xs - 1))) 0) k 0 ≡ get_or ix k 0 = λ k n. get_or-set_other ix (key (at xs (length xs - 1))) k 0 0 n in
+        let there : (k : ℕ) → k ≢ key (at xs (length xs - 1)) → get_or (set ix (key (at xs (length xs - 1))) 0) k 0 ≡ get_or ix k 0 =
+        λ k n. get_or-set_other ix (key (at xs (length xs - 1))) k 0 0 n in
         let first : (p : ℕ) → p < length xs - 1 → at (take (length xs - 1) xs) p ≡ at xs p = λ p lt. get_or-take (length xs - 1) xs p blank lt in
         record {
           below = λ p lt. same_below _ (at xs p) _ (first p (omega arith)) (let x = h.below p (omega arith) in omega arith);
@@ -206,7 +216,8 @@ module _ (xs : List Entry) (ix : List ℕ) (h : IsIndexed xs ix) where
               ⊎_elim (λ is. let v : get_or (set ix (key (at xs (length xs - 1))) 0) k 0 ≡ 0 = ap (λ j. get_or (set ix (key (at xs (length xs - 1))) 0) j 0) is ∙ here in absurd (omega arith))
               (
               λ n. let v = there k n in let w = h.within k (omega arith) in
-              let lower : get_or ix k 0 - 1 < length xs - 1 = ⊎_elim (λ e. absurd (n (sym (h.kept k (omega arith)) ∙ ap (λ x. key (at xs (x - 1))) e))) (λ other. omega arith) (cases_eq (get_or ix k 0) (length xs)) in
+              let lower : get_or ix k 0 - 1 < length xs - 1 =
+              ⊎_elim (λ e. absurd (n (sym (h.kept k (omega arith)) ∙ ap (λ x. key (at xs (x - 1))) e))) (λ other. omega arith) (cases_eq (get_or ix k 0) (length xs)) in
               ap (λ x. key (at (take (length xs - 1) xs) (x - 1))) v ∙ ap key (first (get_or ix k 0 - 1) lower) ∙ h.kept k (omega arith)
               )
               (cases_eq k (key (at xs (length xs - 1))));
@@ -218,12 +229,15 @@ module _ (xs : List Entry) (ix : List ℕ) (h : IsIndexed xs ix) where
         }
 
 -- the index after the code's own steps
-pub index_swapped : (xs zs : List Entry) (ix : List ℕ) (a b ka kb : ℕ) → IsIndexed xs ix → a < length xs → b < length xs → zs ≡ swap xs a b → ka ≡ key (at xs a) → kb ≡ key (at xs b) → IsIndexed zs (set (set ix ka (b + 1)) kb (a + 1))
+pub index_swapped : (xs zs : List Entry) (ix : List ℕ) (a b ka kb : ℕ) → IsIndexed xs ix → a < length xs → b < length xs → zs ≡ swap xs a b → ka ≡ key (at xs a) → kb ≡ key (at xs b)
+    → IsIndexed zs (set (set ix ka (b + 1)) kb (a + 1))
 index_swapped xs zs ix a b ka kb h wa wb e ea eb =
     subst (λ l. IsIndexed l (set (set ix ka (b + 1)) kb (a + 1))) (sym e)
-    (subst (λ k. IsIndexed (swap xs a b) (set (set ix k (b + 1)) kb (a + 1))) (sym ea) (subst (λ k. IsIndexed (swap xs a b) (set (set ix (key (at xs a)) (b + 1)) k (a + 1))) (sym eb) (IsIndexed-swap xs ix h a b wa wb)))
+    (subst (λ k. IsIndexed (swap xs a b) (set (set ix k (b + 1)) kb (a + 1))) (sym ea)
+    (subst (λ k. IsIndexed (swap xs a b) (set (set ix (key (at xs a)) (b + 1)) k (a + 1))) (sym eb) (IsIndexed-swap xs ix h a b wa wb)))
 
-pub index_pushed : (xs zs : List Entry) (ix : List ℕ) (e : Entry) (k n : ℕ) → IsIndexed xs ix → key e < length ix → Absent (key e) xs → zs ≡ xs ++ e ∷ [] → k ≡ key e → n ≡ length xs → IsIndexed zs (set ix k (n + 1))
+pub index_pushed : (xs zs : List Entry) (ix : List ℕ) (e : Entry) (k n : ℕ) → IsIndexed xs ix → key e < length ix → Absent (key e) xs → zs ≡ xs ++ e ∷ [] → k ≡ key e → n ≡ length xs
+    → IsIndexed zs (set ix k (n + 1))
 index_pushed xs zs ix e k n h lt absent is ek en =
     subst (λ l. IsIndexed l (set ix k (n + 1))) (sym is)
     (subst (λ j. IsIndexed (xs ++ e ∷ []) (set ix j (n + 1))) (sym ek) (subst (λ m. IsIndexed (xs ++ e ∷ []) (set ix (key e) (m + 1))) (sym en) (IsIndexed-push xs ix h e lt absent)))

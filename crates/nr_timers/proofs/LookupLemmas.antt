@@ -113,7 +113,8 @@ timer_none d s (y ∷ ys) none =
     ∙ timer_none d s ys (Absent-tail (key_of d s) y ys none)
 
 -- where the same entries have a descriptor's side, it has the same timer
-pub same_timer : (d : ℕ) (s : Side) (xs ys : List Entry) → Apart key xs → Apart key ys → ((x : Entry) → key x ≡ key_of d s → Has x xs → Has x ys) → ((x : Entry) → key x ≡ key_of d s → Has x ys → Has x xs) → timer_of xs d s ≡ timer_of ys d s
+pub same_timer : (d : ℕ) (s : Side) (xs ys : List Entry) → Apart key xs → Apart key ys → ((x : Entry) → key x ≡ key_of d s → Has x xs → Has x ys)
+    → ((x : Entry) → key x ≡ key_of d s → Has x ys → Has x xs) → timer_of xs d s ≡ timer_of ys d s
 same_timer d s xs ys apart_x apart_y to from =
     ⊎_elim
     (
@@ -127,7 +128,8 @@ other_side : (d k : ℕ) (s t : Side) → d ≢ k → key_of d s ≢ key_of k t
 other_side d k s t n e = n (one_side d k s t e).0
 
 -- one descriptor's side has this timer, and all others what they had
-pub sets_timer : (d : ℕ) (side : Side) (timer : Option Timer) (old new : List Entry) → timer_of new d side ≡ timer → ((k : ℕ) (s : Side) → key_of k s ≢ key_of d side → timer_of new k s ≡ timer_of old k s) → SetsTimer d side timer old new
+pub sets_timer : (d : ℕ) (side : Side) (timer : Option Timer) (old new : List Entry) → timer_of new d side ≡ timer
+    → ((k : ℕ) (s : Side) → key_of k s ≢ key_of d side → timer_of new k s ≡ timer_of old k s) → SetsTimer d side timer old new
 sets_timer d Read timer old new here others =
     record {
       here = λ i. record { read = here i; write = others d Write (λ e. let is : 2 * d + 1 ≡ 2 * d = e in omega arith) i };

@@ -34,7 +34,8 @@ stopped_weight None = lit≤ tt
 stopped_weight (Some gone) = lit≤ tt
 
 module _ (old : State) (well : IsTimers old) (d : ℕ) (side : Side) (due : ℤ) (function : TimerFunction) (sequence : ℕ) (within : d < old.descriptors) where
-  module _ (time : ℤ) (same_time : time ≡ due) (k : ℕ) (key_is : k ≡ key (armed_entry old d side time function sequence)) (gone : Option Gone) (mid : List Entry) (cleared : Cleared k gone old.entries mid) (cleared_back : ClearedBack gone mid old.entries) where
+  module _ (time : ℤ) (same_time : time ≡ due) (k : ℕ) (key_is : k ≡ key (armed_entry old d side time function sequence)) (gone : Option Gone) (mid : List Entry)
+      (cleared : Cleared k gone old.entries mid) (cleared_back : ClearedBack gone mid old.entries) where
     abbrev e : Entry
     e = armed_entry old d side time function sequence
 
@@ -88,7 +89,8 @@ module _ (old : State) (well : IsTimers old) (d : ℕ) (side : Side) (due : ℤ)
           }
           )
 
-module _ (old : State) (well : IsTimers old) (d : ℕ) (side : Side) (within : d < old.descriptors) (k : ℕ) (key_is : k ≡ key_of d side) (gone : Option Gone) (new : List Entry) (cleared : Cleared k gone old.entries new) (cleared_back : ClearedBack gone new old.entries) where
+module _ (old : State) (well : IsTimers old) (d : ℕ) (side : Side) (within : d < old.descriptors) (k : ℕ) (key_is : k ≡ key_of d side) (gone : Option Gone) (new : List Entry)
+    (cleared : Cleared k gone old.entries new) (cleared_back : ClearedBack gone new old.entries) where
   cleared_there : Cleared (key_of d side) gone old.entries new
   cleared_there = subst (λ n. Cleared n gone old.entries new) key_is cleared
 
@@ -111,7 +113,9 @@ module _ (old : State) (well : IsTimers old) (d : ℕ) (side : Side) (within : d
       }
       )
 
-pub popping : (old : State) → IsTimers old → (now : ℤ) → 0 < length old.entries → int_le (at old.entries 0).timer.due now ≡ true → length old.firings < 2 * old.descriptors → (q : ℕ) (e : Entry) (new firings : List Entry) → e ≡ at old.entries 0 → firings ≡ old.firings ++ e ∷ [] → Removed old.entries 0 q new → RemovedBack 0 q e new old.entries → Ordered new → Applies old (Pop now) (Popped q) (record old { entries = new; firings = firings })
+pub popping : (old : State) → IsTimers old → (now : ℤ) → 0 < length old.entries → int_le (at old.entries 0).timer.due now ≡ true → length old.firings < 2 * old.descriptors
+    → (q : ℕ) (e : Entry) (new firings : List Entry) → e ≡ at old.entries 0 → firings ≡ old.firings ++ e ∷ [] → Removed old.entries 0 q new → RemovedBack 0 q e new old.entries → Ordered new
+    → Applies old (Pop now) (Popped q) (record old { entries = new; firings = firings })
 popping old well now some due room q e new firings first is removed back ordered =
     subst (λ (fs : List Entry). Applies old (Pop now) (Popped q) (record old { entries = new; firings = fs })) (sym is)
     (
@@ -147,7 +151,8 @@ Drawn-remove xs i lt =
       apart = λ p q l m e. grind (arith, nat_tests);
     }
 
-pub taking : (old : State) (i : ℕ) (e : Entry) (rest : List Entry) → IsTimers old → slice_get old.firings i ≡ Some e → rest ≡ remove old.firings i → Applies old (TakeFiring i) (Taken i e) (record old { firings = rest })
+pub taking : (old : State) (i : ℕ) (e : Entry) (rest : List Entry) → IsTimers old → slice_get old.firings i ≡ Some e → rest ≡ remove old.firings i
+    → Applies old (TakeFiring i) (Taken i e) (record old { firings = rest })
 taking old i e rest well is same =
     let lt = slice_get_within old.firings i e is in
     let size = length-remove old.firings i lt in

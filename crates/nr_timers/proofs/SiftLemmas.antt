@@ -12,13 +12,15 @@ use Rattle.nr_timers.proofs.LineLemmas.{at-swap, moved_down-more, length-moved_u
 use Rattle.nr_timers.proofs.ExchangeLemmas.{OrderedAbove-up, Raised-up, OrderedBelow-down, Sunk-down}
 
 -- the least so far and one more
-pub least_new : (xs : List Entry) (from i least new : ℕ) → new ≡ i → is_less (at xs i) (at xs least) ≡ true → ((j : ℕ) → from ≤ j → j < i → is_less (at xs j) (at xs least) ≡ false) → (j : ℕ) → from ≤ j → j < i + 1 → is_less (at xs j) (at xs new) ≡ false
+pub least_new : (xs : List Entry) (from i least new : ℕ) → new ≡ i → is_less (at xs i) (at xs least) ≡ true → ((j : ℕ) → from ≤ j → j < i → is_less (at xs j) (at xs least) ≡ false) → (j : ℕ)
+    → from ≤ j → j < i + 1 → is_less (at xs j) (at xs new) ≡ false
 least_new xs from i least new e less so_far j lo hi =
     ⊎_elim (λ lt. rw e (not_less-trans (at xs i) (at xs least) (at xs j) (less_once _ _ less) (so_far j lo lt)))
     (λ ge. let same : j ≡ i = omega arith in rw (e, same) (less_self (at xs i)))
     (cases_lt j i)
 
-pub least_kept : (xs : List Entry) (from i least new : ℕ) → new ≡ least → is_less (at xs i) (at xs least) ≡ false → ((j : ℕ) → from ≤ j → j < i → is_less (at xs j) (at xs least) ≡ false) → (j : ℕ) → from ≤ j → j < i + 1 → is_less (at xs j) (at xs new) ≡ false
+pub least_kept : (xs : List Entry) (from i least new : ℕ) → new ≡ least → is_less (at xs i) (at xs least) ≡ false → ((j : ℕ) → from ≤ j → j < i → is_less (at xs j) (at xs least) ≡ false) → (j : ℕ)
+    → from ≤ j → j < i + 1 → is_less (at xs j) (at xs new) ≡ false
 least_kept xs from i least new e less so_far j lo hi =
     ⊎_elim (λ lt. rw e (so_far j lo lt))
     (λ ge. let same : j ≡ i = omega arith in rw (e, same) less)
@@ -49,7 +51,8 @@ Raised-none old p h = record {
   others = λ k lt off. refl;
 }
 
-module _ (old mid last : List Entry) (p c q : ℕ) (above : 0 < c) (is_child : parent c ≡ p) (within : c < length old) (less : is_less (at old c) (at old p) ≡ true) (least : (i : ℕ) → 0 < i → i < length old → parent i ≡ p → is_less (at old i) (at old c) ≡ false) (e : mid ≡ swap old c p) where
+module _ (old mid last : List Entry) (p c q : ℕ) (above : 0 < c) (is_child : parent c ≡ p) (within : c < length old) (less : is_less (at old c) (at old p) ≡ true)
+    (least : (i : ℕ) → 0 < i → i < length old → parent i ≡ p → is_less (at old i) (at old c) ≡ false) (e : mid ≡ swap old c p) where
   pub down_moved : ((n : ℕ) × Leads n q c × (last ≡ moved_down n mid q)) → (n : ℕ) × Leads n q p × (last ≡ moved_down n old q)
   down_moved h = (
     suc h.0,
@@ -82,14 +85,17 @@ module _ (old : List Entry) (p : ℕ) (within : p < length old) (lowest : (i : �
   OrderedBelow-none h i above within = ⊎_elim (λ e. rw e (lowest i above within e)) (λ other. h.others i above within other) (cases_eq (parent i) p)
 
 -- where the least child isn't less, none is
-pub none_less : (old : List Entry) (p c : ℕ) → is_less (at old c) (at old p) ≡ false → ((i : ℕ) → 0 < i → i < length old → parent i ≡ p → is_less (at old i) (at old c) ≡ false) → (i : ℕ) → 0 < i → i < length old → parent i ≡ p → is_less (at old i) (at old p) ≡ false
+pub none_less : (old : List Entry) (p c : ℕ) → is_less (at old c) (at old p) ≡ false → ((i : ℕ) → 0 < i → i < length old → parent i ≡ p → is_less (at old i) (at old c) ≡ false) → (i : ℕ) → 0 < i
+    → i < length old → parent i ≡ p → is_less (at old i) (at old p) ≡ false
 none_less old p c not_less least i above within child = not_less-trans (at old p) (at old c) (at old i) not_less (least i above within child)
 
 -- one exchange more on a known way
-pub lower_more : (old mid new : List Entry) (p q : ℕ) → q < p → ((n : ℕ) × Leads n (parent p) q × (mid ≡ moved_down n old (parent p))) → new ≡ swap mid p (parent p) → (n : ℕ) × Leads n p q × (new ≡ moved_down n old p)
+pub lower_more : (old mid new : List Entry) (p q : ℕ) → q < p → ((n : ℕ) × Leads n (parent p) q × (mid ≡ moved_down n old (parent p))) → new ≡ swap mid p (parent p)
+    → (n : ℕ) × Leads n p q × (new ≡ moved_down n old p)
 lower_more old mid new p q lt h e = (suc h.0, (omega arith, h.1), e ∙ ap (λ xs. swap xs p (parent p)) h.2)
 
-pub lift_more : (old mid new : List Entry) (p q : ℕ) → q < p → mid ≡ swap old p (parent p) → ((n : ℕ) × Leads n (parent p) q × (new ≡ moved_up n mid (parent p))) → (n : ℕ) × Leads n p q × (new ≡ moved_up n old p)
+pub lift_more : (old mid new : List Entry) (p q : ℕ) → q < p → mid ≡ swap old p (parent p) → ((n : ℕ) × Leads n (parent p) q × (new ≡ moved_up n mid (parent p)))
+    → (n : ℕ) × Leads n p q × (new ≡ moved_up n old p)
 lift_more old mid new p q lt e h = (suc h.0, (omega arith, h.1), h.2 ∙ ap (λ xs. moved_up h.0 xs (parent p)) e)
 
 -- the end of a line that isn't below its start is the start

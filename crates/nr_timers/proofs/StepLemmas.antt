@@ -54,7 +54,8 @@ has_below f limit xs x below h = subst (λ (y : Entry). f y < limit) h.2 (below 
 pub has_apart : (next : ℕ) (entries firings : List Entry) (x y : Entry) → Numbered next entries firings → Has x entries → Has y firings → number x ≢ number y
 has_apart next entries firings x y n h g e = n.apart h.0 g.0 h.1 g.1 (ap number h.2 ∙ e ∙ ap number (sym g.2))
 
-pub numbered_from : (next : ℕ) (entries firings : List Entry) → ((x : Entry) → Has x entries → number x < next) → ((x : Entry) → Has x firings → number x < next) → Apart number entries → Apart number firings → ((x y : Entry) → Has x entries → Has y firings → number x ≢ number y) → Numbered next entries firings
+pub numbered_from : (next : ℕ) (entries firings : List Entry) → ((x : Entry) → Has x entries → number x < next) → ((x : Entry) → Has x firings → number x < next) → Apart number entries
+    → Apart number firings → ((x y : Entry) → Has x entries → Has y firings → number x ≢ number y) → Numbered next entries firings
 numbered_from next entries firings below below_f once once_f apart =
     record {
       entries_below = λ p lt. below (at entries p) (p, lt, refl);
@@ -117,7 +118,8 @@ module _ (old : State) (well : IsTimers old) (q : ℕ) (e : Entry) (new : List E
   gone : Emptied (key_of (at old.entries 0).descriptor (at old.entries 0).side) old.entries new
   gone = emptied_removed (key_of (at old.entries 0).descriptor (at old.entries 0).side) 0 q (2 * old.descriptors) e old.entries new well.keyed (ap key first ∙ key_is (at old.entries 0)) back
 
-  pub pops : (now : ℤ) → 0 < length old.entries → int_le (at old.entries 0).timer.due now ≡ true → length old.firings < 2 * old.descriptors → Removed old.entries 0 q new → Pops old now (record old { entries = new; firings = old.firings ++ e ∷ [] })
+  pub pops : (now : ℤ) → 0 < length old.entries → int_le (at old.entries 0).timer.due now ≡ true → length old.firings < 2 * old.descriptors → Removed old.entries 0 q new
+      → Pops old now (record old { entries = new; firings = old.firings ++ e ∷ [] })
   pops now some due room removed =
       record {
         some = some;
@@ -168,7 +170,8 @@ pub number_armed : (old : State) (e : Entry) (d : ℕ) (side : Side) (due : ℤ)
 unfolding number
 number_armed old e d side due function sequence is = ap number is
 
-module _ (old : State) (well : IsTimers old) (e : Entry) (mid new : List Entry) (q : ℕ) (none : Emptied (key e) old.entries mid) (back : InsertedBack q new mid) (arrives : at new q ≡ e) (within : e.descriptor < old.descriptors) (numbered : number e ≡ old.next) where
+module _ (old : State) (well : IsTimers old) (e : Entry) (mid new : List Entry) (q : ℕ) (none : Emptied (key e) old.entries mid) (back : InsertedBack q new mid) (arrives : at new q ≡ e)
+    (within : e.descriptor < old.descriptors) (numbered : number e ≡ old.next) where
   there : (x : Entry) → Has x new → Has x mid ⊎ (x ≡ e)
   there x h = ⊎_elim (λ before. inl before) (λ is. inr (is ∙ arrives)) (Has-there q new mid back x h)
 
@@ -246,7 +249,8 @@ module _ (old : State) (least : Entry) (now : ℤ) (is : slice_get old.entries 0
   pub least_is : at old.entries 0 ≡ least
   least_is = get_or_from_slice_get old.entries 0 least blank is
 
-pub popped_back : (old : State) (q : ℕ) (e : Entry) (new : List Entry) → Keyed old.entries (2 * old.descriptors) → RemovedBack 0 q e new old.entries → PoppedBack q (record old { entries = new; firings = old.firings ++ e ∷ [] }) old
+pub popped_back : (old : State) (q : ℕ) (e : Entry) (new : List Entry) → Keyed old.entries (2 * old.descriptors) → RemovedBack 0 q e new old.entries
+    → PoppedBack q (record old { entries = new; firings = old.firings ++ e ∷ [] }) old
 popped_back old q e new keyed back =
     let size : length (old.firings ++ e ∷ []) ≡ length old.firings + 1 = length_push old.firings e in
     let end : length (old.firings ++ e ∷ []) - 1 ≡ length old.firings = omega arith in

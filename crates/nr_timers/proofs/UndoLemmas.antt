@@ -24,10 +24,12 @@ module _ (now new : State) (descriptors : new.descriptors ≡ now.descriptors) w
         rest = λ i. record { entries = new.entries; firings = firings i; next = new.next; descriptors = descriptors i };
       }
 
-  pub rearmed_undone : (to place last : ℕ) (timer : Timer) (mid : List Entry) → InsertedBack to now.entries mid → RemovedBack place last (with_timer now.entries to timer) mid new.entries → new.firings ≡ now.firings → new.next ≡ now.next - 1 → ((old : State) × RearmedBack to place last timer now old) → RearmedBack to place last timer now new
+  pub rearmed_undone : (to place last : ℕ) (timer : Timer) (mid : List Entry) → InsertedBack to now.entries mid → RemovedBack place last (with_timer now.entries to timer) mid new.entries
+      → new.firings ≡ now.firings → new.next ≡ now.next - 1 → ((old : State) × RearmedBack to place last timer now old) → RearmedBack to place last timer now new
   rearmed_undone to place last timer mid back removed firings next (old, b) =
       let mids = InsertedBack-unique to now.entries b.places.0 mid b.places.1 back in
-      let same = RemovedBack-unique place last (with_timer now.entries to timer) mid old.entries new.entries (subst (λ (m : List Entry). RemovedBack place last (with_timer now.entries to timer) m old.entries) mids b.places.2) removed in
+      let same = RemovedBack-unique place last (with_timer now.entries to timer) mid old.entries new.entries
+      (subst (λ (m : List Entry). RemovedBack place last (with_timer now.entries to timer) m old.entries) mids b.places.2) removed in
       let was = b.number in
       record {
         places = (mid, back, removed);
@@ -36,7 +38,8 @@ module _ (now new : State) (descriptors : new.descriptors ≡ now.descriptors) w
         rest = λ i. record { entries = new.entries; firings = firings i; next = new.next; descriptors = descriptors i };
       }
 
-  pub stopped_undone : (place last : ℕ) (entry : Entry) → RemovedBack place last entry now.entries new.entries → new.firings ≡ now.firings → new.next ≡ now.next → ((old : State) × StoppedBack place last entry now old) → StoppedBack place last entry now new
+  pub stopped_undone : (place last : ℕ) (entry : Entry) → RemovedBack place last entry now.entries new.entries → new.firings ≡ now.firings → new.next ≡ now.next
+      → ((old : State) × StoppedBack place last entry now old) → StoppedBack place last entry now new
   stopped_undone place last entry back firings next (old, b) =
       let same = RemovedBack-unique place last entry now.entries old.entries new.entries b.places back in
       record {
@@ -45,7 +48,8 @@ module _ (now new : State) (descriptors : new.descriptors ≡ now.descriptors) w
         rest = λ i. record { entries = new.entries; firings = firings i; next = next i; descriptors = descriptors i };
       }
 
-  pub popped_undone : (last : ℕ) (entry : Entry) → entry ≡ at now.firings (length now.firings - 1) → RemovedBack 0 last entry now.entries new.entries → new.firings ≡ take (length now.firings - 1) now.firings → new.next ≡ now.next → ((old : State) × PoppedBack last now old) → PoppedBack last now new
+  pub popped_undone : (last : ℕ) (entry : Entry) → entry ≡ at now.firings (length now.firings - 1) → RemovedBack 0 last entry now.entries new.entries
+      → new.firings ≡ take (length now.firings - 1) now.firings → new.next ≡ now.next → ((old : State) × PoppedBack last now old) → PoppedBack last now new
   popped_undone last entry is back firings next (old, b) =
       let here : RemovedBack 0 last (at now.firings (length now.firings - 1)) now.entries new.entries = subst (λ (x : Entry). RemovedBack 0 last x now.entries new.entries) is back in
       let same = RemovedBack-unique 0 last (at now.firings (length now.firings - 1)) now.entries old.entries new.entries b.places here in
@@ -57,7 +61,8 @@ module _ (now new : State) (descriptors : new.descriptors ≡ now.descriptors) w
       }
 
 -- what putting the entry back requires
-pub rearmed_needs : (now : State) (to place last limit : ℕ) (timer : Timer) (mid : List Entry) → InsertedBack to now.entries mid → limit ≡ 2 * now.descriptors → ((old : State) × RearmedBack to place last timer now old) → (x : List Entry) × RemovedBack place last (with_timer now.entries to timer) mid x × Keyed x limit
+pub rearmed_needs : (now : State) (to place last limit : ℕ) (timer : Timer) (mid : List Entry) → InsertedBack to now.entries mid → limit ≡ 2 * now.descriptors
+    → ((old : State) × RearmedBack to place last timer now old) → (x : List Entry) × RemovedBack place last (with_timer now.entries to timer) mid x × Keyed x limit
 rearmed_needs now to place last limit timer mid back is (old, b) = (
   old.entries,
   subst (λ (m : List Entry). RemovedBack place last (with_timer now.entries to timer) m old.entries) (InsertedBack-unique to now.entries b.places.0 mid b.places.1 back) b.places.2,

@@ -2,7 +2,7 @@
 use Rattle.std.specs.Prelude.{◌≡◌, ℕ, ◌+◌, ◌-◌, ◌*◌, ◌<◌, ◌≤◌, List, length, take, insert}
 use Rattle.nr_rev.specs.declared.timer.Entry.{Entry}
 use Rattle.nr_rev.specs.declared.timer.Timer.{Timer}
-use Rattle.nr_rev.specs.Weight.{variant_words, number_words, timer_words, entry_words}
+use Rattle.nr_rev.specs.Weight.{variant_weight, number_weight, timer_weight, entry_weight}
 use Rattle.nr_timers.specs.declared.delta.TimersDelta.{TimersDelta}
 use Rattle.nr_timers.specs.declared.delta.TimersUndo.{TimersUndo}
 use Rattle.nr_timers.specs.declared.delta.TimersUndo.TheVariants.{Armed, Rearmed, Stopped, Still, Popped, Taken}
@@ -17,8 +17,8 @@ use Rattle.nr_timers.specs.State.{State}
 abbrev pub with_timer : List Entry → ℕ → Timer → Entry
 with_timer entries place timer = record (at entries place) { timer = timer }
 
--- A timer was armed where none was, and its entry went to a place. Before, too, each entry had a key of its own within the
--- limit.
+-- A timer was armed where none was, and its entry went to a place. Before, too, each entry had a
+-- key of its own within the limit.
 pub record ArmedBack (to : ℕ) (new old : State) : Type 0 where
   pub places : InsertedBack to new.entries old.entries
   pub keyed : Keyed old.entries (2 * new.descriptors)
@@ -44,7 +44,10 @@ pub record PoppedBack (last : ℕ) (new old : State) : Type 0 where
   pub some : 0 < length new.firings
   pub places : RemovedBack 0 last (at new.firings (length new.firings - 1)) new.entries old.entries
   pub keyed : Keyed old.entries (2 * new.descriptors)
-  pub rest : old ≡ record new { entries = old.entries; firings = take (length new.firings - 1) new.firings }
+  pub rest : old ≡ record new {
+    entries = old.entries;
+    firings = take (length new.firings - 1) new.firings;
+  }
 
 -- the firing was taken out of a place
 pub record FiringBack (place : ℕ) (entry : Entry) (new old : State) : Type 0 where
@@ -67,13 +70,15 @@ TimersBack delta new old = UndoBack delta.undo new old
 
 -- how many words an undo holds: those of its variant and of all that it has
 abbrev pub undo_weight : TimersUndo → ℕ
-undo_weight (Armed to) = variant_words + number_words to
+undo_weight (Armed to) = variant_weight + number_weight to
 undo_weight (Rearmed to place last timer) =
-    variant_words + number_words to + number_words place + number_words last + timer_words timer
-undo_weight (Stopped place last entry) = variant_words + number_words place + number_words last + entry_words entry
-undo_weight Still = variant_words
-undo_weight (Popped last) = variant_words + number_words last
-undo_weight (Taken place entry) = variant_words + number_words place + entry_words entry
+    variant_weight + number_weight to + number_weight place + number_weight last
+    + timer_weight timer
+undo_weight (Stopped place last entry) =
+    variant_weight + number_weight place + number_weight last + entry_weight entry
+undo_weight Still = variant_weight
+undo_weight (Popped last) = variant_weight + number_weight last
+undo_weight (Taken place entry) = variant_weight + number_weight place + entry_weight entry
 
 -- how many words a delta holds
 abbrev pub delta_weight : TimersDelta → ℕ

@@ -31,8 +31,8 @@ pub record RemovedDown (old : List Entry) (p q : ℕ) (new : List Entry) : Type 
   pub not_less : 0 < p → is_less (at old (length old - 1)) (at old (parent p)) ≡ false
   pub sunk : Sunk old p (at old (length old - 1)) q new
 
--- The entry at p is gone. The last one takes its place, and is at q after it went up or down; where p was the last
--- place, that is all.
+-- The entry at p is gone. The last one takes its place, and is at q after it went up or down; where
+-- p was the last place, that is all.
 abbrev pub Removed : List Entry → ℕ → ℕ → List Entry → Type 0
 Removed old p q new = LastRemoved old p q new ⊎ (RemovedUp old p q new ⊎ RemovedDown old p q new)
 
@@ -43,7 +43,8 @@ refilled old p = take (length old - 1) (swap old p (length old - 1))
 -- the entry at q taken back to p along the line of parents
 abbrev pub TakenBack : ℕ → ℕ → List Entry → List Entry → Type 0
 TakenBack p q new rest =
-    ((n : ℕ) × Leads n p q × (rest ≡ moved_down n new p)) ⊎ ((n : ℕ) × Leads n q p × (rest ≡ moved_up n new q))
+    ((n : ℕ) × Leads n p q × (rest ≡ moved_down n new p))
+    ⊎ ((n : ℕ) × Leads n q p × (rest ≡ moved_up n new q))
 
 -- the way back over an insertion that ended at q
 abbrev pub InsertedBack : ℕ → List Entry → List Entry → Type 0
@@ -51,8 +52,10 @@ InsertedBack q new old =
     (0 < length new) × (n : ℕ) × Leads n (length new - 1) q
     × (old ≡ take (length new - 1) (moved_down n new (length new - 1)))
 
--- the way back over the removal of the entry from p, after which the one that had been last was at q
+-- the way back over the removal of the entry from p, after which the one that had been last was at
+-- q
 abbrev pub RemovedBack : ℕ → ℕ → Entry → List Entry → List Entry → Type 0
 RemovedBack p q entry new old =
     ((p ≡ length new) × (q ≡ p) ⊎ (p < length new) × (q < length new))
-    × (rest : List Entry) × TakenBack p q new rest × (old ≡ swap (rest ++ entry ∷ []) p (length new))
+    × (rest : List Entry) × TakenBack p q new rest
+    × (old ≡ swap (rest ++ entry ∷ []) p (length new))

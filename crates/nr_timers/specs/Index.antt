@@ -33,5 +33,6 @@ pub record IsIndexed (entries : List Entry) (index : List ℕ) : Type 0 where
   pub below : AllBelow key (length index) entries
   pub found : (p : ℕ) → p < length entries → slice_index_or index (key (at entries p)) 0 ≡ p + 1
   pub within : (k : ℕ) → 0 < slice_index_or index k 0 → slice_index_or index k 0 ≤ length entries
-  pub kept : (k : ℕ) → 0 < slice_index_or index k 0 → key (at entries (slice_index_or index k 0 - 1)) ≡ k
+  pub kept : (k : ℕ) → 0 < slice_index_or index k 0
+      → key (at entries (slice_index_or index k 0 - 1)) ≡ k
   pub count : length entries + sum_by free index ≡ length index

@@ -1,13 +1,13 @@
 -- what callers need
 pub mod Order
 pub mod Line
-pub mod Change
 pub mod Index
 pub mod TimersOf
 pub mod State
 pub mod Step
 pub mod Back
--- what is inner
+-- inner: what only definitions and proofs of this crate use
+pub mod Change
 pub mod Places
 pub mod Clearing
 pub mod Performing

@@ -41,7 +41,8 @@ InOrderAcross places p =
     (i : ℕ) → 0 < i → i < length places → parent i ≡ p → 0 < p
     → is_less (at places i) (at places (parent p)) ≡ false
 
--- all but the entry at p are in order towards their parents, and those below p also towards p's parent
+-- all but the entry at p are in order towards their parents, and those below p also towards p's
+-- parent
 pub record OrderedAbove (places : List Entry) (p : ℕ) : Type 0 where
   pub others : (i : ℕ) → 0 < i → i < length places → (i ≡ p → ⊥) → InOrder places i
   pub across : InOrderAcross places p
@@ -51,23 +52,28 @@ pub record OrderedBelow (places : List Entry) (p : ℕ) : Type 0 where
   pub others : (i : ℕ) → 0 < i → i < length places → (parent i ≡ p → ⊥) → InOrder places i
   pub across : InOrderAcross places p
 
--- all but the entry at p and those below it are in order towards their parents, and those below it towards p's parent
+-- all but the entry at p and those below it are in order towards their parents, and those below it
+-- towards p's parent
 pub record OrderedAround (places : List Entry) (p : ℕ) : Type 0 where
-  pub others : (i : ℕ) → 0 < i → i < length places → (i ≡ p → ⊥) → (parent i ≡ p → ⊥) → InOrder places i
+  pub others : (i : ℕ) → 0 < i → i < length places → (i ≡ p → ⊥) → (parent i ≡ p → ⊥)
+      → InOrder places i
   pub across : InOrderAcross places p
 
--- With p taken as empty, the entry is at q, the highest place of the line of parents from p, p included, such that all
--- entries between were greater. These are one place of the line lower, and all others stay.
-pub record Raised (old : List Entry) (p : ℕ) (entry : Entry) (q : ℕ) (new : List Entry) : Type 0 where
-  pub on_line : OnLine p q
-  pub arrives : at new q ≡ entry
-  pub lower : (k : ℕ) → OnLine p k → q < k → at new k ≡ at old (parent k)
-  pub greater : (k : ℕ) → OnLine p k → q < k → is_less entry (at old (parent k)) ≡ true
-  pub highest : 0 < q → is_less entry (at old (parent q)) ≡ false
-  pub others : (k : ℕ) → k < length new → (OnLine p k → q ≤ k → ⊥) → at new k ≡ at old k
+-- With p taken as empty, the entry is at q, the highest place of the line of parents from p, p
+-- included, such that all entries between were greater. These are one place of the line lower, and
+-- all others stay.
+pub record Raised (old : List Entry) (p : ℕ) (entry : Entry) (q : ℕ) (new : List Entry) : Type 0
+  where
+    pub on_line : OnLine p q
+    pub arrives : at new q ≡ entry
+    pub lower : (k : ℕ) → OnLine p k → q < k → at new k ≡ at old (parent k)
+    pub greater : (k : ℕ) → OnLine p k → q < k → is_less entry (at old (parent k)) ≡ true
+    pub highest : 0 < q → is_less entry (at old (parent q)) ≡ false
+    pub others : (k : ℕ) → k < length new → (OnLine p k → q ≤ k → ⊥) → at new k ≡ at old k
 
--- With p taken as empty, the entry is at q, of which no child is less. Each entry of the line from q to below p, the least
--- child of its parent and less than the entry, is one place of the line higher, and all others stay.
+-- With p taken as empty, the entry is at q, of which no child is less. Each entry of the line from
+-- q to below p, the least child of its parent and less than the entry, is one place of the line
+-- higher, and all others stay.
 pub record Sunk (old : List Entry) (p : ℕ) (entry : Entry) (q : ℕ) (new : List Entry) : Type 0 where
   pub on_line : OnLine q p
   pub within : q < length new
@@ -80,7 +86,7 @@ pub record Sunk (old : List Entry) (p : ℕ) (entry : Entry) (q : ℕ) (new : Li
   pub others : (k : ℕ) → k < length new → (OnLine q k → p ≤ k → ⊥) → at new k ≡ at old k
 
 -- the entry at p went up to q, or, not less than the one at p's parent, down to it
-abbrev pub Settled : List Entry → ℕ → ℕ → List Entry → Type 0
-Settled old p q new =
+abbrev pub Sifted : List Entry → ℕ → ℕ → List Entry → Type 0
+Sifted old p q new =
     ((q < p) × Raised old p (at old p) q new)
     ⊎ ((0 < p → is_less (at old p) (at old (parent p)) ≡ false) × Sunk old p (at old p) q new)

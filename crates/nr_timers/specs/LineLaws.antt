@@ -29,7 +29,8 @@ Leads-more (suc n) p q h above = (h.0, Leads-more n (parent p) q h.1 above)
 -- the last step apart
 pub Leads-last : (n p q : ℕ) → Leads (suc n) p q → (r : ℕ) × Leads n p r × (0 < r) × (parent r ≡ q)
 Leads-last zero p q h = (p, refl, h.0, sym h.1)
-Leads-last (suc n) p q h = let rest = Leads-last n (parent p) q h.1 in (rest.0, (h.0, rest.1), rest.2, rest.3)
+Leads-last (suc n) p q h =
+    let rest = Leads-last n (parent p) q h.1 in (rest.0, (h.0, rest.1), rest.2, rest.3)
 
 -- a place on a line is its start or on the line of the start's parent
 pub OnLine-cases : (p k : ℕ) → OnLine p k → (k ≡ p) ⊎ ((0 < p) × OnLine (parent p) k)
@@ -40,14 +41,17 @@ pub OnLine-more : (p k : ℕ) → 0 < p → OnLine (parent p) k → OnLine p k
 OnLine-more p k above h = (suc h.0, (above, h.1))
 
 -- it is its start or the parent of another one
-pub OnLine-ends : (p k : ℕ) → OnLine p k → (k ≡ p) ⊎ ((r : ℕ) × OnLine p r × (0 < r) × (parent r ≡ k))
+pub OnLine-ends : (p k : ℕ) → OnLine p k
+    → (k ≡ p) ⊎ ((r : ℕ) × OnLine p r × (0 < r) × (parent r ≡ k))
 OnLine-ends p k (zero, h) = inl h
-OnLine-ends p k (suc n, h) = let last = Leads-last n p k h in inr (last.0, (n, last.1), last.2, last.3)
+OnLine-ends p k (suc n, h) =
+    let last = Leads-last n p k h in inr (last.0, (n, last.1), last.2, last.3)
 
 -- whether a place is on a line
 pub on_line_or_not : (n p k : ℕ) → p ≤ n → OnLine p k ⊎ (OnLine p k → ⊥)
 on_line_or_not zero p k le =
-    ⊎_elim (λ e. inl (0, e)) (λ other. inr (λ on. let low = OnLine-le p k on in other (omega arith))) (cases_eq k p)
+    ⊎_elim (λ e. inl (0, e))
+    (λ other. inr (λ on. let low = OnLine-le p k on in other (omega arith))) (cases_eq k p)
 on_line_or_not (suc n) p k le =
     ⊎_elim (λ e. inl (0, e))
     (

@@ -32,4 +32,5 @@ AllBelow f limit places = (p : ℕ) → p < length places → f (at places p) < 
 
 -- a number of the entries differs at any two places
 abbrev pub Apart : (Entry → ℕ) → List Entry → Type 0
-Apart f places = (p q : ℕ) → p < length places → q < length places → f (at places p) ≡ f (at places q) → p ≡ q
+Apart f places =
+    (p q : ℕ) → p < length places → q < length places → f (at places p) ≡ f (at places q) → p ≡ q

@@ -5,7 +5,8 @@ use Rattle.nr_timers.specs.Order.{at, number, AllBelow, Apart}
 use Rattle.nr_timers.specs.Line.{Ordered}
 use Rattle.nr_timers.specs.Index.{Keyed}
 
--- the entries by place, the firings in order, the next arming number, and how many descriptors there may be
+-- the entries by place, the firings in order, the next arming number, and how many descriptors
+-- there may be
 pub record State : Type 0 where
   pub entries : List Entry
   pub firings : List Entry
@@ -18,10 +19,12 @@ pub record Numbered (next : ℕ) (entries firings : List Entry) : Type 0 where
   pub firings_below : AllBelow number next firings
   pub entries_once : Apart number entries
   pub firings_once : Apart number firings
-  pub apart : (p q : ℕ) → p < length entries → q < length firings → number (at entries p) ≢ number (at firings q)
+  pub apart : (p q : ℕ) → p < length entries → q < length firings
+      → number (at entries p) ≢ number (at firings q)
 
--- Well-formed timers: the heap is ordered; each descriptor's side has one entry at most, and its descriptor is below the
--- limit; there are at most two firings for each descriptor; the next arming number has 64 bits and isn't 0.
+-- Well-formed timers: the heap is ordered. Each descriptor's side has one entry at most, and its
+-- descriptor is below the limit. There are at most two firings for each descriptor. The next arming
+-- number has 64 bits and isn't 0.
 pub record IsTimers (t : State) : Type 0 where
   pub ordered : Ordered t.entries
   pub keyed : Keyed t.entries (2 * t.descriptors)

@@ -23,7 +23,8 @@ Clears k old new =
 pub record Arms (old : State) (entry : Entry) (new : State) : Type 0 where
   pub descriptor : entry.descriptor < old.descriptors
   pub number : old.next < 2 ^ 64 - 1
-  pub places : (mid : List Entry) × Clears (key entry) old.entries mid × ((q : ℕ) × Inserted mid entry q new.entries)
+  pub places : (mid : List Entry) × Clears (key entry) old.entries mid
+      × ((q : ℕ) × Inserted mid entry q new.entries)
   pub timers : SetsTimer entry.descriptor entry.side (Some entry.timer) old.entries new.entries
   pub rest : new ≡ record old { entries = new.entries; next = old.next + 1 }
 
@@ -40,8 +41,12 @@ pub record Pops (old : State) (now : ℤ) (new : State) : Type 0 where
   pub due : int_le (at old.entries 0).timer.due now ≡ true
   pub room : length old.firings < 2 * old.descriptors
   pub places : (q : ℕ) × Removed old.entries 0 q new.entries
-  pub timers : SetsTimer (at old.entries 0).descriptor (at old.entries 0).side None old.entries new.entries
-  pub rest : new ≡ record old { entries = new.entries; firings = old.firings ++ at old.entries 0 ∷ [] }
+  pub timers : SetsTimer (at old.entries 0).descriptor (at old.entries 0).side None old.entries
+      new.entries
+  pub rest : new ≡ record old {
+    entries = new.entries;
+    firings = old.firings ++ at old.entries 0 ∷ [];
+  }
 
 -- a firing leaves
 pub record TakesFiring (old : State) (place : ℕ) (new : State) : Type 0 where
@@ -59,12 +64,13 @@ armed_entry old d side due function sequence =
 
 -- the operation leads from the old timers to the new ones
 abbrev pub Makes : State → TimersOp → State → Type 0
-Makes old (Arm d side due function sequence) new = Arms old (armed_entry old d side due function sequence) new
+Makes old (Arm d side due function sequence) new =
+    Arms old (armed_entry old d side due function sequence) new
 Makes old (Stop d side) new = Stops old d side new
 Makes old (Pop now) new = Pops old now new
 Makes old (TakeFiring place) new = TakesFiring old place new
 
--- the same, from well-formed timers; no operation answers anything
+-- the same, from well-formed timers; no operation returns anything
 abbrev pub TimersStep : State → TimersOp → Unit {0} → State → Type 0
 TimersStep old op answer new = IsTimers old × Makes old op new
 
@@ -81,7 +87,8 @@ timers_reason old (Pop now) =
     then (if nat_lt (length old.firings) (2 * old.descriptors) then None else Some FiringsFull)
     else Some NoTimerDue)
     else Some NoTimerDue
-timers_reason old (TakeFiring place) = if nat_lt place (length old.firings) then None else Some NoSuchFiring
+timers_reason old (TakeFiring place) =
+    if nat_lt place (length old.firings) then None else Some NoSuchFiring
 
 -- no operation takes memory
 abbrev pub TakesMemory : State → TimersOp → Type 0

@@ -20,9 +20,10 @@ abbrev pub timers_of : List Entry → ℕ → Sides (Option Timer)
 timers_of entries d = record { read = timer_of entries d Read; write = timer_of entries d Write }
 
 -- the timer of descriptor d's side is now this one, or none, and all others stay
-pub record SetsTimer (d : ℕ) (side : Side) (timer : Option Timer) (old new : List Entry) : Type 0 where
-  pub here : timers_of new d ≡ with_side side timer (timers_of old d)
-  pub others : (k : ℕ) → k ≢ d → timers_of new k ≡ timers_of old k
+pub record SetsTimer (d : ℕ) (side : Side) (timer : Option Timer) (old new : List Entry) : Type 0
+  where
+    pub here : timers_of new d ≡ with_side side timer (timers_of old d)
+    pub others : (k : ℕ) → k ≢ d → timers_of new k ≡ timers_of old k
 
 -- these are the timers of the descriptors from number 0 on, and all others have none
 abbrev pub AreTimers : List Entry → List (Sides (Option Timer)) → Type 0

@@ -8,7 +8,7 @@ use nr_rev::{Refusal, Reversible};
 /// The heap's entries change places along one line of parents, so that an entry and places lead back.
 impl Reversible for Timers {
     ghost use Rattle.nr_timers.specs.Back.{TimersBack, delta_weight, op_allowance};
-    ghost use Rattle.nr_timers.specs.ReversibleLaws.{TimersBack-unique, memory_is_no_reason, refused_has_no_step, steps_unique, words_are_within};
+    ghost use Rattle.nr_timers.specs.ReversibleLaws.{TimersBack-unique, memory_is_no_reason, refused_has_no_step, steps_unique, weight_is_within};
     ghost use Rattle.nr_timers.specs.State.{IsTimers};
     ghost use Rattle.nr_timers.specs.Step.{TakesMemory, TimersStep, timers_reason};
 
@@ -59,5 +59,5 @@ impl Reversible for Timers {
 
     ghost steps_unique = { steps_unique };
 
-    ghost allowance_is_within = { words_are_within };
+    ghost allowance_is_within = { weight_is_within };
 }

@@ -5,14 +5,14 @@ ghost use Rattle.nr_rev.specs.declared.timer.Entry.{Entry};
 ghost use Rattle.nr_timers.specs.Change.{Inserted, InsertedBack, Removed, RemovedBack, TakenBack, refilled};
 ghost use Rattle.nr_timers.specs.Clearing.{Cleared, ClearedBack};
 ghost use Rattle.nr_timers.specs.Index.{Absent, Keyed, key};
-ghost use Rattle.nr_timers.specs.Line.{Leads, Ordered, OrderedAround, Settled};
+ghost use Rattle.nr_timers.specs.Line.{Leads, Ordered, OrderedAround, Sifted};
 ghost use Rattle.nr_timers.specs.Order.{at};
 
 use crate::heap::{Gone, Heap};
 use nr_rev::Entry;
 
 impl Heap {
-    /// Inserts an entry, and gives its place.
+    /// Inserts an entry, and returns its place.
     #[inline(always)]
     pub(crate) fn insert(&mut self, entry: Entry) -> usize
         requires key { key entry < self.old.limit }
@@ -28,7 +28,7 @@ impl Heap {
         self.raise(place)
     }
 
-    /// Undoes an insertion that ended at a place, and gives the entry back.
+    /// Undoes an insertion that ended at a place, and returns the entry.
     #[inline(always)]
     pub(crate) fn uninsert(&mut self, place: usize) -> Entry
         requires some { 0 < length self.old.entries }
@@ -56,11 +56,11 @@ impl Heap {
         self.pop()
     }
 
-    /// Takes the entry at a place up or down to where it belongs, and gives its place then.
+    /// Takes the entry at a place up or down to where it belongs, and returns its place then.
     #[inline(always)]
-    fn settle(&mut self, place: usize) -> usize
+    fn sift(&mut self, place: usize) -> usize
         requires { place < length self.old.entries }
-        ensures settled { Settled self.old.entries place result self.new.entries }
+        ensures sifted { Sifted self.old.entries place result self.new.entries }
         ensures back { TakenBack place result self.new.entries self.old.entries }
         ensures size { length self.new.entries ≡ length self.old.entries }
         ensures within { result < length self.old.entries }
@@ -74,7 +74,7 @@ impl Heap {
         self.sink(place)
     }
 
-    /// Removes the entry at a place, and gives the place that the one that was last then has.
+    /// Removes the entry at a place, and returns the place that the last one then has.
     #[inline(always)]
     pub(crate) fn remove(&mut self, place: usize) -> (Entry, usize)
         requires { place < length self.old.entries }
@@ -90,7 +90,7 @@ impl Heap {
         if place == self.len() {
             return (entry, place);
         }
-        (entry, self.settle(place))
+        (entry, self.sift(place))
     }
 
     /// Takes the entry at the place `from` back along the line of parents to a place.

@@ -11,7 +11,7 @@ use crate::timers::Timers;
 use nr_rev::{Entry, Refusal, Side, Timer, TimerFunction};
 
 impl Timers {
-    /// Performs an operation, and gives what leads back over it; or changes nothing and says why it doesn't apply.
+    /// Performs an operation, and returns what leads back over it; or changes nothing and says why it doesn't apply.
     #[inline(always)]
     pub(crate) fn perform(&mut self, op: &TimersOp) -> Result<TimersUndo, Refusal>
         requires { IsTimers self.old }

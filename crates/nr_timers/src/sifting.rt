@@ -7,7 +7,7 @@ ghost use Rattle.nr_timers.specs.Order.{at, is_less};
 use crate::heap::Heap;
 
 impl Heap {
-    /// Takes the entry at a place up while it is less than its parent, and gives its place then.
+    /// Takes the entry at a place up while it is less than its parent, and returns its place then.
     pub(crate) fn raise(&mut self, place: usize) -> usize
         requires { place < length self.old.entries }
         ensures moved { (n : ℕ) × Leads n place result
@@ -48,7 +48,7 @@ impl Heap {
         least
     }
 
-    /// Takes the entry at a place down while a child is less, each time to the least, and gives its place then.
+    /// Takes the entry at a place down while a child is less, each time to the least, and returns its place then.
     pub(crate) fn sink(&mut self, place: usize) -> usize
         requires { place < length self.old.entries }
         ensures moved { (n : ℕ) × Leads n result place

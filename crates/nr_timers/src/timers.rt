@@ -17,7 +17,7 @@ use std::marker::Model;
 /// Timers that are armed for the sides of descriptors below a limit, and the firings that wait to be run. All room is made
 /// at once, so that no operation takes memory.
 ///
-/// The entries form a heap with four children a place, as the timers of `runtime/time.go` do; they are ordered by when they
+/// The entries are a heap with four children a place, as the timers of `runtime/time.go` do; they are ordered by when they
 /// are due, and of those due at once by arming number.
 #[derive(Drop)]
 pub struct Timers {

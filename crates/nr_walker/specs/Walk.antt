@@ -6,7 +6,8 @@ use Rattle.nr_walker.specs.declared.moved.Moved.{Moved}
 use Rattle.nr_walker.specs.declared.route.Route.{Route}
 use Rattle.nr_walker.specs.declared.route.Route.TheVariants.{Back, Forward, FromCopy}
 
--- what is seen of a walker: its film and its position, how many deltas it keeps, and how many it keeps at most
+-- what is seen of a walker: its film and its position, how many deltas it keeps, and how many it
+-- keeps at most
 pub record Walk (State : Type 0) : Type 0 where
   pub film : Reel State
   pub position : ℕ
@@ -18,8 +19,8 @@ module _ {State : Type 0} where
   abbrev pub copy_below : Walk State → ℕ → ℕ
   copy_below w n = n / w.film.every * w.film.every
 
-  -- The way to position n: back where all deltas on the way are kept; forward where it is fewer steps than lie
-  -- between two copies; else from the copy at or below n.
+  -- The way to position n. Back, where all deltas on the way are kept. Forward, where it is fewer
+  -- steps than lie between two copies. Else from the copy at or below n.
   abbrev pub route : Walk State → ℕ → Route
   route w n =
       if nat_le n w.position && nat_le (w.position - n) w.kept then Back
@@ -57,8 +58,8 @@ module _ {State : Type 0} where
     pub loses : LosesBytesAt from.film.recording stopped.position
     pub there : stopped ≡ forwards from stopped.position
 
-  -- Where a walk to n stands that was refused memory: none is wanted for going back; forward it stops short of n; from a
-  -- copy it stops so too, or stands where it stood.
+  -- Where a walk to n ends that runs out of memory. Going back takes none. Forward it stops short
+  -- of n. From a copy it stops so too, or stays where it was.
   abbrev pub IsRefusedBy : Route → Walk State → ℕ → Walk State → Type 0
   IsRefusedBy Back old n new = ⊥
   IsRefusedBy Forward old n new = StopsShort old n new

@@ -8,7 +8,9 @@ use Rattle.nr_rev.specs.declared.step.Step.{Step}
 use Rattle.nr_snaps.specs.Film.{IsFrame, Reel}
 use Rattle.nr_walker.specs.declared.walker.TheConstants.{LEAST_DEPTH, MOST_DEPTH}
 
-module _ {State Delta : Type 0} (is_well_formed : State → Type 0) (world : State → World) (steps : State → Step → Answer → State → Type 0) (back : Delta → State → State → Type 0) (film : Reel State) where
+module _ {State Delta : Type 0} (is_well_formed : State → Type 0) (world : State → World)
+    (steps : State → Step → Answer → State → Type 0) (back : Delta → State → State → Type 0)
+    (film : Reel State) where
   -- the delta leads back over one step, to the film's state of the position before
   pub record LeadsBackOne (delta : Delta) (new old : ℕ × State) : Type 0 where
     pub one_before : new.0 ≡ old.0 + 1

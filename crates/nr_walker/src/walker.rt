@@ -20,7 +20,7 @@ pub const LEAST_DEPTH: usize = 1;
 /// The most deltas that a walker may be made to keep.
 pub const MOST_DEPTH: usize = 65_536;
 
-/// A world that stands at a position of a film, with the way back over the last steps.
+/// A world at a position of a film, with the way back over the last steps.
 #[derive(Drop)]
 pub struct Walker<'f, W: Worlds + Drop>
 where
@@ -57,7 +57,7 @@ impl<'f, W: Worlds + Drop> Walker<'f, W>
 where
     W::Delta: Drop,
 {
-    /// Stands at position 0, and will keep the deltas of the last `depth` steps. Takes memory for a
+    /// At position 0; it will keep the deltas of the last `depth` steps. Takes memory for a
     /// copy of the world and for the room of the deltas.
     pub fn new(alloc: Global, film: &'f Film<W>, depth: usize) -> Result<Walker<'f, W>, AllocError>
         requires least { LEAST_DEPTH ≤ depth }
@@ -117,16 +117,16 @@ where
         &self.world
     }
 
-    /// Goes to position n, and tells what it took.
+    /// Goes to position n, and returns what it took.
     ///
     /// Back to a position over deltas that are all kept it undoes them. Forward by fewer steps than
     /// lie between two copies of the film it applies them. Else a copy of the film's copy at or below
-    /// n takes the place of its world, the deltas are dropped, and the steps from there are applied.
-    /// Of the steps that it applied it keeps the last deltas, up to its depth.
+    /// n replaces its world, the deltas are dropped, and the steps from there are applied. Of the
+    /// steps that it applied it keeps the last deltas, up to its depth.
     ///
     /// Going back over deltas takes no memory, and a step takes some only where bytes leave a buffer.
-    /// Refused memory for such a step, it stands before it, with the deltas of the steps so far;
-    /// refused the copy, it stands where it stood.
+    /// Where such a step runs out of memory, the walker is before it, with the deltas of the steps so
+    /// far. Where the copy does, it stays where it was.
     pub fn goto(&mut self, n: usize) -> Result<Moved, AllocError>
         requires { n ≤ length self.old.film.recording.steps }
         ensures there { OnOk result (self.new ≡ walk_by (route self.old n) self.old n) }
@@ -191,7 +191,7 @@ where
         }
     }
 
-    // Forward to position n. Refused memory, it stands before a step that takes some.
+    // Forward to position n. Out of memory, it is before a step that takes some.
     fn forward_to(&mut self, n: usize) -> Result<(), AllocError>
         requires from { self.old.position ≤ n }
         requires within { n ≤ length self.old.film.recording.steps }
@@ -205,8 +205,8 @@ where
         Ok(())
     }
 
-    // A copy of the film's copy at or below n takes the place of the world. Refused memory, nothing
-    // has changed.
+    // A copy of the film's copy at or below n replaces the world. Out of memory, nothing has
+    // changed.
     fn to_copy_below(&mut self, n: usize) -> Result<(), AllocError>
         requires { n ≤ length self.old.film.recording.steps }
         ensures ok { OnOk result (self.new ≡ at_copy self.old n) }
@@ -222,7 +222,7 @@ where
         Ok(())
     }
 
-    // One step forward; where the ring is full, the oldest delta is dropped. Refused memory, it stays.
+    // One step forward; where the ring is full, the oldest delta is dropped. Out of memory, it stays.
     #[inline(always)]
     fn forward(&mut self) -> Result<(), AllocError>
         requires within { self.old.position < length self.old.film.recording.steps }

@@ -13,5 +13,6 @@ pub returns-clause-err : goal.returns-clause-err
 returns-clause-err c =
     let is : app_of c.in_ok-command.command ≡ netrev = c.in_ok-command.ensures in
     let arguments = map (λ argument. argument.now) c.args.arguments.now in
-    let found : subcommand_rows_of c.in_ok-matches.matches ≡ subcommand_of netrev arguments = (c.in_ok-matches.ensures.matches (ap is_simple is ∙ netrev_is_simple)).1 ∙ ap (λ (a : App). subcommand_of a arguments) is in
+    let found : subcommand_rows_of c.in_ok-matches.matches ≡ subcommand_of netrev arguments =
+    (c.in_ok-matches.ensures.matches (ap is_simple is ∙ netrev_is_simple)).1 ∙ ap (λ (a : App). subcommand_of a arguments) is in
     λ program ask. c.in-None.ensures.named program (ap asked_in found ∙ ask.is_asked)

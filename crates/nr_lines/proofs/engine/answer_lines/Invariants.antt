@@ -1,14 +1,14 @@
--- From wherever it stood, it stands behind the bytes that were gone over.
+-- From wherever it was, it is behind the bytes that were gone over.
 use Rattle.std.proofs.Common.{◌≡◌, List, ◌++◌, ℕ, Option, take}
-use Rattle.nr_front.specs.Desk.{Desk}
-use Rattle.nr_lines.specs.Standing.{Standing}
+use Rattle.nr_front.specs.FrontState.{FrontState}
+use Rattle.nr_lines.specs.LoopInvariant.{LoopInvariant}
 use Rattle.nr_lines.proofs.engine.answer_lines.Given as goal
 
 abbrev pub invariant-loop-byte : goal.invariant-loop-byte
 invariant-loop-byte g l = record {
   table : l.front.table ≡ l.journal;
   writer : l.w.failed ≡ l.fn.w.failed;
-  stands : (from left old : Option (List ℕ)) (d : Desk) (before : List ℕ)
-      → Standing from left old l.fn.w.contents d l.fn.front (before ++ l.bytes) before l.fn.line.items l.fn.whole
-      → Standing from left old l.w.contents d l.front (before ++ l.bytes) (before ++ take l.byte-index l.bytes) l.line.items l.whole;
+  invariant_holds : (from left old : Option (List ℕ)) (d : FrontState) (before : List ℕ)
+      → LoopInvariant from left old l.fn.w.contents d l.fn.front (before ++ l.bytes) before l.fn.line.items l.fn.whole
+      → LoopInvariant from left old l.w.contents d l.front (before ++ l.bytes) (before ++ take l.byte-index l.bytes) l.line.items l.whole;
 }

@@ -1,6 +1,6 @@
 -- What came from the source is answered, up to the line that is kept, and neither a read nor a write failed.
 use Rattle.std.proofs.Common.{◌≡◌, ℕ, List, false}
-use Rattle.nr_lines.specs.Standing.{Standing}
+use Rattle.nr_lines.specs.LoopInvariant.{LoopInvariant}
 use Rattle.nr_lines.proofs.engine.serve.Given as goal
 
 abbrev pub invariant-loop : goal.invariant-loop
@@ -11,6 +11,6 @@ invariant-loop g l = record {
   reader : l.r.failed ≡ false;
   writer : l.w.failed ≡ false;
   read : List ℕ;
-  stands : Standing l.fn.r.remaining l.r.remaining l.fn.w.contents l.w.contents l.fn.front l.front
+  invariant_holds : LoopInvariant l.fn.r.remaining l.r.remaining l.fn.w.contents l.w.contents l.fn.front l.front
       read read l.line.items l.whole;
 }

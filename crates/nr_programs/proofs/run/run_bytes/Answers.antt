@@ -2,15 +2,15 @@ use Rattle.std.proofs.Common.{◌≡◌, inl, inr, refl}
 use Rattle.nr_snaps.specs.declared.fault.LoadFault.TheVariants.{Memory}
 use Rattle.nr_programs.specs.Run.{Runs}
 use Rattle.nr_programs.specs.declared.opening.OpenFault.TheVariants.{Load}
-use Rattle.nr_programs.proofs.OpeningLemmas.{one_recording, tells_memory}
+use Rattle.nr_programs.proofs.OpeningLemmas.{one_recording, prints_memory}
 use Rattle.nr_programs.proofs.run.run_bytes.Goals as goal
 
--- it is walked; or what is told of memory is a fault of loading
+-- it is walked; or a refused allocation is a fault of loading
 pub returns-in-Ok-clause-runs : goal.returns-in-Ok-clause-runs
 returns-in-Ok-clause-runs g c =
     elim c.walk.ensures as (λ _. Runs c.args.bytes.now c.args.input.now c.walk.new.input c.args.output.now c.walk.new.output c.walk.result) [
       | inl walks ↦ inl (c.in-Ok.film.recording, c.in-Ok.ensures.film, walks)
-      | inr tells ↦ inr (Load Memory, tt, tells)
+      | inr prints_it ↦ inr (Load Memory, tt, prints_it)
     ]
 
 pub returns-in-Ok-clause-good : goal.returns-in-Ok-clause-good
@@ -22,5 +22,5 @@ pub returns-in-Err-clause-good : goal.returns-in-Err-clause-good
 returns-in-Err-clause-good g c = λ r text good.
     inr (record {
       unread = refl;
-      told = tells_memory _ _ _ _ _ _ c.in-Err.ensures.fault text good c.refuse.ensures;
+      printed = prints_memory _ _ _ _ _ _ c.in-Err.ensures.fault text good c.refuse.ensures;
     })

@@ -1,5 +1,5 @@
 use Rattle.std.proofs.Common.{◌≡◌, inr}
-use Rattle.nr_programs.proofs.OpeningLemmas.{one_recording, tells_memory}
+use Rattle.nr_programs.proofs.OpeningLemmas.{one_recording, prints_memory}
 use Rattle.nr_programs.proofs.serving.serve_bytes.Goals as goal
 
 pub returns-in-Ok-clause-good : goal.returns-in-Ok-clause-good
@@ -9,4 +9,4 @@ returns-in-Ok-clause-good g c = λ r text good.
 
 pub returns-in-Err-clause-good : goal.returns-in-Err-clause-good
 returns-in-Err-clause-good g c = λ r text good.
-    inr (inr (tells_memory _ _ _ _ _ _ c.in-Err.ensures.fault text good c.refuse.ensures))
+    inr (inr (prints_memory _ _ _ _ _ _ c.in-Err.ensures.fault text good c.refuse.ensures))

@@ -54,10 +54,10 @@ returns-in-Err-clause-memory c =
     let turn = YieldsList-turn source c.loop-line.yielded _ c.loop-line.yielded_by _ _ c.in-Some.line c.in-Some.is c.next.ensures.steps in
     let here : c.loop-line.number < length (lines c.args.bytes.now) = omega (arith, turn.0) in
     let is : c.in-Some.line.now ≡ get_or (lines c.args.bytes.now) c.loop-line.number c.in-Some.line.now = rw c.loop-line.invariant.counted turn.1 in
-    λ told. wanted c.args.bytes.now c.in-Some.line.now c.loop-line.number _ c.in-Err.e here is (λ e. c.in-Err.ensures.memory (ap Err e)) (sym c.at.ensures ∙ err_is _ _ told)
+    λ reported. wanted c.args.bytes.now c.in-Some.line.now c.loop-line.number _ c.in-Err.e here is (λ e. c.in-Err.ensures.memory (ap Err e)) (sym c.at.ensures ∙ err_is _ _ reported)
 
 pub returns-clause-memory : goal.returns-clause-memory
-returns-clause-memory c = λ told. absurd (never_wanted c.loop-line.number c.loop-line.reader.header c.loop-line.reader.steps (sym c.finish.ensures ∙ told))
+returns-clause-memory c = λ reported. absurd (never_wanted c.loop-line.number c.loop-line.reader.header c.loop-line.reader.steps (sym c.finish.ensures ∙ reported))
 
 pub returns-clause-exact : goal.returns-clause-exact
 returns-clause-exact c =

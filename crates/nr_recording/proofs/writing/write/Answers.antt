@@ -2,7 +2,7 @@ use Rattle.std.proofs.Common.{◌≡◌, ◌≤◌, ◌<◌, length, get_or, rul
 use Rattle.std.proofs.lemmas.List.{take_all}
 use Rattle.std.proofs.lemmas.List.Elements.{All-more}
 use Rattle.nr_recording.specs.Recording.{IsRecording}
-use Rattle.nr_recording.specs.Writing.{IsTyped}
+use Rattle.nr_recording.specs.Writing.{HasTypedArguments}
 use Rattle.nr_recording.proofs.Texts.{one_more_line, part_of_line}
 use Rattle.nr_recording.proofs.TextLaws.{reading_again}
 use Rattle.nr_recording.proofs.Written.{text_is_text}
@@ -19,7 +19,7 @@ loop-step-preserved g c =
     record {
       so_far = one_more_line c.args.recording.now step c.loop-step.step-index _ _ _ here is c.loop-step.invariant.so_far line.ok;
       calm = search rules;
-      typed = All-more IsTyped steps c.loop-step.step-index step here c.loop-step.invariant.typed (rw (← is) c.in_ok-step_value.ensures.typed);
+      typed = All-more HasTypedArguments steps c.loop-step.step-index step here c.loop-step.invariant.typed (rw (← is) c.in_ok-step_value.ensures.typed);
     }
 
 pub returns-in_err-write_line-2-clause-device : goal.returns-in_err-write_line-2-clause-device
@@ -35,13 +35,13 @@ returns-in_err-write_line-2-clause-device g c = λ failed.
 pub returns-clause-again : goal.returns-clause-again
 returns-clause-again g c =
     let recording = c.args.recording.now in
-    let shown = c.steps-step-items.ensures in
+    let visible = c.steps-step-items.ensures in
     let is : IsRecording recording = record {
       limits = rw (← c.limits.ensures.value) c.limits.ensures.in_range;
-      few = rw (← shown.value) shown.few;
-      writable = rw (← shown.value) shown.writable;
+      few = rw (← visible.value) visible.few;
+      writable = rw (← visible.value) visible.writable;
     } in
-    let last : length recording.steps ≤ c.loop-step.step-index = rw (← shown.value) c.loop-step-test.false in
+    let last : length recording.steps ≤ c.loop-step.step-index = rw (← visible.value) c.loop-step-test.false in
     text_is_text recording is (rw (take_all c.loop-step.step-index recording.steps last) at c.loop-step.invariant.typed)
 
 pub returns-clause-read_again : goal.returns-clause-read_again

@@ -1,5 +1,5 @@
 use Rattle.std.proofs.Common.{subst}
-use Rattle.nr_rev.proofs.Chains.{LeadsBack-last, LeadsBack-undone}
+use Rattle.nr_rev.proofs.LeadsBackLemmas.{LeadsBack-last, LeadsBack-undone}
 use Rattle.nr_rev.specs.Transaction.{LeadsBack}
 use Rattle.nr_plain.specs.Delta.{PlainBack}
 use Rattle.nr_plain.specs.ReversibleLaws.{PlainBack-unique}

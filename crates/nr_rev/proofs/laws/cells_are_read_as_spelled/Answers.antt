@@ -1,5 +1,5 @@
 use Rattle.nr_rev.specs.CellName.{cell_name, cell_number, cells_at}
-use Rattle.nr_rev.proofs.FoundNames.{found_named, found_numbered, found_at}
+use Rattle.nr_rev.proofs.NameLookupLemmas.{found_named, found_numbered, found_at}
 use Rattle.nr_rev.proofs.laws.cells_are_read_as_spelled.Goals as goal
 
 pub returns-clause-spelled : goal.returns-clause-spelled

@@ -1,6 +1,6 @@
 use Rattle.std.proofs.Common.{subst}
 use Rattle.nr_rev.specs.Transaction.{LeadsBack}
-use Rattle.nr_rev.proofs.Chains.{LeadsBack-last, LeadsBack-undone}
+use Rattle.nr_rev.proofs.LeadsBackLemmas.{LeadsBack-last, LeadsBack-undone}
 use Rattle.nr_rev.proofs.transaction.undo_all.Goals as goal
 
 pub undo-requires : goal.undo-requires

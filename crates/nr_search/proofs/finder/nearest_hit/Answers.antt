@@ -9,18 +9,18 @@ use Rattle.nr_search.proofs.finder.nearest_hit.Goals as goal
 
 pub returns-then-is_empty-clause-found : goal.returns-then-is_empty-clause-found
 returns-then-is_empty-clause-found g c =
-    nothing-found c.args.film.now.recording c.args.marks.now.standing c.args.n c.args.direction (search rules) c.requires
+    nothing-found c.args.film.now.recording c.args.marks.now.present c.args.n c.args.direction (search rules) c.requires
 
 pub returns-in-Forward-clause-found : goal.returns-in-Forward-clause-found
 returns-in-Forward-clause-found g c =
     let r = c.args.film.now.recording in
-    let hits = hits_at r c.args.marks.now.standing in
-    if-found-forward r c.args.marks.now.standing c.args.n c.args.direction c.search_between.result c.in-Forward.is c.requires
+    let hits = hits_at r c.args.marks.now.present in
+    if-found-forward r c.args.marks.now.present c.args.n c.args.direction c.search_between.result c.in-Forward.is c.requires
     (subst (λ last. IfOk c.search_between.result (IsFound Forward hits (c.args.n + 1) (last + 1))) c.len.ensures.is c.search_between.ensures.found)
 
 pub returns-in-Backward-clause-found : goal.returns-in-Backward-clause-found
 returns-in-Backward-clause-found g c =
-    if-found-backward c.args.film.now.recording c.args.marks.now.standing c.args.n c.args.direction c.last_below.result c.in-Backward.is c.last_below.ensures.found
+    if-found-backward c.args.film.now.recording c.args.marks.now.present c.args.n c.args.direction c.last_hit_below.result c.in-Backward.is c.last_hit_below.ensures.found
 
 pub returns-in-Forward-clause-marks : goal.returns-in-Forward-clause-marks
 returns-in-Forward-clause-marks g c = search rules
@@ -28,10 +28,10 @@ returns-in-Forward-clause-marks g c = search rules
 -- the numbers rise as those of the marks do
 pub returns-in-Forward-clause-rising : goal.returns-in-Forward-clause-rising
 returns-in-Forward-clause-rising g c =
-    if-rises c.args.direction c.args.film.now.recording c.args.marks.now.standing c.args.marks.now.made c.args.n c.search_between.result c.requires
+    if-rises c.args.direction c.args.film.now.recording c.args.marks.now.present c.args.marks.now.made c.args.n c.search_between.result c.requires
     (subst (λ ms. RisesWithin 0 (numbers_of ms) c.args.marks.now.made) c.as_slice.ensures.marks c.as_slice.ensures.rising) (returns-in-Forward-clause-found g c)
 
 pub returns-in-Backward-clause-rising : goal.returns-in-Backward-clause-rising
 returns-in-Backward-clause-rising g c =
-    if-rises c.args.direction c.args.film.now.recording c.args.marks.now.standing c.args.marks.now.made c.args.n c.last_below.result c.requires
+    if-rises c.args.direction c.args.film.now.recording c.args.marks.now.present c.args.marks.now.made c.args.n c.last_hit_below.result c.requires
     (subst (λ ms. RisesWithin 0 (numbers_of ms) c.args.marks.now.made) c.as_slice.ensures.marks c.as_slice.ensures.rising) (returns-in-Backward-clause-found g c)

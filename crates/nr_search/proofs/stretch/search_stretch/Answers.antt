@@ -1,20 +1,20 @@
 use Rattle.std.proofs.Common.{◌+◌, sym, ◌∙◌, subst, arith}
 use Rattle.nr_marks.specs.Hit.{hits_at}
 use Rattle.nr_search.specs.Nearest.{IsFound}
-use Rattle.nr_search.proofs.NearestLemmas.{found-settled, found-then, found-whole}
+use Rattle.nr_search.proofs.NearestLemmas.{found-decided, found-then, found-whole}
 use Rattle.nr_search.proofs.stretch.search_stretch.Goals as goal
 
 -- what is found after one position more is what is found of the stretch
-pub returns-then-is_settled-clause-found : goal.returns-then-is_settled-clause-found
-returns-then-is_settled-clause-found g c =
+pub returns-then-is_decided-clause-found : goal.returns-then-is_decided-clause-found
+returns-then-is_decided-clause-found g c =
     let r = c.args.film.now.recording in
     let hits = hits_at r c.as_slice-marks.result.now in
     let low = c.args.at + 1 in
     let here = c.loop-n.n + 1 in
     let i = c.loop-n.invariant in
-    let found = found-then hits c.args.direction low here c.loop-n.found c.look_at.new.self c.go_on.new.hits.items i.unsettled (omega arith) c.go_on.ensures.hits i.found c.look_at.ensures in
+    let found = found-then hits c.args.direction low here c.loop-n.found c.look_at.new.self c.go_on.new.hits.items i.undecided (omega arith) c.go_on.ensures.hits i.found c.look_at.ensures in
     subst (λ ms. IsFound c.args.direction (hits_at r ms) low (c.args.to + 1) c.look_at.new.self) c.as_slice-marks.ensures.marks
-    (found-settled hits c.args.direction low (here + 1) (c.args.to + 1) c.look_at.new.self (sym c.is_settled.ensures ∙ c.if-is_settled.true) (omega arith) found)
+    (found-decided hits c.args.direction low (here + 1) (c.args.to + 1) c.look_at.new.self (sym c.is_decided.ensures ∙ c.if-is_decided.true) (omega arith) found)
 
 pub loop-n-preserved : goal.loop-n-preserved
 loop-n-preserved g c =
@@ -23,8 +23,9 @@ loop-n-preserved g c =
     record {
       frame = c.go_on.ensures.frame;
       remembers = c.go_on.ensures.values;
-      found = found-then hits c.args.direction (c.args.at + 1) (c.loop-n.n + 1) c.loop-n.found c.look_at.new.self c.go_on.new.hits.items i.unsettled (omega arith) c.go_on.ensures.hits i.found c.look_at.ensures;
-      unsettled = sym c.is_settled.ensures ∙ c.if-is_settled.false;
+      found = found-then hits c.args.direction (c.args.at + 1) (c.loop-n.n + 1) c.loop-n.found c.look_at.new.self c.go_on.new.hits.items i.undecided (omega arith) c.go_on.ensures.hits i.found
+          c.look_at.ensures;
+      undecided = sym c.is_decided.ensures ∙ c.if-is_decided.false;
     }
 
 pub returns-clause-found : goal.returns-clause-found

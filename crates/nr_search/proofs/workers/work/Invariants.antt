@@ -5,10 +5,10 @@ use Rattle.nr_search.specs.Reports.{IsReport}
 use Rattle.nr_snaps.specs.Film.{IsFrame}
 use Rattle.nr_search.proofs.workers.work.Given as goal
 
--- the reports so far are true, and the world at hand stands where it is said to stand
+-- the reports so far are true, and the world at hand is where it is said to be
 abbrev pub invariant-loop : goal.invariant-loop
 invariant-loop g l =
     record {
-      reports : All (IsReport l.search.span (hits_at l.search.film.now.recording l.search.marks.now.standing)) l.reports.items;
+      reports : All (IsReport l.search.span (hits_at l.search.film.now.recording l.search.marks.now.present)) l.reports.items;
       held : IfSome l.held (λ h. IsFrame g.W.Reversible.is_well_formed g.W.Worlds.world g.W.Reversible.steps l.search.film.now h.position h.world);
     }

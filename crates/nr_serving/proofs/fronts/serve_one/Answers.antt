@@ -1,5 +1,5 @@
 use Rattle.std.proofs.Common.{◌∙◌, ◌∷◌, ◌++◌, [], false, rules, true}
-use Rattle.nr_serving.proofs.ServingLemmas.{told_more, serving_more}
+use Rattle.nr_serving.proofs.ServingLemmas.{reported_more, serving_more}
 use Rattle.nr_serving.proofs.fronts.serve_one.Goals as goal
 
 -- one caller more was served
@@ -13,7 +13,7 @@ loop-preserved g c =
       (
         i.3.0 ++ ending ∷ [],
         serving_more i.3.0 c.args.front c.loop.front c.serve_caller-ending.new.front ending i.3.1 c.serve_caller-ending.ensures.serves,
-        told_more i.3.0 ending c.loop.failed _ i.3.2 (search rules),
+        reported_more i.3.0 ending c.loop.failed _ i.3.2 (search rules),
       ),
     )
 

@@ -2,7 +2,7 @@ use Rattle.std.proofs.Common.{ℕ, Result, map, subst, sym, rules}
 use Rattle.std.specs.Prelude.{IfSome}
 use Rattle.std.specs.Global.{Vec}
 use Rattle.std.specs.declared.alloc.AllocError.{AllocError}
-use Rattle.nr_journal.specs.Rule.{room_of}
+use Rattle.nr_journal.specs.Rule.{journal_room}
 use Rattle.nr_serving.specs.Session.{IsHistory, words_of}
 use Rattle.nr_serving.proofs.HistoryLemmas.{history_of, no_history}
 use Rattle.nr_serving.proofs.session.finish.Goals as goal
@@ -11,11 +11,11 @@ use Rattle.nr_serving.proofs.session.finish.Goals.{in-Some, in-None}
 -- one pass collected the others' words, or there was none
 pub returns-clause-history : goal.returns-clause-history
 returns-clause-history c =
-    let room = room_of c.args.journal.now in
+    let room = journal_room c.args.journal.now in
     let done = c.args.done.items in
     elim c.match-take_done.branch [
-      | in-Some w ↦ subst (λ (h : Result (Vec ℕ) AllocError). IfSome (words_of h) (IsHistory room (map (λ d. d.pass.stand) done))) (sym w.history-is)
+      | in-Some w ↦ subst (λ (h : Result (Vec ℕ) AllocError). IfSome (words_of h) (IsHistory room (map (λ d. d.pass.pass_state) done))) (sym w.history-is)
           (history_of room w.collect-history.result c.take_done.new.done.items done w.in-Some.last w.in-Some.ensures.last w.collect-history.ensures.last w.collect-history.ensures.others)
-      | in-None w ↦ subst (λ (h : Result (Vec ℕ) AllocError). IfSome (words_of h) (IsHistory room (map (λ d. d.pass.stand) done))) (sym w.history-is)
+      | in-None w ↦ subst (λ (h : Result (Vec ℕ) AllocError). IfSome (words_of h) (IsHistory room (map (λ d. d.pass.pass_state) done))) (sym w.history-is)
           (no_history room done w.new.result.items w.in-None.ensures.none (search rules))
     ]

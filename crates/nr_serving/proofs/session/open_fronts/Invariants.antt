@@ -9,8 +9,8 @@ invariant-loop-number g l =
     record {
       table : l.seat.table ≡ l.journal;
       fresh : All (λ f. IsFresh l.journal l.film.recording l.shape.depth (g.F.Finder.count l.finder) f.0) l.fronts.items;
-      apart : AllPairs (λ one other. one ≢ other) (map (λ f. f.0.stand.tag) l.fronts.items);
-      below : All (λ f. f.0.stand.tag < l.least) l.fronts.items;
+      apart : AllPairs (λ one other. one ≢ other) (map (λ f. f.0.pass_state.tag) l.fronts.items);
+      below : All (λ f. f.0.pass_state.tag < l.least) l.fronts.items;
       count : vec_len l.fronts ≡ l.number;
       within : l.number ≤ l.shape.fronts;
       room : l.shape.fronts ≤ vec_capacity l.fronts;

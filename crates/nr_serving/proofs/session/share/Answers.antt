@@ -21,4 +21,5 @@ returns g c =
     let fresh = fresh_starts table r c.args.shape.depth _ fronts c.in_ok-fronts.ensures.fresh in
     let are = served_all starts c.in_ok-done.done.items dones c.serve_each-done.ensures.served c.in_ok-done.ensures.items in
     let count : length starts ≡ c.args.shape.fronts = length-map fronts (λ f. f.0) ∙ (search rules) in
-    shared table r c.args.shape.depth _ _ _ starts dones c.args.shape.room c.args.shape.fronts c.in_ok-journal.ensures.0 count are fresh (apart_starts fronts c.in_ok-fronts.ensures.apart) c.finish.ensures.history c.finish.ensures.failed
+    shared table r c.args.shape.depth _ _ _ starts dones c.args.shape.room c.args.shape.fronts c.in_ok-journal.ensures.0 count are fresh (apart_starts fronts c.in_ok-fronts.ensures.apart)
+    c.finish.ensures.history c.finish.ensures.failed

@@ -1,6 +1,6 @@
 use Rattle.std.proofs.Common.{◌≡◌, ◌+◌, ◌-◌, sym, subst, arith}
-use Rattle.nr_rev.specs.Run.{IsRefusedAt, Stands}
-use Rattle.nr_rev.proofs.Runs.{IsGoodTo-prefix}
+use Rattle.nr_rev.specs.Run.{IsRefusedAt, IsWorldAt}
+use Rattle.nr_rev.proofs.RunLemmas.{IsGoodTo-prefix}
 use Rattle.nr_snaps.specs.Replay.{LeadsOn, Replays}
 use Rattle.nr_snaps.proofs.Frames.{IsFrame-next, Replays-good}
 use Rattle.nr_snaps.proofs.loading.play.Goals as goal
@@ -12,7 +12,7 @@ returns-in-Err-clause-fault g c =
     let n = c.loop-n.n in
     let place : n ≡ n + 1 - 1 = omega arith in
     let is : g.film.recording ≡ r = assumption in
-    let origin : Stands g.W.Reversible.is_well_formed g.W.Worlds.world r 0 g.film.origin = assumption in
+    let origin : IsWorldAt g.W.Reversible.is_well_formed g.W.Worlds.world r 0 g.film.origin = assumption in
     let replays = subst (λ r. Replays g.W.Reversible.steps r g.film.origin n c.loop-n.world) is c.loop-n.invariant.frame.replays in
     let good = Replays-good g.W.Reversible.is_well_formed g.W.Worlds.world g.W.Reversible.steps g.met.W.Worlds.steps_are r g.film.origin n c.loop-n.world origin.there replays in
     let refused = c.in-Err.ensures.refused in (

@@ -1,8 +1,8 @@
 use Rattle.std.proofs.Common.{◌≡◌, ◌+◌, ◌*◌, ◌/◌, ◌≤◌, length, Some, sym, ap, ◌∙◌, subst, arith}
 use Rattle.std.specs.List.{slice_get}
 use Rattle.std.proofs.lemmas.List.{length_push}
-use Rattle.nr_rev.specs.Run.{Stands, world_at}
-use Rattle.nr_rev.proofs.Runs.{IsGoodTo-whole}
+use Rattle.nr_rev.specs.Run.{IsWorldAt, world_at}
+use Rattle.nr_rev.proofs.RunLemmas.{IsGoodTo-whole}
 use Rattle.nr_snaps.specs.Film.{IsFrame}
 use Rattle.nr_snaps.specs.Replay.{Replays}
 use Rattle.nr_snaps.proofs.Copies.{each-push}
@@ -49,7 +49,7 @@ returns-clause-good g c =
     let origin = ap (λ f. f.origin) film in
     let n = c.len-2.result in
     let reached : length r.steps ≤ n = omega arith in
-    let stands : Stands g.W.Reversible.is_well_formed g.W.Worlds.world r 0 c.args.start.now = assumption in
-    let there = subst (λ s. g.W.Worlds.world s ≡ world_at r 0) (sym origin) stands.there in
+    let is_at : IsWorldAt g.W.Reversible.is_well_formed g.W.Worlds.world r 0 c.args.start.now = assumption in
+    let there = subst (λ s. g.W.Worlds.world s ≡ world_at r 0) (sym origin) is_at.there in
     let replays = subst (λ r. Replays g.W.Reversible.steps r g.film.origin n c.play-2.new.world) is c.in_ok-play-2.ensures.frame.replays in
     IsGoodTo-whole r n (Replays-good g.W.Reversible.is_well_formed g.W.Worlds.world g.W.Reversible.steps g.met.W.Worlds.steps_are r g.film.origin n c.play-2.new.world there replays).0 reached

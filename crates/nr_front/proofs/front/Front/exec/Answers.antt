@@ -6,7 +6,7 @@ pub returns-in-Err-clause-executes : goal.returns-in-Err-clause-executes
 returns-in-Err-clause-executes g c = exec_failed _ _ _ _ _ c.in-Ok.ensures.ok c.in-Err.ensures
 
 pub returns-in-Ok-run-clause-executes : goal.returns-in-Ok-run-clause-executes
-returns-in-Ok-run-clause-executes g c = exec_answers _ _ _ _ _ _ c.in-Ok.ensures.ok c.in_default-offer_until_placed.ensures c.in-Ok-run.ensures.settled c.in-Ok-run.ensures.reply
+returns-in-Ok-run-clause-executes g c = exec_answers _ _ _ _ _ _ c.in-Ok.ensures.ok c.in_default-offer_until_placed.ensures c.in-Ok-run.ensures.without_pending c.in-Ok-run.ensures.reply
 
 pub returns-in-Err-run-clause-executes : goal.returns-in-Err-run-clause-executes
 returns-in-Err-run-clause-executes g c =

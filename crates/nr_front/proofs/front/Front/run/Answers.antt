@@ -1,6 +1,6 @@
 use Rattle.std.proofs.Common.{ap, rules}
 use Rattle.nr_command.specs.Debugger.{Ran}
-use Rattle.nr_front.proofs.DeskLemmas.{due_behind, replies_last, run_last, search_due}
+use Rattle.nr_front.proofs.FrontStateLemmas.{due_behind, replies_last, run_last, search_due}
 use Rattle.nr_front.proofs.front.Front.run.Goals as goal
 
 pub returns-in_err-reply-clause-memory : goal.returns-in_err-reply-clause-memory

@@ -26,11 +26,14 @@ is c = record { queues = c.self.invariant.queues; view = c.self.view_is }
 there : (c : goal.After-of-queue) → slice_get c.self.inside.semaphores.items c.args.socket ≡ Some c.index-semaphores.result.now
 there c = head_read (is c) c.args.socket c.index-semaphores.result.now (has_within c.args.socket c.args.side (Asked c.args.goroutine) c.args.self.now c.requires) c.index-semaphores.ensures
 
-has : (c : goal.After-of-queue) → Asked c.args.goroutine (record { count = (of_side c.args.side c.index-semaphores.result.now).count; queue = queue_from c.self.inside.nodes.items (of_side c.args.side c.index-semaphores.result.now) })
+has : (c : goal.After-of-queue)
+    → Asked c.args.goroutine
+    (record { count = (of_side c.args.side c.index-semaphores.result.now).count; queue = queue_from c.self.inside.nodes.items (of_side c.args.side c.index-semaphores.result.now) })
 has c = head_has (is c) c.args.socket c.args.side (Asked c.args.goroutine) c.index-semaphores.result.now (there c) c.requires
 
 goroutine_within : (c : goal.After-of-queue) → c.args.goroutine < length c.self.inside.nodes.items
-goroutine_within c = member_within (is c) c.args.socket c.args.side c.index-semaphores.result.now (there c) (length (queue_from c.self.inside.nodes.items (of_side c.args.side c.index-semaphores.result.now)) - 1) c.args.goroutine (has c)
+goroutine_within c = member_within (is c) c.args.socket c.args.side c.index-semaphores.result.now (there c)
+    (length (queue_from c.self.inside.nodes.items (of_side c.args.side c.index-semaphores.result.now)) - 1) c.args.goroutine (has c)
 
 pub index-requires : goal.index-requires
 index-requires c = let within = goroutine_within (goal.at.index-requires c).After-of-queue in let size = c.self.inside.nodes.ok.0 in omega arith
@@ -72,7 +75,8 @@ left c =
     left_back is s side g x q there c.of-queue.ensures old node has _ c.set_next.new.nodes _
     (λ size. with_items_is (with_item i.nodes g c.alone.result) c.set_next.new.nodes (size ∙ sym i.nodes.ok.0))
     (c.set_next.ensures ∙ ap (with_next old.previous None) (c.deref_mut.ensures.value ∙ ap (set i.nodes.items g) c.alone.ensures))
-    (ap (λ (y : Sides SemaphoreHead). set i.semaphores.items s y) (c.with.ensures ∙ ap (λ (e : Option ℕ). with_side side (record { count = q.count; front = e; back = old.previous }) x) c.end_left.ensures))
+    (ap (λ (y : Sides SemaphoreHead). set i.semaphores.items s y) (c.with.ensures ∙ ap (λ (e : Option ℕ). with_side side (record { count = q.count; front = e; back = old.previous }) x)
+    c.end_left.ensures))
 
 pub invariant_of-self : goal.invariant_of-self
 invariant_of-self c = record { queues = (left (goal.at.invariant_of-self c).After-with).queues; few = c.self.invariant.few; room = c.self.invariant.room }

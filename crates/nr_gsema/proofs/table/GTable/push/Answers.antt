@@ -8,8 +8,10 @@ use Rattle.nr_gsema.proofs.TableLemmas.{AreTable, AreTable-same, one_more}
 use Rattle.nr_gsema.proofs.table.GTable.push.Goals as goal
 use Rattle.nr_gsema.proofs.table.GTable.push.Goals.{After-push_reserved}
 
-more : (c : goal.After-push_reserved) → AreTable c.push_reserved.new.self.items c.self.inside.semaphores.items c.self.inside.limit (record c.args.self.now { goroutines = c.args.self.now.goroutines ++ Idle ∷ [] })
-more c = AreTable-same _ _ (one_more (record { queues = c.self.invariant.queues; view = c.self.view_is })) (c.push_reserved.ensures.items ∙ ap (λ (x : GoroutineNode). c.self.inside.nodes.items ++ x ∷ []) c.alone.ensures) refl
+more : (c : goal.After-push_reserved) → AreTable c.push_reserved.new.self.items c.self.inside.semaphores.items c.self.inside.limit
+    (record c.args.self.now { goroutines = c.args.self.now.goroutines ++ Idle ∷ [] })
+more c = AreTable-same _ _ (one_more (record { queues = c.self.invariant.queues; view = c.self.view_is }))
+    (c.push_reserved.ensures.items ∙ ap (λ (x : GoroutineNode). c.self.inside.nodes.items ++ x ∷ []) c.alone.ensures) refl
 
 pub invariant_of-self : goal.invariant_of-self
 invariant_of-self c =

@@ -6,7 +6,8 @@ use Rattle.nr_gsema.proofs.TableLemmas.{AreTable, outside_node, status_set}
 use Rattle.nr_gsema.proofs.table.GTable.set_status.Goals as goal
 use Rattle.nr_gsema.proofs.table.GTable.set_status.Goals.{After-index-node}
 
-moved : (c : goal.After-index-node) → AreTable (set c.self.inside.nodes.items c.args.goroutine (record c.index-node.result.now { status = c.args.status })) c.self.inside.semaphores.items c.self.inside.limit (with_status c.args.goroutine c.args.status c.args.self.now)
+moved : (c : goal.After-index-node) → AreTable (set c.self.inside.nodes.items c.args.goroutine (record c.index-node.result.now { status = c.args.status })) c.self.inside.semaphores.items
+    c.self.inside.limit (with_status c.args.goroutine c.args.status c.args.self.now)
 moved c =
     let nodes = c.self.inside.nodes.items in
     let g = c.args.goroutine in

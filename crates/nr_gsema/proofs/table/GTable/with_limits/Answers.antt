@@ -10,7 +10,8 @@ use Rattle.nr_gsema.proofs.table.GTable.with_limits.Goals.{In_ok-semaphores}
 abbrev sides : SemaphoreHead → SemaphoreHead → Sides SemaphoreHead
 sides a b = record { read = a; write = b }
 
-none : (c : goal.In_ok-semaphores) → AreTable c.in_ok-nodes.nodes.items c.in_ok-semaphores.semaphores.items c.args.goroutines (record { goroutines = []; semaphores = replicate c.args.sockets (twice new_semaphore); limit = c.args.goroutines })
+none : (c : goal.In_ok-semaphores) → AreTable c.in_ok-nodes.nodes.items c.in_ok-semaphores.semaphores.items c.args.goroutines
+    (record { goroutines = []; semaphores = replicate c.args.sockets (twice new_semaphore); limit = c.args.goroutines })
 none c =
     AreTable-same _ _ (none_made c.args.sockets c.args.goroutines) c.in_ok-nodes.ensures.items
     (c.in_ok-semaphores.ensures.items_if_clones_equal (λ y e. ap₂ sides e.0 e.1) ∙ ap (replicate c.args.sockets) c.twice.ensures)

@@ -1,10 +1,10 @@
 use Rattle.std.proofs.Common.{◌≡◌, ◌-◌, length}
-use Rattle.nr_journal.specs.Pass.{Gains}
-use Rattle.nr_journal.specs.Rule.{room_of}
+use Rattle.nr_journal.specs.Pass.{SeesOthers}
+use Rattle.nr_journal.specs.Rule.{journal_room}
 use Rattle.nr_journal.proofs.journal.Journal.catch_up.Given as goal
 
 abbrev pub invariant-loop : goal.invariant-loop
-invariant-loop l = (l.pass.table ≡ l.fn.pass.table) × Gains l.fn.pass.stand l.pass.stand × (l.pass.stand.looks ≡ l.fn.pass.stand.looks)
+invariant-loop l = (l.pass.table ≡ l.fn.pass.table) × SeesOthers l.fn.pass.pass_state l.pass.pass_state × (l.pass.pass_state.looks ≡ l.fn.pass.pass_state.looks)
 
 abbrev pub decreases-loop : goal.decreases-loop
-decreases-loop l = room_of l.self - length l.pass.stand.seen
+decreases-loop l = journal_room l.self - length l.pass.pass_state.seen

@@ -11,5 +11,5 @@ load-requires c =
 
 pub returns-clause-line : goal.returns-clause-line
 returns-clause-line c =
-    let told = subst (λ (m : Seat). ComparesFrom m.0 c.load.new.seat.me) c.pass.invariant.0 c.load.ensures.2 in
-    subst (λ (f : Entered). AreInLine f.stand.seen f.stand.told) c.pass.view_is (are_in_line _ _ told.1 told.2 told.3)
+    let learned = subst (λ (m : Seat). ComparesFrom m.0 c.load.new.seat.me) c.pass.invariant.0 c.load.ensures.2 in
+    subst (λ (f : Entered). AreInLine f.pass_state.seen f.pass_state.learned) c.pass.view_is (are_in_line _ _ learned.1 learned.2 learned.3)

@@ -4,10 +4,10 @@ use Rattle.atomic_table.specs.Seated.{TableId}
 use Rattle.nr_journal.specs.declared.view.View.TheVariants.{Outside}
 use Rattle.nr_journal.specs.Rule.{entering}
 use Rattle.nr_journal.specs.Step.{Seat, DrawsFrom}
-use Rattle.nr_journal.specs.Pass.{stand_of}
+use Rattle.nr_journal.specs.Pass.{pass_state_of}
 use Rattle.nr_journal.specs.Seat.{Waiting, tried_of}
 use Rattle.nr_journal.proofs.DrawLemmas.{draws}
-use Rattle.nr_journal.proofs.PassLemmas.{seated, stands}
+use Rattle.nr_journal.proofs.PassLemmas.{seated, knows_as}
 use Rattle.nr_journal.proofs.journal.Journal.enter.Goals as goal
 
 pub loop-tried-init : goal.loop-tried-init
@@ -32,8 +32,8 @@ pub invariant_of-result : goal.invariant_of-result
 invariant_of-result c =
     let l = c.loop-tried.invariant in
     let f = c.fetch_or-found.ensures in
-    let told = subst (λ (m : Seat). DrawsFrom m.0 c.fetch_or-found.result c.fetch_or-found.new.seat.me) l.0 f.2 in
-    let is = told.0 c.if-found-tried-eq0.true in
+    let learned = subst (λ (m : Seat). DrawsFrom m.0 c.fetch_or-found.result c.fetch_or-found.new.seat.me) l.0 f.2 in
+    let is = learned.0 c.if-found-tried-eq0.true in
     let words : c.fetch_or-found.new.seat.table_id.words ≡ c.self.inside.table.shared.table_id.words = ap (λ (z : TableId). z.words) (f.0 ∙ (l.1 ∙ (c.requires ∙ sym c.self.view_is))) in
     seated _ _ _ _ _ is refl refl (omega (arith, words, c.self.invariant.1))
 
@@ -41,9 +41,9 @@ pub returns-then-found-tried-eq0-clause-ok : goal.returns-then-found-tried-eq0-c
 returns-then-found-tried-eq0-clause-ok c =
     let l = c.loop-tried.invariant in
     let f = c.fetch_or-found.ensures in
-    let told = subst (λ (m : Seat). DrawsFrom m.0 c.fetch_or-found.result c.fetch_or-found.new.seat.me) l.0 f.2 in
-    let is = stands _ _ (told.0 c.if-found-tried-eq0.true) in
-    let tag : (stand_of c.fetch_or-found.new.seat.me.0).tag ≡ c.loop-tried.tried = ap (λ s. s.tag) is in (
+    let learned = subst (λ (m : Seat). DrawsFrom m.0 c.fetch_or-found.result c.fetch_or-found.new.seat.me) l.0 f.2 in
+    let is = knows_as _ _ (learned.0 c.if-found-tried-eq0.true) in
+    let tag : (pass_state_of c.fetch_or-found.new.seat.me.0).tag ≡ c.loop-tried.tried = ap (λ s. s.tag) is in (
       f.0 ∙ l.1,
       is ∙ ap entering (sym tag),
       omega (arith, tag, l.3),
@@ -54,8 +54,8 @@ pub loop-tried-preserved : goal.loop-tried-preserved
 loop-tried-preserved c =
     let l = c.loop-tried.invariant in
     let f = c.fetch_or-found.ensures in
-    let told = subst (λ (m : Seat). DrawsFrom m.0 c.fetch_or-found.result c.fetch_or-found.new.seat.me) l.0 f.2 in
-    (told.1 c.if-found-tried-eq0.false, f.0 ∙ l.1, omega (arith, c.loop-tried-test.true), omega (arith, l.3))
+    let learned = subst (λ (m : Seat). DrawsFrom m.0 c.fetch_or-found.result c.fetch_or-found.new.seat.me) l.0 f.2 in
+    (learned.1 c.if-found-tried-eq0.false, f.0 ∙ l.1, omega (arith, c.loop-tried-test.true), omega (arith, l.3))
 
 pub invariant_of-result-2 : goal.invariant_of-result-2
 invariant_of-result-2 c =

@@ -11,7 +11,7 @@ compare_exchange-found-requires c =
       same,
       omega (arith, j.1, c.if-pass-self.false),
       offers _ _ _ _ _ _ _ p.0 (omega (arith, p.1)) (omega (arith, p.1, j.0, c.if-pass-self.false)) c.requires.word.0
-          (c.requires.word.1 ∙ ap (λ (f : Entered). f.stand.tag) (sym c.pass.view_is)),
+          (c.requires.word.1 ∙ ap (λ (f : Entered). f.pass_state.tag) (sym c.pass.view_is)),
     )
 
 pub returns-clause-offered : goal.returns-clause-offered

@@ -6,6 +6,6 @@ use Rattle.nr_marks.proofs.marks.Marks.hits.Given as goal
 abbrev pub invariant-loop-numbered : goal.invariant-loop-numbered
 invariant-loop-numbered g l =
     record {
-      so_far : l.hits.items ≡ hits_between (g.W.Worlds.world l.before) (g.W.Worlds.world l.after) l.next (take l.numbered-index l.self.standing);
+      so_far : l.hits.items ≡ hits_between (g.W.Worlds.world l.before) (g.W.Worlds.world l.after) l.next (take l.numbered-index l.self.present);
       few : length l.hits.items ≤ l.numbered-index;
     }

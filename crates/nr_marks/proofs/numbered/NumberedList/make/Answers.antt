@@ -9,4 +9,4 @@ pub invariant_of-self : goal.invariant_of-self
 invariant_of-self g c =
     let last : Numbered _ = record { number = c.self.inside.made + 1; item = c.args.item } in
     subst (λ items. RisesWithin 0 (numbers_of items) (c.self.inside.made + 1)) (sym c.push.ensures.items)
-    (RisesWithin-push 0 c.self.inside.standing.items last c.self.inside.made refl c.self.invariant)
+    (RisesWithin-push 0 c.self.inside.present.items last c.self.inside.made refl c.self.invariant)

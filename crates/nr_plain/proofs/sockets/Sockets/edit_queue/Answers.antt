@@ -2,7 +2,7 @@ use Rattle.std.proofs.Common.{◌<◌, ◌≤◌, List, length, ap, arith}
 use Rattle.nr_rev.specs.Sides.{of_side}
 use Rattle.nr_rev.specs.Socket.{Socket}
 use Rattle.nr_plain.specs.RowEdit.{CanEditRow, after_row_edit}
-use Rattle.nr_plain.specs.Rows.{row_of}
+use Rattle.nr_plain.specs.Rows.{row_in}
 use Rattle.nr_plain.specs.Socket.{place_of}
 use Rattle.nr_plain.specs.SocketTable.{SocketTable}
 use Rattle.nr_plain.proofs.SocketsLemmas.{part_has, part_known, queue_changed, queue_row}
@@ -13,7 +13,8 @@ edit-requires-clause-room c =
     let t = c.self.inside in
     let within : c.args.socket < length t.states.items = omega arith in
     rw c.place.ensures
-    (part_known (CanEditRow t.queues.room c.args.edit) (λ x. (of_side c.args.side x.semaphores).queue) t.states.items t.queues.rows t.buffers.rows c.args.socket (row_of t.queues.rows (place_of c.args.socket c.args.side))
+    (part_known (CanEditRow t.queues.room c.args.edit) (λ x. (of_side c.args.side x.semaphores).queue) t.states.items t.queues.rows t.buffers.rows c.args.socket
+    (row_in t.queues.rows (place_of c.args.socket c.args.side))
     (queue_row t.queues.rows t.buffers.rows c.args.socket c.args.side) within (rw (← c.self.view_is) at c.requires))
 
 pub returns-clause-after : goal.returns-clause-after
@@ -28,5 +29,6 @@ pub returns-clause-short : goal.returns-clause-short
 returns-clause-short c =
     let t = c.self.inside in
     rw (← c.self.view_is)
-    (part_has (λ items. length items ≤ t.queues.room) (λ x. (of_side c.args.side x.semaphores).queue) t.states.items t.queues.rows t.buffers.rows c.args.socket (row_of t.queues.rows (place_of c.args.socket c.args.side))
+    (part_has (λ items. length items ≤ t.queues.room) (λ x. (of_side c.args.side x.semaphores).queue) t.states.items t.queues.rows t.buffers.rows c.args.socket
+    (row_in t.queues.rows (place_of c.args.socket c.args.side))
     (queue_row t.queues.rows t.buffers.rows c.args.socket c.args.side) (rw c.place.ensures at c.edit.ensures.short))

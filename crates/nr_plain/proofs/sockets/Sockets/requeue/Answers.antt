@@ -7,7 +7,7 @@ use Rattle.nr_rev.specs.Socket.{Socket}
 use Rattle.nr_plain.specs.declared.socket_edit.SocketEdit.TheVariants as edit
 use Rattle.nr_plain.specs.declared.socket_edit.SocketUndo.TheVariants as undo
 use Rattle.nr_plain.specs.Edit.{with_changed}
-use Rattle.nr_plain.specs.Socket.{socket_shown}
+use Rattle.nr_plain.specs.Socket.{socket_view}
 use Rattle.nr_plain.specs.SocketEdit.{after_socket_edit, after_socket_undo, on_queue}
 use Rattle.nr_plain.specs.SocketTable.{SocketTable}
 use Rattle.nr_plain.proofs.ItemLemmas.{changed-here, changed_alike, changed_twice, mapped_known}
@@ -31,7 +31,7 @@ edit_queue-requires c =
 pub returns-in-Some-front : goal.returns-in-Some-front
 returns-in-Some-front c =
     let old = c.args.self.now in
-    let x = socket_shown c.in-Some.row in
+    let x = socket_view c.in-Some.row in
     let side = c.args.side in
     let g = c.in-Some-front.goroutine in
     let n = c.semaphore.result.count in
@@ -39,11 +39,11 @@ returns-in-Some-front c =
     let returned = on_queue side (λ queue. option_to_list (Some g) ++ queue) in
     let undone = after_socket_undo (undo.Requeue side (Some g)) in
     let there = slice_get old.sockets c.args.socket in
-    let count = ap (λ (s : Semaphore). s.count) c.semaphore.ensures.shown in
+    let count = ap (λ (s : Semaphore). s.count) c.semaphore.ensures.viewed in
     rw c.in-Some-front.is
     (c.edit_queue.ensures.after
     ∙ ap (λ (t : SocketTable). record t { sockets = with_changed c.args.socket returned t.sockets }) (rw c.saturating_sub-count.ensures at c.set_count.ensures.after)
     ∙ ap (λ (sockets : List Socket). record old { sockets = sockets })
     (changed_twice counted returned old.sockets c.args.socket
     ∙ changed_alike (λ y. returned (counted y)) undone old.sockets c.args.socket
-    (if_there (λ y. returned (counted y) ≡ undone y) x there c.in-Some.ensures.shown (requeued_by old.queue_room old.byte_room x side (Some g) n count))))
+    (if_there (λ y. returned (counted y) ≡ undone y) x there c.in-Some.ensures.viewed (requeued_by old.queue_room old.byte_room x side (Some g) n count))))

@@ -1,9 +1,9 @@
 use Rattle.std.proofs.Common.{◌≡◌, ◌∷◌, [], List, Some, sym, ap, subst, ◌∙◌, arith, length-append, rules}
 use Rattle.std.proofs.lemmas.List.Sums.{sum_by-cons, sum_by_push}
 use Rattle.std.specs.Prelude.{remove, slice_get}
-use Rattle.nr_rev.proofs.Chains.{LeadsBack-push}
+use Rattle.nr_rev.proofs.LeadsBackLemmas.{LeadsBack-push}
 use Rattle.nr_plain.specs.declared.edit.Edit.{Edit}
-use Rattle.nr_plain.specs.Edit.{Undoes, edit_words, undo_words}
+use Rattle.nr_plain.specs.Edit.{Undoes, edit_weight, undo_weight}
 use Rattle.nr_plain.specs.Plan.{CanEditAll, after_edits}
 use Rattle.nr_plain.proofs.world.PlainWorld.perform_all.Goals as goal
 
@@ -19,8 +19,8 @@ loop-edit-preserved c =
     let split : c.loop-edit.edits.items ≡ edit ∷ rest = first_and_rest c.loop-edit.edits.items edit (sym c.in-Some.ensures.value) ∙ ap (λ es. edit ∷ es) (sym c.in-Some.ensures.items) in
     let after = c.perform.ensures.after in
     let can = subst (λ es. CanEditAll es w) split c.loop-edit.invariant.can in
-    let words = sum_by_push undo_words c.loop-edit.undos.items c.perform.result in
-    let heavy = sum_by-cons edit_words edit rest in
+    let words = sum_by_push undo_weight c.loop-edit.undos.items c.perform.result in
+    let heavy = sum_by-cons edit_weight edit rest in
     let lengths = length-append c.loop-edit.undos.items (c.perform.result ∷ []) in
     let light = c.perform.ensures.light in
     record {

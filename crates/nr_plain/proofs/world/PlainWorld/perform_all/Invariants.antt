@@ -2,8 +2,8 @@
 use Rattle.std.proofs.Common.{◌≡◌, ◌≤◌, ◌+◌, length}
 use Rattle.std.specs.Prelude.{sum_by}
 use Rattle.nr_rev.specs.Transaction.{LeadsBack}
-use Rattle.nr_plain.specs.Edit.{Undoes, undo_words}
-use Rattle.nr_plain.specs.Plan.{CanEditAll, after_edits, all_words}
+use Rattle.nr_plain.specs.Edit.{Undoes, undo_weight}
+use Rattle.nr_plain.specs.Plan.{CanEditAll, after_edits, total_weight}
 use Rattle.nr_plain.specs.declared.plan.TheConstants.{MOST_EDITS}
 use Rattle.nr_plain.proofs.world.PlainWorld.perform_all.Given as goal
 
@@ -12,7 +12,7 @@ invariant-loop-edit l = record {
   leads : after_edits l.edits.items l.self ≡ after_edits l.fn.edits.items l.fn.self;
   can : CanEditAll l.edits.items l.self;
   back : LeadsBack Undoes l.undos.items l.self l.fn.self;
-  light : sum_by undo_words l.undos.items + all_words l.edits.items ≤ all_words l.fn.edits.items;
+  light : sum_by undo_weight l.undos.items + total_weight l.edits.items ≤ total_weight l.fn.edits.items;
   few : length l.undos.items + length l.edits.items ≤ MOST_EDITS;
 }
 

@@ -3,7 +3,7 @@ use Rattle.std.proofs.lemmas.Grind.{common_steps}
 use Rattle.std.specs.Prelude.{option_to_list}
 use Rattle.nr_rev.specs.Refusing.{◌>>=◌}
 use Rattle.nr_rev.specs.Step.{after_orders}
-use Rattle.nr_plain.specs.Change.{change_shown}
+use Rattle.nr_plain.specs.Change.{change_view}
 use Rattle.nr_plain.proofs.ContinueLemmas.{both_obeyed, continued}
 use Rattle.nr_plain.proofs.world.PlainWorld.then_changed.Goals as goal
 
@@ -15,7 +15,7 @@ few_woken (Some g) (Some h) = omega arith
 
 pub returns : goal.returns
 returns c =
-    let change = change_shown c.args.change in
+    let change = change_view c.args.change in
     let after_order : after_orders change.orders (c.args.row.timers, c.args.self.now.next_arming) ≡ Ok (c.in_ok-timers-2.timers, c.in_ok-timers-2.number) =
     rw (← c.self.view_is) (both_obeyed c.args.change.orders.read c.args.change.orders.write (c.args.row.timers, c.self.inside.next_arming)
     ∙ ap (λ r. r >>= after_orders (option_to_list c.args.change.orders.write)) (sym c.in_ok-timers.ensures)

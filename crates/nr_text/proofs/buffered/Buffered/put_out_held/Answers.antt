@@ -1,6 +1,6 @@
 use Rattle.std.proofs.Common.{sym, subst, ◌++◌, [], ℕ, ◌<◌, length}
 use Rattle.std.specs.Prelude.{OnErr, OnOk}
-use Rattle.nr_text.specs.Buffered.{Buffering, HasSent, IsOut, Stands}
+use Rattle.nr_text.specs.Buffered.{Buffering, HasSent, IsOut, SentOrCut}
 use Rattle.nr_text.proofs.BufferedLemmas.{puts}
 use Rattle.nr_text.proofs.buffered.Buffered.put_out_held.Goals as goal
 
@@ -14,6 +14,6 @@ returns-clause-out g c = record {
       let held = c.as_slice.ensures.value in
       let all = subst (λ bytes. OnOk put.result (IsOut bytes (length bytes) old.contents contents old.out put.new.out)) held put.ensures.ok in
       let some = subst (λ bytes. OnErr put.result ((n : ℕ) × (n < length bytes) × IsOut bytes n old.contents contents old.out put.new.out)) held put.ensures.err in
-      subst (λ kept. Stands start (sent ++ []) (record { contents = contents; held = kept; out = put.new.out }) put.result) (sym c.clear.ensures)
+      subst (λ kept. SentOrCut start (sent ++ []) (record { contents = contents; held = kept; out = put.new.out }) put.result) (sym c.clear.ensures)
       (puts start contents sent old put.new.out put.result (subst (HasSent start sent) (sym c.self.view_is) has) all some);
 }

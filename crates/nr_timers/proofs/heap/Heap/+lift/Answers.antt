@@ -11,4 +11,5 @@ returns-then-place-above-clause-entries t c =
 
 pub returns-then-place-above-clause-size : goal.returns-then-place-above-clause-size
 returns-then-place-above-clause-size t c =
-    size_of_up _ _ c.args.place c.args.above (lift_more c.args.self.now.entries c.swap.new.self.entries c.lift.new.self.entries c.args.place c.args.above c.if-place-above.true c.swap.ensures.entries c.lift.ensures.entries)
+    size_of_up _ _ c.args.place c.args.above (lift_more c.args.self.now.entries c.swap.new.self.entries c.lift.new.self.entries c.args.place c.args.above c.if-place-above.true c.swap.ensures.entries
+    c.lift.ensures.entries)

@@ -11,4 +11,5 @@ returns-then-place-above-clause-entries t c =
 
 pub returns-then-place-above-clause-size : goal.returns-then-place-above-clause-size
 returns-then-place-above-clause-size t c =
-    size_of _ _ c.args.place c.args.above (lower_more c.args.self.now.entries c.lower.new.self.entries c.swap.new.self.entries c.args.place c.args.above c.if-place-above.true c.lower.ensures.entries c.swap.ensures.entries)
+    size_of _ _ c.args.place c.args.above (lower_more c.args.self.now.entries c.lower.new.self.entries c.swap.new.self.entries c.args.place c.args.above c.if-place-above.true c.lower.ensures.entries
+    c.swap.ensures.entries)

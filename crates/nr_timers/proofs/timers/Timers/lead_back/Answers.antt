@@ -30,7 +30,8 @@ unremove-requires c =
     subst (λ (x : Entry). (old : List Entry) × RemovedBack c.in-Rearmed.place c.in-Rearmed.last x c.uninsert-armed.new.self.entries old × Keyed old c.uninsert-armed.new.self.limit)
     (sym (ap (λ (x : Entry). record x { timer = c.in-Rearmed.timer }) c.uninsert-armed.ensures.entry))
     (
-    rearmed_needs view c.in-Rearmed.to c.in-Rearmed.place c.in-Rearmed.last c.uninsert-armed.new.self.limit c.in-Rearmed.timer c.uninsert-armed.new.self.entries c.uninsert-armed.ensures.back (c.uninsert-armed.ensures.limit ∙ c.self.invariant.0)
+    rearmed_needs view c.in-Rearmed.to c.in-Rearmed.place c.in-Rearmed.last c.uninsert-armed.new.self.limit c.in-Rearmed.timer c.uninsert-armed.new.self.entries c.uninsert-armed.ensures.back
+    (c.uninsert-armed.ensures.limit ∙ c.self.invariant.0)
     (subst (λ (d : TimersUndo). (old : State) × UndoBack d view old) c.in-Rearmed.is (subst (λ (v : State). (old : State) × UndoBack c.args.undo v old) (sym c.self.view_is) c.requires))
     )
 
@@ -43,7 +44,8 @@ returns-in-Rearmed c =
     subst (λ (d : TimersUndo). UndoBack d view new) (sym c.in-Rearmed.is)
     (
     rearmed_undone view new refl c.in-Rearmed.to c.in-Rearmed.place c.in-Rearmed.last c.in-Rearmed.timer c.uninsert-armed.new.self.entries c.uninsert-armed.ensures.back
-    (subst (λ (x : Entry). RemovedBack c.in-Rearmed.place c.in-Rearmed.last x c.uninsert-armed.new.self.entries c.unremove.new.self.entries) (ap (λ (x : Entry). record x { timer = c.in-Rearmed.timer }) c.uninsert-armed.ensures.entry) c.unremove.ensures.back)
+    (subst (λ (x : Entry). RemovedBack c.in-Rearmed.place c.in-Rearmed.last x c.uninsert-armed.new.self.entries c.unremove.new.self.entries)
+    (ap (λ (x : Entry). record x { timer = c.in-Rearmed.timer }) c.uninsert-armed.ensures.entry) c.unremove.ensures.back)
     refl refl
     (subst (λ (d : TimersUndo). (old : State) × UndoBack d view old) c.in-Rearmed.is (subst (λ (v : State). (old : State) × UndoBack c.args.undo v old) (sym c.self.view_is) c.requires))
     )
@@ -70,7 +72,8 @@ returns-in-Popped c =
     (
     subst (λ (d : TimersUndo). UndoBack d view new) (sym c.in-Popped.is)
     (
-    popped_undone view new refl c.in-Popped.last c.remove-entry.result (last_is view.firings c.remove-entry.result (subst (λ n. slice_get view.firings (n - 1) ≡ Some c.remove-entry.result) c.len.ensures.len c.remove-entry.ensures.item)) c.unremove-in-Popped.ensures.back
+    popped_undone view new refl c.in-Popped.last c.remove-entry.result (last_is view.firings c.remove-entry.result
+    (subst (λ n. slice_get view.firings (n - 1) ≡ Some c.remove-entry.result) c.len.ensures.len c.remove-entry.ensures.item)) c.unremove-in-Popped.ensures.back
     (ap (λ (r : Roomed Entry). r.items) c.remove-entry.ensures.rest ∙ ap (λ n. remove view.firings (n - 1)) c.len.ensures.len ∙ last_removed view.firings) refl
     (subst (λ (d : TimersUndo). (old : State) × UndoBack d view old) c.in-Popped.is (subst (λ (v : State). (old : State) × UndoBack c.args.undo v old) (sym c.self.view_is) c.requires))
     )

@@ -21,6 +21,7 @@ returns c =
     let due_first = ap (λ (x : Entry). int_le x.timer.due c.args.now) (least_is view c.in-Some.least c.args.now is) ∙ due in
     subst (λ (v : State). Applies v (Pop c.args.now) (Popped c.remove-last.result.1) (record view { entries = c.remove-last.new.self.entries; firings = c.push.new.self.items })) c.self.view_is
     (
-    popping view well c.args.now (some view c.in-Some.least c.args.now is) due_first (grind (arith, common_steps)) c.remove-last.result.1 c.remove-last.result.0 c.remove-last.new.self.entries c.push.new.self.items
+    popping view well c.args.now (some view c.in-Some.least c.args.now is) due_first (grind (arith, common_steps)) c.remove-last.result.1 c.remove-last.result.0 c.remove-last.new.self.entries
+    c.push.new.self.items
     c.remove-last.ensures.entry (ap (λ (r : Roomed Entry). r.items) c.push.ensures) c.remove-last.ensures.removed c.remove-last.ensures.back (c.remove-last.ensures.ordered well.ordered)
     )

@@ -11,6 +11,7 @@ returns c =
     let well : IsTimers view = subst IsTimers (sym c.self.view_is) c.requires in
     subst (λ (v : State). Applies v (Stop c.args.descriptor c.args.side) c.of_stop.result (record view { entries = c.clear-gone.new.self.entries })) c.self.view_is
     (
-    stopping view well c.args.descriptor c.args.side c.if-descriptor-self.false c.key_of.result c.key_of.ensures c.clear-gone.result c.clear-gone.new.self.entries c.clear-gone.ensures.cleared c.clear-gone.ensures.back
+    stopping view well c.args.descriptor c.args.side c.if-descriptor-self.false c.key_of.result c.key_of.ensures c.clear-gone.result c.clear-gone.new.self.entries c.clear-gone.ensures.cleared
+    c.clear-gone.ensures.back
     (c.clear-gone.ensures.ordered well.ordered) c.of_stop.result c.of_stop.ensures
     )

@@ -4,7 +4,7 @@ use Rattle.nr_snaps.specs.Film.{IsFrame}
 use Rattle.nr_walker.proofs.Ways.{IsWay-none}
 use Rattle.nr_walker.proofs.walker.Walker.new.Goals as goal
 
--- it stands at position 0, and nothing leads back
+-- it is at position 0, and nothing leads back
 pub invariant_of-result : goal.invariant_of-result
 invariant_of-result g c =
     let film = c.args.film.now in
@@ -12,4 +12,5 @@ invariant_of-result g c =
     let place : 0 / film.every * film.every ≡ 0 = omega (arith, low) in
     let copy = subst (λ n. IsFrame g.W.Reversible.is_well_formed g.W.Worlds.world g.W.Reversible.steps film n c.snap_below.result.now) place c.snap_below.ensures in
     let frame = subst (λ s. IsFrame g.W.Reversible.is_well_formed g.W.Worlds.world g.W.Reversible.steps film 0 s) (sym c.in-Ok.ensures.ok) copy in
-    rw c.in_ok-with_capacity.ensures (IsWay-none g.W.Reversible.is_well_formed g.W.Worlds.world g.W.Reversible.steps g.W.Reversible.back film 0 c.args.depth c.in-Ok.world (omega arith) frame c.requires.least c.requires.most)
+    rw c.in_ok-with_capacity.ensures (IsWay-none g.W.Reversible.is_well_formed g.W.Worlds.world g.W.Reversible.steps g.W.Reversible.back film 0 c.args.depth c.in-Ok.world (omega arith) frame
+    c.requires.least c.requires.most)

@@ -4,7 +4,7 @@ use Rattle.nr_snaps.specs.Film.{IsFrame}
 use Rattle.nr_walker.proofs.Ways.{IsWay-none}
 use Rattle.nr_walker.proofs.walker.Walker.to_copy_below.Goals as goal
 
--- it stands where the film's copy does, and nothing leads back
+-- it is where the film's copy is, and nothing leads back
 pub invariant_of-self : goal.invariant_of-self
 invariant_of-self g c =
     let film = c.self.inside.film.now in
@@ -12,7 +12,8 @@ invariant_of-self g c =
     let below : c.args.n ≤ length film.recording.steps = subst (λ v. c.args.n ≤ length v.film.recording.steps) (sym c.self.view_is) c.requires in
     let low = div-mul-le_self c.args.n film.every in
     let frame = subst (λ s. IsFrame g.W.Reversible.is_well_formed g.W.Worlds.world g.W.Reversible.steps film position s) (sym c.in-Ok.ensures.ok) c.snap_below.ensures in
-    rw (c.clear.ensures, c.every-every.ensures.is) (IsWay-none g.W.Reversible.is_well_formed g.W.Worlds.world g.W.Reversible.steps g.W.Reversible.back film position c.self.inside.deltas.capacity c.in-Ok.copy (omega (arith, low, below)) frame c.self.invariant.least c.self.invariant.most)
+    rw (c.clear.ensures, c.every-every.ensures.is) (IsWay-none g.W.Reversible.is_well_formed g.W.Worlds.world g.W.Reversible.steps g.W.Reversible.back film position c.self.inside.deltas.capacity
+    c.in-Ok.copy (omega (arith, low, below)) frame c.self.invariant.least c.self.invariant.most)
 
 pub returns-in_default-clause-err : goal.returns-in_default-clause-err
 returns-in_default-clause-err g c = search rules

@@ -1,0 +1,258 @@
+-- The text of a written line: printable ASCII, so that no line feed is in it, and short.
+use Rattle.std.proofs.Common.{◌≡◌, ◌≤◌, ◌<◌, ◌+◌, ◌*◌, ◌/◌, ◌%◌, ℕ, zero, suc, pos, negsuc, Bool, true, false, not, eqb, ltb, leb, ◌&&◌, List, [], ◌∷◌, ◌++◌, length, get_or, codes, decimal, refl, ap, ◌∙◌, append_assoc, arith}
+use Rattle.std.specs.List.{list_all}
+use Rattle.std.specs.Fmt.{digits as digits_in, digits_onto, digit_glyph}
+use Rattle.std.specs.Str.{is_utf8}
+use Rattle.std.proofs.lemmas.Bool.{and_parts, and_from, ltb-true, leb-true, lt-ltb, le-leb, ne_eqb, eqb-false, not-true, cond_both}
+use Rattle.std.proofs.lemmas.List.{length-append}
+use Rattle.std.proofs.lemmas.List.Folds.{list_all-append}
+use Rattle.std.proofs.lemmas.List.Elements.{All-from_recursion}
+use Rattle.std.proofs.lemmas.Str.{is_utf8-from_IsUtf8}
+use Rattle.hex.specs.Hex.{encode_with, encode_lower, lower_digits}
+use Rattle.hex.proofs.HexLemmas.{length-encode_with}
+use Rattle.json.specs.Print.{escape_byte, escape, quoted}
+use Rattle.json.proofs.Printed.Strings.{escape_byte_plain}
+use Rattle.json.proofs.Printed.Utf8.{are_ascii, IsUtf8-are_ascii}
+use Rattle.serde_json.specs.Data.{Data, number, unsigned, Members, no_members, member}
+use Rattle.serde_json.specs.Written.{comma_if, compact_text, items_text, members_text}
+use Rattle.nr_rev.specs.declared.limits.Limits.{Limits}
+use Rattle.nr_rev.specs.declared.sides.Side.TheVariants as sides
+use Rattle.nr_rev.specs.declared.sides.Mode.TheVariants as modes
+use Rattle.nr_recording.specs.Reading.{lines}
+use Rattle.nr_recording.specs.declared.reading.TheConstants.{MOST_LINE_BYTES}
+use Rattle.nr_recording.specs.Spelling.{Argument, numeral, tag, time, side, mode, bit, digits, argument_data, arguments_data, IsInType, AreInTypes, line_data}
+use Rattle.nr_recording.specs.Writing.{limits_data, line_text}
+
+-- ---- bytes
+
+abbrev pub is_shown : ℕ → Bool
+is_shown b = leb 32 b && ltb b 128
+
+abbrev pub are_shown : List ℕ → Bool
+are_shown bs = list_all is_shown bs
+
+-- a byte that is in a string as it is
+abbrev is_plain : ℕ → Bool
+is_plain b = leb 48 b && ltb b 123 && not (eqb b 92)
+
+abbrev pub are_plain : List ℕ → Bool
+are_plain bs = list_all is_plain bs
+
+both_shown : (xs ys : List ℕ) → are_shown xs ≡ true → are_shown ys ≡ true → are_shown (xs ++ ys) ≡ true
+both_shown xs ys p q = list_all-append is_shown xs ys ∙ rw (p, q) refl
+
+one_shown : (x : ℕ) (xs : List ℕ) → is_shown x ≡ true → are_shown xs ≡ true → are_shown (x ∷ xs) ≡ true
+one_shown x xs p q = and_from (is_shown x) (are_shown xs) p q
+
+is_between : (x : ℕ) → 32 ≤ x → x < 128 → is_shown x ≡ true
+is_between x low high = and_from (leb 32 x) (ltb x 128) (le-leb 32 x low) (lt-ltb x 128 high)
+
+-- ---- numbers
+
+glyph_shown : (d : ℕ) → d < 10 → is_shown (digit_glyph false d) ≡ true
+glyph_shown d h = rw (lt-ltb d 10 h) (is_between (48 + d) (omega arith) (omega arith))
+
+digits_onto_shown : (k n : ℕ) (acc : List ℕ) → are_shown acc ≡ true → are_shown (digits_onto k 10 false n acc) ≡ true
+digits_onto_shown zero n acc h = h
+digits_onto_shown (suc k) n acc h =
+    let more = one_shown (digit_glyph false (n % 10)) acc (glyph_shown (n % 10) (omega arith)) h in
+    cond_both (eqb (n / 10) 0) (digit_glyph false (n % 10) ∷ acc) (digits_onto k 10 false (n / 10) (digit_glyph false (n % 10) ∷ acc)) (λ ds. are_shown ds ≡ true) (λ _. more)
+    (λ _. digits_onto_shown k (n / 10) _ more)
+
+decimal_shown : (n : ℕ) → are_shown (decimal n) ≡ true
+unfolding digits_in
+decimal_shown n = digits_onto_shown 64 n [] refl
+
+digits_onto_short : (k n : ℕ) (acc : List ℕ) → length (digits_onto k 10 false n acc) ≤ k + length acc
+digits_onto_short zero n acc = omega arith
+digits_onto_short (suc k) n acc =
+    cond_both (eqb (n / 10) 0) (digit_glyph false (n % 10) ∷ acc) (digits_onto k 10 false (n / 10) (digit_glyph false (n % 10) ∷ acc)) (λ ds. length ds ≤ suc k + length acc) (λ _. omega arith)
+    (λ _. omega (arith, digits_onto_short k (n / 10) (digit_glyph false (n % 10) ∷ acc)))
+
+decimal_short : (n : ℕ) → length (decimal n) ≤ 64
+unfolding digits_in
+decimal_short n = omega (arith, digits_onto_short 64 n [])
+
+-- ---- strings
+
+escaped_alone : (x : ℕ) → is_plain x ≡ true → escape_byte x ≡ x ∷ []
+escaped_alone x h =
+    let p = and_parts (leb 48 x && ltb x 123) (not (eqb x 92)) h in
+    let low = leb-true 48 x (and_parts (leb 48 x) (ltb x 123) p.0).0 in
+    escape_byte_plain x (λ e. omega arith) (eqb-false x 92 (not-true (eqb x 92) p.1)) (omega arith)
+
+escape_plain : (s : List ℕ) → are_plain s ≡ true → escape s ≡ s
+escape_plain [] h = refl
+escape_plain (x ∷ xs) h =
+    let p = and_parts (is_plain x) (are_plain xs) h in
+    rw (escaped_alone x p.0, escape_plain xs p.1) refl
+
+plain_shown : (s : List ℕ) → are_plain s ≡ true → are_shown s ≡ true
+plain_shown [] h = refl
+plain_shown (x ∷ xs) h =
+    let p = and_parts (is_plain x) (are_plain xs) h in
+    let q = and_parts (leb 48 x) (ltb x 123) (and_parts (leb 48 x && ltb x 123) (not (eqb x 92)) p.0).0 in
+    let low = leb-true 48 x q.0 in
+    let high = ltb-true x 123 q.1 in
+    one_shown x xs (is_between x (omega arith) (omega arith)) (plain_shown xs p.1)
+
+quoted_shown : (s : List ℕ) → are_plain s ≡ true → are_shown (quoted s) ≡ true
+quoted_shown s h = rw (escape_plain s h) (one_shown 34 (s ++ 34 ∷ []) refl (both_shown s (34 ∷ []) (plain_shown s h) refl))
+
+quoted_short : (s : List ℕ) → are_plain s ≡ true → length (quoted s) ≡ length s + 2
+quoted_short s h = rw (escape_plain s h) (omega (arith, length-append s (34 ∷ [])))
+
+digit_plain : (k : ℕ) → k < 16 → is_plain (get_or lower_digits k 0) ≡ true
+digit_plain k h =
+    All-from_recursion (λ x. is_plain x ≡ true) lower_digits (refl, (refl, (refl, (refl, (refl, (refl, (refl, (refl, (refl, (refl, (refl, (refl, (refl, (refl, (refl, (refl, tt)))))))))))))))) k 0 h
+
+hex_plain : (bytes : List ℕ) → ((i : ℕ) → get_or bytes i 0 < 256) → are_plain (encode_lower bytes) ≡ true
+unfolding encode_with
+hex_plain [] h = refl
+hex_plain (b ∷ bytes) h =
+    let low : b < 256 = h 0 in
+    let one = digit_plain (b / 16) (omega arith) in
+    let two = digit_plain (b % 16) (omega arith) in
+    rw (one, two) (hex_plain bytes (λ i. h (suc i)))
+
+-- ---- arguments
+
+argument_shown : (a : Argument) → IsInType a → are_shown (compact_text (argument_data a)) ≡ true
+argument_shown (numeral n) h = decimal_shown n
+argument_shown (tag n) h = decimal_shown n
+argument_shown (time (pos n)) h = decimal_shown n
+argument_shown (time (negsuc n)) h = one_shown 45 (decimal (suc n)) refl (decimal_shown (suc n))
+argument_shown (side sides.Read) h = quoted_shown (codes "r") refl
+argument_shown (side sides.Write) h = quoted_shown (codes "w") refl
+argument_shown (mode modes.Read) h = quoted_shown (codes "r") refl
+argument_shown (mode modes.Write) h = quoted_shown (codes "w") refl
+argument_shown (mode modes.Both) h = quoted_shown (codes "rw") refl
+argument_shown (bit false) h = decimal_shown 0
+argument_shown (bit true) h = decimal_shown 1
+argument_shown (digits bytes) h = quoted_shown (encode_lower bytes) (hex_plain bytes h)
+
+-- the most bytes that an argument and its comma take
+abbrev pub width : Argument → ℕ
+width (digits bytes) = 2 * length bytes + 3
+width _ = 66
+
+abbrev pub widths : List Argument → ℕ
+widths [] = 0
+widths (a ∷ rest) = width a + widths rest
+
+argument_short : (a : Argument) → IsInType a → length (compact_text (argument_data a)) + 1 ≤ width a
+argument_short (numeral n) h = omega (arith, decimal_short n)
+argument_short (tag n) h = omega (arith, decimal_short n)
+argument_short (time (pos n)) h = omega (arith, decimal_short n)
+argument_short (time (negsuc n)) h = omega (arith, decimal_short (suc n))
+argument_short (side sides.Read) h = omega (arith, quoted_short (codes "r") refl)
+argument_short (side sides.Write) h = omega (arith, quoted_short (codes "w") refl)
+argument_short (mode modes.Read) h = omega (arith, quoted_short (codes "r") refl)
+argument_short (mode modes.Write) h = omega (arith, quoted_short (codes "w") refl)
+argument_short (mode modes.Both) h = omega (arith, quoted_short (codes "rw") refl)
+argument_short (bit false) h = omega (arith, decimal_short 0)
+argument_short (bit true) h = omega (arith, decimal_short 1)
+argument_short (digits bytes) h = omega (arith, quoted_short (encode_lower bytes) (hex_plain bytes h), length-encode_with lower_digits bytes)
+
+arguments_shown : (args : List Argument) → AreInTypes args → are_shown (items_text true (arguments_data args)) ≡ true
+arguments_shown [] h = refl
+arguments_shown (a ∷ rest) h = one_shown 44 (compact_text (argument_data a) ++ items_text true (arguments_data rest)) refl
+    (both_shown (compact_text (argument_data a)) (items_text true (arguments_data rest)) (argument_shown a h.0) (arguments_shown rest h.1))
+
+arguments_short : (args : List Argument) → AreInTypes args → length (items_text true (arguments_data args)) ≤ widths args + 1
+arguments_short [] h = omega arith
+arguments_short (a ∷ rest) h = omega (arith, argument_short a h.0, arguments_short rest h.1, length-append (compact_text (argument_data a)) (items_text true (arguments_data rest)))
+
+-- ---- lines
+
+pub line_shown : (line : List ℕ × List Argument) → are_plain line.0 ≡ true → AreInTypes line.1 → are_shown (compact_text (line_data line)) ≡ true
+line_shown line name h = one_shown 91 (quoted line.0 ++ items_text true (arguments_data line.1)) refl
+    (both_shown (quoted line.0) (items_text true (arguments_data line.1)) (quoted_shown line.0 name) (arguments_shown line.1 h))
+
+pub line_short : (line : List ℕ × List Argument) → are_plain line.0 ≡ true → AreInTypes line.1 → length (compact_text (line_data line)) ≤ length line.0 + widths line.1 + 4
+line_short line name h = omega (arith, quoted_short line.0 name, arguments_short line.1 h, length-append (quoted line.0) (items_text true (arguments_data line.1)))
+
+member_shown : (later : Bool) (k : List ℕ) (n : ℕ) (ms : Members) → are_plain k ≡ true → are_shown (members_text true ms) ≡ true
+    → are_shown (members_text later (member k (number (unsigned n)) ms)) ≡ true
+member_shown later k n ms p q =
+    let entry = both_shown (quoted k) (58 ∷ (decimal n ++ members_text true ms)) (quoted_shown k p)
+    (one_shown 58 (decimal n ++ members_text true ms) refl (both_shown (decimal n) (members_text true ms) (decimal_shown n) q)) in
+    both_shown (comma_if later) _ (comma_shown later) entry
+  where
+    comma_shown : (later : Bool) → are_shown (comma_if later) ≡ true
+    comma_shown true = refl
+    comma_shown false = refl
+
+member_short : (later : Bool) (k : List ℕ) (n : ℕ) (ms : Members) → are_plain k ≡ true → length (members_text later (member k (number (unsigned n)) ms)) ≤ length k + 68 + length (members_text true ms)
+member_short later k n ms p =
+    let after : List ℕ = decimal n ++ members_text true ms in
+    omega (
+      arith,
+      comma_short later,
+      decimal_short n,
+      quoted_short k p,
+      length-append (comma_if later) (quoted k ++ 58 ∷ after),
+      length-append (quoted k) (58 ∷ after),
+      length-append (decimal n) (members_text true ms),
+    )
+  where
+    comma_short : (later : Bool) → length (comma_if later) ≤ 1
+    comma_short true = omega arith
+    comma_short false = omega arith
+
+abbrev with_number : List ℕ → ℕ → Members → Members
+with_number k n ms = member k (number (unsigned n)) ms
+
+-- the header's members from a key on
+abbrev from_sock : Limits → Members
+from_sock l = with_number (codes "sock") l.sockets no_members
+
+abbrev from_version : Limits → Members
+from_version l = with_number (codes "netrev") 1 (from_sock l)
+
+abbrev from_gor : Limits → Members
+from_gor l = with_number (codes "gor") l.goroutines (from_version l)
+
+abbrev from_desc : Limits → Members
+from_desc l = with_number (codes "desc") l.descriptors (from_gor l)
+
+pub header_shown : (l : Limits) → are_shown (compact_text (limits_data l)) ≡ true
+header_shown l =
+    one_shown 123 (members_text false (with_number (codes "buf") l.buffer (from_desc l))) refl
+    (member_shown false (codes "buf") l.buffer (from_desc l) refl
+    (member_shown true (codes "desc") l.descriptors (from_gor l) refl
+    (member_shown true (codes "gor") l.goroutines (from_version l) refl
+    (member_shown true (codes "netrev") 1 (from_sock l) refl
+    (member_shown true (codes "sock") l.sockets no_members refl refl)))))
+
+pub header_short : (l : Limits) → length (compact_text (limits_data l)) ≤ MOST_LINE_BYTES
+header_short l =
+    let sock = member_short true (codes "sock") l.sockets no_members refl in
+    let version = member_short true (codes "netrev") 1 (from_sock l) refl in
+    let gor = member_short true (codes "gor") l.goroutines (from_version l) refl in
+    let desc = member_short true (codes "desc") l.descriptors (from_gor l) refl in
+    let buf = member_short false (codes "buf") l.buffer (from_desc l) refl in
+    omega (arith, sock, version, gor, desc, buf)
+
+-- ---- what is visible
+
+ascii_shown : (bs : List ℕ) → are_shown bs ≡ true → are_ascii bs ≡ true
+ascii_shown [] h = refl
+ascii_shown (x ∷ xs) h =
+    let p = and_parts (is_shown x) (are_shown xs) h in
+    and_from (ltb x 128) (are_ascii xs) (and_parts (leb 32 x) (ltb x 128) p.0).1 (ascii_shown xs p.1)
+
+pub utf8_shown : (bs : List ℕ) → are_shown bs ≡ true → is_utf8 bs ≡ true
+utf8_shown bs h = is_utf8-from_IsUtf8 bs (IsUtf8-are_ascii bs (ascii_shown bs h))
+
+split_line : (xs ys : List ℕ) → are_shown xs ≡ true → lines (xs ++ 10 ∷ ys) ≡ xs ∷ lines ys
+split_line [] ys h = refl
+split_line (x ∷ xs) ys h =
+    let p = and_parts (is_shown x) (are_shown xs) h in
+    let low = leb-true 32 x (and_parts (leb 32 x) (ltb x 128) p.0).0 in
+    rw (ne_eqb x 10 (λ e. omega arith), split_line xs ys p.1) refl
+
+-- a visible line that is written is the first line of what is there then
+pub lines-line_text : (d : Data) (more : List ℕ) → are_shown (compact_text d) ≡ true → lines (line_text d ++ more) ≡ compact_text d ∷ lines more
+unfolding line_text
+lines-line_text d more h = ap lines (append_assoc (compact_text d) (10 ∷ []) more) ∙ split_line (compact_text d) more h
