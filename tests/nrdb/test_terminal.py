@@ -27,6 +27,7 @@ class Typist:
         environment.pop("NETREV_HISTORY", None)
         self.process, self.terminal = pty.fork()
         if self.process == 0:
+            signal.signal(signal.SIGINT, signal.SIG_DFL)  # a shell's background has it ignored
             os.execve(sys.executable, words, environment)
         self.screen = ""
 
