@@ -31,7 +31,7 @@ impl GTable {
 
     /// Does nothing: each queue holds just those with that queued status, each once.
     #[inline(always)]
-    pub(crate) fn tell_queued(&self)
+    pub fn tell_queued(&self)
         ensures { IsQueuedUp self.now }
     {
         let _ = &self.nodes;

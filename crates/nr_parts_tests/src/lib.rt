@@ -1,4 +1,4 @@
-//! Tests of the packed machine's parts by their public calls.
+//! Tests of the packed machine's parts by their public calls, and of their places in a whole world.
 #![tactic(auto)]
 
 #[cfg(test)]
@@ -7,6 +7,8 @@ mod buffers;
 mod descriptors;
 #[cfg(test)]
 mod locks;
+#[cfg(test)]
+mod places;
 #[cfg(test)]
 mod queues;
 #[cfg(test)]

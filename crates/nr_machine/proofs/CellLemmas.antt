@@ -1,0 +1,115 @@
+-- The values of cells: what the parts have is what the world has.
+use Rattle.std.proofs.Common.{◌≡◌, ◌⊎◌, inl, inr, ℕ, zero, suc, ◌+◌, ◌<◌, ◌≤◌, List, [], ◌∷◌, get_or, length, map, Option, Some, None, refl, sym, ap, ◌∙◌, arith}
+use Rattle.std.proofs.lemmas.Bool.{cases_lt}
+use Rattle.std.proofs.lemmas.Option.{same_Some, slice_get_past}
+use Rattle.std.specs.Prelude.{option_map, slice_get}
+use Rattle.nr_rev.specs.declared.cell_value.CellValue.{CellValue}
+use Rattle.nr_rev.specs.declared.cell_value.CellValue.TheVariants.{Absent, Number}
+use Rattle.nr_rev.specs.declared.descriptor.Descriptor.{Descriptor}
+use Rattle.nr_rev.specs.declared.descriptor.DescriptorRow.{DescriptorRow}
+use Rattle.nr_rev.specs.declared.lock.Lock.{Lock}
+use Rattle.nr_rev.specs.declared.sides.Side.{Side}
+use Rattle.nr_rev.specs.declared.sides.Sides.{Sides}
+use Rattle.nr_rev.specs.declared.timer.Timer.{Timer}
+use Rattle.nr_rev.specs.Cell.{descriptor_value, socket_value, value_or_absent}
+use Rattle.nr_rev.specs.Semaphore.{Semaphore}
+use Rattle.nr_rev.specs.Sides.{of_side, twice}
+use Rattle.nr_rev.specs.Socket.{Socket}
+use Rattle.nr_gsema.specs.Table.{count_at}
+use Rattle.nr_sockbuf.specs.Sock.{OpenSock, SockParts, viewed_bytes}
+use Rattle.nr_timers.specs.TimersOf.{AreTimers, timers_of}
+use Rattle.nr_machine.specs.Fits.{IsWorld, PartsFit}
+use Rattle.nr_machine.specs.Numbered.{numbered}
+use Rattle.nr_machine.specs.Rows.{row_of}
+use Rattle.nr_machine.specs.Sockets.{rest_at, socket_of}
+use Rattle.nr_machine.specs.World.{WorldParts, meant}
+use Rattle.nr_machine.proofs.ListLemmas.{get_within}
+use Rattle.nr_machine.proofs.RowsLemmas.{row_at, row_past}
+use Rattle.nr_machine.proofs.SocketsLemmas.{length-sockets_of, semaphores_at, sock_at, socket_at, socket_past}
+use Rattle.nr_machine.proofs.QueueLemmas.{viewed}
+
+-- ---- descriptors
+
+shown_by : (m : WorldParts) (d : ℕ) (f : Descriptor → CellValue) (o : Option Descriptor) → slice_get m.core.descriptors.items d ≡ o
+    → value_or_absent f o ≡ descriptor_value d (meant m) f
+shown_by m d f None at =
+    sym (ap (λ (o : Option DescriptorRow). value_or_absent (λ row. f row.descriptor) o) (row_past m.core.descriptors.items m.core.timers.entries d at))
+shown_by m d f (Some x) at =
+    sym (ap (λ (o : Option DescriptorRow). value_or_absent (λ row. f row.descriptor) o) (row_at m.core.descriptors.items m.core.timers.entries d x at))
+
+-- a cell of a descriptor shows what the parts have
+pub descriptor_shown : (m : WorldParts) (d : ℕ) (f : Descriptor → CellValue) → value_or_absent f (slice_get m.core.descriptors.items d) ≡ descriptor_value d (meant m) f
+descriptor_shown m d f = shown_by m d f (slice_get m.core.descriptors.items d) refl
+
+-- ---- sockets
+
+-- a cell of a socket that isn't there shows nothing
+pub socket_absent : (m : WorldParts) (s : ℕ) (f : Socket → CellValue) → slice_get m.core.locks.items s ≡ None → Absent ≡ socket_value s (meant m) f
+socket_absent m s f at = sym (ap (λ (o : Option Socket). value_or_absent f o) (socket_past m.core.locks.items m.core.goroutines.semaphores m.socks s at))
+
+-- that of one that is there shows what its lock and the rest have
+pub socket_shown : (m : WorldParts) (s : ℕ) (f : Socket → CellValue) (lock : Lock) → slice_get m.core.locks.items s ≡ Some lock
+    → f (socket_of lock (rest_at m.core.goroutines.semaphores m.socks s)) ≡ socket_value s (meant m) f
+socket_shown m s f lock at = sym (ap (λ (o : Option Socket). value_or_absent f o) (socket_at m.core.locks.items m.core.goroutines.semaphores m.socks s lock at))
+
+-- ---- timers
+
+listed : (k i n : ℕ) (xs : List Descriptor) (beside : ℕ → Sides (Option Timer)) → n ≡ k + i → i < length xs
+    → get_or (map (λ (row : DescriptorRow). row.timers) (numbered row_of k xs beside)) i (twice None) ≡ beside n
+listed k i n [] beside is below = absurd (omega (arith, below))
+listed k zero n (x ∷ xs) beside is below = ap beside (let same = is in omega (arith, same))
+listed k (suc i) n (x ∷ xs) beside is below = listed (suc k) i n xs beside (let same = is in omega (arith, same)) (omega (arith, below))
+
+unlisted : (k i : ℕ) (xs : List Descriptor) (beside : ℕ → Sides (Option Timer)) → length xs ≤ i
+    → get_or (map (λ (row : DescriptorRow). row.timers) (numbered row_of k xs beside)) i (twice None) ≡ twice None
+unlisted k i [] beside past = refl
+unlisted k zero (x ∷ xs) beside past = absurd (omega (arith, past))
+unlisted k (suc i) (x ∷ xs) beside past = unlisted (suc k) i xs beside (omega (arith, past))
+
+-- the rows have the timers of the entries, and no other descriptor has one
+pub are_timers : (m : WorldParts) → PartsFit m → AreTimers m.core.timers.entries (map (λ (row : DescriptorRow). row.timers) (meant m).descriptors)
+are_timers m h d = by (cases_lt d (length m.core.descriptors.items))
+  where
+    by : (d < length m.core.descriptors.items) ⊎ (length m.core.descriptors.items ≤ d)
+        → timers_of m.core.timers.entries d ≡ get_or (map (λ (row : DescriptorRow). row.timers) (meant m).descriptors) d (twice None)
+    by (inl below) = sym (listed 0 d d m.core.descriptors.items (timers_of m.core.timers.entries) (omega arith) below)
+    by (inr past) = h.unarmed d past ∙ sym (unlisted 0 d m.core.descriptors.items (timers_of m.core.timers.entries) past)
+
+-- ---- counts and lengths
+
+count_of : (m : WorldParts) (s : ℕ) (side : Side) (count : ℕ) (o : Option (Sides Semaphore)) → slice_get m.core.goroutines.semaphores s ≡ o
+    → Some count ≡ option_map (λ (both : Sides Semaphore). (of_side side both).count) o → count ≡ (of_side side (rest_at m.core.goroutines.semaphores m.socks s).semaphores).count
+count_of m s side count None there is = absurd cc
+count_of m s side count (Some both) there is =
+    same_Some count (of_side side both).count is ∙ ap (λ (x : Sides Semaphore). (of_side side x).count) (sym (semaphores_at m.core.goroutines.semaphores m.socks s both there))
+
+module _ (m : WorldParts) (s : ℕ) (side : Side) where
+  -- the count of a semaphore that is there
+  pub count_shown : (count : ℕ) → s < length m.core.locks.items → Some count ≡ count_at s side m.core.goroutines
+      → Number count ≡ socket_value s (meant m) (λ x. Number (of_side side x.semaphores).count)
+  count_shown count below is =
+      let lock = get_within m.core.locks.items s below in
+      ap Number (count_of m s side count (slice_get m.core.goroutines.semaphores s) refl is) ∙ socket_shown m s (λ x. Number (of_side side x.semaphores).count) lock.0 lock.1
+
+  -- it is there
+  pub count_there : IsWorld m → s < length m.core.locks.items → None ≡ count_at s side m.core.goroutines → ⊥
+  count_there h below is =
+      let many = length-sockets_of m.core.locks.items m.core.goroutines.semaphores m.socks in
+      let most = h.meaning.sockets_limited in
+      let room = h.parts.core.semaphores in
+      let both = get_within m.core.goroutines.semaphores s (omega (arith, below, many, most, room)) in
+      let found : None ≡ Some (of_side side both.0).count = is ∙ ap (λ (o : Option (Sides Semaphore)). option_map (λ (x : Sides Semaphore). (of_side side x).count) o) both.1 in
+      cc
+
+  -- how many bytes a buffer holds
+  pub length_shown : (sock : SockParts) (n : ℕ) → s < length m.core.locks.items → slice_get m.socks s ≡ Some sock → n ≡ length (viewed_bytes side sock.opened)
+      → Number n ≡ socket_value s (meant m) (λ x. Number (length (of_side side x.buffers).bytes))
+  length_shown sock n below at is =
+      let lock = get_within m.core.locks.items s below in
+      ap Number (is ∙ ap (λ (o : Option OpenSock). length (viewed_bytes side o)) (sym (sock_at m.core.goroutines.semaphores m.socks s sock at))
+      ∙ ap (λ (bytes : List ℕ). length bytes) (sym (viewed side (rest_at m.core.goroutines.semaphores m.socks s).sock)))
+      ∙ socket_shown m s (λ x. Number (length (of_side side x.buffers).bytes)) lock.0 lock.1
+
+  -- none of a socket that isn't there
+  pub nothing_past : (f : Socket → CellValue) → length m.core.locks.items ≤ s → Absent ≡ socket_value s (meant m) f
+  nothing_past f past = socket_absent m s f (slice_get_past m.core.locks.items s past)

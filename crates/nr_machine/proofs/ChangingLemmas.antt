@@ -1,0 +1,43 @@
+-- Changes of the core that change nothing.
+use Rattle.std.proofs.Common.{◌≡◌, ℕ, List, Some, None, refl, sym, ap, ◌∙◌, lit≤}
+use Rattle.std.proofs.lemmas.List.{set-set}
+use Rattle.std.specs.Prelude.{slice_get}
+use Rattle.nr_rev.specs.declared.descriptor.Descriptor.{Descriptor}
+use Rattle.nr_rev.specs.declared.lock.Lock.{Lock}
+use Rattle.nr_rev.specs.declared.status.Status.{Status}
+use Rattle.nr_machine.specs.declared.parts.Core.{Core}
+use Rattle.nr_machine.specs.Changing.{CanMove, MovesOn, with_descriptor, with_lock, with_status}
+use Rattle.nr_machine.proofs.ListLemmas.{set_nowhere, set_same}
+
+-- a status written over itself
+pub status_same : (core : Core) (g : ℕ) (status : Status) → slice_get core.goroutines.goroutines g ≡ Some status → with_status g status core ≡ core
+status_same core g status at =
+    ap (λ (xs : List Status). record core { goroutines = record core.goroutines { goroutines = xs } }) (set_same core.goroutines.goroutines g status at)
+
+-- no move is one to the status that there is
+pub stays : (core : Core) (g : ℕ) (from to : Status) → CanMove core g from to → from ≡ to → MovesOn core g to None core
+stays core g from to can same =
+    record {
+      rest = sym (rw (← same) (status_same core g from can.there));
+      queued = can.queued;
+      back = refl;
+      light = lit≤ tt;
+    }
+
+-- there is no such lock
+pub lock_nowhere : (core : Core) (s : ℕ) (lock : Lock) → slice_get core.locks.items s ≡ None → core ≡ with_lock s lock core
+lock_nowhere core s lock at =
+    ap (λ (xs : List Lock). record core { locks = record core.locks { items = xs } }) (sym (set_nowhere core.locks.items s lock at))
+
+-- there is no such descriptor
+pub descriptor_nowhere : (core : Core) (d : ℕ) (x : Descriptor) → slice_get core.descriptors.items d ≡ None → core ≡ with_descriptor d x core
+descriptor_nowhere core d x at =
+    ap (λ (xs : List Descriptor). record core { descriptors = record core.descriptors { items = xs } }) (sym (set_nowhere core.descriptors.items d x at))
+
+-- a descriptor that is changed leads back where it is what it was
+pub described_back : (core new : Core) (d : ℕ) (x before : Descriptor) → slice_get core.descriptors.items d ≡ Some before → new ≡ with_descriptor d x core
+    → core ≡ with_descriptor d before new
+described_back core new d x before at is =
+    sym (ap (with_descriptor d before) is
+    ∙ ap (λ (xs : List Descriptor). record core { descriptors = record core.descriptors { items = xs } })
+    (set-set core.descriptors.items d x before ∙ set_same core.descriptors.items d before at))

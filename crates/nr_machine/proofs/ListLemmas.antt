@@ -1,0 +1,21 @@
+-- What stands in a list after a write.
+use Rattle.std.proofs.Common.{◌≡◌, ℕ, zero, suc, ◌<◌, List, [], ◌∷◌, length, set, Some, None, refl, sym, ap, ◌∙◌, arith}
+use Rattle.std.proofs.lemmas.List.{set-get_or}
+use Rattle.std.proofs.lemmas.Option.{get_or_from_slice_get}
+use Rattle.std.specs.Prelude.{slice_get}
+
+-- what stands at a place, written there again
+pub set_same : {A : Type 0} (xs : List A) (i : ℕ) (x : A) → slice_get xs i ≡ Some x → set xs i x ≡ xs
+set_same {A} xs i x at = ap (λ (y : A). set xs i y) (sym (get_or_from_slice_get xs i x x at)) ∙ set-get_or xs i x
+
+-- where no place is, nothing is written
+pub set_nowhere : {A : Type 0} (xs : List A) (i : ℕ) (x : A) → slice_get xs i ≡ None → set xs i x ≡ xs
+set_nowhere [] i x at = refl
+set_nowhere (y ∷ xs) zero x at = cc
+set_nowhere {A} (y ∷ xs) (suc i) x at = ap (λ (ys : List A). y ∷ ys) (set_nowhere xs i x at)
+
+-- there is something at each place below the length
+pub get_within : {A : Type 0} (xs : List A) (i : ℕ) → i < length xs → (x : A) × (slice_get xs i ≡ Some x)
+get_within [] i h = absurd (omega arith)
+get_within (x ∷ xs) zero h = (x, refl)
+get_within (x ∷ xs) (suc i) h = get_within xs i (omega arith)

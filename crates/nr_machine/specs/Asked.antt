@@ -1,0 +1,42 @@
+-- What steps ask of the timers, whose places in the heap no meaning tells.
+use Rattle.std.specs.Prelude.{◌≡◌, ℕ, List, [], ◌∷◌, map, Ok, Err}
+use Rattle.nr_rev.specs.declared.step.Step.{Step}
+use Rattle.nr_rev.specs.declared.step.Step.TheVariants as step
+use Rattle.nr_rev.specs.declared.timer.TimerOrder.{TimerOrder}
+use Rattle.nr_rev.specs.declared.timer.TimerOrder.TheVariants as order
+use Rattle.nr_desc.specs.Op.{Outcome}
+use Rattle.nr_desc.specs.declared.op.DescOp.{DescOp}
+use Rattle.nr_desc.specs.declared.op.DescOp.TheVariants as desc
+use Rattle.nr_timers.specs.State.{State}
+use Rattle.nr_timers.specs.Step.{TimersStep}
+use Rattle.nr_timers.specs.declared.op.TimersOp.{TimersOp}
+use Rattle.nr_timers.specs.declared.op.TimersOp.TheVariants as timers
+use Rattle.nr_machine.specs.Changing.{desc_outcome}
+use Rattle.nr_machine.specs.World.{WorldParts}
+
+-- the timers are what these operations make of them, one after another
+abbrev pub TimersMade : List TimersOp → State → State → Type 0
+TimersMade [] old new = new ≡ old
+TimersMade (op ∷ asked) old new = (mid : State) × TimersStep old op tt mid × TimersMade asked mid new
+
+-- what an order to the timers of descriptor d asks
+abbrev pub timers_op : ℕ → TimerOrder → TimersOp
+timers_op d (order.Arm side due function sequence) = timers.Arm d side due function sequence
+timers_op d (order.Stop side) = timers.Stop d side
+
+-- what an operation on descriptor d that comes to this asks of its timers
+abbrev pub asked_by : ℕ → Outcome → List TimersOp
+asked_by d (Ok left) = map (timers_op d) left.1.orders
+asked_by d (Err e) = []
+
+-- what an operation on descriptor d asks of its timers
+abbrev pub asked_at : ℕ → DescOp → WorldParts → List TimersOp
+asked_at d op m = asked_by d (desc_outcome d op m.core)
+
+-- what a step asks of the timers
+abbrev pub asked_of : WorldParts → Step → List TimersOp
+asked_of m (step.SetDeadline g d mode t) = asked_at d (desc.SetDeadline m.core.clock mode t) m
+asked_of m (step.Evict g d) = asked_at d desc.Evict m
+asked_of m step.Pop = timers.Pop m.core.clock ∷ []
+asked_of m (step.Fire place) = timers.TakeFiring place ∷ []
+asked_of m _ = []

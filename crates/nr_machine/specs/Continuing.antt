@@ -1,0 +1,76 @@
+-- What a change of a descriptor with its timers comes to: the timers obey, and those who are woken
+-- go on.
+use Rattle.std.specs.Prelude.{◌≡◌, ℕ, ◌≤◌, List, length, map, remove, slice_get, Option, Some, None, Result, Ok}
+use Rattle.nr_rev.specs.declared.refusal.Refusal.{Refusal}
+use Rattle.nr_rev.specs.declared.sides.Side.{Side}
+use Rattle.nr_rev.specs.declared.sides.Side.TheVariants.{Read, Write}
+use Rattle.nr_rev.specs.declared.sides.Sides.{Sides}
+use Rattle.nr_rev.specs.declared.status.Status.TheVariants.{Parked}
+use Rattle.nr_rev.specs.declared.timer.Timer.{Timer}
+use Rattle.nr_rev.specs.declared.timer.TimerOrder.{TimerOrder}
+use Rattle.nr_rev.specs.Refusing.{◌>>=◌}
+use Rattle.nr_rev.specs.Sides.{of_side}
+use Rattle.nr_rev.specs.Step.{Outcome, after_change, after_orders, row_of}
+use Rattle.nr_rev.specs.World.{World}
+use Rattle.nr_desc.specs.Change.{listed}
+use Rattle.nr_desc.specs.Op as desc
+use Rattle.nr_desc.specs.declared.op.DescOp.{DescOp}
+use Rattle.nr_gsema.specs.Applying.{IsQueuedUp}
+use Rattle.nr_timers.specs.Back.{delta_weight}
+use Rattle.nr_timers.specs.State.{IsTimers}
+use Rattle.nr_timers.specs.Step.{TimersStep}
+use Rattle.nr_timers.specs.TimersOf.{timers_of}
+use Rattle.nr_timers.specs.declared.delta.TimersDelta.{TimersDelta}
+use Rattle.nr_timers.specs.declared.op.TimersOp.TheVariants.{TakeFiring}
+use Rattle.nr_machine.specs.declared.parts.Core.{Core}
+use Rattle.nr_machine.specs.Asked.{TimersMade, timers_op}
+use Rattle.nr_machine.specs.Changing.{TimersBack, woken}
+
+-- an operation on descriptor d: its orders are obeyed, and those whom it wakes go on
+abbrev pub changing : ℕ → DescOp → World → Outcome
+changing d op w = do
+  row ← row_of d w
+  made ← desc.outcome row.descriptor op
+  next ← after_change d row made.1 w
+  Ok (made.0, next)
+
+-- the world without the firing at this place
+abbrev pub without_firing : ℕ → World → World
+without_firing place w = record w { firings = remove w.firings place }
+
+-- ---- in the parts
+
+-- the timers of descriptor d obeyed these orders, and nothing else changed
+pub record Obeyed (old : Core) (d : ℕ) (orders : List TimerOrder) (new : Core) : Type 0 where
+  pub timers : TimersMade (map (timers_op d) orders) old.timers new.timers
+  pub rest : new ≡ record old { timers = new.timers }
+  pub fits : IsTimers new.timers
+
+-- the firing at this place left, and nothing else changed; what leads back is light
+pub record TakesFiring (old : Core) (place : ℕ) (delta : TimersDelta) (new : Core) : Type 0 where
+  pub rest : new ≡ record old { timers = new.timers }
+  pub step : TimersStep old.timers (TakeFiring place) tt new.timers
+  pub fits : IsTimers new.timers
+  pub back : TimersBack delta new old
+  pub light : delta_weight delta ≤ 8
+
+-- what orders to the timers of descriptor d come to: its timers, and the next arming number
+abbrev pub orders_outcome : ℕ → List TimerOrder → Core → Result (Sides (Option Timer) × ℕ) Refusal
+orders_outcome d orders core =
+    after_orders orders (timers_of core.timers.entries d, core.timers.next)
+
+-- whoever there is goes on from d's side
+abbrev pub woken_any : ℕ → Side → Option ℕ → Core → Core
+woken_any d side None core = core
+woken_any d side (Some g) core = woken g d side core
+
+-- whoever there is goes on from either of d's sides, reading first
+abbrev pub woken_both : ℕ → Sides (Option ℕ) → Core → Core
+woken_both d both core = woken_any d Write both.write (woken_any d Read both.read core)
+
+-- whoever there is, is parked at d's side, and each is counted
+pub record CanWake (d : ℕ) (both : Sides (Option ℕ)) (core : Core) : Type 0 where
+  pub parked : (side : Side) (g : ℕ) → of_side side both ≡ Some g
+      → slice_get core.goroutines.goroutines g ≡ Some (Parked d side)
+  pub counted : length (listed both) ≤ core.waiters
+  pub queued : IsQueuedUp core.goroutines

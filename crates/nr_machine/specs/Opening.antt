@@ -1,0 +1,20 @@
+-- What the opening of a descriptor comes to, once its number is taken.
+use Rattle.std.specs.Prelude.{ℕ, List, Ok}
+use Rattle.nr_rev.specs.declared.answer.Answer.TheVariants.{Number}
+use Rattle.nr_rev.specs.Descriptor.{opened_for}
+use Rattle.nr_rev.specs.Refusing.{◌>>=◌}
+use Rattle.nr_rev.specs.Step.{Outcome, row_of, taken}
+use Rattle.nr_rev.specs.World.{World, with_descriptor}
+
+-- descriptor d is opened for socket s, in a world in which its number is taken
+abbrev pub opening : ℕ → ℕ → World → Outcome
+opening s d w = do
+  row ← row_of d w
+  descriptor ← opened_for s row.descriptor
+  Ok (Number d, with_descriptor d row descriptor w)
+
+-- a number is taken of these free ones, or a new one, and its descriptor is opened for socket s
+abbrev pub opening_of : ℕ → List ℕ → World → Outcome
+opening_of s free w = do
+  (d, next) ← taken free w
+  opening s d next

@@ -1,0 +1,17 @@
+-- What a step of a packed world is: the machine's, with the timers' places.
+use Rattle.std.specs.Prelude.{◌≡◌, Ok}
+use Rattle.nr_rev.specs.declared.answer.Answer.{Answer}
+use Rattle.nr_rev.specs.declared.step.Step.{Step}
+use Rattle.nr_rev.specs.Step.{outcome}
+use Rattle.nr_machine.specs.Asked.{TimersMade, asked_of}
+use Rattle.nr_machine.specs.Fits.{IsWorld, PartsFit}
+use Rattle.nr_machine.specs.World.{WorldParts, meant}
+
+-- From a packed world, the step leads to parts that fit and mean what the machine comes to. The
+-- timers are what the step asks of them, so that each entry has the one place in the heap.
+pub record StepTo (old : WorldParts) (step : Step) (answer : Answer) (new : WorldParts) : Type 0
+  where
+    pub world : IsWorld old
+    pub leads : outcome (meant old) step ≡ Ok (answer, meant new)
+    pub parts : PartsFit new
+    pub timers : TimersMade (asked_of old step) old.core.timers new.core.timers

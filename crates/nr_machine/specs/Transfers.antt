@@ -1,0 +1,54 @@
+-- The steps at the buffers of a socket, and what they come to there.
+use Rattle.std.specs.Prelude.{◌≡◌, ℕ, List, Result, Ok, Err}
+use Rattle.nr_rev.specs.declared.answer.Answer.{Answer}
+use Rattle.nr_rev.specs.declared.refusal.Refusal.{Refusal}
+use Rattle.nr_rev.specs.declared.step.Step.{Step}
+use Rattle.nr_rev.specs.declared.step.Step.TheVariants.{SockOpen, Arrive, PeerClose, SysRead, SysWrite, Drain}
+use Rattle.nr_rev.specs.Refusing.{◌>>=◌}
+use Rattle.nr_rev.specs.Step.{Outcome, idle, outcome, socket_of}
+use Rattle.nr_rev.specs.World.{World}
+use Rattle.nr_sockbuf.specs.Machine.{lifted, sock_of}
+use Rattle.nr_sockbuf.specs.Op as sock
+use Rattle.nr_timers.specs.declared.op.TimersOp.{TimersOp}
+use Rattle.nr_machine.specs.Asked.{TimersMade, asked_of}
+use Rattle.nr_machine.specs.Fits.{PartsFit}
+use Rattle.nr_machine.specs.World.{WorldParts, meant}
+
+-- this step opens a socket
+abbrev pub IsOpening : Step → Type 0
+IsOpening (SockOpen rc wc) = Unit {0}
+IsOpening _ = ⊥
+
+-- this step is at the buffers of socket s, by goroutine g
+abbrev pub IsTransferOf : ℕ → ℕ → Step → Type 0
+IsTransferOf g s (SysRead h t n) = (h ≡ g) × (t ≡ s)
+IsTransferOf g s (SysWrite h t bytes) = (h ≡ g) × (t ≡ s)
+IsTransferOf g s _ = ⊥
+
+-- this step is at the buffers of socket s, and the goroutine that it is of, if any, is idle
+abbrev pub IsTransfer : ℕ → World → Step → Type 0
+IsTransfer s w (Arrive t bytes) = t ≡ s
+IsTransfer s w (PeerClose t) = t ≡ s
+IsTransfer s w (SysRead g t n) = (t ≡ s) × (idle g w ≡ Ok tt)
+IsTransfer s w (SysWrite g t bytes) = (t ≡ s) × (idle g w ≡ Ok tt)
+IsTransfer s w (Drain t n) = t ≡ s
+IsTransfer s w _ = ⊥
+
+-- what a step comes to at the buffers of socket s: reason 4 where there is no such socket
+abbrev pub transferring : ℕ → Step → World → Outcome
+transferring s step w = do
+  socket ← socket_of s w
+  lifted s socket w (sock.outcome (sock_of socket w) step)
+
+-- The parts come to what the machine comes to and stay tied, with no way back.
+pub record Advanced (due : Outcome) (asked : List TimersOp) (old : WorldParts) (answer : Answer)
+    (new : WorldParts) : Type 0 where
+  pub leads : due ≡ Ok (answer, meant new)
+  pub parts : PartsFit new
+  pub timers : TimersMade asked old.core.timers new.core.timers
+
+-- so a step is made, or it has the machine's reason and changes nothing
+abbrev pub Advances : Step → WorldParts → Result Answer Refusal → WorldParts → Type 0
+Advances step old (Ok answer) new =
+    Advanced (outcome (meant old) step) (asked_of old step) old answer new
+Advances step old (Err e) new = (outcome (meant old) step ≡ Err e) × (new ≡ old)

@@ -1,0 +1,179 @@
+//! What can be read of a world.
+
+ghost use Rattle.std.specs.Prelude.{◌≡◌, length, slice_get};
+ghost use Rattle.nr_rev.specs.Cell.{cell, descriptor_value, socket_value};
+ghost use Rattle.nr_rev.specs.Descriptor.{summary};
+ghost use Rattle.nr_rev.specs.Lock.{lock_number};
+ghost use Rattle.nr_rev.specs.Sides.{of_side};
+ghost use Rattle.nr_rev.specs.declared.cell.Cell.TheVariants as cell;
+ghost use Rattle.nr_rev.specs.declared.cell_value.CellValue.TheVariants as value;
+ghost use Rattle.nr_machine.specs.Fits.{IsWorld};
+ghost use Rattle.nr_machine.specs.World.{meant};
+
+use crate::world::World;
+use nr_desc::Desc;
+use nr_rev::{Cell, CellValue, Side};
+use nr_timers::laws::entries_are_the_descriptors;
+
+impl World {
+    /// The value of a cell.
+    pub(crate) fn value(&self, what: Cell) -> CellValue
+        requires { IsWorld self.now }
+        ensures { result ≡ cell (meant self.now) what }
+    {
+        match what {
+            Cell::Clock => CellValue::Time(self.core.clock),
+            Cell::Waiters => CellValue::Number(self.core.waiters),
+            Cell::Timers => self.timers_value(),
+            Cell::Firings => CellValue::Number(self.core.timers.firings() as u64),
+            Cell::Least => self.least_value(),
+            Cell::Goroutine(g) => self.goroutine_value(g),
+            Cell::Lock(s) => self.lock_value(s),
+            Cell::ReadSemaphore(s) => self.count_value(s, Side::Read),
+            Cell::WriteSemaphore(s) => self.count_value(s, Side::Write),
+            Cell::Input(s) => self.length_value(s, Side::Read),
+            Cell::Output(s) => self.length_value(s, Side::Write),
+            Cell::ReadWord(d) => self.word_value(d, Side::Read),
+            Cell::WriteWord(d) => self.word_value(d, Side::Write),
+            Cell::ReadDeadline(d) => self.deadline_value(d, Side::Read),
+            Cell::WriteDeadline(d) => self.deadline_value(d, Side::Write),
+            Cell::ReadSequence(d) => self.sequence_value(d, Side::Read),
+            Cell::WriteSequence(d) => self.sequence_value(d, Side::Write),
+            Cell::DescriptorSequence(d) => self.fdseq_value(d),
+            Cell::Info(d) => self.summary_value(d),
+        }
+    }
+
+    /// How many timers are armed.
+    fn timers_value(&self) -> CellValue
+        requires { IsWorld self.now }
+        ensures { result ≡ cell (meant self.now) cell.Timers }
+    {
+        entries_are_the_descriptors();
+        CellValue::Number(self.core.timers.len() as u64)
+    }
+
+    /// When the first of them is due.
+    fn least_value(&self) -> CellValue
+        requires { IsWorld self.now }
+        ensures { result ≡ cell (meant self.now) cell.Least }
+    {
+        entries_are_the_descriptors();
+        match self.core.timers.least() {
+            None => CellValue::Absent,
+            Some(entry) => CellValue::Time(entry.timer.due),
+        }
+    }
+
+    fn goroutine_value(&self, goroutine: u32) -> CellValue
+        ensures { result ≡ cell (meant self.now) (cell.Goroutine goroutine) }
+    {
+        match self.core.goroutines.status(goroutine) {
+            None => CellValue::Absent,
+            Some(status) => CellValue::Status(status),
+        }
+    }
+
+    #[tactic(auto, using(crate::proofs::CellLemmas::socket_absent, crate::proofs::CellLemmas::socket_shown))]
+    fn lock_value(&self, socket: u32) -> CellValue
+        ensures { result
+            ≡ socket_value socket (meant self.now) (λ x. value.Number (lock_number x.lock)) }
+    {
+        match self.core.locks.get(socket as usize) {
+            None => CellValue::Absent,
+            Some(word) => CellValue::Number(word.number()),
+        }
+    }
+
+    fn count_value(&self, socket: u32, side: Side) -> CellValue
+        requires { IsWorld self.now }
+        ensures { result
+            ≡ socket_value socket (meant self.now)
+            (λ x. value.Number (of_side side x.semaphores).count) }
+    {
+        if socket as usize >= self.core.locks.len() {
+            return CellValue::Absent;
+        }
+        match self.core.goroutines.count(socket, side) {
+            None => CellValue::Absent,
+            Some(count) => CellValue::Number(u64::from(count)),
+        }
+    }
+
+    fn length_value(&self, socket: u32, side: Side) -> CellValue
+        requires { IsWorld self.now }
+        ensures { result
+            ≡ socket_value socket (meant self.now)
+            (λ x. value.Number (length (of_side side x.buffers).bytes)) }
+    {
+        if socket as usize >= self.core.locks.len() {
+            return CellValue::Absent;
+        }
+        CellValue::Number(u64::from(self.socks[socket as usize].len(side)))
+    }
+
+    #[tactic(auto, using(crate::proofs::CellLemmas::descriptor_shown))]
+    fn word_value(&self, descriptor: u32, side: Side) -> CellValue
+        ensures { result
+            ≡ descriptor_value descriptor (meant self.now)
+            (λ x. value.WaitWord (of_side side x.words)) }
+    {
+        match self.desc(descriptor) {
+            None => CellValue::Absent,
+            Some(desc) => CellValue::WaitWord(desc.word(side)),
+        }
+    }
+
+    #[tactic(auto, using(crate::proofs::CellLemmas::descriptor_shown))]
+    fn deadline_value(&self, descriptor: u32, side: Side) -> CellValue
+        ensures { result
+            ≡ descriptor_value descriptor (meant self.now)
+            (λ x. value.Time (of_side side x.deadlines)) }
+    {
+        match self.desc(descriptor) {
+            None => CellValue::Absent,
+            Some(desc) => CellValue::Time(desc.deadline(side)),
+        }
+    }
+
+    #[tactic(auto, using(crate::proofs::CellLemmas::descriptor_shown))]
+    fn sequence_value(&self, descriptor: u32, side: Side) -> CellValue
+        ensures { result
+            ≡ descriptor_value descriptor (meant self.now)
+            (λ x. value.Number (of_side side x.sequences)) }
+    {
+        match self.desc(descriptor) {
+            None => CellValue::Absent,
+            Some(desc) => CellValue::Number(desc.sequence(side)),
+        }
+    }
+
+    #[tactic(auto, using(crate::proofs::CellLemmas::descriptor_shown))]
+    fn fdseq_value(&self, descriptor: u32) -> CellValue
+        ensures { result
+            ≡ descriptor_value descriptor (meant self.now) (λ x. value.Number x.fdseq) }
+    {
+        match self.desc(descriptor) {
+            None => CellValue::Absent,
+            Some(desc) => CellValue::Number(desc.fdseq()),
+        }
+    }
+
+    #[tactic(auto, using(crate::proofs::CellLemmas::descriptor_shown))]
+    fn summary_value(&self, descriptor: u32) -> CellValue
+        ensures { result
+            ≡ descriptor_value descriptor (meant self.now) (λ x. value.Number (summary x)) }
+    {
+        match self.desc(descriptor) {
+            None => CellValue::Absent,
+            Some(desc) => CellValue::Number(desc.summary()),
+        }
+    }
+
+    /// A descriptor that was made.
+    fn desc(&self, descriptor: u32) -> Option<Desc>
+        ensures { result ≡ slice_get self.now.core.descriptors.items descriptor }
+    {
+        self.core.descriptors.get(descriptor as usize)
+    }
+}

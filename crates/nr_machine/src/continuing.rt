@@ -1,0 +1,202 @@
+//! What steps that change a descriptor with its timers have in common: its timers obey, and those who are woken go on.
+
+ghost use Rattle.std.specs.Prelude.{◌≡◌, ◌∷◌, [], ◌<◌, ◌≤◌, length, slice_get, option_to_list, Some, Ok, Err, IfSome, IfOk, IfErr, OnErr};
+ghost use Rattle.nr_rev.specs.Step as step;
+ghost use Rattle.nr_rev.specs.Weight.{option_weight, sides_weight};
+ghost use Rattle.nr_rev.specs.declared.status.Status.TheVariants.{Parked};
+ghost use Rattle.nr_desc.specs.Change.{listed};
+ghost use Rattle.nr_gsema.specs.Applying.{IsQueuedUp};
+ghost use Rattle.nr_timers.specs.Back.{delta_weight};
+ghost use Rattle.nr_timers.specs.State.{IsTimers};
+ghost use Rattle.nr_timers.specs.TimersOf.{timers_of};
+ghost use Rattle.nr_timers.specs.declared.op.TimersOp.TheVariants.{TakeFiring};
+ghost use Rattle.nr_machine.specs.Asked.{asked_at, timers_op};
+ghost use Rattle.nr_machine.specs.Changing.{IfAny, TimersBack, WakeBack};
+ghost use Rattle.nr_machine.specs.Continuing.{CanWake, Obeyed, TakesFiring, changing, orders_outcome, without_firing, woken_any, woken_both};
+ghost use Rattle.nr_machine.specs.Delta.{ObeyBack, WokenBack};
+ghost use Rattle.nr_machine.specs.Fits.{IsWorld};
+ghost use Rattle.nr_machine.specs.Made.{Makes};
+ghost use Rattle.nr_machine.specs.Rows.{row_of};
+ghost use Rattle.nr_machine.specs.World.{meant};
+ghost use Rattle.nr_machine.specs.declared.parts.Core.{Core as Parts};
+
+use crate::delta::{DescUndo, WorldUndo};
+use crate::parts::Core;
+use crate::world::World;
+use nr_desc::{Desc, DescOp};
+use nr_rev::{Answer, Refusal, Reversible, Side, Sides, TimerOrder};
+use nr_timers::{TimersDelta, TimersOp};
+
+impl World {
+    /// An operation on a descriptor, which has been read: its timers obey, and those that its words held go on.
+    #[inline(always)]
+    pub(crate) fn change(
+        &mut self,
+        descriptor: u32,
+        desc: Desc,
+        op: &DescOp,
+    ) -> Result<(Answer, WorldUndo), Refusal>
+        requires world { IsWorld self.old }
+        requires there { step.row_of descriptor (meant self.old)
+            ≡ Ok (row_of desc (timers_of self.old.core.timers.entries descriptor)) }
+        ensures { Makes (changing descriptor op.now (meant self.old)) (asked_at descriptor op.now self.old)
+            self.old result self.new }
+    {
+        let mut desc = desc;
+        let (left, before) = desc.apply(op)?;
+        let timers = self.core.obey(descriptor, left.orders.sides())?;
+        self.core.set_descriptor(descriptor, desc);
+        self.core.wake_both(descriptor, left.woken);
+        let undo = WorldUndo::Changed {
+            desc: DescUndo { descriptor, before },
+            timers,
+            woken: left.woken,
+        };
+        Ok((left.answer, undo))
+    }
+
+    /// An operation that a firing runs on a descriptor, which has been read. It orders nothing: the firing leaves, and those
+    /// that the descriptor's words held go on.
+    #[inline(always)]
+    pub(crate) fn change_by(
+        &mut self,
+        place: u32,
+        descriptor: u32,
+        desc: Desc,
+        op: &DescOp,
+    ) -> Result<(Answer, WorldUndo), Refusal>
+        requires world { IsWorld self.old }
+        requires within { place < length self.old.core.timers.firings }
+        requires there { step.row_of descriptor (meant self.old)
+            ≡ Ok (row_of desc (timers_of self.old.core.timers.entries descriptor)) }
+        requires quiet { asked_at descriptor op.now self.old ≡ [] }
+        ensures { Makes (changing descriptor op.now (without_firing place (meant self.old)))
+            (TakeFiring place ∷ []) self.old result self.new }
+    {
+        let mut desc = desc;
+        let (left, before) = desc.apply(op)?;
+        let taken = self.core.take_firing(place);
+        self.core.set_descriptor(descriptor, desc);
+        self.core.wake_both(descriptor, left.woken);
+        let undo = WorldUndo::Changed {
+            desc: DescUndo { descriptor, before },
+            timers: Sides {
+                read: Some(taken),
+                write: None,
+            },
+            woken: left.woken,
+        };
+        Ok((left.answer, undo))
+    }
+}
+
+impl Core {
+    /// A firing leaves.
+    #[inline(always)]
+    fn take_firing(&mut self, place: u32) -> TimersDelta
+        requires timers { IsTimers self.old.timers }
+        requires within { place < length self.old.timers.firings }
+        ensures { TakesFiring self.old place result self.new }
+    {
+        match self.timers.apply(&TimersOp::TakeFiring { place }) {
+            Ok((_, delta)) => delta,
+            Err(_) => unreachable!(),
+        }
+    }
+
+    /// The orders to both sides' timers are obeyed, reading first, or none is.
+    #[inline(always)]
+    fn obey(
+        &mut self,
+        descriptor: u32,
+        orders: Sides<Option<TimerOrder>>,
+    ) -> Result<Sides<Option<TimersDelta>>, Refusal>
+        requires timers { IsTimers self.old.timers }
+        requires below { descriptor < self.old.timers.descriptors }
+        ensures obeyed { IfOk result (λ deltas. Obeyed self.old descriptor (listed orders) self.new) }
+        ensures back { IfOk result (λ deltas. ObeyBack deltas self.new self.old) }
+        ensures light { IfOk result (λ deltas. sides_weight (option_weight delta_weight) deltas ≤ 20) }
+        ensures err { IfErr result (λ e. orders_outcome descriptor (listed orders) self.old ≡ Err e) }
+        ensures unchanged { OnErr result (self.new ≡ self.old) }
+    {
+        let read = self.obey_one(descriptor, orders.read)?;
+        match self.obey_one(descriptor, orders.write) {
+            Ok(write) => Ok(Sides { read, write }),
+            Err(refusal) => {
+                self.unorder(read);
+                Err(refusal)
+            }
+        }
+    }
+
+    /// An order to the timer of a side is obeyed, if there is one.
+    #[inline(always)]
+    fn obey_one(
+        &mut self,
+        descriptor: u32,
+        order: Option<TimerOrder>,
+    ) -> Result<Option<TimersDelta>, Refusal>
+        requires timers { IsTimers self.old.timers }
+        requires below { descriptor < self.old.timers.descriptors }
+        ensures obeyed { IfOk result (λ delta. Obeyed self.old descriptor (option_to_list order) self.new) }
+        ensures back { IfOk result (λ delta. IfAny TimersBack delta self.new self.old) }
+        ensures light { IfOk result (λ delta. option_weight delta_weight delta ≤ 10) }
+        ensures err { IfErr result (λ e. orders_outcome descriptor (option_to_list order) self.old ≡ Err e) }
+        ensures unchanged { OnErr result (self.new ≡ self.old) }
+    {
+        let Some(order) = order else {
+            return Ok(None);
+        };
+        let (_, delta) = self.timers.apply(&ordered(descriptor, order))?;
+        Ok(Some(delta))
+    }
+
+    /// Those who are woken go on, reading first.
+    #[inline(always)]
+    pub(crate) fn wake_both(&mut self, descriptor: u32, woken: Sides<Option<u32>>)
+        requires { CanWake descriptor woken self.old }
+        ensures woken { self.new ≡ woken_both descriptor woken self.old }
+        ensures queued { IsQueuedUp self.new.goroutines }
+        ensures back { WokenBack woken self.new self.old }
+    {
+        self.wake_any(woken.read, descriptor, Side::Read);
+        self.wake_any(woken.write, descriptor, Side::Write);
+    }
+
+    /// Whoever is woken of a side goes on, if one is.
+    #[inline(always)]
+    fn wake_any(&mut self, woken: Option<u32>, descriptor: u32, side: Side)
+        requires there { IfSome woken (λ g. (slice_get self.old.goroutines.goroutines g
+            ≡ Some (Parked descriptor side)) × (0 < self.old.waiters)) }
+        requires queued { IsQueuedUp self.old.goroutines }
+        ensures woken { self.new ≡ woken_any descriptor side woken self.old }
+        ensures queued { IsQueuedUp self.new.goroutines }
+        ensures back { IfAny WakeBack woken self.new self.old }
+    {
+        if let Some(goroutine) = woken {
+            self.wake(goroutine, descriptor, side);
+        }
+    }
+}
+
+/// An order to the timer of a descriptor.
+#[inline(always)]
+fn ordered(descriptor: u32, order: TimerOrder) -> TimersOp
+    ensures { result ≡ timers_op descriptor order }
+{
+    match order {
+        TimerOrder::Arm {
+            side,
+            due,
+            function,
+            sequence,
+        } => TimersOp::Arm {
+            descriptor,
+            side,
+            due,
+            function,
+            sequence,
+        },
+        TimerOrder::Stop { side } => TimersOp::Stop { descriptor, side },
+    }
+}

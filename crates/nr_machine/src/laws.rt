@@ -1,0 +1,29 @@
+//! Laws over the definitions: what decides the parts of a world, what a delta is, and its words.
+
+ghost use Rattle.std.specs.Prelude.{◌≡◌};
+ghost use Rattle.nr_machine.specs.declared.delta.DescUndo.{DescUndo};
+ghost use Rattle.nr_machine.specs.declared.delta.LockUndo.{LockUndo};
+ghost use Rattle.nr_machine.specs.declared.delta.TheConstants.{MOST_WORDS};
+ghost use Rattle.nr_machine.specs.declared.delta.WorldDelta.{WorldDelta};
+ghost use Rattle.nr_machine.specs.Fits.{PartsFit};
+ghost use Rattle.nr_machine.specs.World.{WorldParts, meant};
+
+/// Parts that fit are decided by the world that they mean and by their timers, whose places in the heap no meaning tells.
+#[tactic(auto, using(crate::specs::SameLaws::same_parts))]
+pub fn parts_are_decided_by_their_meaning()
+    ensures { (a b : WorldParts) → PartsFit a → PartsFit b → meant a ≡ meant b
+        → a.core.timers ≡ b.core.timers → a ≡ b }
+{}
+
+/// A delta is the record of its undo, and has nothing beside it. So are the lock and the descriptor that it keeps.
+pub fn delta_is_its_undo()
+    ensures delta { (delta : WorldDelta) → delta ≡ record { undo = delta.undo } }
+    ensures lock { (undo : LockUndo) → undo ≡ record { socket = undo.socket; before = undo.before } }
+    ensures descriptor { (undo : DescUndo)
+        → undo ≡ record { descriptor = undo.descriptor; before = undo.before } }
+{}
+
+/// A delta holds at most 40 words beside the bytes that left a buffer.
+pub fn the_numbers()
+    ensures words { MOST_WORDS ≡ 40 }
+{}

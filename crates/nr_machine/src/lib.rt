@@ -1,0 +1,26 @@
+//! A packed world: one machine of lock words, descriptors, goroutines linked in queues, rings and a timer heap.
+#![tactic(auto)]
+
+mod advancing;
+mod apply;
+mod cells;
+mod changing;
+mod continuing;
+mod deadlines;
+mod delta;
+mod goroutines;
+pub mod laws;
+mod locking;
+mod parts;
+mod polling;
+mod reads;
+mod semaphores;
+mod timers;
+mod transfers;
+mod undoing;
+mod waiting;
+mod world;
+mod worlds;
+
+pub use delta::WorldDelta;
+pub use world::World;

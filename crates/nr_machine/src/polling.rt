@@ -1,0 +1,128 @@
+//! The steps that open a descriptor, evict and close it, and bring it events: Go's `poll_runtime_pollOpen`,
+//! `poll_runtime_pollUnblock`, `poll_runtime_pollClose` and `netpollready`.
+
+ghost use Rattle.std.specs.Prelude.{◌≡◌, [], slice_get, Some};
+ghost use Rattle.nr_rev.specs.Step as step;
+ghost use Rattle.nr_desc.specs.declared.op.DescOp.TheVariants as desc;
+ghost use Rattle.nr_machine.specs.Asked.{asked_at};
+ghost use Rattle.nr_machine.specs.Fits.{IsWorld};
+ghost use Rattle.nr_machine.specs.Made.{Makes};
+ghost use Rattle.nr_machine.specs.Opening.{opening_of};
+ghost use Rattle.nr_machine.specs.World.{meant};
+
+use crate::delta::{DescUndo, WorldUndo};
+use crate::world::World;
+use nr_desc::{Desc, DescOp};
+use nr_rev::{Answer, Mode, Refusal, Reversible, Side};
+
+impl World {
+    /// `pollopen`.
+    #[inline(always)]
+    pub(crate) fn pollopen(
+        &mut self,
+        goroutine: u32,
+        socket: u32,
+    ) -> Result<(Answer, WorldUndo), Refusal>
+        requires { IsWorld self.old }
+        ensures { Makes (step.pollopen goroutine socket (meant self.old)) [] self.old result self.new }
+    {
+        self.idle(goroutine)?;
+        if socket as usize >= self.core.locks.len() {
+            return Err(Refusal::NoSuchSocket);
+        }
+        match self.core.free.get(0) {
+            None => self.open_new(socket),
+            Some(descriptor) => self.reopen(descriptor, socket),
+        }
+    }
+
+    /// The descriptor whose number is the first of the free ones is opened again.
+    #[inline(always)]
+    fn reopen(&mut self, descriptor: u32, socket: u32) -> Result<(Answer, WorldUndo), Refusal>
+        requires world { IsWorld self.old }
+        requires first { slice_get self.old.core.free.items 0 ≡ Some descriptor }
+        ensures { Makes (opening_of socket self.old.core.free.items (meant self.old)) [] self.old result self.new }
+    {
+        let mut desc = self.desc_of(descriptor)?;
+        let (_, before) = desc.apply(&DescOp::Open { socket })?;
+        let _ = self.core.free.take_first();
+        self.core.set_descriptor(descriptor, desc);
+        let undo = WorldUndo::Reopened(DescUndo { descriptor, before });
+        Ok((Answer::Number(descriptor), undo))
+    }
+
+    /// A descriptor that was never opened before is opened.
+    #[inline(always)]
+    fn open_new(&mut self, socket: u32) -> Result<(Answer, WorldUndo), Refusal>
+        requires { IsWorld self.old }
+        ensures { Makes (opening_of socket [] (meant self.old)) [] self.old result self.new }
+    {
+        let made = self.core.descriptors.len();
+        if made >= self.core.limits.descriptors as usize {
+            return Err(Refusal::TableFull);
+        }
+        let mut desc = Desc::never_opened();
+        let _ = desc.apply(&DescOp::Open { socket })?;
+        self.core.descriptors.push(desc);
+        Ok((Answer::Number(made as u32), WorldUndo::Made))
+    }
+
+    /// `pollclose`.
+    #[inline(always)]
+    pub(crate) fn pollclose(
+        &mut self,
+        goroutine: u32,
+        descriptor: u32,
+    ) -> Result<(Answer, WorldUndo), Refusal>
+        requires { IsWorld self.old }
+        ensures { Makes (step.pollclose goroutine descriptor (meant self.old)) [] self.old result self.new }
+    {
+        self.idle(goroutine)?;
+        let closing = self.open_desc_of(descriptor)?.closing();
+        if !closing {
+            return Err(Refusal::CloseWithoutUnblock);
+        }
+        if self.is_waited(descriptor, Side::Read) || self.is_waited(descriptor, Side::Write) {
+            return Err(Refusal::WaiterInside);
+        }
+        let (_, desc) = self.core.describe(descriptor, &DescOp::Close)?;
+        self.core.free.insert(0, descriptor);
+        Ok((Answer::Done, WorldUndo::Closed(desc)))
+    }
+
+    /// `evict`.
+    #[inline(always)]
+    pub(crate) fn evict(
+        &mut self,
+        goroutine: u32,
+        descriptor: u32,
+    ) -> Result<(Answer, WorldUndo), Refusal>
+        requires { IsWorld self.old }
+        ensures { Makes (step.evict goroutine descriptor (meant self.old))
+            (asked_at descriptor desc.Evict self.old) self.old result self.new }
+    {
+        self.idle(goroutine)?;
+        let desc = self.open_desc_of(descriptor)?;
+        self.change(descriptor, desc, &DescOp::Evict)
+    }
+
+    /// `pollevent`.
+    #[inline(always)]
+    pub(crate) fn pollevent(
+        &mut self,
+        descriptor: u32,
+        tag: u64,
+        mode: Mode,
+        error: bool,
+    ) -> Result<(Answer, WorldUndo), Refusal>
+        requires { IsWorld self.old }
+        ensures { Makes (step.pollevent descriptor tag mode error (meant self.old)) []
+            self.old result self.new }
+    {
+        let desc = self.desc_of(descriptor)?;
+        if self.is_free(descriptor) || tag != desc.fdseq() {
+            return Ok((Answer::Stale, WorldUndo::Still));
+        }
+        self.change(descriptor, desc, &DescOp::Event { tag, mode, error })
+    }
+}

@@ -1,0 +1,127 @@
+//! What steps read of a world, with the reasons where it isn't there.
+
+ghost use Rattle.std.specs.Prelude.{◌≡◌, option_and_then, slice_get};
+ghost use Rattle.nr_rev.specs.Step as step;
+ghost use Rattle.nr_rev.specs.World.{is_free_number, is_wait_at, is_waited, wait_of};
+ghost use Rattle.nr_rev.specs.Refusing.{Gives};
+ghost use Rattle.nr_machine.specs.Rows.{row_of};
+ghost use Rattle.nr_machine.specs.World.{meant};
+ghost use Rattle.nr_timers.specs.TimersOf.{timers_of};
+
+use crate::world::World;
+use nr_desc::Desc;
+use nr_rev::{Refusal, Side, Status};
+
+impl World {
+    /// The status of a goroutine that was made and isn't gone.
+    #[inline(always)]
+    pub(crate) fn status_of(&self, goroutine: u32) -> Result<Status, Refusal>
+        ensures { result ≡ step.status_of goroutine (meant self.now) }
+    {
+        match self.core.goroutines.status(goroutine) {
+            None | Some(Status::Gone) => Err(Refusal::NoSuchGoroutine),
+            Some(status) => Ok(status),
+        }
+    }
+
+    /// Whether a goroutine is idle.
+    #[inline(always)]
+    pub(crate) fn idle(&self, goroutine: u32) -> Result<(), Refusal>
+        ensures { result ≡ step.idle goroutine (meant self.now) }
+    {
+        match self.status_of(goroutine)? {
+            Status::Idle => Ok(()),
+            _ => Err(Refusal::NotThere),
+        }
+    }
+
+    /// A descriptor that was made.
+    #[inline(always)]
+    #[tactic(auto, using(crate::proofs::RowsLemmas::row_at, crate::proofs::RowsLemmas::row_past))]
+    pub(crate) fn desc_of(&self, descriptor: u32) -> Result<Desc, Refusal>
+        ensures { Gives (λ x. row_of x (timers_of self.now.core.timers.entries descriptor)) result
+            (step.row_of descriptor (meant self.now)) }
+    {
+        self.core
+            .descriptors
+            .get(descriptor as usize)
+            .ok_or(Refusal::NoSuchDescriptor)
+    }
+
+    /// A descriptor that is open.
+    #[inline(always)]
+    pub(crate) fn open_desc_of(&self, descriptor: u32) -> Result<Desc, Refusal>
+        ensures { Gives (λ x. row_of x (timers_of self.now.core.timers.entries descriptor)) result
+            (step.open_row_of descriptor (meant self.now)) }
+    {
+        if self.is_free(descriptor) {
+            return Err(Refusal::NoSuchDescriptor);
+        }
+        self.desc_of(descriptor)
+    }
+
+    /// Whether a descriptor is one of the free ones.
+    #[inline(always)]
+    pub(crate) fn is_free(&self, descriptor: u32) -> bool
+        ensures { result ≡ is_free_number descriptor (meant self.now).free }
+    {
+        self.core
+            .free
+            .as_slice()
+            .iter()
+            .any(|free| descriptor == *free)
+    }
+
+    /// Whether a goroutine is inside a wait of the descriptor and side.
+    #[tactic(auto, using(crate::proofs::ReadsLemmas::waits_at, crate::proofs::ReadsLemmas::waits_more))]
+    pub(crate) fn is_waited(&self, descriptor: u32, side: Side) -> bool
+        ensures { result ≡ is_waited descriptor side (meant self.now).goroutines }
+    {
+        let made = self.core.goroutines.made();
+        for goroutine in 0..made {
+            if self.is_at(goroutine, descriptor, side) {
+                return true;
+            }
+        }
+        false
+    }
+
+    /// Whether this goroutine is.
+    #[inline(always)]
+    fn is_at(&self, goroutine: u32, descriptor: u32, side: Side) -> bool
+        ensures { result ≡ is_wait_at descriptor side
+            (option_and_then wait_of (slice_get (meant self.now).goroutines goroutine)) }
+    {
+        match self.core.goroutines.status(goroutine) {
+            None => false,
+            Some(status) => is_inside(descriptor, side, status),
+        }
+    }
+}
+
+/// Whether one of this status is inside a wait of the descriptor and side.
+#[inline(always)]
+fn is_inside(descriptor: u32, side: Side, status: Status) -> bool
+    ensures { result ≡ is_wait_at descriptor side (wait_of status) }
+{
+    match wait_of(status) {
+        None => false,
+        Some((at_descriptor, at_side)) => descriptor == at_descriptor && side == at_side,
+    }
+}
+
+/// The descriptor and side that one of this status is inside a wait of.
+#[inline(always)]
+fn wait_of(status: Status) -> Option<(u32, Side)>
+    ensures { result ≡ wait_of status }
+{
+    match status {
+        Status::Entering { descriptor, side }
+        | Status::Armed { descriptor, side }
+        | Status::Parking { descriptor, side }
+        | Status::Parked { descriptor, side }
+        | Status::Swapping { descriptor, side }
+        | Status::Checking { descriptor, side } => Some((descriptor, side)),
+        _ => None,
+    }
+}

@@ -1,0 +1,62 @@
+//! The steps of the clock and of timers: time goes on, a timer that is due goes off, a firing is run.
+
+ghost use Rattle.std.specs.Prelude.{◌∷◌, []};
+ghost use Rattle.nr_rev.specs.Step as step;
+ghost use Rattle.nr_machine.specs.Fits.{IsWorld};
+ghost use Rattle.nr_machine.specs.Made.{Makes};
+ghost use Rattle.nr_machine.specs.World.{meant};
+ghost use Rattle.nr_timers.specs.declared.op.TimersOp.TheVariants as timers;
+
+use crate::delta::WorldUndo;
+use crate::world::World;
+use nr_desc::DescOp;
+use nr_rev::{Answer, Refusal, Reversible};
+use nr_timers::TimersOp;
+use nr_timers::laws::entries_are_the_descriptors;
+
+impl World {
+    /// `tick`.
+    #[inline(always)]
+    pub(crate) fn tick(&mut self, time: i64) -> Result<(Answer, WorldUndo), Refusal>
+        requires { IsWorld self.old }
+        ensures { Makes (step.tick time (meant self.old)) [] self.old result self.new }
+    {
+        let before = self.core.clock;
+        if time < before {
+            return Err(Refusal::ClockGoesBack);
+        }
+        self.core.clock = time;
+        Ok((Answer::Done, WorldUndo::Clock(before)))
+    }
+
+    /// `pop`.
+    #[inline(always)]
+    pub(crate) fn pop(&mut self) -> Result<(Answer, WorldUndo), Refusal>
+        requires { IsWorld self.old }
+        ensures { Makes (step.pop (meant self.old)) (timers.Pop self.old.core.clock ∷ []) self.old result self.new }
+    {
+        // A law, which does nothing: the heap's first entry is the least of all descriptors' timers.
+        entries_are_the_descriptors();
+        let now = self.core.clock;
+        let (_, delta) = self.core.timers.apply(&TimersOp::Pop { now })?;
+        Ok((Answer::Done, WorldUndo::Timers(delta)))
+    }
+
+    /// `fire`.
+    #[inline(always)]
+    pub(crate) fn fire(&mut self, place: u32) -> Result<(Answer, WorldUndo), Refusal>
+        requires { IsWorld self.old }
+        ensures { Makes (step.fire place (meant self.old)) (timers.TakeFiring place ∷ [])
+            self.old result self.new }
+    {
+        let Some(entry) = self.core.timers.firing(place as usize) else {
+            return Err(Refusal::NoSuchFiring);
+        };
+        let desc = self.desc_of(entry.descriptor)?;
+        let op = DescOp::Fire {
+            function: entry.timer.function,
+            sequence: entry.timer.sequence,
+        };
+        self.change_by(place, entry.descriptor, desc, &op)
+    }
+}

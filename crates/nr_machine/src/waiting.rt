@@ -1,0 +1,243 @@
+//! The steps of a wait for a descriptor's side: Go's `poll_runtime_pollReset`, `poll_runtime_pollWait`,
+//! `netpollblock` and `netpollblockcommit`.
+
+ghost use Rattle.std.specs.Prelude.{◌≡◌, Ok, true, None, []};
+ghost use Rattle.nr_rev.specs.Step as step;
+ghost use Rattle.nr_rev.specs.WellFormed.{socket_named};
+ghost use Rattle.nr_rev.specs.World.{with_status};
+ghost use Rattle.nr_gsema.specs.Step.{is_movable};
+ghost use Rattle.nr_machine.specs.Fits.{IsWorld};
+ghost use Rattle.nr_machine.specs.Made.{Makes};
+ghost use Rattle.nr_machine.specs.Waiting.{parks, status_after, waiting};
+ghost use Rattle.nr_machine.specs.World.{meant};
+
+use crate::delta::WorldUndo;
+use crate::world::World;
+use nr_desc::{DescOp, Goroutine};
+use nr_rev::{Answer, Refusal, Side, Status};
+
+impl World {
+    /// `pollreset`.
+    #[inline(always)]
+    pub(crate) fn pollreset(
+        &mut self,
+        goroutine: u32,
+        descriptor: u32,
+        side: Side,
+    ) -> Result<(Answer, WorldUndo), Refusal>
+        requires { IsWorld self.old }
+        ensures { Makes (step.pollreset goroutine descriptor side (meant self.old)) [] self.old result self.new }
+    {
+        self.idle(goroutine)?;
+        let code = self.open_desc_of(descriptor)?.check(side);
+        if code != 0 {
+            return Ok((Answer::Code(code), WorldUndo::Still));
+        }
+        if self.is_waited(descriptor, side) {
+            return Err(Refusal::WaiterInside);
+        }
+        let (_, desc) = self.core.describe(descriptor, &DescOp::Reset(side))?;
+        Ok((Answer::Code(0), WorldUndo::Described(desc)))
+    }
+
+    /// `waitbegin`.
+    #[inline(always)]
+    pub(crate) fn waitbegin(
+        &mut self,
+        goroutine: u32,
+        descriptor: u32,
+        side: Side,
+    ) -> Result<(Answer, WorldUndo), Refusal>
+        requires { IsWorld self.old }
+        ensures { Makes (step.waitbegin goroutine descriptor side (meant self.old)) [] self.old result self.new }
+    {
+        self.idle(goroutine)?;
+        let code = self.open_desc_of(descriptor)?.check(side);
+        if code != 0 {
+            return Ok((Answer::Code(code), WorldUndo::Still));
+        }
+        if self.is_waited(descriptor, side) {
+            return Err(Refusal::DoubleWait);
+        }
+        let to = Status::Entering { descriptor, side };
+        Ok(self.go_on(Answer::Code(0), goroutine, Status::Idle, to))
+    }
+
+    /// `blockarm`.
+    #[inline(always)]
+    #[tactic(auto, using(crate::proofs::WaitingLemmas::blockarm_is))]
+    pub(crate) fn blockarm(&mut self, goroutine: u32) -> Result<(Answer, WorldUndo), Refusal>
+        requires { IsWorld self.old }
+        ensures { Makes (step.blockarm goroutine (meant self.old)) [] self.old result self.new }
+    {
+        let from = self.status_of(goroutine)?;
+        let Status::Entering { descriptor, side } = from else {
+            return Err(Refusal::NotThere);
+        };
+        self.wait(goroutine, from, descriptor, &DescOp::Arm(side))
+    }
+
+    /// `blockcheck`.
+    #[inline(always)]
+    pub(crate) fn blockcheck(&mut self, goroutine: u32) -> Result<(Answer, WorldUndo), Refusal>
+        requires { IsWorld self.old }
+        ensures { Makes (step.blockcheck goroutine (meant self.old)) [] self.old result self.new }
+    {
+        let from = self.status_of(goroutine)?;
+        let Status::Armed { descriptor, side } = from else {
+            return Err(Refusal::NotThere);
+        };
+        let code = self.desc_of(descriptor)?.check(side);
+        let to = if code == 0 {
+            Status::Parking { descriptor, side }
+        } else {
+            Status::Swapping { descriptor, side }
+        };
+        Ok(self.go_on(Answer::Code(code), goroutine, from, to))
+    }
+
+    /// `parkcommit`.
+    #[inline(always)]
+    #[tactic(auto, using(crate::proofs::WaitingLemmas::parkcommit_is, crate::proofs::WaitingLemmas::below_most))]
+    pub(crate) fn parkcommit(&mut self, goroutine: u32) -> Result<(Answer, WorldUndo), Refusal>
+        requires { IsWorld self.old }
+        ensures { Makes (step.parkcommit goroutine (meant self.old)) [] self.old result self.new }
+    {
+        let from = self.status_of(goroutine)?;
+        let Status::Parking { descriptor, side } = from else {
+            return Err(Refusal::NotThere);
+        };
+        let op = DescOp::Commit(side, Goroutine::of_number(goroutine));
+        self.wait(goroutine, from, descriptor, &op)
+    }
+
+    /// `blockswap`.
+    #[inline(always)]
+    #[tactic(auto, using(crate::proofs::WaitingLemmas::blockswap_is))]
+    pub(crate) fn blockswap(&mut self, goroutine: u32) -> Result<(Answer, WorldUndo), Refusal>
+        requires { IsWorld self.old }
+        ensures { Makes (step.blockswap goroutine (meant self.old)) [] self.old result self.new }
+    {
+        let from = self.status_of(goroutine)?;
+        let Status::Swapping { descriptor, side } = from else {
+            return Err(Refusal::NotThere);
+        };
+        self.wait(goroutine, from, descriptor, &DescOp::Swap(side))
+    }
+
+    /// `waitcheck`.
+    #[inline(always)]
+    pub(crate) fn waitcheck(&mut self, goroutine: u32) -> Result<(Answer, WorldUndo), Refusal>
+        requires { IsWorld self.old }
+        ensures { Makes (step.waitcheck goroutine (meant self.old)) [] self.old result self.new }
+    {
+        let from = self.status_of(goroutine)?;
+        let Status::Checking { descriptor, side } = from else {
+            return Err(Refusal::NotThere);
+        };
+        let code = self.desc_of(descriptor)?.check(side);
+        let to = if code == 0 {
+            Status::Entering { descriptor, side }
+        } else {
+            Status::Idle
+        };
+        Ok(self.go_on(Answer::Code(code), goroutine, from, to))
+    }
+
+    /// An operation on the word of a wait, of the goroutine inside it, which goes on to where that leads.
+    #[inline(always)]
+    fn wait(
+        &mut self,
+        goroutine: u32,
+        from: Status,
+        descriptor: u32,
+        op: &DescOp,
+    ) -> Result<(Answer, WorldUndo), Refusal>
+        requires world { IsWorld self.old }
+        requires there { step.status_of goroutine (meant self.old) ≡ Ok from }
+        requires movable { is_movable from ≡ true }
+        ensures { Makes (waiting goroutine descriptor op.now (meant self.old)) [] self.old result self.new }
+    {
+        let (left, desc) = self.core.describe(descriptor, op)?;
+        let answer = left.answer;
+        let to = status_after(descriptor, op, answer);
+        let moved = self.core.move_to(goroutine, from, to);
+        let parked = parks(op, answer);
+        self.core.park(parked);
+        let undo = WorldUndo::Waited {
+            desc,
+            moved,
+            parked,
+        };
+        Ok((answer, undo))
+    }
+
+    /// A goroutine goes on inside a wait or out of it, and nothing else changes.
+    #[inline(always)]
+    fn go_on(
+        &mut self,
+        answer: Answer,
+        goroutine: u32,
+        from: Status,
+        to: Status,
+    ) -> (Answer, WorldUndo)
+        requires world { IsWorld self.old }
+        requires there { step.status_of goroutine (meant self.old) ≡ Ok from }
+        requires from { is_movable from ≡ true }
+        requires to { is_movable to ≡ true }
+        requires named { socket_named to ≡ None }
+        ensures { Makes (Ok (answer, with_status goroutine to (meant self.old))) []
+            self.old (Ok result) self.new }
+    {
+        let moved = self.core.move_to(goroutine, from, to);
+        (answer, WorldUndo::Goroutine(moved))
+    }
+}
+
+/// Where a goroutine is after an operation on the word of its wait, by the answer.
+#[inline(always)]
+fn status_after(descriptor: u32, op: &DescOp, answer: Answer) -> Status
+    ensures { result ≡ status_after descriptor op.now answer }
+{
+    match op {
+        DescOp::Arm(side) => match answer {
+            Answer::Wait => Status::Armed {
+                descriptor,
+                side: *side,
+            },
+            _ => Status::Idle,
+        },
+        DescOp::Commit(side, _) => match answer {
+            Answer::Yes => Status::Parked {
+                descriptor,
+                side: *side,
+            },
+            _ => Status::Swapping {
+                descriptor,
+                side: *side,
+            },
+        },
+        DescOp::Swap(side) => match answer {
+            Answer::No => Status::Checking {
+                descriptor,
+                side: *side,
+            },
+            _ => Status::Idle,
+        },
+        _ => Status::Idle,
+    }
+}
+
+/// Whether it is parked then.
+#[inline(always)]
+fn parks(op: &DescOp, answer: Answer) -> bool
+    ensures { result ≡ parks op.now answer }
+{
+    match op {
+        DescOp::Commit(_, _) => match answer {
+            Answer::Yes => true,
+            _ => false,
+        },
+        _ => false,
+    }
+}
