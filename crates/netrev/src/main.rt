@@ -12,7 +12,7 @@ pub mod starting;
 use crate::arguments::read_arguments;
 use crate::loopback::Loopback;
 use crate::starting::{Unstarted, start};
-use nr_plain::PlainWorld as World;
+use nr_machine::World;
 use nr_programs::ExitStatus;
 use nr_text::{Sink, Source};
 use std::process::ExitCode;

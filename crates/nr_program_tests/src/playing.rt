@@ -1,5 +1,5 @@
 //! Plays the programs on recordings: what came of it is a plain value, which tests compare.
-use nr_plain::PlainWorld as World;
+use nr_machine::World;
 use nr_programs::{ExitStatus, check_bytes, run_bytes};
 use nr_text::{Sink, Source};
 use std::alloc::{AllocError, Global};

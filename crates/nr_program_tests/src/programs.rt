@@ -3,7 +3,7 @@ use crate::playing::{
     HEADER, Played, SCRIPT, assert_accepted, assert_all_refused, assert_all_replies,
     assert_refused, run, run_on,
 };
-use nr_plain::PlainWorld as World;
+use nr_machine::World;
 use nr_programs::{ExitStatus, check_bytes};
 use nr_replay_tests::{Cup, Drip};
 use nr_text::Sink;

@@ -1,7 +1,7 @@
 //! The program `serve` over callers in memory.
 use crate::playing::{HEADER, Played, record};
 use crate::programs::READ;
-use nr_plain::PlainWorld as World;
+use nr_machine::World;
 use nr_programs::{ExitStatus, Sharing, serve_bytes};
 use nr_serving::{Connection, Connections, Next, Ports};
 use nr_text::Sink;

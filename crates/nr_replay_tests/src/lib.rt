@@ -3,11 +3,10 @@
 #![tactic(auto)]
 
 mod films;
+pub mod laws;
 #[cfg(test)]
 mod marks;
 mod observed;
-#[cfg(test)]
-mod plain;
 #[cfg(test)]
 mod recording;
 #[cfg(test)]
@@ -15,6 +14,8 @@ mod snaps;
 mod streams;
 #[cfg(test)]
 mod walker;
+#[cfg(test)]
+mod world;
 
 pub use films::{OPEN, add_ticks, film_of, ticking};
 pub use observed::Observed;

@@ -1,7 +1,7 @@
-//! Films over `PlainWorld`.
+//! Films over packed worlds.
 
 use crate::films::{LIMITS, add_ticks, ticking};
-use nr_plain::PlainWorld;
+use nr_machine::World;
 use nr_recording::Recording;
 use nr_rev::{Cell, CellValue, Refusal, Step, Worlds};
 use nr_snaps::{Film, LoadFault, Snaps};
@@ -15,11 +15,11 @@ fn fault_of_the_last(alloc: Global) -> Option<LoadFault> {
     add_ticks(&mut steps, 70).ok()?;
     steps.push(Step::Tick { time: 69 }).ok()?;
     let recording = Recording::new(LIMITS, steps).ok()?;
-    Snaps::load::<PlainWorld>(alloc, recording, 64).err()
+    Snaps::load::<World>(alloc, recording, 64).err()
 }
 
 /// The clock of the film's copy at a position, or of the nearest one below it.
-fn clock_below(film: &Film<PlainWorld>, n: usize) -> Option<CellValue> {
+fn clock_below(film: &Film<World>, n: usize) -> Option<CellValue> {
     if n > film.len() {
         return None;
     }
@@ -28,7 +28,7 @@ fn clock_below(film: &Film<PlainWorld>, n: usize) -> Option<CellValue> {
 
 #[test]
 fn a_film_has_a_copy_at_its_end(rt: HostRuntime) -> Result<(), Fail> {
-    let film = ticking::<PlainWorld>(rt.alloc(), 128).ok_or("no film")?;
+    let film = ticking::<World>(rt.alloc(), 128).ok_or("no film")?;
     assert_eq!(rt; (film.len(), film.every()), (128, 64));
     assert!(rt; film.step(127).is_some() && film.step(128).is_none());
     for (n, time) in [(0, 0), (63, 0), (64, 64), (127, 64), (128, 128)] {

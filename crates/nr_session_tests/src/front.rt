@@ -6,7 +6,7 @@ use crate::sharing::{Lone, share};
 use nr_command::{Command, Query, Reply};
 use nr_front::FrontFault;
 use nr_journal::{Journal, Pass};
-use nr_plain::PlainWorld;
+use nr_machine::World;
 use nr_replay_tests::ticking;
 use nr_snaps::Film;
 use std::alloc::{AllocError, Global};
@@ -15,7 +15,7 @@ use std::num::NonZeroU32;
 use std::test::*;
 use std::thread::{Threads, join};
 
-type Ticking<'f, R> = Lone<'f, PlainWorld, R>;
+type Ticking<'f, R> = Lone<'f, World, R>;
 
 /// What a front is asked.
 #[derive(Clone, Copy)]
@@ -132,7 +132,7 @@ fn end(
 fn play_over<R: Threads + Sync>(
     rt: &R,
     alloc: Global,
-    film: &Film<PlainWorld>,
+    film: &Film<World>,
     words: usize,
     calls: &[(User, Call)],
 ) -> Option<(Vec<Answered>, Ended)>
@@ -264,7 +264,7 @@ fn step_and_wait<R: Threads + Sync>(journal: &Journal, mut front: Ticking<'_, R>
 fn step_at_once<R: Threads + Send + Sync>(
     rt: &R,
     alloc: Global,
-    film: &Film<PlainWorld>,
+    film: &Film<World>,
 ) -> Option<(Ordering, Vec<u64>)> {
     let (journal, one, other, _) = share(rt, alloc, 4096, film).ok()?;
     let shared = &journal;

@@ -1,8 +1,8 @@
 //! Searches by one worker and by several.
 
 use arrayvec::ArrayVec;
+use nr_machine::World;
 use nr_marks::{Break, Marks};
-use nr_plain::PlainWorld;
 use nr_replay_tests::{OPEN, add_ticks, film_of};
 use nr_rev::{Cell, Kind, Mode, Side, Step};
 use nr_search::{
@@ -30,7 +30,7 @@ fn opening(alloc: Global) -> Result<Vec<Step>, AllocError> {
 }
 
 /// 192 steps: from the third on they set the clock to 1, 2 and so on.
-fn ticking(alloc: Global) -> Option<Film<PlainWorld>> {
+fn ticking(alloc: Global) -> Option<Film<World>> {
     let mut steps = opening(alloc).ok()?;
     add_ticks(&mut steps, 190).ok()?;
     film_of(alloc, steps)
@@ -54,7 +54,7 @@ fn crew<R: Threads + Sync>(rt: &R, alloc: Global, workers: usize) -> ManyWorkers
 /// What is found from a position that the film has, where there is memory.
 fn find<F: Finder>(
     finder: &F,
-    film: &Film<PlainWorld>,
+    film: &Film<World>,
     marks: &Marks,
     direction: Direction,
     n: usize,
@@ -119,7 +119,7 @@ fn two_workers_search_at_once(rt: HostRuntime) -> Result<(), Fail> {
 }
 
 /// What is found from 192 and 99 backwards, and from 2 and 99 forwards.
-fn four<F: Finder>(finder: &F, film: &Film<PlainWorld>) -> [Option<Found>; 4] {
+fn four<F: Finder>(finder: &F, film: &Film<World>) -> [Option<Found>; 4] {
     let marks = marks(100);
     [
         find(finder, film, &marks, Direction::Backward, 192),
@@ -242,7 +242,7 @@ impl Numbers {
 }
 
 /// The film of steps that numbers choose.
-fn chosen(alloc: Global, numbers: &mut Numbers) -> Option<Film<PlainWorld>> {
+fn chosen(alloc: Global, numbers: &mut Numbers) -> Option<Film<World>> {
     let mut steps = opening(alloc).ok()?;
     for time in 0..298 {
         steps.push(numbers.step(time)).ok()?;
@@ -293,7 +293,7 @@ fn several_workers_agree_with_one_at_each_position(rt: HostRuntime) -> Result<()
 /// What is found at last, where one request for memory is refused; and how often it was refused.
 fn find_at_last<F: Finder>(
     finder: &F,
-    film: &Film<PlainWorld>,
+    film: &Film<World>,
     direction: Direction,
     n: usize,
     refusals: &mut u32,

@@ -1,6 +1,6 @@
 //! Two fronts in threads of their own, one of which waits until the other was answered.
 
-use nr_plain::PlainWorld;
+use nr_machine::World;
 use nr_replay_tests::ticking;
 use nr_search::OneWorker;
 use nr_serving::{Connection, Connections, Ended, Next, Ports, Shape, share};
@@ -122,7 +122,7 @@ fn share_over<R: Threads + Wait + Sync>(
     alloc: Global,
     wires: &mut Wires<'_>,
 ) -> Option<Ended> {
-    let film: Film<PlainWorld> = ticking(alloc, 4)?;
+    let film: Film<World> = ticking(alloc, 4)?;
     let shape = Shape {
         fronts: 2,
         room: 4,

@@ -1,14 +1,14 @@
-//! Worlds over lists on real numbers, and with memory refused.
+//! Packed worlds on real numbers, and with memory refused.
 
 ghost use Rattle.std.specs.Prelude.{◌≡◌, ◌≤◌, IfOk, length};
 ghost use Rattle.nr_rev.specs.Transaction.{LeadsBack};
-ghost use Rattle.nr_rev.specs.WellFormed.{WellFormed};
-ghost use Rattle.nr_rev.specs.World.{World};
-ghost use Rattle.nr_plain.specs.Delta.{PlainBack};
+ghost use Rattle.nr_machine.specs.Delta.{WorldBack};
+ghost use Rattle.nr_machine.specs.Fits.{IsWorld};
+ghost use Rattle.nr_machine.specs.World.{WorldParts};
 
 use crate::films::OPEN;
 use arrayvec::ArrayVec;
-use nr_plain::PlainWorld;
+use nr_machine::World;
 use nr_rev::{
     Answer, Bytes, Cell, CellValue, Limits, Refusal, Reversible, Side, Status, Step, Worlds,
     transact, undo_all,
@@ -17,7 +17,7 @@ use std::alloc::{AllocError, Global};
 use std::process::Abort;
 use std::test::Fail;
 
-type Delta = <PlainWorld as Reversible>::Delta;
+type Delta = <World as Reversible>::Delta;
 
 const LIMITS: Limits = Limits {
     goroutines: 6,
@@ -37,25 +37,25 @@ const DECREF: Step = Step::Decref {
 };
 
 /// A world before its first step, with room for little.
-fn little_world(alloc: Global) -> Result<PlainWorld, Refusal>
-    ensures { IfOk result WellFormed }
+fn little_world(alloc: Global) -> Result<World, Refusal>
+    ensures { IfOk result IsWorld }
 {
-    PlainWorld::fresh(alloc, LIMITS)
+    World::fresh(alloc, LIMITS)
 }
 
 /// Takes a step, and keeps no way back.
-fn advance(world: &mut PlainWorld, step: &Step) -> Result<Answer, Refusal>
-    requires { WellFormed world.old }
-    ensures { WellFormed world.new }
+fn advance(world: &mut World, step: &Step) -> Result<Answer, Refusal>
+    requires { IsWorld world.old }
+    ensures { IsWorld world.new }
 {
     world.advance(step)
 }
 
 /// Applies all the steps or none: whether they apply, how many deltas there are, and the lock word of socket 0 then.
-fn transacted(world: &mut PlainWorld, steps: &[Step]) -> (Result<(), Refusal>, usize, CellValue)
-    requires well_formed { WellFormed world.old }
+fn transacted(world: &mut World, steps: &[Step]) -> (Result<(), Refusal>, usize, CellValue)
+    requires well_formed { IsWorld world.old }
     requires few { length steps.now ≤ 8 }
-    ensures { WellFormed world.new }
+    ensures { IsWorld world.new }
 {
     let mut deltas = ArrayVec::new();
     let applied = transact(world, steps, &mut deltas);
@@ -80,12 +80,12 @@ fn applies_all_or_none(rt: HostRuntime) -> Result<(), Fail> {
 /// Applies all the steps and undoes them all: how many deltas there were, and the lock words of socket 0 in between and
 /// then.
 fn there_and_back(
-    world: &mut PlainWorld,
+    world: &mut World,
     steps: &[Step],
 ) -> Result<(usize, CellValue, CellValue), Refusal>
-    requires well_formed { WellFormed world.old }
+    requires well_formed { IsWorld world.old }
     requires few { length steps.now ≤ 8 }
-    ensures well_formed { WellFormed world.new }
+    ensures well_formed { IsWorld world.new }
     ensures back { world.new ≡ world.old }
 {
     let mut deltas = ArrayVec::new();
@@ -142,9 +142,9 @@ struct Locking {
 }
 
 /// Leads the world over the steps, or up to the first that does not apply.
-fn lead(world: &mut PlainWorld, steps: &[Step]) -> Result<(), Refusal>
-    requires { WellFormed world.old }
-    ensures { WellFormed world.new }
+fn lead(world: &mut World, steps: &[Step]) -> Result<(), Refusal>
+    requires { IsWorld world.old }
+    ensures { IsWorld world.new }
 {
     for step in steps {
         advance(world, step)?;
@@ -153,8 +153,8 @@ fn lead(world: &mut PlainWorld, steps: &[Step]) -> Result<(), Refusal>
 }
 
 /// Takes the steps, and one more of goroutine 0.
-fn lead_and_lock(world: &mut PlainWorld, steps: &[Step], last: &Step) -> Result<Locking, Refusal>
-    requires { WellFormed world.old }
+fn lead_and_lock(world: &mut World, steps: &[Step], last: &Step) -> Result<Locking, Refusal>
+    requires { IsWorld world.old }
 {
     lead(world, steps)?;
     let before = world.cell(Cell::Lock(0));
@@ -227,9 +227,9 @@ fn unlocking_changes_a_lock_word_as_in_go(rt: HostRuntime) {
 }
 
 /// Opens socket 0, and takes so many references to it.
-fn refer(world: &mut PlainWorld, count: u32) -> Result<(), Refusal>
-    requires { WellFormed world.old }
-    ensures { WellFormed world.new }
+fn refer(world: &mut World, count: u32) -> Result<(), Refusal>
+    requires { IsWorld world.old }
+    ensures { IsWorld world.new }
 {
     advance(world, &OPEN)?;
     for _ in 0..count {
@@ -240,10 +240,10 @@ fn refer(world: &mut PlainWorld, count: u32) -> Result<(), Refusal>
 
 /// The lock word of a socket with so many references, and what one more answers.
 fn refer_once_more(
-    world: &mut PlainWorld,
+    world: &mut World,
     count: u32,
 ) -> Result<(CellValue, Result<Answer, Refusal>), Refusal>
-    requires { WellFormed world.old }
+    requires { IsWorld world.old }
 {
     refer(world, count)?;
     Ok((world.cell(Cell::Lock(0)), advance(world, &INCREF)))
@@ -309,26 +309,26 @@ fn traffic(alloc: Global) -> Result<[Step; 5], AllocError> {
 }
 
 /// Takes a step, and lets its way back go.
-fn apply(world: &mut PlainWorld, step: &Step) -> Result<Answer, Refusal>
-    requires { WellFormed world.old }
-    ensures { WellFormed world.new }
+fn apply(world: &mut World, step: &Step) -> Result<Answer, Refusal>
+    requires { IsWorld world.old }
+    ensures { IsWorld world.new }
 {
     let (answer, _) = world.apply(step)?;
     Ok(answer)
 }
 
 /// What a copy that keeps no way back answers.
-fn answer_of_a_copy(world: &PlainWorld, step: &Step) -> Result<Answer, Refusal>
-    requires { WellFormed world.now }
+fn answer_of_a_copy(world: &World, step: &Step) -> Result<Answer, Refusal>
+    requires { IsWorld world.now }
 {
     let mut copy = world.try_copy()?;
     advance(&mut copy, step)
 }
 
 /// What the step answers, where a copy answers the same.
-fn answer_of(world: &mut PlainWorld, step: &Step) -> Option<Answer>
-    requires { WellFormed world.old }
-    ensures { WellFormed world.new }
+fn answer_of(world: &mut World, step: &Step) -> Option<Answer>
+    requires { IsWorld world.old }
+    ensures { IsWorld world.new }
 {
     let reported = answer_of_a_copy(world, step).ok()?;
     let answer = apply(world, step).ok()?;
@@ -340,14 +340,14 @@ fn answer_of(world: &mut PlainWorld, step: &Step) -> Option<Answer>
 }
 
 /// What a buffer of socket 0 holds, where there is one, and memory to show it.
-fn held(world: &PlainWorld, side: Side) -> Option<Bytes> {
+fn held(world: &World, side: Side) -> Option<Bytes> {
     world.bytes(0, side).ok()?
 }
 
 /// Undoes the last of the deltas that lead back from the world.
-fn undo_last(world: &mut PlainWorld, deltas: &mut ArrayVec<Delta, 8>)
-    requires { (old : World) × LeadsBack PlainBack deltas.old.items world.old old }
-    ensures { (old : World) × LeadsBack PlainBack deltas.new.items world.new old }
+fn undo_last(world: &mut World, deltas: &mut ArrayVec<Delta, 8>)
+    requires { (old : WorldParts) × LeadsBack WorldBack deltas.old.items world.old old }
+    ensures { (old : WorldParts) × LeadsBack WorldBack deltas.new.items world.new old }
 {
     if let Some(delta) = deltas.pop() {
         world.undo(delta);
@@ -355,8 +355,8 @@ fn undo_last(world: &mut PlainWorld, deltas: &mut ArrayVec<Delta, 8>)
 }
 
 /// Takes three steps and undoes the last ones of them, so many.
-fn lead_and_return(world: &mut PlainWorld, steps: &[Step; 3], count: u32) -> Result<(), Refusal>
-    requires { WellFormed world.old }
+fn lead_and_return(world: &mut World, steps: &[Step; 3], count: u32) -> Result<(), Refusal>
+    requires { IsWorld world.old }
 {
     let mut deltas = ArrayVec::new();
     transact(world, steps, &mut deltas)?;
@@ -367,12 +367,8 @@ fn lead_and_return(world: &mut PlainWorld, steps: &[Step; 3], count: u32) -> Res
 }
 
 /// The input of socket 0 then, where there is one.
-fn input_behind(
-    world: &mut PlainWorld,
-    steps: &[Step; 3],
-    count: u32,
-) -> Result<Option<Bytes>, Refusal>
-    requires { WellFormed world.old }
+fn input_behind(world: &mut World, steps: &[Step; 3], count: u32) -> Result<Option<Bytes>, Refusal>
+    requires { IsWorld world.old }
 {
     lead_and_return(world, steps, count)?;
     world.bytes(0, Side::Read)
@@ -396,8 +392,8 @@ fn undoes_one_by_one(rt: HostRuntime) -> Result<(), Fail> {
 }
 
 /// Takes the steps: what the last answers, where copies answer the same as they.
-fn last_answer_of(world: &mut PlainWorld, steps: &[Step]) -> Option<Answer>
-    requires { WellFormed world.old }
+fn last_answer_of(world: &mut World, steps: &[Step]) -> Option<Answer>
+    requires { IsWorld world.old }
 {
     let mut answer = Answer::Done;
     for step in steps {
@@ -444,7 +440,7 @@ fn moves_bytes(rt: HostRuntime) -> Result<(), Fail> {
 }
 
 /// Whether there is no socket 1, by its bytes, and whether nobody is queued at socket 0.
-fn missing_and_empty(world: &PlainWorld) -> Result<(bool, bool), Refusal> {
+fn missing_and_empty(world: &World) -> Result<(bool, bool), Refusal> {
     let bytes = world.bytes(1, Side::Read)?;
     let queue = world.queue(0, Side::Read)?;
     let is_empty = matches!(&queue, Some(queue) if queue.as_slice().is_empty());
@@ -460,16 +456,16 @@ fn shows_what_is_missing_or_empty(rt: HostRuntime) -> Result<(), Fail> {
 }
 
 /// How many bytes the buffers of socket 0 hold.
-fn lengths(world: &PlainWorld) -> (CellValue, CellValue)
-    requires { WellFormed world.now }
+fn lengths(world: &World) -> (CellValue, CellValue)
+    requires { IsWorld world.now }
 {
     (world.cell(Cell::Input(0)), world.cell(Cell::Output(0)))
 }
 
 /// What the step answers: at once or, where it ran out of memory, which changed nothing, the next time.
-fn answer_in_two_tries(world: &mut PlainWorld, step: &Step) -> Result<Answer, Refusal>
-    requires { WellFormed world.old }
-    ensures { WellFormed world.new }
+fn answer_in_two_tries(world: &mut World, step: &Step) -> Result<Answer, Refusal>
+    requires { IsWorld world.old }
+    ensures { IsWorld world.new }
 {
     let before = lengths(world);
     match apply(world, step) {
@@ -479,8 +475,8 @@ fn answer_in_two_tries(world: &mut PlainWorld, step: &Step) -> Result<Answer, Re
 }
 
 /// Takes the steps of the traffic, each in two tries.
-fn take_in_two_tries(rt: &impl Abort, world: &mut PlainWorld, traffic: &[Step; 5])
-    requires { WellFormed world.old }
+fn take_in_two_tries(rt: &impl Abort, world: &mut World, traffic: &[Step; 5])
+    requires { IsWorld world.old }
 {
     let [open, arrive, write, read, drain] = traffic;
     for (step, answer) in [
