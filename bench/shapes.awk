@@ -7,6 +7,7 @@ BEGIN {
 	else if (shape == "bytes") bytes()
 	else if (shape == "waits") waits()
 	else if (shape == "timers") timers()
+	else if (shape == "armed") armed()
 	else if (shape == "mix") mix()
 	else {
 		print "no such shape: " shape > "/dev/stderr"
@@ -117,6 +118,24 @@ function timers(    i, all) {
 		step("setdeadline", "0," (i % all) ",\"r\"," all)
 		step("tick", i + 1)
 		if (i >= all - 1) {
+			step("pop")
+			step("fire", "0")
+		}
+	}
+}
+
+# 500 timers of 250 descriptors, each with a deadline for reading and one for writing. In each turn one is armed anew,
+# another is put off before it is due, and a third one goes off.
+function armed(    i, all) {
+	all = 250
+	header(1, 1, all, 16)
+	step("sockopen", "16,16")
+	for (i = 0; i < all; i++) step("pollopen", "0,0")
+	for (i = 0; n > 0; i++) {
+		step("setdeadline", "0," (i % all) ",\"" (i % (2 * all) < all ? "r" : "w") "\"," 400)
+		if (i >= all) step("setdeadline", "0," (i % all) ",\"" (i % (2 * all) < all ? "w" : "r") "\"," all)
+		step("tick", i + 1)
+		if (i >= 2 * all - 1) {
 			step("pop")
 			step("fire", "0")
 		}
