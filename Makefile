@@ -6,8 +6,9 @@ FILE = examples/first.jsonl
 SCRIPT = examples/first.script
 PREFIX = /usr/local
 MINUTES = 5
+COUNT = 10000
 
-.PHONY: help look run hunt test refused loopback fuzz companion netrev examples share bench install clean
+.PHONY: help look run hunt test refused loopback system fuzz agree companion netrev examples share bench pace install clean
 
 # Tells what there is to make.
 help:
@@ -30,7 +31,7 @@ hunt: netrev
 	@./nrdb $(FILE)
 
 # The gate: every proof, the edits that must fail, the tests, the program, the program refused memory,
-# sessions over the loopback, and the companion's tests.
+# sessions over the loopback, the program against the system, and the companion's tests.
 test:
 	@sh scripts/gate.sh
 
@@ -43,6 +44,10 @@ refused: netrev
 loopback: netrev
 	@python3 scripts/loopback.py
 
+# The built program against the system: streams that are closed or full, odd files, signals, and little memory.
+system: netrev
+	@python3 scripts/system.py
+
 # The tests of nrdb, the companion, with the built program; among them the hunts of examples/hunts.
 companion: netrev
 	@python3 -m unittest discover -s tests/nrdb
@@ -51,6 +56,12 @@ companion: netrev
 # differs is kept in out/fuzz (CONTRIBUTING.md). Not in the gate.
 fuzz: netrev
 	@PYTHONPATH=tools python3 -m fuzz --minutes $(MINUTES) --seed "$(SEED)"
+
+# Both worlds side by side, over the recordings of examples/ and over random ones: `make agree COUNT=100000 SEED=1`.
+agree:
+	@cd crates/nr_agree && rt run -- generated 1 1
+	@sh scripts/agree.sh
+	@crates/nr_agree/out/nr_agree generated $(COUNT) $(or $(SEED),1)
 
 # Leaves the proved program at $(NETREV). With no change since, nothing is proved again.
 netrev:
@@ -79,6 +90,14 @@ bench: netrev
 	@python3 bench/searching.py
 	@echo
 	@python3 bench/companion.py
+	@echo
+	@$(MAKE) --no-print-directory pace
+
+# Measures the machine itself, replayed, undone and searched, beside the same in plain Rust without proofs:
+# `make pace STEPS=100000` for fewer steps than 1,000,000. It proves crates/nr_pace first.
+pace:
+	cd crates/nr_pace && rt run -- ../../examples/first.jsonl
+	@python3 bench/pace.py $(lastword $(STEPS))
 
 # Installs netrev, nrdb and the man page below PREFIX: `make install PREFIX=~/.local`.
 install: netrev
