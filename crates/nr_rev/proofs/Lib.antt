@@ -36,3 +36,4 @@ pub mod UnblockLemmas
 pub mod WaitStepLemmas
 pub mod WaitWordChangeLemmas
 pub mod WaitWordSetLemmas
+pub mod WaitersLemmas

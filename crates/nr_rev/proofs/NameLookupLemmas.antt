@@ -34,7 +34,7 @@ found_at test index cell e = found_such (λ c. index ≡ cell_index c) test (cel
   where
     indexed : (i : Option ℕ) → AllByRecursion (λ c. i ≡ cell_index c) (cells_at i)
     indexed None = (refl, (refl, (refl, (refl, (refl, tt)))))
-    indexed (Some i) = (refl, (refl, (refl, (refl, (refl, (refl, (refl, (refl, (refl, (refl, (refl, (refl, (refl, (refl, tt))))))))))))))
+    indexed (Some i) = (refl, (refl, (refl, (refl, (refl, (refl, (refl, (refl, (refl, (refl, (refl, (refl, (refl, (refl, (refl, tt)))))))))))))))
 
 -- a kind's name is read as that kind
 pub kind_again : (kind : Kind) → kind_named (kind_name kind) ≡ Some kind

@@ -11,7 +11,7 @@ use Rattle.nr_rev.proofs.OutcomeLemmas.{Keeps, KeepsFor, Ends-map}
 use Rattle.nr_rev.proofs.GoroutineStepLemmas.{spawn_sound, exit_sound}
 use Rattle.nr_rev.proofs.LockStepLemmas.{incref_sound, increfclose_sound, decref_sound, rwlock_sound, rwunlock_sound}
 use Rattle.nr_rev.proofs.SemaphoreStepLemmas.{acquire_sound, release_sound}
-use Rattle.nr_rev.proofs.TransferStepLemmas.{sockopen_sound, arrive_sound, peerclose_sound, sysread_sound, syswrite_sound, drain_sound}
+use Rattle.nr_rev.proofs.TransferStepLemmas.{sockopen_sound, arrive_sound, peerclose_sound, sysread_sound, syswrite_sound, drain_sound, closewrite_sound}
 use Rattle.nr_rev.proofs.DescriptorStepLemmas.{pollopen_sound, pollclose_sound, evict_sound, pollevent_sound}
 use Rattle.nr_rev.proofs.WaitStepLemmas.{pollreset_sound, waitbegin_sound, blockarm_sound, blockcheck_sound, parkcommit_sound, blockswap_sound, waitcheck_sound}
 use Rattle.nr_rev.proofs.SetDeadlineLemmas.{setdeadline_sound}
@@ -51,6 +51,7 @@ step_sound w (Step.PollEvent d tag mode error) h = unless_premise _ (pollevent_s
 step_sound w (Step.Tick t) h = tick_sound w t h
 step_sound w Step.Pop h = unless_premise _ (pop_sound w h)
 step_sound w (Step.Fire i) h = unless_premise _ (fire_sound w i h)
+step_sound w (Step.CloseWrite g s) h = unless_premise _ (closewrite_sound w g s h)
 
 pub step_keeps : (w : World) (step : Step) (answer : Answer) (next : World) → IsTimely step → WellFormed w → outcome w step ≡ Ok (answer, next) → WellFormed next
 step_keeps w step answer next timely h e = (step_sound w step h).value (answer, next) e timely

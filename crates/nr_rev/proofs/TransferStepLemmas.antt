@@ -1,5 +1,5 @@
--- sockopen, arrive, peerclose, sysread, syswrite and drain keep a world well formed.
-use Rattle.std.proofs.Common.{◌≡◌, ◌≢◌, ℕ, ◌<◌, ◌≤◌, Bool, true, false, ◌&&◌, List, [], ◌∷◌, ◌++◌, Option, Some, None, inl, inr, refl, sym, ap, ◌∙◌, length, length-append, arith, min, take, drop}
+-- sockopen, arrive, peerclose, sysread, syswrite, drain and closewrite keep a world well formed.
+use Rattle.std.proofs.Common.{◌≡◌, ◌≢◌, ℕ, ◌<◌, ◌≤◌, Bool, true, false, ◌&&◌, if◌then◌else◌, List, [], ◌∷◌, ◌++◌, Option, Some, None, inl, inr, refl, sym, ap, ◌∙◌, length, length-append, arith, min, take, drop}
 use Rattle.std.specs.Prelude.{slice_get, ◌==◌, nat_lt, nat_le, count_by}
 use Rattle.std.specs.Option.{option_and_then}
 use Rattle.nr_rev.specs.declared.sides.Side.{Side}
@@ -8,11 +8,11 @@ use Rattle.nr_rev.specs.declared.status.Status.{Status}
 use Rattle.nr_rev.specs.declared.status.Status.TheVariants.{Queued}
 use Rattle.nr_rev.specs.Sides.{of_side, same_side}
 use Rattle.nr_rev.specs.World.{World, with_socket}
-use Rattle.nr_rev.specs.Socket.{Socket, Buffer, new_socket, room_of}
+use Rattle.nr_rev.specs.Socket.{Socket, Buffer, new_socket, room_of, output_room}
 use Rattle.nr_rev.specs.WellFormed.{WellFormed, SocketFits, HasView, socket_named, is_queued}
 use Rattle.nr_rev.proofs.ListUpdateLemmas.{slice_get-push_cases, slice_get-push_all}
 use Rattle.nr_rev.proofs.SideLemmas.{each_side, with_side_all}
-use Rattle.nr_rev.specs.Step.{sockopen, arrive, peerclose, sysread, syswrite, drain, with_buffer}
+use Rattle.nr_rev.specs.Step.{sockopen, arrive, peerclose, sysread, syswrite, drain, closewrite, with_buffer}
 use Rattle.nr_rev.proofs.NumberLemmas.{below_of, most_of, same_number}
 use Rattle.nr_rev.specs.Lock.{bit}
 use Rattle.std.proofs.lemmas.List.{length-drop, length-take}
@@ -115,12 +115,24 @@ arrive_sound w s bytes h =
     let room : length bytes ≤ room_of socket.buffers.read = most_of _ _ fits in
     Ends-ok (rebuffered w s socket Read (socket.buffers.read.bytes ++ bytes) h at (λ before. rw length-append (omega arith)))
 
+-- a mark of a socket is set
+remarked : (w : World) (s : ℕ) (socket : Socket) (peer_closed shut : Bool) → WellFormed w → slice_get w.sockets s ≡ Some socket
+    → WellFormed (with_socket s (record socket { peer_closed = peer_closed; shut = shut }) w)
+remarked w s socket peer_closed shut h at =
+    let fits : SocketFits w.limits.buffer socket = h.sockets s socket at in
+    socket_set_keeps w s socket _ h at (λ _. refl) (record { lock = fits.lock; counts = fits.counts; bytes = fits.bytes; capacities = fits.capacities })
+
 pub peerclose_sound : (w : World) (s : ℕ) → WellFormed w → Keeps (peerclose s w)
 peerclose_sound w s h =
     Ends-bind (Ends-socket_of s w) λ socket at.
     Ends-then (Ends-refused_if socket.peer_closed _ refl) λ _.
-    let fits : SocketFits w.limits.buffer socket = h.sockets s socket at in
-    Ends-ok (socket_set_keeps w s socket _ h at (λ _. refl) (record { lock = fits.lock; counts = fits.counts; bytes = fits.bytes; capacities = fits.capacities }))
+    Ends-ok (remarked w s socket true socket.shut h at)
+
+pub closewrite_sound : (w : World) (g s : ℕ) → WellFormed w → Keeps (closewrite g s w)
+closewrite_sound w g s h =
+    Ends-then (Ends-idle g w) λ _.
+    Ends-bind (Ends-socket_of s w) λ socket at.
+    Ends-ok (remarked w s socket socket.peer_closed true h at)
 
 pub sysread_sound : (w : World) (g s n : ℕ) → WellFormed w → Keeps (sysread g s n w)
 sysread_sound w g s n h =
@@ -129,14 +141,19 @@ sysread_sound w g s n h =
     Ends-then (Ends-sized n w) λ _.
     Ends-ok (rebuffered w s socket Read (drop n socket.buffers.read.bytes) h at (λ before. rw length-drop (omega arith)))
 
+-- the output takes no more than there is room for
+pub output_room_most : (shut : Bool) (output : Buffer) → output_room shut output ≤ room_of output
+output_room_most true output = omega arith
+output_room_most false output = omega arith
+
 pub syswrite_sound : (w : World) (g s : ℕ) (bytes : List ℕ) → WellFormed w → Keeps (syswrite g s bytes w)
 syswrite_sound w g s bytes h =
     Ends-then (Ends-idle g w) λ _.
     Ends-bind (Ends-socket_of s w) λ socket at.
     Ends-then (Ends-refused_if (length bytes == 0) _ refl) λ _.
     Ends-ok
-    (rebuffered w s socket Write (socket.buffers.write.bytes ++ take (min (room_of socket.buffers.write) (length bytes)) bytes) h at
-    (λ before. simp (length-append, length-take) (omega arith)))
+    (rebuffered w s socket Write (socket.buffers.write.bytes ++ take (min (output_room socket.shut socket.buffers.write) (length bytes)) bytes) h at
+    (λ before. let room = output_room_most socket.shut socket.buffers.write in simp (length-append, length-take) (omega arith)))
 
 pub drain_sound : (w : World) (s n : ℕ) → WellFormed w → Keeps (drain s n w)
 drain_sound w s n h =

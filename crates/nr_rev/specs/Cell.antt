@@ -5,7 +5,7 @@ use Rattle.nr_rev.specs.declared.cell.Cell.{Cell}
 use Rattle.nr_rev.specs.declared.cell_value.CellValue.{CellValue}
 use Rattle.nr_rev.specs.declared.cell_value.CellValue.TheVariants.{Absent, Number, Time}
 use Rattle.nr_rev.specs.Sides.{of_side}
-use Rattle.nr_rev.specs.Lock.{lock_number}
+use Rattle.nr_rev.specs.Lock.{bit, lock_number}
 use Rattle.nr_rev.specs.declared.descriptor.Descriptor.{Descriptor}
 use Rattle.nr_rev.specs.Descriptor.{summary}
 use Rattle.nr_rev.specs.Socket.{Socket}
@@ -46,6 +46,7 @@ cell w (Cell.ReadSequence d) = descriptor_value d w (λ x. Number x.sequences.re
 cell w (Cell.WriteSequence d) = descriptor_value d w (λ x. Number x.sequences.write)
 cell w (Cell.DescriptorSequence d) = descriptor_value d w (λ x. Number x.fdseq)
 cell w (Cell.Info d) = descriptor_value d w (λ x. Number (summary x))
+cell w (Cell.Shut s) = socket_value s w (λ socket. Number (bit socket.shut))
 
 -- the bytes that a socket's buffer holds: reading, the input
 abbrev pub bytes_of : World → ℕ → Side → Option (List ℕ)

@@ -24,6 +24,7 @@ cell_name (Cell.ReadSequence i) = codes "rseq"
 cell_name (Cell.WriteSequence i) = codes "wseq"
 cell_name (Cell.DescriptorSequence i) = codes "fdseq"
 cell_name (Cell.Info i) = codes "info"
+cell_name (Cell.Shut i) = codes "shut"
 
 -- the number of a cell's goroutine, socket or descriptor
 abbrev pub cell_index : Cell → Option ℕ
@@ -46,6 +47,7 @@ cell_index (Cell.ReadSequence i) = Some i
 cell_index (Cell.WriteSequence i) = Some i
 cell_index (Cell.DescriptorSequence i) = Some i
 cell_index (Cell.Info i) = Some i
+cell_index (Cell.Shut i) = Some i
 
 -- the cells without a number, or with this one
 abbrev pub cells_at : Option ℕ → List Cell
@@ -65,6 +67,7 @@ cells_at (Some i) =
     Cell.WriteSequence i ∷
     Cell.DescriptorSequence i ∷
     Cell.Info i ∷
+    Cell.Shut i ∷
     []
 
 -- the cell that a name and a number, if there is one, spell
@@ -92,6 +95,7 @@ cell_number (Cell.ReadSequence i) = 16
 cell_number (Cell.WriteSequence i) = 17
 cell_number (Cell.DescriptorSequence i) = 18
 cell_number (Cell.Info i) = 19
+cell_number (Cell.Shut i) = 20
 
 -- the cell with this number, of what the index names if there is one
 abbrev pub cell_numbered : ℕ → Option ℕ → Option Cell

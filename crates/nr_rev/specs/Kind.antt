@@ -43,6 +43,7 @@ spelled_kinds =
     (Kind.Tick, codes "tick") ∷
     (Kind.Pop, codes "pop") ∷
     (Kind.Fire, codes "fire") ∷
+    (Kind.CloseWrite, codes "closewrite") ∷
     []
 
 -- how a kind is spelled
@@ -97,3 +98,4 @@ kind_of (Step.PollEvent a b c d) = Kind.PollEvent
 kind_of (Step.Tick a) = Kind.Tick
 kind_of Step.Pop = Kind.Pop
 kind_of (Step.Fire a) = Kind.Fire
+kind_of (Step.CloseWrite a b) = Kind.CloseWrite

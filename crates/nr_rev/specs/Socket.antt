@@ -1,5 +1,5 @@
 -- A socket: its lock, its semaphores and its buffers.
-use Rattle.std.specs.Prelude.{ℕ, ◌-◌, Bool, false, List, [], length}
+use Rattle.std.specs.Prelude.{ℕ, ◌-◌, Bool, false, if◌then◌else◌, List, [], length}
 use Rattle.nr_rev.specs.declared.sides.Sides.{Sides}
 use Rattle.nr_rev.specs.Sides.{twice}
 use Rattle.nr_rev.specs.declared.lock.Lock.{Lock}
@@ -15,13 +15,19 @@ pub record Buffer : Type 0 where
 abbrev pub room_of : Buffer → ℕ
 room_of buffer = buffer.capacity - length buffer.bytes
 
--- the lock word, the semaphores, the buffers, and whether the peer has closed
+-- how many bytes more an output takes: none once the write side is shut
+abbrev pub output_room : Bool → Buffer → ℕ
+output_room shut output = if shut then 0 else room_of output
+
+-- the lock word, the semaphores, the buffers, whether the peer has closed, and whether the write side
+-- is shut
 pub record Socket : Type 0 where
   pub lock : Lock
   pub semaphores : Sides Semaphore
   -- the input is read, the output written
   pub buffers : Sides Buffer
   pub peer_closed : Bool
+  pub shut : Bool
 
 -- a socket as it is opened, with room for this many bytes to read and to write
 abbrev pub new_socket : ℕ → ℕ → Socket
@@ -34,4 +40,5 @@ new_socket read_capacity write_capacity =
         write = record { bytes = []; capacity = write_capacity };
       };
       peer_closed = false;
+      shut = false;
     }

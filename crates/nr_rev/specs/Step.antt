@@ -1,4 +1,4 @@
--- The thirty steps. Each row tests its reasons in order, and then says the answer and the next
+-- The thirty-one steps. Each row tests its reasons in order, and then says the answer and the next
 -- world.
 use Rattle.std.specs.Prelude.{◌≡◌, ℕ, ◌+◌, ◌-◌, ◌*◌, Bool, true, false, ◌&&◌, ◌||◌, not, ◌==◌, nat_lt, nat_le, min, ℤ, int_lt, int_le, if◌then◌else◌, List, [], ◌∷◌, ◌++◌, length, take, drop, remove, slice_get, slice_set, slice_index_or, Option, Some, None, Result, Ok, Err}
 use Rattle.nr_rev.specs.declared.sides.Side.{Side}
@@ -8,7 +8,7 @@ use Rattle.nr_rev.specs.declared.descriptor.WaitWord.{WaitWord}
 use Rattle.nr_rev.specs.declared.status.Status.{Status}
 use Rattle.nr_rev.specs.declared.status.Status.TheVariants.{Idle, Acquiring, Queued, Relock, Owing, Entering, Armed, Parking, Parked, Swapping, Checking, Gone}
 use Rattle.nr_rev.specs.declared.answer.Answer.{Answer}
-use Rattle.nr_rev.specs.declared.answer.Answer.TheVariants.{Number, Code, Got, Put, Done, Yes, No, Wait, Eof, Again, Stale}
+use Rattle.nr_rev.specs.declared.answer.Answer.TheVariants.{Number, Code, Got, Put, Done, Yes, No, Wait, Eof, Again, Stale, Pipe}
 use Rattle.nr_rev.specs.declared.refusal.Refusal.{Refusal}
 use Rattle.nr_rev.specs.declared.refusal.Refusal.TheVariants.{NoSuchGoroutine, NotThere, TableFull, NoSuchSocket, NoSuchDescriptor, DoubleWait, CloseWithoutUnblock, WaiterInside, ClockGoesBack, NoTimerDue, FiringsFull, NoSuchFiring, NoRoom, TooFewBytes, SizeOutOfRange, PeerClosed}
 use Rattle.nr_rev.specs.declared.step.Step.{Step}
@@ -23,7 +23,7 @@ use Rattle.nr_rev.specs.Timer.{IsTime}
 use Rattle.nr_rev.specs.declared.timer.TimerOrder.{TimerOrder}
 use Rattle.nr_rev.specs.declared.timer.TimerOrder.TheVariants.{Arm, Stop}
 use Rattle.nr_rev.specs.Descriptor.{never_opened, check, opened_for, closed, with_wait_word, Change, change_by_deadline, change_by_evict, change_by_event, change_by_firing}
-use Rattle.nr_rev.specs.Socket.{Socket, new_socket, room_of}
+use Rattle.nr_rev.specs.Socket.{Socket, new_socket, room_of, output_room}
 use Rattle.nr_rev.specs.declared.descriptor.DescriptorRow.{DescriptorRow}
 use Rattle.nr_rev.specs.World.{World, is_free_number, least_entry, is_waited, with_status, with_socket, with_row, with_descriptor}
 
@@ -255,15 +255,20 @@ sysread g s n w = do
     with_socket s (with_buffer Read (drop n input) socket) w,
   )
 
+-- the answer of a write that puts k bytes: a broken pipe where the write side is shut, else k where
+-- there are any, else try again
+abbrev pub write_answer : ℕ → Bool → Answer
+write_answer k shut = if shut then Pipe else (if nat_lt 0 k then Put k else Again)
+
 -- syswrite: the system call of a write
 abbrev pub syswrite : ℕ → ℕ → List ℕ → World → Outcome
 syswrite g s bytes w = do
   idle g w
   socket ← socket_of s w
   refused_if (length bytes == 0) SizeOutOfRange
-  let k : ℕ = min (room_of socket.buffers.write) (length bytes)
+  let k : ℕ = min (output_room socket.shut socket.buffers.write) (length bytes)
   Ok (
-    if nat_lt 0 k then Put k else Again,
+    write_answer k socket.shut,
     with_socket s (with_buffer Write (socket.buffers.write.bytes ++ take k bytes) socket) w,
   )
 
@@ -274,6 +279,13 @@ drain s n w = do
   refused_if (n == 0) SizeOutOfRange
   refused_if (nat_lt (length socket.buffers.write.bytes) n) TooFewBytes
   Ok (Done, with_socket s (with_buffer Write (drop n socket.buffers.write.bytes) socket) w)
+
+-- closewrite: shutdown of the write side
+abbrev pub closewrite : ℕ → ℕ → World → Outcome
+closewrite g s w = do
+  idle g w
+  socket ← socket_of s w
+  Ok (Done, with_socket s (record socket { shut = true }) w)
 
 -- ---- descriptors
 
@@ -444,8 +456,8 @@ blockcheck g w = do
   let code : ℕ = check side row.descriptor
   Ok (Code code, with_status g (if code == 0 then Parking d side else Swapping d side) w)
 
--- parkcommit, by the word that it finds: wait becomes held by g, which parks; at any other g goes
--- on to take up the word
+-- parkcommit, by the word that it finds: wait becomes held by g, and g parks; at any other word g
+-- goes on to take it up
 abbrev pub committed_by : ℕ → ℕ → Side → WaitWord → DescriptorRow → World → Answer × World
 committed_by g d side WaitWord.Wait row w = (
   Yes,
@@ -462,8 +474,8 @@ parkcommit g w = do
   row ← row_of d w
   Ok (committed_by g d side (of_side side row.descriptor.words) row w)
 
--- blockswap, by the word that it takes up: ready ends the wait; after any other g checks why it was
--- woken
+-- blockswap, by the word that it takes up: ready ends the wait; after any other word g checks why it
+-- was woken
 abbrev pub swapped_by : ℕ → ℕ → Side → WaitWord → DescriptorRow → World → Answer × World
 swapped_by g d side WaitWord.Ready row w = (Yes, with_wait g Idle d side WaitWord.Nil row w)
 swapped_by g d side _ row w = (No, with_wait g (Checking d side) d side WaitWord.Nil row w)
@@ -515,7 +527,8 @@ pop w = do
       with_row entry.descriptor (record row { timers = with_side entry.side None row.timers }) w
   Ok (Done, record next { firings = w.firings ++ entry ∷ [] })
 
--- the world after a firing: unchanged by a stale one, else with the change of descriptor d made
+-- what a firing, already taken off the list, does: a stale one nothing, any other the change of
+-- descriptor d
 abbrev pub fired_with : ℕ → DescriptorRow → Option Change → World → Outcome
 fired_with d row None w = Ok (Stale, w)
 fired_with d row (Some change) w = do
@@ -564,6 +577,7 @@ outcome w (Step.PollEvent d tag mode error) = pollevent d tag mode error w
 outcome w (Step.Tick t) = tick t w
 outcome w Step.Pop = pop w
 outcome w (Step.Fire i) = fire i w
+outcome w (Step.CloseWrite g s) = closewrite g s w
 
 -- a step that applies, by its answer and the next world
 abbrev pub StepTo : World → Step → Answer → World → Type 0

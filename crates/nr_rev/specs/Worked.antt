@@ -7,7 +7,7 @@ use Rattle.nr_rev.specs.declared.refusal.Refusal.{Refusal}
 use Rattle.nr_rev.specs.declared.cell.Cell.{Cell}
 use Rattle.nr_rev.specs.declared.cell_value.CellValue.{CellValue}
 use Rattle.nr_rev.specs.declared.step.Step.{Step}
-use Rattle.nr_rev.specs.declared.step.Step.TheVariants.{Spawn, Exit, SockOpen, Arrive, SysRead, SysWrite, Drain, Incref, IncrefClose, Decref, RwLock, RwUnlock, Acquire, Release, PollOpen, PollClose, WaitBegin, BlockArm, BlockCheck, ParkCommit, BlockSwap, SetDeadline, Evict, PollEvent, Tick, Pop, Fire}
+use Rattle.nr_rev.specs.declared.step.Step.TheVariants.{Spawn, Exit, SockOpen, Arrive, SysRead, SysWrite, Drain, Incref, IncrefClose, Decref, RwLock, RwUnlock, Acquire, Release, PollOpen, PollClose, WaitBegin, BlockArm, BlockCheck, ParkCommit, BlockSwap, SetDeadline, Evict, PollEvent, Tick, Pop, Fire, CloseWrite}
 use Rattle.nr_rev.specs.declared.lock.Lock.{Lock}
 use Rattle.nr_rev.specs.declared.lock.LockOutcome.{LockOutcome}
 use Rattle.nr_rev.specs.Lock.{open_lock, lock_number}
@@ -140,6 +140,17 @@ a_firing_too_many =
           SockOpen 1 1 ∷ PollOpen 0 0 ∷ SetDeadline 0 0 Mode.Read (pos 1) ∷ Tick (pos 1) ∷ Pop
           ∷ SetDeadline 0 0 Mode.Read (pos 1) ∷ Tick (pos 2) ∷ Pop
           ∷ SetDeadline 0 0 Mode.Read (pos 1) ∷ Tick (pos 3) ∷ Pop
+          ∷ [];
+    }
+
+-- a write side is shut between two writes, and what was written goes out
+abbrev pub a_shut_write_side : Recording
+a_shut_write_side =
+    record {
+      limits = record { goroutines = 1; sockets = 1; descriptors = 1; buffer = 1048576 };
+      steps =
+          SockOpen 1048576 4 ∷ SysWrite 0 0 (104 ∷ 105 ∷ []) ∷ CloseWrite 0 0
+          ∷ SysWrite 0 0 (104 ∷ 105 ∷ []) ∷ Drain 0 2 ∷ CloseWrite 0 0
           ∷ [];
     }
 

@@ -30,6 +30,8 @@ pub enum Answer {
     Again,
     /// The event or firing is of a time that is past, and nothing changed.
     Stale,
+    /// Nothing was written: the write side is shut.
+    Pipe,
 }
 
 impl Answer {

@@ -47,6 +47,8 @@ pub enum Cell {
     /// The summary of a descriptor, as `pollInfo`: 1 closing, 2 an error event, 4 the deadline for reading expired, 8 that
     /// for writing, added up.
     Info(u32),
+    /// Whether the write side of a socket is shut: 1 if it is, else 0.
+    Shut(u32),
 }
 
 // Those that there is one of.
@@ -59,7 +61,7 @@ const CELLS: [Cell; 5] = [
 ];
 
 // Those of a goroutine, a socket or a descriptor, and its number.
-fn cells_of(index: u32) -> [Cell; 14]
+fn cells_of(index: u32) -> [Cell; 15]
     ensures { result ≡ cells_at (Some index) }
 {
     [
@@ -77,6 +79,7 @@ fn cells_of(index: u32) -> [Cell; 14]
         Cell::WriteSequence(index),
         Cell::DescriptorSequence(index),
         Cell::Info(index),
+        Cell::Shut(index),
     ]
 }
 
@@ -127,6 +130,7 @@ impl Cell {
             Cell::WriteSequence(_) => "wseq",
             Cell::DescriptorSequence(_) => "fdseq",
             Cell::Info(_) => "info",
+            Cell::Shut(_) => "shut",
         }
     }
 
@@ -154,6 +158,7 @@ impl Cell {
             Cell::WriteSequence(_) => 17,
             Cell::DescriptorSequence(_) => 18,
             Cell::Info(_) => 19,
+            Cell::Shut(_) => 20,
         }
     }
 
@@ -168,7 +173,8 @@ impl Cell {
             | Cell::ReadSemaphore(socket)
             | Cell::WriteSemaphore(socket)
             | Cell::Input(socket)
-            | Cell::Output(socket) => Some(socket),
+            | Cell::Output(socket)
+            | Cell::Shut(socket) => Some(socket),
             Cell::ReadWord(descriptor)
             | Cell::WriteWord(descriptor)
             | Cell::ReadDeadline(descriptor)

@@ -38,10 +38,11 @@ pub enum Kind {
     Tick,
     Pop,
     Fire,
+    CloseWrite,
 }
 
 /// Each kind with its name, in the order of their numbers.
-const KINDS: [(Kind, &str); 30] = [
+const KINDS: [(Kind, &str); 31] = [
     (Kind::Spawn, "spawn"),
     (Kind::Exit, "exit"),
     (Kind::SockOpen, "sockopen"),
@@ -72,6 +73,7 @@ const KINDS: [(Kind, &str); 30] = [
     (Kind::Tick, "tick"),
     (Kind::Pop, "pop"),
     (Kind::Fire, "fire"),
+    (Kind::CloseWrite, "closewrite"),
 ];
 
 impl Kind {
@@ -85,7 +87,7 @@ impl Kind {
     /// The number, from 1 on.
     pub fn number(self) -> u8
         ensures value { result ≡ kind_number self }
-        ensures range { (0 < result) × (result ≤ 30) }
+        ensures range { (0 < result) × (result ≤ 31) }
     {
         self as u8
     }
@@ -147,6 +149,7 @@ impl Step {
             Step::Tick { .. } => Kind::Tick,
             Step::Pop => Kind::Pop,
             Step::Fire { .. } => Kind::Fire,
+            Step::CloseWrite { .. } => Kind::CloseWrite,
         }
     }
 }

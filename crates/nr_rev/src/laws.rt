@@ -131,10 +131,11 @@ pub fn weights_count_every_part()
     ensures kept { (bytes : Kept) → bytes ≡ record { items = bytes.items } }
 {}
 
-/// The greatest limits that a recording may set: 4,096 goroutines, 256 sockets, 256 descriptors, buffers of 65,536 bytes.
+/// The greatest limits that a recording may set: 4,096 goroutines, 256 sockets, 256 descriptors, buffers of 1,048,576
+/// bytes.
 pub fn the_numbers()
     ensures goroutines { MOST_GOROUTINES ≡ 4096 }
     ensures sockets { MOST_SOCKETS ≡ 256 }
     ensures descriptors { MOST_DESCRIPTORS ≡ 256 }
-    ensures buffer { MOST_BUFFER ≡ 65536 }
+    ensures buffer { MOST_BUFFER ≡ 1048576 }
 {}

@@ -3,7 +3,7 @@
 //!
 //! The machine is that of Go's network poller: socket locks after `internal/poll/fd_mutex.go`, descriptors, waits and
 //! deadlines after `runtime/netpoll.go`. Semaphores, sockets, timers and the order of reasons are rules of its own. The
-//! definitions are in `specs/`: `Step` has the thirty steps, `World` the state, `WellFormed` what holds of every world
+//! definitions are in `specs/`: `Step` has the thirty-one steps, `World` the state, `WellFormed` what holds of every world
 //! that steps lead to, `Cell` what can be read, and `Run` a recording's positions.
 #![tactic(auto)]
 

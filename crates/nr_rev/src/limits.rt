@@ -13,7 +13,7 @@ pub const MOST_SOCKETS: u32 = 256;
 pub const MOST_DESCRIPTORS: u32 = 256;
 
 /// The greatest capacity of a buffer, in bytes.
-pub const MOST_BUFFER: u32 = 65_536;
+pub const MOST_BUFFER: u32 = 1_048_576;
 
 /// How many goroutines, sockets and descriptors a recording may make, and how many bytes a buffer may hold.
 #[derive(Clone, Copy, Debug, PartialEq, Eq)]
@@ -25,7 +25,7 @@ pub struct Limits {
     /// The descriptors that may be open at once; 1 to 256. Twice as many firings may wait.
     pub descriptors: u32,
     /// The greatest capacity of a socket's input or output, and the most that one read may ask for, in bytes; 1 to
-    /// 65,536.
+    /// 1,048,576.
     pub buffer: u32,
 }
 

@@ -9,6 +9,22 @@ pub enum Side {
     Write,
 }
 
+impl Side {
+    ghost use Rattle.std.specs.Prelude.{◌≡◌};
+    ghost use Rattle.nr_rev.specs.Sides.{same_side};
+
+    /// Whether it is the same side as another.
+    #[inline(always)]
+    pub fn is(self, other: Side) -> bool
+        ensures { result ≡ same_side self other }
+    {
+        matches!(
+            (self, other),
+            (Side::Read, Side::Read) | (Side::Write, Side::Write)
+        )
+    }
+}
+
 /// The sides that a deadline or an event is for.
 #[derive(Clone, Copy, Debug, PartialEq, Eq)]
 pub enum Mode {

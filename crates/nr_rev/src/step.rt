@@ -1,4 +1,4 @@
-//! The thirty recorded steps.
+//! The thirty-one recorded steps.
 
 use crate::bytes::Bytes;
 use crate::sides::{Mode, Side};
@@ -36,7 +36,8 @@ pub enum Step {
         count: u32,
     },
     /// The system call of `FD.Write`: puts as many of the bytes into the output as there is room for. Answers `Put`, or
-    /// `Again` where there is none.
+    /// `Again` where there is none. Where the write side is shut it puts nothing and answers `Pipe`, as `write` fails with
+    /// `EPIPE`.
     SysWrite {
         goroutine: u32,
         socket: u32,
@@ -161,5 +162,11 @@ pub enum Step {
     /// sequence is old.
     Fire {
         place: u32,
+    },
+    /// `shutdown(SHUT_WR)`, as `TCPConn.CloseWrite` calls it (`FD.Shutdown` of `internal/poll/fd_unix.go`): the write side is
+    /// shut. What was written can still go out. A second time changes nothing. Answers `Done`.
+    CloseWrite {
+        goroutine: u32,
+        socket: u32,
     },
 }

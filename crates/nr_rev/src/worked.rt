@@ -7,7 +7,7 @@ ghost use Rattle.nr_rev.specs.Cell.{bytes_of, queue_of};
 ghost use Rattle.nr_rev.specs.Refusing.{raised_sequence};
 ghost use Rattle.nr_rev.specs.Run.{next_of, world_at};
 ghost use Rattle.nr_rev.specs.Step.{outcome};
-ghost use Rattle.nr_rev.specs.Worked.{a_deadline_past_the_greatest_time, a_descriptor_opened_again, a_drained_output, a_firing_too_many, a_lock_full_of_references, a_lock_with_one_waiter, a_lock_with_three_waiters, a_read_through_the_poller, a_release_without_hand_off, a_stale_firing_of_both_deadlines, an_error_while_reading_waits, an_event_before_the_parking, answers_of, first_refused_of, lock_left_by, one_reference_given_up_twice, reason_of, cell_after, two_readers_and_a_close, world_with_lock};
+ghost use Rattle.nr_rev.specs.Worked.{a_deadline_past_the_greatest_time, a_descriptor_opened_again, a_drained_output, a_firing_too_many, a_lock_full_of_references, a_lock_with_one_waiter, a_lock_with_three_waiters, a_read_through_the_poller, a_release_without_hand_off, a_shut_write_side, a_stale_firing_of_both_deadlines, an_error_while_reading_waits, an_event_before_the_parking, answers_of, first_refused_of, lock_left_by, one_reference_given_up_twice, reason_of, cell_after, two_readers_and_a_close, world_with_lock};
 ghost use Rattle.nr_rev.specs.declared.sides.Side.{Side};
 ghost use Rattle.nr_rev.specs.declared.descriptor.WaitWord.{WaitWord};
 ghost use Rattle.nr_rev.specs.declared.status.Status.{Status};
@@ -135,6 +135,22 @@ pub fn event_and_output_recordings_hold()
         ≡ Answer.Number 0 ∷ Answer.Number 0 ∷ Answer.Done ∷ Answer.Code 3 ∷ Answer.Stale ∷ [] }
     ensures output { bytes_of (world_at a_drained_output 2) 0 Side.Write ≡ Some (104 ∷ 105 ∷ []) }
     ensures output_gone { bytes_of (world_at a_drained_output 3) 0 Side.Write ≡ Some [] }
+{}
+
+/// A write side is shut: a write after it is answered a broken pipe and puts nothing, what was written before goes out,
+/// and a second shutdown changes nothing.
+pub fn shut_write_side_recording_holds()
+    ensures shut_at_start { cell_after a_shut_write_side 0 (Cell.Shut 0) ≡ CellValue.Absent }
+    ensures shut_at_two { cell_after a_shut_write_side 2 (Cell.Shut 0) ≡ CellValue.Number 0 }
+    ensures shut_at_three { cell_after a_shut_write_side 3 (Cell.Shut 0) ≡ CellValue.Number 1 }
+    ensures output_at_four { bytes_of (world_at a_shut_write_side 4) 0 Side.Write
+        ≡ Some (104 ∷ 105 ∷ []) }
+    ensures output_at_five { bytes_of (world_at a_shut_write_side 5) 0 Side.Write ≡ Some [] }
+    ensures shut_again { world_at a_shut_write_side 6 ≡ world_at a_shut_write_side 5 }
+    ensures answers { answers_of a_shut_write_side
+        ≡ Answer.Number 0 ∷ Answer.Put 2 ∷ Answer.Done ∷ Answer.Pipe ∷ Answer.Done ∷ Answer.Done
+        ∷ [] }
+    ensures all_apply { first_refused_of a_shut_write_side ≡ None }
 {}
 
 /// Deadlines that share a timer and then part: a firing that is no longer current expires nothing.
