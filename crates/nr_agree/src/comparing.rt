@@ -35,13 +35,14 @@ const WORLD_CELLS: [Cell; 5] = [
 ];
 
 // The cells of a socket.
-fn socket_cells(socket: u32) -> [Cell; 5] {
+fn socket_cells(socket: u32) -> [Cell; 6] {
     [
         Cell::Lock(socket),
         Cell::ReadSemaphore(socket),
         Cell::WriteSemaphore(socket),
         Cell::Input(socket),
         Cell::Output(socket),
+        Cell::Shut(socket),
     ]
 }
 

@@ -182,6 +182,9 @@ fn leaving_step(random: &mut Random, view: View<'_>, goroutine: u32) -> Step {
 
 fn calling_step(random: &mut Random, view: View<'_>, goroutine: u32) -> Result<Step, AllocError> {
     let socket = view.socket(random);
+    if random.once_in(12) {
+        return Ok(Step::CloseWrite { goroutine, socket });
+    }
     if random.once_in(2) {
         return Ok(Step::SysRead {
             goroutine,
@@ -362,7 +365,7 @@ fn any_transfer(
     socket: u32,
 ) -> Result<Step, AllocError> {
     let count = random.up_to(view.limits.buffer.saturating_add(1));
-    Ok(match random.up_to(5) {
+    Ok(match random.up_to(6) {
         0 => Step::SockOpen {
             read_capacity: count,
             write_capacity: random.up_to(view.limits.buffer.saturating_add(1)),
@@ -382,7 +385,8 @@ fn any_transfer(
             socket,
             bytes: view.bytes(random, count)?,
         },
-        _ => Step::Drain { socket, count },
+        5 => Step::Drain { socket, count },
+        _ => Step::CloseWrite { goroutine, socket },
     })
 }
 

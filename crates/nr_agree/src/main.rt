@@ -116,7 +116,7 @@ fn print_stop(rt: &HostRuntime, name: &str, tally: &Tally, stop: &Stop) -> io::R
 
 // A line for each kind: how often it was taken, and how often it applied.
 fn print_kinds(rt: &HostRuntime, tally: &Tally) -> io::Result<()> {
-    for number in 1..=30 {
+    for number in 1..=31 {
         if let Some(kind) = Kind::numbered(number) {
             let place = number as usize;
             println!(rt;

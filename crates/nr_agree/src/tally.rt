@@ -19,8 +19,8 @@ pub struct Tally {
     pub recordings: u64,
     pub steps: u64,
     pub positions: u64,
-    pub taken: [u64; 31],
-    pub applied: [u64; 31],
+    pub taken: [u64; 32],
+    pub applied: [u64; 32],
     pub place: Place,
 }
 
@@ -31,8 +31,8 @@ impl Tally {
             recordings: 0,
             steps: 0,
             positions: 0,
-            taken: [0; 31],
-            applied: [0; 31],
+            taken: [0; 32],
+            applied: [0; 32],
             place: Place::Start,
         }
     }

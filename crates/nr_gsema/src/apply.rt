@@ -31,7 +31,7 @@ impl GTable {
 
     /// Does nothing: each queue holds just those with that queued status, each once.
     #[inline(always)]
-    pub fn tell_queued(&self)
+    pub fn queues_hold_the_queued(&self)
         ensures { IsQueuedUp self.now }
     {
         let _ = &self.nodes;
@@ -75,7 +75,7 @@ impl Reversible for GTable {
     #[inline(always)]
     fn apply(&mut self, op: &GOperation) -> Result<(Answer, GDelta), Refusal> {
         let result = self.run(op);
-        self.tell_queued();
+        self.queues_hold_the_queued();
         let (answer, undo) = result?;
         Ok((answer, GDelta { undo }))
     }

@@ -236,7 +236,7 @@ impl GTable {
         if count == u32::MAX {
             return Err(Refusal::FieldOverflow);
         }
-        self.tell_queued();
+        self.queues_hold_the_queued();
         let front = self.release_semaphore(socket, side, count);
         let left = owed.with(side, owed.of(side).saturating_sub(1));
         self.set_status(goroutine, owing(socket, left));

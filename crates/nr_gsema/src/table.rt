@@ -57,7 +57,7 @@ impl GTable {
             semaphores,
             limit: goroutines,
         };
-        table.tell_queued();
+        table.queues_hold_the_queued();
         Ok(table)
     }
 
@@ -66,7 +66,7 @@ impl GTable {
         ensures well_formed { IfOk result (λ t. IsQueuedUp t) }
         ensures equal { IfOk result (λ t. t ≡ self.now) }
     {
-        self.tell_queued();
+        self.queues_hold_the_queued();
         let mut nodes = Vec::with_capacity(self.alloc, self.limit as usize)?;
         nodes.extend_from_slice(&self.nodes)?;
         Ok(GTable {

@@ -1,5 +1,5 @@
 -- The values of cells: what the parts have is what the world has.
-use Rattle.std.proofs.Common.{◌≡◌, ◌⊎◌, inl, inr, ℕ, zero, suc, ◌+◌, ◌<◌, ◌≤◌, List, [], ◌∷◌, get_or, length, map, Option, Some, None, refl, sym, ap, ◌∙◌, arith}
+use Rattle.std.proofs.Common.{◌≡◌, ◌⊎◌, inl, inr, ℕ, zero, suc, ◌+◌, ◌<◌, ◌≤◌, Bool, List, [], ◌∷◌, get_or, length, map, Option, Some, None, refl, sym, ap, ◌∙◌, arith}
 use Rattle.std.proofs.lemmas.Bool.{cases_lt}
 use Rattle.std.proofs.lemmas.Option.{same_Some, slice_get_past}
 use Rattle.std.specs.Prelude.{option_map, slice_get}
@@ -12,16 +12,17 @@ use Rattle.nr_rev.specs.declared.sides.Side.{Side}
 use Rattle.nr_rev.specs.declared.sides.Sides.{Sides}
 use Rattle.nr_rev.specs.declared.timer.Timer.{Timer}
 use Rattle.nr_rev.specs.Cell.{descriptor_value, socket_value, value_or_absent}
+use Rattle.nr_rev.specs.Lock.{bit}
 use Rattle.nr_rev.specs.Semaphore.{Semaphore}
 use Rattle.nr_rev.specs.Sides.{of_side, twice}
 use Rattle.nr_rev.specs.Socket.{Socket}
 use Rattle.nr_gsema.specs.Table.{count_at}
-use Rattle.nr_sockbuf.specs.Sock.{OpenSock, SockParts, viewed_bytes}
+use Rattle.nr_sockbuf.specs.Sock.{OpenSock, SockParts, is_shut, viewed_bytes}
 use Rattle.nr_timers.specs.TimersOf.{AreTimers, timers_of}
 use Rattle.nr_machine.specs.Fits.{IsWorld, PartsFit}
 use Rattle.nr_machine.specs.Numbered.{numbered}
 use Rattle.nr_machine.specs.Rows.{row_of}
-use Rattle.nr_machine.specs.Sockets.{rest_at, socket_of}
+use Rattle.nr_machine.specs.Sockets.{buffers_in, rest_at, socket_of}
 use Rattle.nr_machine.specs.World.{WorldParts, meant}
 use Rattle.nr_machine.proofs.ListLemmas.{get_within}
 use Rattle.nr_machine.proofs.RowsLemmas.{row_at, row_past}
@@ -113,3 +114,18 @@ module _ (m : WorldParts) (s : ℕ) (side : Side) where
   -- none of a socket that isn't there
   pub nothing_past : (f : Socket → CellValue) → length m.core.locks.items ≤ s → Absent ≡ socket_value s (meant m) f
   nothing_past f past = socket_absent m s f (slice_get_past m.core.locks.items s past)
+
+-- ---- the write side
+
+shut_viewed : (o : Option OpenSock) → is_shut o ≡ (buffers_in o).shut
+shut_viewed None = refl
+shut_viewed (Some opened) = refl
+
+-- whether a write side that is there is shut
+pub shut_shown : (m : WorldParts) (s : ℕ) (sock : SockParts) (shut : Bool) → s < length m.core.locks.items → slice_get m.socks s ≡ Some sock → shut ≡ is_shut sock.opened
+    → Number (bit shut) ≡ socket_value s (meant m) (λ x. Number (bit x.shut))
+shut_shown m s sock shut below at is =
+    let lock = get_within m.core.locks.items s below in
+    ap (λ (b : Bool). Number (bit b))
+    (is ∙ ap is_shut (sym (sock_at m.core.goroutines.semaphores m.socks s sock at)) ∙ shut_viewed (rest_at m.core.goroutines.semaphores m.socks s).sock)
+    ∙ socket_shown m s (λ x. Number (bit x.shut)) lock.0 lock.1

@@ -96,7 +96,7 @@ put_means : (lock : Lock) (rest : SocketRest) (o : Option OpenSock) → is_opene
     → socket_of open_lock (record rest { sock = o }) ≡ put_back o (new_socket 0 0)
 put_means lock rest None is new = cc
 put_means lock rest (Some opened) is new =
-    ap (λ (both : Sides Semaphore). record { lock = open_lock; semaphores = both; buffers = opened.buffers; peer_closed = opened.peer_closed }) new
+    ap (λ (both : Sides Semaphore). record { lock = open_lock; semaphores = both; buffers = opened.buffers; peer_closed = opened.peer_closed; shut = opened.shut }) new
 
 module _ (m : WorldParts) (h : IsWorld m) where
   abbrev n : ℕ

@@ -10,7 +10,7 @@ use Rattle.nr_rev.specs.declared.refusal.Refusal.{Refusal}
 use Rattle.nr_rev.specs.declared.refusal.Refusal.TheVariants.{NoRoom, NoSuchSocket, PeerClosed, SizeOutOfRange, TooFewBytes}
 use Rattle.nr_rev.specs.declared.sides.Side.TheVariants.{Read, Write}
 use Rattle.nr_rev.specs.declared.step.Step.{Step}
-use Rattle.nr_rev.specs.declared.step.Step.TheVariants.{Arrive, PeerClose, SysRead, SysWrite, Drain}
+use Rattle.nr_rev.specs.declared.step.Step.TheVariants.{Arrive, PeerClose, SysRead, SysWrite, Drain, CloseWrite}
 use Rattle.nr_rev.specs.Refusing.{◌>>=◌, ◌>>◌, found_or, refused_if, refused_unless}
 use Rattle.nr_rev.specs.Reversible.{Refuses}
 use Rattle.nr_rev.specs.Socket.{Socket, room_of}
@@ -20,6 +20,7 @@ use Rattle.nr_rev.specs.Worlds.{bytes_got, bytes_left, refusal_of}
 use Rattle.nr_rev.proofs.ListUpdateLemmas.{slice_get-set_cases, slice_get-set_here}
 use Rattle.nr_rev.proofs.OutcomeLemmas.{Ends, Ends-bind, Ends-found_or, Ends-ok, Ends-refused_if, Ends-refused_unless, Ends-then}
 use Rattle.nr_sockbuf.specs.Delta as sock_delta
+use Rattle.nr_sockbuf.proofs.MemoryLemmas.{memory_is_for_bytes}
 use Rattle.nr_sockbuf.specs.Machine.{SockLoses, lifted, put_back, sock_of}
 use Rattle.nr_sockbuf.specs.Op as sock
 use Rattle.nr_sockbuf.specs.Sock.{OpenSock, SockParts, is_opened, with_bytes, with_opened}
@@ -75,12 +76,16 @@ syswrite_leads w g s bytes ready =
     (bind_same (find_socket s w) _ _ λ socket.
     then_lifts s socket w (refused_if (length bytes == 0) SizeOutOfRange) _ _ refl)
 
+closewrite_leads : (w : World) (g s : ℕ) → idle g w ≡ Ok tt → outcome w (CloseWrite g s) ≡ transferring s (CloseWrite g s) w
+closewrite_leads w g s ready = rw (ready) (bind_same (find_socket s w) _ _ λ socket. refl)
+
 pub transfer_leads : (w : World) (s : ℕ) (step : Step) → IsTransfer s w step → outcome w step ≡ transferring s step w
 transfer_leads w s (Arrive t bytes) is = ap (λ (n : ℕ). outcome w (Arrive n bytes)) is ∙ arrive_leads w s bytes
 transfer_leads w s (PeerClose t) is = ap (λ (n : ℕ). outcome w (PeerClose n)) is ∙ peerclose_leads w s
 transfer_leads w s (SysRead g t n) is = ap (λ (k : ℕ). outcome w (SysRead g k n)) is.0 ∙ sysread_leads w g s n is.1
 transfer_leads w s (SysWrite g t bytes) is = ap (λ (k : ℕ). outcome w (SysWrite g k bytes)) is.0 ∙ syswrite_leads w g s bytes is.1
 transfer_leads w s (Drain t n) is = ap (λ (k : ℕ). outcome w (Drain k n)) is ∙ drain_leads w s n
+transfer_leads w s (CloseWrite g t) is = ap (λ (k : ℕ). outcome w (CloseWrite g k)) is.0 ∙ closewrite_leads w g s is.1
 transfer_leads w s _ is = absurd is
 
 -- they ask nothing of the timers
@@ -90,47 +95,8 @@ asks_nothing m s (PeerClose t) is = refl
 asks_nothing m s (SysRead g t n) is = refl
 asks_nothing m s (SysWrite g t bytes) is = refl
 asks_nothing m s (Drain t n) is = refl
+asks_nothing m s (CloseWrite g t) is = refl
 asks_nothing m s _ is = absurd is
-
--- ---- memory is taken where bytes leave
-
-then_applies : (r : Result (Unit {0}) Refusal) (x : sock.Outcome) → sock.refusal_of (r >> x) ≡ None → ◌≡◌ {A = sock.Outcome} (r >> x) x
-then_applies (Ok a) x none = refl
-then_applies (Err e) x none = cc
-
-got_some : (k : ℕ) (closed : Bool) → 0 < k → 0 < bytes_got (read_answer k closed)
-got_some k closed some = grind (arith, nat_tests)
-
-read_loses : (g s n limit : ℕ) (opened : OpenSock) → 0 < min n (length opened.buffers.read.bytes) → sock.sock_reason (record { limit = limit; opened = Some opened }) (SysRead g s n) ≡ None
-    → SockLoses (record { limit = limit; opened = Some opened }) (SysRead g s n)
-read_loses g s n limit opened some none =
-    let next : SockParts = with_opened (with_bytes Read (drop n opened.buffers.read.bytes) opened) (record { limit = limit; opened = Some opened }) in
-    let answer : Answer = read_answer (min n (length opened.buffers.read.bytes)) opened.peer_closed in
-    record {
-      answer = answer;
-      next = next;
-      applies = then_applies (refused_unless (nat_lt 0 n && nat_le n limit) SizeOutOfRange) (Ok (answer, next)) none;
-      loses = got_some (min n (length opened.buffers.read.bytes)) opened.peer_closed some;
-    }
-
-drain_loses : (s n limit : ℕ) (opened : OpenSock) → 0 < n → sock.sock_reason (record { limit = limit; opened = Some opened }) (Drain s n) ≡ None
-    → SockLoses (record { limit = limit; opened = Some opened }) (Drain s n)
-drain_loses s n limit opened some none =
-    let next : SockParts = with_opened (with_bytes Write (drop n opened.buffers.write.bytes) opened) (record { limit = limit; opened = Some opened }) in
-    let enough : Result (Unit {0}) Refusal = refused_if (nat_lt (length opened.buffers.write.bytes) n) TooFewBytes in
-    let first = then_applies (refused_if (n == 0) SizeOutOfRange) (enough >> Ok (Done, next)) none in
-    record {
-      answer = Done;
-      next = next;
-      applies = first ∙ then_applies enough (Ok (Done, next)) (ap sock.refusal_of (sym first) ∙ none);
-      loses = some;
-    }
-
-loses_from : (limit : ℕ) (opened : Option OpenSock) (step : Step) → sock.TakesMemory (record { limit = limit; opened = opened }) step
-    → sock.sock_reason (record { limit = limit; opened = opened }) step ≡ None → SockLoses (record { limit = limit; opened = opened }) step
-loses_from limit (Some opened) (SysRead g s n) some none = read_loses g s n limit opened some none
-loses_from limit (Some opened) (Drain s n) some none = drain_loses s n limit opened some none
-loses_from limit _ _ some none = absurd (omega (arith, some))
 
 -- ---- buffers that are open stay so
 
@@ -162,6 +128,8 @@ stays_open t s w (Drain u n) is =
     Ends-then (Ends-refused_if (n == 0) SizeOutOfRange refl) λ _.
     Ends-then (Ends-refused_if (nat_lt (length opened.buffers.write.bytes) n) TooFewBytes refl) λ _.
     Ends-ok (refl, refl)
+stays_open t s w (CloseWrite g u) is =
+    Ends-bind (Ends-found_or t.opened NoSuchSocket refl) λ opened _. Ends-ok (refl, refl)
 stays_open t s w _ is = absurd is
 
 -- ---- the socket of the parts
@@ -264,7 +232,7 @@ module _ (m : WorldParts) (s : ℕ) (step : Step) (h : IsWorld m) (is : IsTransf
     pub transfer_refused : (e : Refusal) → Refuses sock.sock_reason sock.TakesMemory before step e → Refuses parts_reason TakesMemory m step e
     transfer_refused e (inl why) = inl (ap refusal_of (buffers_refused e why))
     transfer_refused e (inr none) =
-        let loses : SockLoses before step = loses_from before.limit before.opened step none.2 none.1 in
+        let loses : SockLoses before step = memory_is_for_bytes before step none.2 none.1 in
         inr (
           none.0,
           ap refusal_of at_buffers ∙ no_reason (sock.outcome before step) none.1,

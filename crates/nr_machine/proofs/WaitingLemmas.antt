@@ -20,6 +20,7 @@ use Rattle.nr_rev.specs.Sides.{of_side}
 use Rattle.nr_rev.specs.Step.{Outcome, armed_by, blockarm, blockswap, committed_by, parkcommit, row_of as find_row, status_of, swapped_by}
 use Rattle.nr_rev.specs.WellFormed.{held_count, is_held, socket_named}
 use Rattle.nr_rev.specs.World.{World, with_descriptor, with_status}
+use Rattle.nr_rev.proofs.WaitersLemmas.{waiters_within}
 use Rattle.nr_rev.proofs.LookupLemmas.{Ends-status_of}
 use Rattle.nr_desc.specs.Op as desc_op
 use Rattle.nr_desc.specs.declared.op.DescAnswer.{DescAnswer}
@@ -234,27 +235,12 @@ module _ (old : WorldParts) (g d : ℕ) (o : DescOp) (answer : DescAnswer) (undo
 
 -- ---- how many may wait
 
-bit_le : (b : Bool) → bit b ≤ 1
-bit_le true = omega arith
-bit_le false = omega arith
-
-held_within : (rows : List DescriptorRow) → sum_by held_count rows ≤ 2 * length rows
-held_within [] = omega arith
-held_within (row ∷ rows) =
-    let one = sum_by-cons held_count row rows in
-    let read = bit_le (is_held row.descriptor.words.read) in
-    let write = bit_le (is_held row.descriptor.words.write) in
-    let rest = held_within rows in
-    omega (arith, one, read, write, rest)
-
--- at most two for each descriptor
-pub waiters_within : (m : WorldParts) → IsWorld m → m.core.waiters + 1 < 2 ^ 64
-waiters_within m h =
-    let most = held_within (meant m).descriptors in
-    let made = h.meaning.descriptors_limited in
-    let counted = h.meaning.words.counted in
+-- so that one more has a number
+pub one_more_waits : (m : WorldParts) → IsWorld m → m.core.waiters + 1 < 2 ^ 64
+one_more_waits m h =
+    let most = waiters_within (meant m) h.meaning in
     let range = h.parts.core.in_range.descriptors_most in
-    omega (arith, most, made, counted, range)
+    omega (arith, most, range)
 
 -- goroutines that were made have numbers below the most that there may be
 pub below_most : (m : WorldParts) (g : ℕ) (status : Status) → IsWorld m → status_of g (meant m) ≡ Ok status → g < MOST_GOROUTINES

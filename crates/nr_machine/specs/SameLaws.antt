@@ -113,11 +113,12 @@ module _ (a b : WorldParts) (fits_a : PartsFit a) (fits_b : PartsFit b) (means :
     -- buffers that are open are the same where they show the same
     same_opened : (x y : Option OpenSock) → is_opened x ≡ true → is_opened y ≡ true
         → (buffers_in x).buffers ≡ (buffers_in y).buffers
-        → (buffers_in x).peer_closed ≡ (buffers_in y).peer_closed → x ≡ y
-    same_opened None y open_x open_y buffers closed = absurd cc
-    same_opened (Some p) None open_x open_y buffers closed = absurd cc
-    same_opened (Some p) (Some q) open_x open_y buffers closed =
-        λ i. Some (record { buffers = buffers i; peer_closed = closed i })
+        → (buffers_in x).peer_closed ≡ (buffers_in y).peer_closed
+        → (buffers_in x).shut ≡ (buffers_in y).shut → x ≡ y
+    same_opened None y open_x open_y buffers closed shut = absurd cc
+    same_opened (Some p) None open_x open_y buffers closed shut = absurd cc
+    same_opened (Some p) (Some q) open_x open_y buffers closed shut =
+        λ i. Some (record { buffers = buffers i; peer_closed = closed i; shut = shut i })
 
     same_sock : (s : ℕ) → s < length a.socks → s < length b.socks → sock_at a s ≡ sock_at b s
     same_sock s lt lt_b =
@@ -133,6 +134,7 @@ module _ (a b : WorldParts) (fits_a : PartsFit a) (fits_b : PartsFit b) (means :
         same_opened (sock_at a s).opened (sock_at b s).opened (of_a.opened below)
         (of_b.opened (subst (λ (ls : List Lock). s < length ls) same_locks below))
         (ap (λ (x : Socket). x.buffers) same) (ap (λ (x : Socket). x.peer_closed) same)
+        (ap (λ (x : Socket). x.shut) same)
         )
         (λ past. of_a.closed past
         ∙ sym (of_b.closed (subst (λ (ls : List Lock). length ls ≤ s) same_locks past)))

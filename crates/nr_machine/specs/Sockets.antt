@@ -26,6 +26,7 @@ socket_of lock rest =
       semaphores = rest.semaphores;
       buffers = (buffers_in rest.sock).buffers;
       peer_closed = (buffers_in rest.sock).peer_closed;
+      shut = (buffers_in rest.sock).shut;
     }
 
 -- what socket s has beside its lock: new semaphores and no buffers where there are none

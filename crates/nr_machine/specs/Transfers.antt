@@ -3,7 +3,7 @@ use Rattle.std.specs.Prelude.{◌≡◌, ℕ, List, Result, Ok, Err}
 use Rattle.nr_rev.specs.declared.answer.Answer.{Answer}
 use Rattle.nr_rev.specs.declared.refusal.Refusal.{Refusal}
 use Rattle.nr_rev.specs.declared.step.Step.{Step}
-use Rattle.nr_rev.specs.declared.step.Step.TheVariants.{SockOpen, Arrive, PeerClose, SysRead, SysWrite, Drain}
+use Rattle.nr_rev.specs.declared.step.Step.TheVariants.{SockOpen, Arrive, PeerClose, SysRead, SysWrite, Drain, CloseWrite}
 use Rattle.nr_rev.specs.Refusing.{◌>>=◌}
 use Rattle.nr_rev.specs.Step.{Outcome, idle, outcome, socket_of}
 use Rattle.nr_rev.specs.World.{World}
@@ -23,6 +23,7 @@ IsOpening _ = ⊥
 abbrev pub IsTransferOf : ℕ → ℕ → Step → Type 0
 IsTransferOf g s (SysRead h t n) = (h ≡ g) × (t ≡ s)
 IsTransferOf g s (SysWrite h t bytes) = (h ≡ g) × (t ≡ s)
+IsTransferOf g s (CloseWrite h t) = (h ≡ g) × (t ≡ s)
 IsTransferOf g s _ = ⊥
 
 -- this step is at the buffers of socket s, and the goroutine that it is of, if any, is idle
@@ -32,6 +33,7 @@ IsTransfer s w (PeerClose t) = t ≡ s
 IsTransfer s w (SysRead g t n) = (t ≡ s) × (idle g w ≡ Ok tt)
 IsTransfer s w (SysWrite g t bytes) = (t ≡ s) × (idle g w ≡ Ok tt)
 IsTransfer s w (Drain t n) = t ≡ s
+IsTransfer s w (CloseWrite g t) = (t ≡ s) × (idle g w ≡ Ok tt)
 IsTransfer s w _ = ⊥
 
 -- what a step comes to at the buffers of socket s: reason 4 where there is no such socket

@@ -10,7 +10,7 @@ use nr_rev::{Answer, Refusal, Step};
 impl World {
     /// Makes a step, or changes nothing and says why it does not apply. Takes no memory.
     #[inline(always)]
-    pub(crate) fn go_on_by(&mut self, step: &Step) -> Result<Answer, Refusal>
+    pub(crate) fn advance_step(&mut self, step: &Step) -> Result<Answer, Refusal>
         requires { IsWorld self.old }
         ensures advances { Advances step.now self.old result self.new }
         ensures timely { IsTimely step.now }

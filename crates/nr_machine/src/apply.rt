@@ -43,6 +43,10 @@ impl World {
                 socket: s,
                 count: _,
             } => self.transfer(*s, step),
+            Step::CloseWrite {
+                goroutine: g,
+                socket: s,
+            } => self.transfer_of(*g, *s, step),
             Step::Incref {
                 goroutine: g,
                 socket: s,

@@ -3,7 +3,7 @@
 ghost use Rattle.std.specs.Prelude.{◌≡◌, length, slice_get};
 ghost use Rattle.nr_rev.specs.Cell.{cell, descriptor_value, socket_value};
 ghost use Rattle.nr_rev.specs.Descriptor.{summary};
-ghost use Rattle.nr_rev.specs.Lock.{lock_number};
+ghost use Rattle.nr_rev.specs.Lock.{bit, lock_number};
 ghost use Rattle.nr_rev.specs.Sides.{of_side};
 ghost use Rattle.nr_rev.specs.declared.cell.Cell.TheVariants as cell;
 ghost use Rattle.nr_rev.specs.declared.cell_value.CellValue.TheVariants as value;
@@ -41,6 +41,7 @@ impl World {
             Cell::WriteSequence(d) => self.sequence_value(d, Side::Write),
             Cell::DescriptorSequence(d) => self.fdseq_value(d),
             Cell::Info(d) => self.summary_value(d),
+            Cell::Shut(s) => self.shut_value(s),
         }
     }
 
@@ -110,6 +111,16 @@ impl World {
             return CellValue::Absent;
         }
         CellValue::Number(u64::from(self.socks[socket as usize].len(side)))
+    }
+
+    fn shut_value(&self, socket: u32) -> CellValue
+        requires { IsWorld self.now }
+        ensures { result ≡ socket_value socket (meant self.now) (λ x. value.Number (bit x.shut)) }
+    {
+        if socket as usize >= self.core.locks.len() {
+            return CellValue::Absent;
+        }
+        CellValue::Number(u64::from(self.socks[socket as usize].shut()))
     }
 
     #[tactic(auto, using(crate::proofs::CellLemmas::descriptor_shown))]

@@ -58,7 +58,7 @@ impl World {
     /// An operation that a firing runs on a descriptor, which has been read. It orders nothing: the firing leaves, and those
     /// that the descriptor's words held go on.
     #[inline(always)]
-    pub(crate) fn change_by(
+    pub(crate) fn change_by_firing(
         &mut self,
         place: u32,
         descriptor: u32,

@@ -73,7 +73,7 @@ impl World {
             self.old result self.new }
     {
         let from = self.status_of(goroutine)?;
-        if !may_lock(socket, side, from) {
+        if !from.may_lock(socket, side) {
             return Err(Refusal::NotThere);
         }
         self.lock(goroutine, from, socket, LockOp::RwLock(side))
@@ -123,58 +123,7 @@ fn status_left(socket: u32, op: LockOp, left: LockAnswer) -> Status
 {
     match op {
         LockOp::Incref | LockOp::Decref => Status::Idle,
-        LockOp::IncrefClose | LockOp::RwUnlock(_) => owing(socket, left.owed),
-        LockOp::RwLock(side) => locker(socket, side, left.answer),
-    }
-}
-
-/// The status of one that owes these releases, or nothing.
-#[inline(always)]
-fn owing(socket: u32, owed: Sides<u32>) -> Status
-    ensures { result ≡ step.owing socket owed }
-{
-    if owed.read == 0 && owed.write == 0 {
-        return Status::Idle;
-    }
-    Status::Owing {
-        socket,
-        reads: owed.read,
-        writes: owed.write,
-    }
-}
-
-/// Whether one of this status may take the lock: it is idle, or was let go to try again here.
-#[inline(always)]
-fn may_lock(socket: u32, side: Side, status: Status) -> bool
-    ensures { result ≡ step.may_lock socket side status }
-{
-    match status {
-        Status::Idle => true,
-        Status::Relock {
-            socket: other_socket,
-            side: other_side,
-        } => socket == other_socket && same_side(side, other_side),
-        _ => false,
-    }
-}
-
-#[inline(always)]
-fn same_side(side: Side, other: Side) -> bool
-    ensures { result ≡ sides.same_side side other }
-{
-    matches!(
-        (side, other),
-        (Side::Read, Side::Read) | (Side::Write, Side::Write)
-    )
-}
-
-/// The status after `rwlock` with this answer.
-#[inline(always)]
-fn locker(socket: u32, side: Side, answer: Answer) -> Status
-    ensures { result ≡ step.locker socket side answer }
-{
-    match answer {
-        Answer::Wait => Status::Acquiring { socket, side },
-        _ => Status::Idle,
+        LockOp::IncrefClose | LockOp::RwUnlock(_) => Status::owing(socket, left.owed),
+        LockOp::RwLock(side) => Status::after_lock(socket, side, left.answer),
     }
 }

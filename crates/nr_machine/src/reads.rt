@@ -94,34 +94,7 @@ impl World {
     {
         match self.core.goroutines.status(goroutine) {
             None => false,
-            Some(status) => is_inside(descriptor, side, status),
+            Some(status) => status.is_inside(descriptor, side),
         }
-    }
-}
-
-/// Whether one of this status is inside a wait of the descriptor and side.
-#[inline(always)]
-fn is_inside(descriptor: u32, side: Side, status: Status) -> bool
-    ensures { result ≡ is_wait_at descriptor side (wait_of status) }
-{
-    match wait_of(status) {
-        None => false,
-        Some((at_descriptor, at_side)) => descriptor == at_descriptor && side == at_side,
-    }
-}
-
-/// The descriptor and side that one of this status is inside a wait of.
-#[inline(always)]
-fn wait_of(status: Status) -> Option<(u32, Side)>
-    ensures { result ≡ wait_of status }
-{
-    match status {
-        Status::Entering { descriptor, side }
-        | Status::Armed { descriptor, side }
-        | Status::Parking { descriptor, side }
-        | Status::Parked { descriptor, side }
-        | Status::Swapping { descriptor, side }
-        | Status::Checking { descriptor, side } => Some((descriptor, side)),
-        _ => None,
     }
 }

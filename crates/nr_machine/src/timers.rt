@@ -57,6 +57,6 @@ impl World {
             function: entry.timer.function,
             sequence: entry.timer.sequence,
         };
-        self.change_by(place, entry.descriptor, desc, &op)
+        self.change_by_firing(place, entry.descriptor, desc, &op)
     }
 }

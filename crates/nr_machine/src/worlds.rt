@@ -195,7 +195,7 @@ impl World {
         ensures ok { IfOk result (λ items. items.items ≡ queue_at socket side self.now.core.goroutines) }
         ensures some { OnErr result (0 < length (queue_at socket side self.now.core.goroutines)) }
     {
-        self.core.goroutines.tell_queued();
+        self.core.goroutines.queues_hold_the_queued();
         let mut items = Vec::new(self.alloc);
         let mut next = self.core.goroutines.front_of(socket, side);
         while let Some(goroutine) = next {
@@ -223,7 +223,7 @@ impl Worlds for World {
     #[inline(always)]
     #[tactic(auto, using(crate::proofs::MadeLemmas::advanced_step, crate::proofs::MadeLemmas::advanced_fits))]
     fn advance(&mut self, step: &Step) -> Result<Answer, Refusal> {
-        self.go_on_by(step)
+        self.advance_step(step)
     }
 
     fn cell(&self, what: Cell) -> CellValue {

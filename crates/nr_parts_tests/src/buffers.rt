@@ -16,6 +16,16 @@ const OPEN: Step = Step::SockOpen {
     write_capacity: 3,
 };
 
+const SHUT: Step = Step::CloseWrite {
+    goroutine: 0,
+    socket: 0,
+};
+
+const DRAIN: Step = Step::Drain {
+    socket: 0,
+    count: 2,
+};
+
 fn read(count: u32) -> Step {
     Step::SysRead {
         goroutine: 0,
@@ -202,5 +212,88 @@ fn other_kinds_and_sizes_are_refused(rt: HostRuntime) -> Result<(), Fail> {
             [None; 4],
         ))
     );
+    Ok(())
+}
+
+/// A write, and another behind the shutting of the write side, which is shut again.
+fn writes_round_the_shutting(alloc: Global) -> Result<[Step; 5], AllocError> {
+    Ok([OPEN, write(alloc, b"hi")?, SHUT, write(alloc, b"h")?, SHUT])
+}
+
+/// A write that goes out once the write side is shut, and another.
+fn writes_round_the_drain(alloc: Global) -> Result<[Step; 5], AllocError> {
+    Ok([OPEN, write(alloc, b"hi")?, SHUT, DRAIN, write(alloc, b"h")?])
+}
+
+#[test]
+fn nothing_is_written_once_the_write_side_is_shut(rt: HostRuntime) -> Result<(), Fail> {
+    let Ok(writes) = writes_round_the_shutting(rt.alloc()) else {
+        return Ok(());
+    };
+    assert_eq!(rt;
+        answers(rt.alloc(), &writes),
+        Ok((
+            [
+                Ok(Answer::Done),
+                Ok(Answer::Put(2)),
+                Ok(Answer::Done),
+                Ok(Answer::Pipe),
+                Ok(Answer::Done),
+            ],
+            [Some(b'h'), Some(b'i'), None, None],
+        ))
+    );
+    Ok(())
+}
+
+#[test]
+fn what_was_written_goes_out_once_the_write_side_is_shut(rt: HostRuntime) -> Result<(), Fail> {
+    let Ok(writes) = writes_round_the_drain(rt.alloc()) else {
+        return Ok(());
+    };
+    assert_eq!(rt;
+        answers(rt.alloc(), &writes),
+        Ok((
+            [
+                Ok(Answer::Done),
+                Ok(Answer::Put(2)),
+                Ok(Answer::Done),
+                Ok(Answer::Done),
+                Ok(Answer::Pipe),
+            ],
+            [None; 4],
+        ))
+    );
+    Ok(())
+}
+
+/// Plays the steps in new buffers, shuts the write side, and undoes that: whether it was shut before, after and then.
+fn shut_and_back(alloc: Global, steps: &[Step]) -> Result<[bool; 3], Refusal>
+    requires { length steps.now ≤ 8 }
+{
+    let Ok(mut sock) = made(alloc) else {
+        return Err(Refusal::Memory);
+    };
+    let mut deltas = ArrayVec::new();
+    play(&mut sock, steps, &mut deltas)?;
+    let before = sock.shut();
+    let mut deltas = ArrayVec::new();
+    play(&mut sock, &[SHUT], &mut deltas)?;
+    let after = sock.shut();
+    undo_all(&mut sock, &mut deltas);
+    Ok([before, after, sock.shut()])
+}
+
+#[test]
+fn the_write_side_is_as_it_was_once_its_shutting_is_undone(rt: HostRuntime) -> Result<(), Fail> {
+    assert_eq!(rt;
+        shut_and_back(rt.alloc(), &[OPEN]),
+        Ok([false, true, false])
+    );
+    assert_eq!(rt;
+        shut_and_back(rt.alloc(), &[OPEN, SHUT]),
+        Ok([true, true, true])
+    );
+    assert_eq!(rt; shut_and_back(rt.alloc(), &[]), Err(Refusal::NoSuchSocket));
     Ok(())
 }

@@ -5,7 +5,6 @@ pub mod SocketEditLemmas
 pub mod ItemLemmas
 pub mod RoomLemmas
 pub mod BufferLemmas
-pub mod WaitLemmas
 pub mod ContinueLemmas
 pub mod OpenLemmas
 pub mod PlanLemmas

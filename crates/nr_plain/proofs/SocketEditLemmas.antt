@@ -27,6 +27,9 @@ module _ (q b : ℕ) (x : Socket) where
   pub lock_restored : (lock : Lock) → UndoesSocket q b (undo.Lock x.lock) (after_socket_edit (edit.Lock lock) x) x
   lock_restored lock = (tt, refl)
 
+  pub mark_restored : (shut : Bool) → UndoesSocket q b (undo.Shut x.shut) (after_socket_edit (edit.Shut shut) x) x
+  mark_restored shut = (tt, refl)
+
   pub count_restored : (side : Side) (count : ℕ) → UndoesSocket q b (undo.Count side (of_side side x.semaphores).count) (after_socket_edit (edit.Count side count) x) x
   count_restored Read count = (tt, refl)
   count_restored Write count = (tt, refl)

@@ -34,6 +34,7 @@ socket_with state queues bytes =
         write = record { bytes = bytes.write; capacity = state.capacities.write };
       };
       peer_closed = state.peer_closed;
+      shut = state.shut;
     }
 
 -- a socket of the same queues and bytes, with this state

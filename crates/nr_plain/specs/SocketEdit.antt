@@ -4,7 +4,7 @@ use Rattle.nr_rev.specs.declared.sides.Side.{Side}
 use Rattle.nr_rev.specs.Sides.{of_side, with_side}
 use Rattle.nr_rev.specs.Semaphore.{Semaphore}
 use Rattle.nr_rev.specs.Socket.{Socket}
-use Rattle.nr_rev.specs.Weight.{bytes_weight, lock_weight, number_weight, option_weight, side_weight, variant_weight}
+use Rattle.nr_rev.specs.Weight.{bool_weight, bytes_weight, lock_weight, number_weight, option_weight, side_weight, variant_weight}
 use Rattle.nr_plain.specs.declared.socket_edit.SocketEdit.{SocketEdit}
 use Rattle.nr_plain.specs.declared.socket_edit.SocketEdit.TheVariants as edit
 use Rattle.nr_plain.specs.declared.socket_edit.SocketUndo.{SocketUndo}
@@ -45,6 +45,7 @@ after_socket_edit (edit.Append side bytes) socket = on_bytes side (λ held. held
 after_socket_edit (edit.Take side bytes) socket =
     on_bytes side (λ held. drop (length bytes) held) socket
 after_socket_edit edit.ClosePeer socket = record socket { peer_closed = true }
+after_socket_edit (edit.Shut shut) socket = record socket { shut = shut }
 
 -- what undoing a change of a socket leaves
 abbrev pub after_socket_undo : SocketUndo → Socket → Socket
@@ -65,6 +66,7 @@ after_socket_undo (undo.Requeue side front) socket =
 after_socket_undo (undo.Cut side len) socket = on_bytes side (λ held. take len held) socket
 after_socket_undo (undo.Restore side bytes) socket = on_bytes side (λ held. bytes ++ held) socket
 after_socket_undo undo.OpenPeer socket = record socket { peer_closed = false }
+after_socket_undo (undo.Shut shut) socket = record socket { shut = shut }
 
 -- there is room for the change in queues and buffers of this room, and what leaves a buffer is what
 -- is at its front
@@ -80,6 +82,7 @@ CanEditSocket queue_room byte_room (edit.Append side bytes) socket =
 CanEditSocket queue_room byte_room (edit.Take side bytes) socket =
     take (length bytes) (of_side side socket.buffers).bytes ≡ bytes
 CanEditSocket queue_room byte_room edit.ClosePeer socket = socket.peer_closed ≡ false
+CanEditSocket queue_room byte_room (edit.Shut shut) socket = Unit {0}
 
 -- there is room for what comes back
 abbrev pub CanUndoSocket : ℕ → ℕ → SocketUndo → Socket → Type 0
@@ -92,6 +95,7 @@ CanUndoSocket queue_room byte_room (undo.Cut side len) socket = Unit {0}
 CanUndoSocket queue_room byte_room (undo.Restore side bytes) socket =
     length bytes + length (of_side side socket.buffers).bytes ≤ byte_room
 CanUndoSocket queue_room byte_room undo.OpenPeer socket = Unit {0}
+CanUndoSocket queue_room byte_room (undo.Shut shut) socket = Unit {0}
 
 -- undoing leads from the new socket back to the old one
 abbrev pub UndoesSocket : ℕ → ℕ → SocketUndo → Socket → Socket → Type 0
@@ -109,6 +113,7 @@ socket_undo_weight (undo.Cut side len) = variant_weight + side_weight side + num
 socket_undo_weight (undo.Restore side bytes) =
     variant_weight + side_weight side + bytes_weight bytes
 socket_undo_weight undo.OpenPeer = variant_weight
+socket_undo_weight (undo.Shut shut) = variant_weight + bool_weight shut
 
 -- how many the undo of a change holds at most
 abbrev pub socket_edit_weight : SocketEdit → ℕ
@@ -119,3 +124,4 @@ socket_edit_weight (edit.Release side) = 4
 socket_edit_weight (edit.Append side bytes) = 3
 socket_edit_weight (edit.Take side bytes) = 2 + bytes_weight bytes
 socket_edit_weight edit.ClosePeer = 1
+socket_edit_weight (edit.Shut shut) = 2

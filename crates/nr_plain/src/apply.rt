@@ -42,6 +42,10 @@ impl PlainWorld {
                 bytes,
             } => self.syswrite(*g, *s, bytes),
             Step::Drain { socket: s, count } => self.drain(*s, *count),
+            Step::CloseWrite {
+                goroutine: g,
+                socket: s,
+            } => self.closewrite(*g, *s),
             Step::Incref {
                 goroutine: g,
                 socket: s,

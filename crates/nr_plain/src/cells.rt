@@ -49,6 +49,7 @@ impl PlainWorld {
             Cell::Info(d) => self
                 .descriptor(d)
                 .map_or(CellValue::Absent, |x| CellValue::Number(summary(x))),
+            Cell::Shut(s) => self.shut_value(s),
         }
     }
 
@@ -82,6 +83,15 @@ impl PlainWorld {
         match self.sockets.get(socket) {
             None => CellValue::Absent,
             Some(row) => CellValue::Number(row.buffer(side).bytes.len() as u64),
+        }
+    }
+
+    fn shut_value(&self, socket: u32) -> CellValue
+        ensures { result ≡ socket_value socket self.now (λ row. value.Number (bit row.shut)) }
+    {
+        match self.sockets.get(socket) {
+            None => CellValue::Absent,
+            Some(row) => CellValue::Number(bit(row.state.shut)),
         }
     }
 

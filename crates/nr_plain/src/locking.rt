@@ -33,7 +33,7 @@ impl PlainWorld {
         self.idle(goroutine)?;
         let row = self.socket_of(socket)?;
         let left = lock::incref_close(row.state.lock)?;
-        let status = owing(socket, left.owed);
+        let status = Status::owing(socket, left.owed);
         Ok(left_lock(goroutine, status, socket, left))
     }
 
@@ -57,12 +57,12 @@ impl PlainWorld {
         ensures { Plans (steps.RwLock goroutine socket side) self.now result }
     {
         let status = self.status_of(goroutine)?;
-        if !may_lock(socket, side, status) {
+        if !status.may_lock(socket, side) {
             return Err(Refusal::NotThere);
         }
         let row = self.socket_of(socket)?;
         let left = lock::rw_lock(side, row.state.lock)?;
-        let status = locker(socket, side, left.answer);
+        let status = Status::after_lock(socket, side, left.answer);
         Ok(left_lock(goroutine, status, socket, left))
     }
 
@@ -78,7 +78,7 @@ impl PlainWorld {
         self.idle(goroutine)?;
         let row = self.socket_of(socket)?;
         let left = lock::rw_unlock(side, row.state.lock)?;
-        let status = owing(socket, left.owed);
+        let status = Status::owing(socket, left.owed);
         Ok(left_lock(goroutine, status, socket, left))
     }
 }
@@ -93,51 +93,4 @@ fn left_lock<'a>(goroutine: u32, status: Status, socket: u32, left: LockOutcome)
     Plan::new(left.answer)
         .then(Edit::Socket { socket, edit })
         .then(Edit::Status { goroutine, status })
-}
-
-/// The status of one that owes these releases, or nothing.
-pub(crate) fn owing(socket: u32, owed: Sides<u32>) -> Status
-    ensures { result ≡ step.owing socket owed }
-{
-    if owed.read == 0 && owed.write == 0 {
-        return Status::Idle;
-    }
-    Status::Owing {
-        socket,
-        reads: owed.read,
-        writes: owed.write,
-    }
-}
-
-/// Whether one of this status may take the lock: it is idle, or was let go to try again here.
-fn may_lock(socket: u32, side: Side, status: Status) -> bool
-    ensures { result ≡ step.may_lock socket side status }
-{
-    match status {
-        Status::Idle => true,
-        Status::Relock {
-            socket: other_socket,
-            side: other_side,
-        } => socket == other_socket && same_side(side, other_side),
-        _ => false,
-    }
-}
-
-fn same_side(side: Side, other: Side) -> bool
-    ensures { result ≡ sides.same_side side other }
-{
-    matches!(
-        (side, other),
-        (Side::Read, Side::Read) | (Side::Write, Side::Write)
-    )
-}
-
-/// The status after `rwlock` with this answer.
-fn locker(socket: u32, side: Side, answer: Answer) -> Status
-    ensures { result ≡ step.locker socket side answer }
-{
-    match answer {
-        Answer::Wait => Status::Acquiring { socket, side },
-        _ => Status::Idle,
-    }
 }

@@ -83,31 +83,6 @@ impl PlainWorld {
         self.goroutines
             .as_slice()
             .iter()
-            .any(|status| is_inside(descriptor, side, *status))
-    }
-}
-
-/// Whether one of this status is inside a wait of the descriptor and side.
-fn is_inside(descriptor: u32, side: Side, status: Status) -> bool
-    ensures { result ≡ is_wait_at descriptor side (wait_of status) }
-{
-    match wait_of(status) {
-        None => false,
-        Some((at_descriptor, at_side)) => descriptor == at_descriptor && side == at_side,
-    }
-}
-
-/// The descriptor and side that one of this status is inside a wait of.
-fn wait_of(status: Status) -> Option<(u32, Side)>
-    ensures { result ≡ wait_of status }
-{
-    match status {
-        Status::Entering { descriptor, side }
-        | Status::Armed { descriptor, side }
-        | Status::Parking { descriptor, side }
-        | Status::Parked { descriptor, side }
-        | Status::Swapping { descriptor, side }
-        | Status::Checking { descriptor, side } => Some((descriptor, side)),
-        _ => None,
+            .any(|status| status.is_inside(descriptor, side))
     }
 }

@@ -9,7 +9,6 @@ ghost use Rattle.nr_plain.specs.Plan.{Plans};
 ghost use Rattle.nr_plain.specs.Reads.{acquiring_by};
 
 use crate::edit::Edit;
-use crate::locking::owing;
 use crate::plan::Plan;
 use crate::socket_edit::SocketEdit;
 use crate::world::PlainWorld;
@@ -80,7 +79,7 @@ impl PlainWorld {
             }),
         };
         let left = owed.with(side, owed.of(side).saturating_sub(1));
-        let status = owing(socket, left);
+        let status = Status::owing(socket, left);
         Ok(plan.then(Edit::Status { goroutine, status }))
     }
 }

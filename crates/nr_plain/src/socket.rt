@@ -1,4 +1,4 @@
-//! A socket: a lock, two semaphores, two buffers and the peer's mark.
+//! A socket: a lock, two semaphores, two buffers and two marks.
 
 ghost use Rattle.std.specs.Prelude.{◌≡◌, [], length, ◌≤◌};
 ghost use Rattle.nr_rev.specs.Sides.{of_side, twice};
@@ -20,6 +20,7 @@ pub(crate) struct SocketState {
     pub(crate) counts: Sides<u32>,
     pub(crate) capacities: Sides<u32>,
     pub(crate) peer_closed: bool,
+    pub(crate) shut: bool,
 }
 
 impl SocketState {
@@ -36,6 +37,7 @@ impl SocketState {
                 write: write_capacity,
             },
             peer_closed: false,
+            shut: false,
         }
     }
 }

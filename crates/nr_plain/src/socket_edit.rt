@@ -19,6 +19,8 @@ pub(crate) enum SocketEdit<'a> {
     Take { side: Side, bytes: KeptBytes },
     /// Marks that the peer closed.
     ClosePeer,
+    /// Marks whether the write side is shut.
+    Shut(bool),
 }
 
 /// What undoes a change of a socket.
@@ -35,4 +37,5 @@ pub enum SocketUndo {
     /// The bytes are at the front of the buffer again.
     Restore { side: Side, bytes: KeptBytes },
     OpenPeer,
+    Shut(bool),
 }

@@ -35,6 +35,7 @@ impl Sockets {
                 self.set_peer_closed(socket, true);
                 SocketUndo::OpenPeer
             }
+            SocketEdit::Shut(shut) => self.set_shut(socket, shut),
         }
     }
 
@@ -62,6 +63,17 @@ impl Sockets {
             side,
             count: state.counts.of(side),
         }
+    }
+
+    fn set_shut(&mut self, socket: u32, shut: bool) -> SocketUndo
+        ensures { EditsSocket socket (edit.Shut shut) result self.old self.new }
+    {
+        let Some(row) = self.get(socket) else {
+            return SocketUndo::OpenPeer;
+        };
+        let state = row.state;
+        self.set_state(socket, SocketState { shut, ..state });
+        SocketUndo::Shut(state.shut)
     }
 
     fn set_peer_closed(&mut self, socket: u32, peer_closed: bool)
@@ -165,6 +177,9 @@ impl Sockets {
                 self.edit_bytes(socket, side, RowEdit::ExtendFront(bytes.as_slice()));
             }
             SocketUndo::OpenPeer => self.set_peer_closed(socket, false),
+            SocketUndo::Shut(shut) => {
+                let _ = self.set_shut(socket, shut);
+            }
         }
     }
 

@@ -1,9 +1,8 @@
 //! The steps that open sockets, and move bytes into their buffers and out of them.
 
-ghost use Rattle.std.specs.Prelude.{◌≡◌, ◌^◌, ◌<◌, IfOk, OnErr, if◌then◌else◌, length, min, nat_lt, take};
-ghost use Rattle.nr_rev.specs.declared.answer.Answer.TheVariants.{Put, Again};
+ghost use Rattle.std.specs.Prelude.{◌≡◌, ◌^◌, ◌<◌, IfOk, OnErr, length, min, take};
 ghost use Rattle.nr_rev.specs.declared.step.Step.TheVariants as steps;
-ghost use Rattle.nr_rev.specs.Socket.{room_of};
+ghost use Rattle.nr_rev.specs.Socket.{output_room};
 ghost use Rattle.nr_rev.specs.Step as step;
 ghost use Rattle.nr_rev.specs.WellFormed.{WellFormed};
 ghost use Rattle.nr_plain.specs.Buffer.{buffer_view};
@@ -112,8 +111,9 @@ impl PlainWorld {
         if bytes.is_empty() {
             return Err(Refusal::SizeOutOfRange);
         }
-        let bytes = writable(row.buffer(Side::Write), bytes.as_slice());
-        let answer = write_answer(bytes.len() as u32);
+        let shut = row.state.shut;
+        let bytes = writable(shut, row.buffer(Side::Write), bytes.as_slice());
+        let answer = write_answer(bytes.len() as u32, shut);
         let edit = SocketEdit::Append {
             side: Side::Write,
             bytes,
@@ -139,6 +139,18 @@ impl PlainWorld {
             side: Side::Write,
             bytes,
         };
+        Ok(Plan::new(Answer::Done).then(Edit::Socket { socket, edit }))
+    }
+}
+
+impl PlainWorld {
+    /// The plan of `closewrite`.
+    pub(crate) fn closewrite<'a>(&self, goroutine: u32, socket: u32) -> Result<Plan<'a>, Refusal>
+        ensures { Plans (steps.CloseWrite goroutine socket) self.now result }
+    {
+        self.idle(goroutine)?;
+        let _ = self.socket_of(socket)?;
+        let edit = SocketEdit::Shut(true);
         Ok(Plan::new(Answer::Done).then(Edit::Socket { socket, edit }))
     }
 }
@@ -201,22 +213,26 @@ fn read_answer(count: u32, peer_closed: bool) -> Answer
     }
 }
 
-/// The bytes that there is room for.
-fn writable<'a>(buffer: PlainBuffer, bytes: &'a [u8]) -> &'a [u8]
+/// The bytes that there is room for: none where the write side is shut.
+fn writable<'a>(shut: bool, buffer: PlainBuffer, bytes: &'a [u8]) -> &'a [u8]
     ensures bytes { result.now
-        ≡ take (min (room_of (buffer_view buffer.entry)) (length bytes.now)) bytes.now }
-    ensures len { length result.now ≡ min (room_of (buffer_view buffer.entry)) (length bytes.now) }
+        ≡ take (min (output_room shut (buffer_view buffer.entry)) (length bytes.now)) bytes.now }
+    ensures len { length result.now
+        ≡ min (output_room shut (buffer_view buffer.entry)) (length bytes.now) }
     ensures small { length result.now < 2 ^ 32 }
 {
-    let count = buffer.room().min(bytes.len());
+    let room = if shut { 0 } else { buffer.room() };
+    let count = room.min(bytes.len());
     &bytes[..count]
 }
 
 /// The answer of `syswrite` that put so many bytes.
-fn write_answer(count: u32) -> Answer
-    ensures { result ≡ (if nat_lt 0 count then Put count else Again) }
+fn write_answer(count: u32, shut: bool) -> Answer
+    ensures { result ≡ step.write_answer count shut }
 {
-    if count > 0 {
+    if shut {
+        Answer::Pipe
+    } else if count > 0 {
         Answer::Put(count)
     } else {
         Answer::Again

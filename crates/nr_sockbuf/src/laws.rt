@@ -8,7 +8,7 @@ ghost use Rattle.nr_sockbuf.specs.declared.delta.SockDelta.{SockDelta};
 ghost use Rattle.nr_sockbuf.specs.declared.reversible.TheConstants.{MOST_WORDS};
 ghost use Rattle.nr_sockbuf.specs.Op.{TakesMemory, sock_reason};
 ghost use Rattle.nr_sockbuf.specs.Sock.{SockParts};
-ghost use Rattle.nr_sockbuf.specs.Machine.{ArriveAgrees, DrainAgrees, IsThere, PeerCloseAgrees, SockLoses, SockOpenAgrees, SysReadAgrees, SysWriteAgrees};
+ghost use Rattle.nr_sockbuf.specs.Machine.{ArriveAgrees, CloseWriteAgrees, DrainAgrees, IsThere, PeerCloseAgrees, SockLoses, SockOpenAgrees, SysReadAgrees, SysWriteAgrees};
 
 /// At the buffers of a socket that is there, a step has the answer, the buffers and the reason that the machine's step
 /// has, once the goroutine is idle. So does an opening, where the machine has room for a socket more.
@@ -19,6 +19,7 @@ pub fn steps_are_of_the_machine()
     ensures sysread { (g s n : ℕ) (socket : Socket) (w : World) → IsThere s socket w → SysReadAgrees g s n socket w }
     ensures syswrite { (g s : ℕ) (bytes : List ℕ) (socket : Socket) (w : World) → IsThere s socket w → SysWriteAgrees g s bytes socket w }
     ensures drain { (s n : ℕ) (socket : Socket) (w : World) → IsThere s socket w → DrainAgrees s n socket w }
+    ensures closewrite { (g s : ℕ) (socket : Socket) (w : World) → IsThere s socket w → CloseWriteAgrees g s socket w }
 {}
 
 /// Where a step that has no reason takes memory, bytes leave a buffer.

@@ -24,5 +24,5 @@ returns c =
     let less : c.saturating_sub.result ≡ of_side c.side_owed-side.result debt - 1 = let a = c.saturating_sub.ensures in let b = c.of.ensures in omega arith in
     let new_is : c.owing.result ≡ owing s (with_side (side_owed debt) (of_side (side_owed debt) debt - 1) debt) =
     c.owing.ensures ∙ ap (owing s) (c.with-left.ensures ∙ ap (λ (n : ℕ). with_side c.side_owed-side.result n debt) less ∙ ap (λ (k : Side). with_side k (of_side k debt - 1) debt) side_is) in
-    releases t c.release_semaphore-front.new.self c.set_status.new.self c.tell_queued.ensures c.args.goroutine s debt c.in_ok-status.status c.owing.result count front
+    releases t c.release_semaphore-front.new.self c.set_status.new.self c.queues_hold_the_queued.ensures c.args.goroutine s debt c.in_ok-status.status c.owing.result count front
     (ap alive (sym c.status.ensures) ∙ sym c.in_ok-status.ensures) (sym c.in_ok-socket.ensures) counted small first after new_is c.set_status.ensures

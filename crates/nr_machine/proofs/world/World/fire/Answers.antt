@@ -14,5 +14,5 @@ returns c =
     let m : WorldParts = c.args.self.now in
     let d = c.in-Some.entry.descriptor in
     let there : slice_get (meant m).firings c.args.place ≡ Some c.in-Some.entry = search rules in
-    subst (λ (due : Outcome). Makes due (TakeFiring c.args.place ∷ []) m c.change_by.result c.change_by.new.self)
-    (sym (fire_is c.args.place (meant m) c.in-Some.entry (row_of c.in_ok-desc.desc (timers_of m.core.timers.entries d)) there c.in_ok-desc.ensures)) c.change_by.ensures
+    subst (λ (due : Outcome). Makes due (TakeFiring c.args.place ∷ []) m c.change_by_firing.result c.change_by_firing.new.self)
+    (sym (fire_is c.args.place (meant m) c.in-Some.entry (row_of c.in_ok-desc.desc (timers_of m.core.timers.entries d)) there c.in_ok-desc.ensures)) c.change_by_firing.ensures

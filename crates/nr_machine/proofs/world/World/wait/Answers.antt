@@ -5,7 +5,7 @@ use Rattle.nr_rev.specs.Step.{status_of}
 use Rattle.nr_machine.specs.Changing.{Moves}
 use Rattle.nr_machine.specs.Fits.{IsWorld}
 use Rattle.nr_machine.specs.World.{WorldParts, meant}
-use Rattle.nr_machine.proofs.WaitingLemmas.{wait_moves, waiters_within, waiting_made, waiting_refused}
+use Rattle.nr_machine.proofs.WaitingLemmas.{one_more_waits, wait_moves, waiting_made, waiting_refused}
 use Rattle.nr_machine.proofs.world.World.wait.Goals as goal
 
 pub returns-in_err-left : goal.returns-in_err-left
@@ -30,7 +30,7 @@ pub park-requires : goal.park-requires
 park-requires c =
     let m : WorldParts = record { core = c.self.inside.core; socks = c.self.inside.socks.items } in
     let some = c.in_ok-left.ensures.ok in
-    rw (c.move_to-moved.ensures.rest, some.2.rest) (waiters_within m (subst IsWorld (sym c.self.view_is) c.requires.world))
+    rw (c.move_to-moved.ensures.rest, some.2.rest) (one_more_waits m (subst IsWorld (sym c.self.view_is) c.requires.world))
 
 pub returns : goal.returns
 returns c =

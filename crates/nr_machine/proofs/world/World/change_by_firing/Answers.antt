@@ -7,7 +7,7 @@ use Rattle.nr_machine.specs.Fits.{IsWorld}
 use Rattle.nr_machine.specs.Rows.{row_of}
 use Rattle.nr_machine.specs.World.{WorldParts, meant}
 use Rattle.nr_machine.proofs.ChangeLemmas.{firing_can, firing_made, row_there}
-use Rattle.nr_machine.proofs.world.World.change_by.Goals as goal
+use Rattle.nr_machine.proofs.world.World.change_by_firing.Goals as goal
 
 pub wake_both-requires : goal.wake_both-requires
 wake_both-requires c =
