@@ -12,11 +12,12 @@ use Rattle.nr_rev.specs.declared.sides.Mode.TheVariants as modes
 use Rattle.nr_rev.specs.declared.step.Step.{Step}
 use Rattle.nr_rev.specs.Kind.{kind_of}
 use Rattle.nr_rev.specs.Limits.{AreInRange}
-use Rattle.nr_rev.specs.declared.limits.TheConstants.{MOST_GOROUTINES, MOST_SOCKETS, MOST_DESCRIPTORS, MOST_BUFFER}
+use Rattle.nr_rev.specs.declared.limits.TheConstants.{MOST_GOROUTINES, MOST_SOCKETS, MOST_DESCRIPTORS}
 use Rattle.nr_rev.proofs.NameLookupLemmas.{kind_again}
 use Rattle.nr_recording.specs.declared.recording.TheConstants.{MOST_BYTES}
 use Rattle.nr_recording.specs.declared.version.Version.TheVariants.{One}
 use Rattle.nr_recording.specs.Recording.{is_writable}
+use Rattle.nr_recording.specs.Version.{has_kind, kind_in, most_buffer}
 use Rattle.nr_recording.specs.Arguments.{none, most_digits, u32_of, side_of, mode_of, bit_of, hex_of, i64_of, from_zero}
 use Rattle.nr_recording.specs.Header.{version_of, limit_of, limits_of, header_of}
 use Rattle.nr_recording.specs.Steps.{step_in, arguments_of, step_of}
@@ -59,22 +60,28 @@ unfolding none
 arguments_again (Step.Tick t) h w = rw (moment_again t h.0, from_zero_again t w) refl
 arguments_again (Step.Arrive s bytes) h w = rw (number_again s h.0, bytes_again bytes h.1.0 w) refl
 arguments_again (Step.SysWrite g s bytes) (g_typed, (s_typed, (bytes_typed, rest))) w = rw (number_again g g_typed, number_again s s_typed, bytes_again bytes bytes_typed w) refl
+arguments_again (Step.CloseWrite g t) h w = absurd cc
 arguments_again s h w = grind (arith, number_again, side_again, mode_again, bit_again, moment_again)
 
+-- the version has the kind of a step that can be written
+kind_kept : (s : Step) → is_writable s ≡ true → has_kind One (kind_of s) ≡ true
+kind_kept (Step.CloseWrite g t) w = w
+kind_kept s w = refl
+
 pub step_again : (s : Step) → HasTypedArguments s → is_writable s ≡ true → step_of One (step_data s) ≡ Ok s
-unfolding step_of
-step_again s h w = rw (kind_again (kind_of s), arguments_again s h w) refl
+unfolding step_of kind_in
+step_again s h w = rw (kind_again (kind_of s), kind_kept s w, arguments_again s h w) refl
 
 limit_again : (most n : ℕ) → 0 < n → n ≤ most → limit_of most n ≡ Ok n
 limit_again most n low high = rw (lt-ltb 0 n low, le-leb n most high) refl
 
-pub header_again : (l : Limits) → AreInRange l → header_of One (limits_data l) ≡ Ok l
+pub header_again : (l : Limits) → AreInRange l → l.buffer ≤ most_buffer One → header_of One (limits_data l) ≡ Ok l
 unfolding header_of limits_of
-header_again l h = rw (
+header_again l h most = rw (
   limit_again MOST_GOROUTINES l.goroutines h.goroutines h.goroutines_most,
   limit_again MOST_SOCKETS l.sockets h.sockets h.sockets_most,
   limit_again MOST_DESCRIPTORS l.descriptors h.descriptors h.descriptors_most,
-  limit_again MOST_BUFFER l.buffer h.buffer h.buffer_most,
+  limit_again (most_buffer One) l.buffer h.buffer most,
 ) refl
 
 pub version_again : (l : Limits) → version_of (limits_data l) ≡ Ok One

@@ -1,5 +1,5 @@
 -- What was read keeps the ranges of a recording.
-use Rattle.std.proofs.Common.{◌≡◌, ◌<◌, ◌≤◌, ℕ, ℤ, pos, negsuc, true, false, ltb, leb, List, length, Option, Some, Result, Ok, Err, refl, subst, arith}
+use Rattle.std.proofs.Common.{◌≡◌, ◌<◌, ◌≤◌, ℕ, ℤ, pos, negsuc, Bool, true, false, ◌&&◌, if◌then◌else◌, ltb, leb, List, length, Option, Some, None, Result, Ok, Err, refl, subst, arith}
 use Rattle.std.specs.Prelude.{option_map, option_and_then, codes, ◌==◌}
 use Rattle.std.specs.Result.{result_ok}
 use Rattle.std.proofs.lemmas.Bool.{ltb-true, ltb-false, leb-true, le-leb, le-ltb, and_parts}
@@ -9,6 +9,7 @@ use Rattle.hex.proofs.HexLemmas.{decode_of-ok}
 use Rattle.serde_json.specs.Data.{Data, Items, no_items, item}
 use Rattle.serde_json.specs.Find.{as_str, as_array}
 use Rattle.nr_rev.specs.declared.kind.Kind.{Kind}
+use Rattle.nr_rev.specs.Kind.{kind_named}
 use Rattle.nr_rev.specs.declared.limits.Limits.{Limits}
 use Rattle.nr_rev.specs.declared.step.Step.{Step}
 use Rattle.nr_rev.specs.declared.step.Step.TheVariants.{Tick}
@@ -21,7 +22,7 @@ use Rattle.nr_rev.specs.Limits.{is_limit, are_in_range, AreInRange}
 use Rattle.nr_recording.specs.Recording.{is_writable, are_writable, recording_of}
 use Rattle.nr_recording.specs.declared.version.Version.{Version}
 use Rattle.nr_recording.specs.declared.version.Version.TheVariants.{One}
-use Rattle.nr_recording.specs.Version.{kind_in, may_end_with}
+use Rattle.nr_recording.specs.Version.{has_kind, kept_kind, kind_in, may_end_with, most_buffer}
 use Rattle.nr_recording.specs.Arguments.{most_digits, bytes_named, hex_of, i64_of, from_zero, time_of, first_by, number, bytes, time, ◌and◌}
 use Rattle.nr_recording.specs.Shapes.{step_from}
 use Rattle.nr_recording.specs.Steps.{first_of, step_in, step_of}
@@ -39,31 +40,34 @@ limit_ok most n m e =
     let same : n ≡ m = cc (p.1) in
     subst (λ (k : ℕ). (0 < k) × (k ≤ most)) same (limit_fits most n p.0)
 
-limits_ok : (version : Version) (gor sock desc buf : ℕ) (l : Limits) → limits_of version gor sock desc buf ≡ Ok l → AreInRange l
+limits_ok : (version : Version) (gor sock desc buf : ℕ) (l : Limits) → limits_of version gor sock desc buf ≡ Ok l → AreInRange l × (l.buffer ≤ most_buffer version)
 unfolding limits_of
 limits_ok One gor sock desc buf l e =
     let g = bind_ok (limit_of MOST_GOROUTINES gor) _ l e in
     let s = bind_ok (limit_of MOST_SOCKETS sock) _ l g.2 in
     let d = bind_ok (limit_of MOST_DESCRIPTORS desc) _ l s.2 in
-    let b = bind_ok (limit_of MOST_BUFFER buf) _ l d.2 in
+    let b = bind_ok (limit_of (most_buffer One) buf) _ l d.2 in
     let made : Limits = record { goroutines = g.0; sockets = s.0; descriptors = d.0; buffer = b.0 } in
     let same : made ≡ l = cc (b.2) in
     let gs = limit_ok MOST_GOROUTINES gor g.0 g.1 in
     let ss = limit_ok MOST_SOCKETS sock s.0 s.1 in
     let ds = limit_ok MOST_DESCRIPTORS desc d.0 d.1 in
-    let bs = limit_ok MOST_BUFFER buf b.0 b.1 in
-    subst AreInRange same (record {
-      goroutines = gs.0;
-      goroutines_most = gs.1;
-      sockets = ss.0;
-      sockets_most = ss.1;
-      descriptors = ds.0;
-      descriptors_most = ds.1;
-      buffer = bs.0;
-      buffer_most = bs.1;
-    })
+    let bs = limit_ok (most_buffer One) buf b.0 b.1 in
+    subst (λ (x : Limits). AreInRange x × (x.buffer ≤ most_buffer One)) same (
+      record {
+        goroutines = gs.0;
+        goroutines_most = gs.1;
+        sockets = ss.0;
+        sockets_most = ss.1;
+        descriptors = ds.0;
+        descriptors_most = ds.1;
+        buffer = bs.0;
+        buffer_most = omega (arith, bs.1);
+      },
+      bs.1,
+    )
 
-pub header_fits : (version : Version) (d : Data) (l : Limits) → header_of version d ≡ Ok l → AreInRange l
+pub header_fits : (version : Version) (d : Data) (l : Limits) → header_of version d ≡ Ok l → AreInRange l × (l.buffer ≤ most_buffer version)
 unfolding header_of
 header_fits version d l e =
     let count = bind_ok (or_fault fault.Header (member_count d)) _ l e in
@@ -136,11 +140,23 @@ usual : {A : Type 0} (step : A → Step) (found : Items → Result (A × Items) 
 usual step found h = of_found step found (λ ds p e. h p.0)
 
 -- only these kinds make steps that might be none that can be written
-kind_made : (kind : Kind) → MakesWritable (step_in kind)
-kind_made Kind.Arrive = of_found _ _ (second_only AreFew number bytes few_bytes)
-kind_made Kind.SysWrite = of_found _ _ (second_only (λ p. AreFew p.1) number (number and bytes) (second_only AreFew number bytes few_bytes))
-kind_made Kind.Tick = of_found _ _ time_least
-kind_made _ = usual _ _ (λ x. refl)
+kind_made : (kind : Kind) → has_kind One kind ≡ true → MakesWritable (step_in kind)
+kind_made Kind.CloseWrite has = absurd cc
+kind_made Kind.Arrive has = of_found _ _ (second_only AreFew number bytes few_bytes)
+kind_made Kind.SysWrite has = of_found _ _ (second_only (λ p. AreFew p.1) number (number and bytes) (second_only AreFew number bytes few_bytes))
+kind_made Kind.Tick has = of_found _ _ time_least
+kind_made _ has = usual _ _ (λ x. refl)
+
+-- a kind that is read is one of the version's
+kind_had : (version : Version) (name : List ℕ) (kind : Kind) → kind_in version name ≡ Some kind → has_kind version kind ≡ true
+unfolding kind_in
+kind_had version name kind e =
+    let named = then_some (kept_kind version) (kind_named name) kind e in
+    from named.0 (has_kind version named.0) refl named.2
+  where
+    from : (named : Kind) (has : Bool) → has_kind version named ≡ has → (if has then Some named else None) ≡ Some kind → has_kind version kind ≡ true
+    from named true is e = subst (λ (k : Kind). has_kind version k ≡ true) (same_Some named kind e) is
+    from named false is e = absurd cc
 
 pub step_writable : (version : Version) (d : Data) (step : Step) → step_of version d ≡ Ok step → is_writable step ≡ true
 unfolding step_of
@@ -151,11 +167,15 @@ step_writable version d step e =
     let found = bind_ok (step_in kind.0 parts.0.1) _ step kind.2 in
     let ended = passed_ok (may_end_with version found.0.1) fault.Arguments (Ok found.0.0) step found.2 in
     let same : found.0.0 ≡ step = cc (ended.1) in
-    subst (λ (s : Step). is_writable s ≡ true) same (kind_made kind.0 parts.0.1 found.0 found.1)
+    subst (λ (s : Step). is_writable s ≡ true) same (kind_made kind.0 (had version kind.0 (kind_had version name.0 kind.0 (found_ok fault.UnknownStep (kind_in version name.0) kind.0 kind.1))) parts.0.1 found.0 found.1)
+  where
+    had : (version : Version) (kind : Kind) → has_kind version kind ≡ true → has_kind One kind ≡ true
+    had One kind h = h
 
 -- ---- what is made
 
-pub recording_made : (l : Limits) (steps : List Step) → are_in_range l ≡ true → length steps ≤ MOST_STEPS → are_writable steps ≡ true → recording_of l steps ≡ Ok (record { limits = l; steps = steps })
-recording_made l steps limits few writable =
+pub recording_made : (l : Limits) (steps : List Step) → are_in_range l ≡ true → l.buffer ≤ most_buffer One → length steps ≤ MOST_STEPS → are_writable steps ≡ true → recording_of l steps ≡ Ok (record { limits = l; steps = steps })
+recording_made l steps limits most few writable =
+    let low : ltb (most_buffer One) l.buffer ≡ false = le-ltb _ _ most in
     let short : ltb MOST_STEPS (length steps) ≡ false = le-ltb _ _ few in
-    rw (limits, short, writable) refl
+    rw (limits, low, short, writable) refl

@@ -29,6 +29,7 @@ record IsNarrow (line : List ℕ × List Argument) : Type 0 where
 narrow : (s : Step) → is_writable s ≡ true → IsNarrow (spelling_of s)
 narrow (Step.Arrive s bytes) w = record { plain = refl; fits = omega (arith, leb-true (length bytes) MOST_BYTES w) }
 narrow (Step.SysWrite g s bytes) w = record { plain = refl; fits = omega (arith, leb-true (length bytes) MOST_BYTES w) }
+narrow (Step.CloseWrite g s) w = absurd cc
 narrow s w = record { plain = refl; fits = lit≤ tt }
 
 -- a visible text that JSON reads has a value
@@ -57,7 +58,7 @@ text_is_text r is typed =
       One,
       subst (λ (ls : List (List ℕ)). AreLinesOf One ls r) (sym (lines-line_text (limits_data r.limits) (concat (map (λ x. line_text (step_data x)) r.steps)) visible))
           (inr (
-            (limits_data r.limits, record { short = header_short r.limits; visible = refl; value = read_again }, version_again r.limits, header_again r.limits is.limits),
+            (limits_data r.limits, record { short = header_short r.limits; visible = refl; value = read_again }, version_again r.limits, header_again r.limits is.limits is.buffer),
             steps_text r.steps is.writable typed,
             is.few,
           )),

@@ -20,6 +20,7 @@ use Rattle.nr_rev.specs.Limits.{AreInRange}
 use Rattle.nr_recording.specs.Recording.{are_writable}
 use Rattle.nr_recording.specs.Header.{version_of, header_of}
 use Rattle.nr_recording.specs.Steps.{step_of, step_takes_memory}
+use Rattle.nr_recording.specs.Version.{most_buffer}
 
 -- ---- one line
 
@@ -49,6 +50,7 @@ pub record Seen : Type 0 where
 -- what holds of what was seen
 pub record IsSeen (seen : Seen) : Type 0 where
   pub limits : IfSome seen.header (λ header. AreInRange header.limits)
+  pub buffer : IfSome seen.header (λ header. header.limits.buffer ≤ most_buffer header.version)
   pub few : length seen.steps ≤ MOST_STEPS
   pub writable : are_writable seen.steps ≡ true
 

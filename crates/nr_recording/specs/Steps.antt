@@ -49,6 +49,7 @@ step_in Kind.PollEvent = event Step.PollEvent
 step_in Kind.Tick = timed Step.Tick
 step_in Kind.Pop = bare Step.Pop
 step_in Kind.Fire = one Step.Fire
+step_in Kind.CloseWrite = pair Step.CloseWrite
 
 -- the arguments of a step, in their order in the line
 abbrev pub arguments_of : Step → List Argument
@@ -82,6 +83,7 @@ arguments_of (Step.PollEvent d t ways err) = numeral d ∷ tag t ∷ mode ways �
 arguments_of (Step.Tick t) = time t ∷ []
 arguments_of Step.Pop = []
 arguments_of (Step.Fire i) = numeral i ∷ []
+arguments_of (Step.CloseWrite g s) = numeral g ∷ numeral s ∷ []
 
 -- the arguments of this kind take memory to read: only those with bytes do
 abbrev pub kind_takes_memory : Kind → Items → Bool

@@ -1,9 +1,9 @@
 -- The versions of the format: which number each has, and what it allows.
-use Rattle.std.specs.Prelude.{ℕ, ◌==◌, List, Bool, true, false, Option, Some, None, if◌then◌else◌}
+use Rattle.std.specs.Prelude.{ℕ, ◌==◌, List, Bool, true, false, Option, Some, None, option_and_then, if◌then◌else◌}
 use Rattle.serde_json.specs.Data.{Items, no_items, item}
 use Rattle.nr_rev.specs.Kind.{kind_named}
 use Rattle.nr_rev.specs.declared.kind.Kind.{Kind}
-use Rattle.nr_rev.specs.declared.limits.TheConstants.{MOST_BUFFER}
+use Rattle.nr_recording.specs.declared.version.TheConstants.{MOST_BUFFER_IN_ONE}
 use Rattle.nr_recording.specs.declared.version.Version.{Version}
 use Rattle.nr_recording.specs.declared.version.Version.TheVariants.{One}
 
@@ -17,11 +17,20 @@ version_numbered n = if n == version_number One then Some One else None
 
 -- the greatest buf
 abbrev pub most_buffer : Version → ℕ
-most_buffer One = MOST_BUFFER
+most_buffer One = MOST_BUFFER_IN_ONE
+
+-- whether there are steps of this kind: in version 1 none that shuts a write side
+abbrev pub has_kind : Version → Kind → Bool
+has_kind One Kind.CloseWrite = false
+has_kind One _ = true
+
+-- the kind, if there are steps of it
+abbrev pub kept_kind : Version → Kind → Option Kind
+kept_kind version kind = if has_kind version kind then Some kind else None
 
 -- the kind of this name
-abbrev pub kind_in : Version → List ℕ → Option Kind
-kind_in One name = kind_named name
+unfoldable pub kind_in : Version → List ℕ → Option Kind
+kind_in version name = option_and_then (kept_kind version) (kind_named name)
 
 -- what is left of a step's line may follow its arguments: in version 1 nothing may
 abbrev pub may_end_with : Version → Items → Bool

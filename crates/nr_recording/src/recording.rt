@@ -4,6 +4,7 @@ ghost use Rattle.std.specs.Prelude.{◌≡◌};
 ghost use Rattle.nr_recording.specs.Recording.{is_writable, are_writable};
 
 use crate::fault::MakeFault;
+use crate::version::Version;
 use nr_rev::{Limits, Step};
 use std::marker::Model;
 
@@ -37,6 +38,7 @@ fn is_writable(step: &Step) -> bool
     match step {
         Step::Arrive { bytes, .. } | Step::SysWrite { bytes, .. } => bytes.len() <= MOST_BYTES,
         Step::Tick { time } => *time >= 0,
+        Step::CloseWrite { .. } => Version::One.has(step.kind()),
         _ => true,
     }
 }
@@ -53,15 +55,20 @@ impl Recording {
     ghost use Rattle.nr_rev.specs.Limits.{AreInRange};
     ghost use Rattle.nr_recording.specs.declared.recording.TheConstants.{MOST_STEPS};
     ghost use Rattle.nr_recording.specs.Recording.{IsRecording, recording_of};
+    ghost use Rattle.nr_recording.specs.Version.{most_buffer};
+    ghost use Rattle.nr_recording.specs.declared.version.Version.TheVariants.{One};
 
     /// The recording of these limits and steps. Fails for the first that holds: a limit is out of
-    /// its range; there are more than 1,000,000 steps; a step carries more than 65,536 bytes or sets
-    /// the clock below 0. The steps are then gone. The ranges: goroutines 1 to 4,096, sockets and
+    /// its range; there are more than 1,000,000 steps; a step carries more than 65,536 bytes, sets the
+    /// clock below 0 or shuts a write side, which version 1 of the format can't. The steps are then gone. The ranges: goroutines 1 to 4,096, sockets and
     /// descriptors 1 to 256, buffer 1 to 65,536 bytes.
     pub fn new(limits: Limits, steps: Vec<Step>) -> Result<Self, MakeFault>
         ensures { result ≡ recording_of limits steps.items }
     {
         if !limits.are_in_range() {
+            return Err(MakeFault::Limit);
+        }
+        if limits.buffer > Version::One.most_buffer() {
             return Err(MakeFault::Limit);
         }
         if steps.len() > MOST_STEPS {
@@ -85,6 +92,7 @@ impl Recording {
     pub fn limits(&self) -> Limits
         ensures value { result ≡ self.now.limits }
         ensures in_range { AreInRange result }
+        ensures in_version { result.buffer ≤ most_buffer One }
     {
         self.limits
     }

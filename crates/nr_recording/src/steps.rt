@@ -138,6 +138,10 @@ fn step_in(alloc: Global, kind: Kind, arguments: &mut Iter<'_, Value>) -> Result
         Kind::Fire => Ok(Step::Fire {
             place: number(arguments)?,
         }),
+        Kind::CloseWrite => Ok(Step::CloseWrite {
+            goroutine: number(arguments)?,
+            socket: number(arguments)?,
+        }),
     }
 }
 
@@ -220,6 +224,7 @@ pub(crate) fn step_value(alloc: Global, step: &Step) -> Result<Value, AllocError
         Step::Tick { time } => timed(alloc, name, *time),
         Step::Pop => bare(alloc, name),
         Step::Fire { place } => one(alloc, name, *place),
+        Step::CloseWrite { goroutine, socket } => pair(alloc, name, *goroutine, *socket),
     }
 }
 

@@ -38,6 +38,7 @@ returns-clause-again g c =
     let visible = c.steps-step-items.ensures in
     let is : IsRecording recording = record {
       limits = rw (← c.limits.ensures.value) c.limits.ensures.in_range;
+      buffer = rw (← c.limits.ensures.value) c.limits.ensures.in_version;
       few = rw (← visible.value) visible.few;
       writable = rw (← visible.value) visible.writable;
     } in
