@@ -7,7 +7,7 @@ use Rattle.std.specs.Char.{is_ascii_digit, digit_value}
 use Rattle.std.specs.Str.Parse.{digits_value, digits_value_after}
 use Rattle.nr_command.specs.declared.command.LineFault.TheVariants.{BadArgument, TooLong}
 use Rattle.nr_command.specs.declared.parsing.TheConstants.{MAX_LINE}
-use Rattle.nr_command.specs.Command.{meaning_of, break_of, meaning_of_words, number_of, without_return, words}
+use Rattle.nr_command.specs.Command.{meaning_of, break_of, cell_of, meaning_of_words, number_of, without_return, words}
 
 -- no line asks for something by more than three words
 meaning_of_words-take : (ws : List (List ℕ)) → meaning_of_words (take 4 ws) ≡ meaning_of_words ws
@@ -38,3 +38,10 @@ pub break_of-more : (ws : List (List ℕ)) → 2 ≤ length ws → break_of ws �
 break_of-more [] more = refl
 break_of-more (a ∷ []) more = absurd (omega (arith, more))
 break_of-more (a ∷ b ∷ ws) more = refl
+
+-- a cell takes two words at most
+pub cell_of-more : (ws : List (List ℕ)) → 3 ≤ length ws → cell_of ws ≡ Err BadArgument
+cell_of-more [] more = absurd (omega (arith, more))
+cell_of-more (a ∷ []) more = absurd (omega (arith, more))
+cell_of-more (a ∷ b ∷ []) more = absurd (omega (arith, more))
+cell_of-more (a ∷ b ∷ c ∷ ws) more = refl

@@ -77,7 +77,7 @@ module _ (last : ℕ) (d : Debugger) (w : IsWithin last d) where
 
 module _ (r : Recording) (d : Debugger) (w : IsWithin (length r.steps) d) where
   stop_at-within : (way : Direction) (found : Found) → found ≡ nearest_hit way r d.marks.present d.position → IsWithin (length r.steps) (stop_at way r d found).1
-  stop_at-within way (Hit h) is = moved_to-within (length r.steps) d w h.position (found_within way r d.marks.present d.position (Hit h) w.position is)
+  stop_at-within way (Hit h) is = record { position = found_within way r d.marks.present d.position (Hit h) w.position is; kept = w.kept }
   stop_at-within way Nothing is = to_end-within (length r.steps) d w way
 
   continue-within : (way : Direction) → IsWithin (length r.steps) (continue way r d).1
@@ -90,6 +90,7 @@ module _ (r : Recording) (d : Debugger) (w : IsWithin (length r.steps) d) where
   run-within commands.ReverseContinue = continue-within Backward
   run-within (commands.SetDirection way) = record { position = w.position; kept = w.kept }
   run-within (commands.Break wanted) = marked-within (length r.steps) d w (marks.Break wanted) (next_number d.marks)
+  run-within (commands.TemporaryBreak wanted) = marked-within (length r.steps) d w (marks.TemporaryBreak wanted) (next_number d.marks)
   run-within (commands.Watch c) = marked-within (length r.steps) d w (marks.Watch c) (next_number d.marks)
   run-within (commands.Delete number) = deleted-within (length r.steps) d w number (mark_deletion number d.marks)
   run-within commands.Checkpoint = kept-within (length r.steps) d w (checkpoints.next_checkpoint d.position d.checkpoints)

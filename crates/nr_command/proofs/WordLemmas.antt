@@ -15,9 +15,9 @@ use Rattle.nr_marks.specs.declared.mark.Break.TheVariants as breaks
 use Rattle.nr_search.specs.declared.direction.Direction.{Direction}
 use Rattle.nr_search.specs.declared.direction.Direction.TheVariants.{Forward, Backward}
 use Rattle.nr_command.specs.declared.command.Command.{Command}
-use Rattle.nr_command.specs.declared.command.Command.TheVariants.{Step, ReverseStep, Continue, ReverseContinue, SetDirection, Watch, Delete, Checkpoint, Restart, DeleteCheckpoint}
+use Rattle.nr_command.specs.declared.command.Command.TheVariants.{Step, ReverseStep, Continue, ReverseContinue, SetDirection, Watch, Delete, Checkpoint, Restart, DeleteCheckpoint, TemporaryBreak}
 use Rattle.nr_command.specs.declared.command.Command.TheVariants as commands
-use Rattle.nr_command.specs.Word.{HasTypedNumbers, ◌>>=◌, argument_of, break_numbered, cell_at, command_of, command_with, direction_numbered, from_one_below, index_or_0, only_without, opcode_of, small, watch_at, word_of}
+use Rattle.nr_command.specs.Word.{HasTypedNumbers, HasTypedStep, ◌>>=◌, argument_of, break_number, break_numbered, cell_at, command_of, command_with, direction_numbered, from_one_below, index_or_0, only_without, opcode_of, small, watch_at, word_of}
 use Rattle.nr_command.proofs.CountLemmas.{from_one_is}
 
 -- a word's lowest byte, its next one, and the rest
@@ -66,7 +66,7 @@ no_kind n big = read_back (kind_numbered n) refl
     read_back None e = refl
     read_back (Some kind) e = let number = found_numbered kind_number kinds n kind e in let low = kind_number_small kind in absurd (omega (arith, number, low, big))
 
-break_again : (at : Break) → HasTypedNumbers (commands.Break at) → break_numbered (argument_of (commands.Break at)) ≡ Some at
+break_again : (at : Break) → HasTypedStep at → break_numbered (break_number at) ≡ Some at
 break_again (breaks.Kind kind) h =
     let k = kind_number kind in
     let high : (256 * k) / 256 ≡ k = omega arith in
@@ -121,6 +121,7 @@ made_again (Delete n) h = ap (option_map Delete) (small_again n h)
 made_again Checkpoint h = refl
 made_again (Restart n) h = ap (option_map Restart) (small_again n h)
 made_again (DeleteCheckpoint n) h = ap (option_map DeleteCheckpoint) (small_again n h)
+made_again (TemporaryBreak at) h = ap (option_map TemporaryBreak) (break_again at h)
 
 pub read_again : (tag : ℕ) (command : Command) → tag < 256 → HasTypedNumbers command → command_of (word_of tag command) ≡ Some (tag, command)
 read_again tag command fits typed =
@@ -167,24 +168,24 @@ count_read a count e =
     let is = one_read found.0 count found.2 in
     (fits.0 ∙ is, omega (arith, fits.0, fits.1, is))
 
-break_read : (a : ℕ) (at : Break) → break_numbered a ≡ Some at → (a ≡ argument_of (commands.Break at)) × HasTypedNumbers (commands.Break at)
+break_read : (a : ℕ) (at : Break) → break_numbered a ≡ Some at → (a ≡ break_number at) × HasTypedStep at
 break_read a at =
     branch (nat_eq (a % 256) 0) _ _ at _
     (λ low e. of_kind (eqb-true (a % 256) 0 low) (mapped breaks.Kind (kind_numbered (a / 256)) at e))
     (branch (nat_eq (a % 256) 1) _ _ at _ (λ low e. of_step (eqb-true (a % 256) 1 low) (mapped breaks.Step (from_one_below (a / 256)) at e)) (λ e. cc))
   where
-    of_kind : a % 256 ≡ 0 → (kind : Kind) × (kind_numbered (a / 256) ≡ Some kind) × (breaks.Kind kind ≡ at) → (a ≡ argument_of (commands.Break at)) × HasTypedNumbers (commands.Break at)
+    of_kind : a % 256 ≡ 0 → (kind : Kind) × (kind_numbered (a / 256) ≡ Some kind) × (breaks.Kind kind ≡ at) → (a ≡ break_number at) × HasTypedStep at
     of_kind low found =
         let number = found_numbered kind_number kinds (a / 256) found.0 found.1 in
         let is : a ≡ 256 * kind_number found.0 = omega (arith, low, number) in
-        subst (λ b. (a ≡ argument_of (commands.Break b)) × HasTypedNumbers (commands.Break b)) found.2 (is, tt)
+        subst (λ b. (a ≡ break_number b) × HasTypedStep b) found.2 (is, tt)
 
-    of_step : a % 256 ≡ 1 → (step : NonZeroU32) × (from_one_below (a / 256) ≡ Some step) × (breaks.Step step ≡ at) → (a ≡ argument_of (commands.Break at)) × HasTypedNumbers (commands.Break at)
+    of_step : a % 256 ≡ 1 → (step : NonZeroU32) × (from_one_below (a / 256) ≡ Some step) × (breaks.Step step ≡ at) → (a ≡ break_number at) × HasTypedStep at
     of_step low found =
         let number = count_read (a / 256) found.0 found.1 in
         let same = number.0 in
         let is : a ≡ 1 + 256 * found.0.value = omega (arith, low, same) in
-        subst (λ b. (a ≡ argument_of (commands.Break b)) × HasTypedNumbers (commands.Break b)) found.2 (is, number.1)
+        subst (λ b. (a ≡ break_number b) × HasTypedStep b) found.2 (is, number.1)
 
 direction_read : (a : ℕ) (direction : Direction) → direction_numbered a ≡ Some direction → a ≡ argument_of (SetDirection direction)
 direction_read a direction =
@@ -252,11 +253,11 @@ module _ (o a : ℕ) (c : Command) where
       let found = mapped SetDirection (direction_numbered a) c e in
       subst (Reads o a) found.2 (is, direction_read a found.0 found.1, tt)
 
-  break_with : o ≡ 6 → option_map commands.Break (break_numbered a) ≡ Some c → Reads o a c
-  break_with is e =
-      let found = mapped commands.Break (break_numbered a) c e in
+  break_with : (f : Break → Command) → ((at : Break) → HasTypedStep at → Reads o (break_number at) (f at)) → option_map f (break_numbered a) ≡ Some c → Reads o a c
+  break_with f reads e =
+      let found = mapped f (break_numbered a) c e in
       let read = break_read a found.0 found.1 in
-      subst (Reads o a) found.2 (is, read.0, read.1)
+      subst (Reads o a) found.2 (subst (λ k. Reads o k (f found.0)) (sym read.0) (reads found.0 read.1))
 
   watch_with : o ≡ 7 → option_map Watch (watch_at a) ≡ Some c → Reads o a c
   watch_with is e =
@@ -271,13 +272,14 @@ module _ (o a : ℕ) (c : Command) where
       (branch (nat_eq o 3) _ _ c _ (λ k. let is = eqb-true o 3 k in nothing_with Continue (is, refl, tt))
       (branch (nat_eq o 4) _ _ c _ (λ k. let is = eqb-true o 4 k in nothing_with ReverseContinue (is, refl, tt))
       (branch (nat_eq o 5) _ _ c _ (λ k. direction_with (eqb-true o 5 k))
-      (branch (nat_eq o 6) _ _ c _ (λ k. break_with (eqb-true o 6 k))
+      (branch (nat_eq o 6) _ _ c _ (λ k. let is = eqb-true o 6 k in break_with commands.Break (λ at h. (is, refl, h)))
       (branch (nat_eq o 7) _ _ c _ (λ k. watch_with (eqb-true o 7 k))
       (branch (nat_eq o 8) _ _ c _ (λ k. let is = eqb-true o 8 k in number_with Delete (λ n h. (is, refl, h)))
       (branch (nat_eq o 9) _ _ c _ (λ k. let is = eqb-true o 9 k in nothing_with Checkpoint (is, refl, tt))
       (branch (nat_eq o 10) _ _ c _ (λ k. let is = eqb-true o 10 k in number_with Restart (λ n h. (is, refl, h)))
       (branch (nat_eq o 11) _ _ c _ (λ k. let is = eqb-true o 11 k in number_with DeleteCheckpoint (λ n h. (is, refl, h)))
-      (λ e. cc)))))))))))
+      (branch (nat_eq o 12) _ _ c _ (λ k. let is = eqb-true o 12 k in break_with TemporaryBreak (λ at h. (is, refl, h)))
+      (λ e. cc))))))))))))
 
 pub word_read : (n tag : ℕ) (command : Command) → command_of n ≡ Some (tag, command) → (n ≡ word_of tag command) × (tag < 256) × HasTypedNumbers command
 word_read n tag command e =

@@ -87,7 +87,7 @@ break_at (b ∷ bs) =
     if b == 64 then (number_of bs >>= λ n. at_least_one n >>= λ step. Ok (breaks.Step step))
     else ok_or (option_map breaks.Kind (kind_named (b ∷ bs))) BadArgument
 
--- where a `break` stops: one word says it
+-- where a `break` or a `tbreak` stops: one word says it
 abbrev pub break_of : List (List ℕ) → Result Break LineFault
 break_of (word ∷ []) = break_at word
 break_of _ = Err BadArgument
@@ -154,6 +154,8 @@ meaning_of_words (verb ∷ rest) =
     then (setting_of rest >>= λ way. Ok (Run (commands.SetDirection way)))
     else if bytes_eq verb (codes "break") || bytes_eq verb (codes "b")
     then (break_of rest >>= λ at. Ok (Run (commands.Break at)))
+    else if bytes_eq verb (codes "tbreak") || bytes_eq verb (codes "tb")
+    then (break_of rest >>= λ at. Ok (Run (commands.TemporaryBreak at)))
     else if bytes_eq verb (codes "watch") then (cell_of rest >>= λ c. Ok (Run (commands.Watch c)))
     else if bytes_eq verb (codes "delete") then (deletion_of rest >>= λ d. Ok (Run d))
     else if bytes_eq verb (codes "checkpoint") then alone (Run commands.Checkpoint) rest

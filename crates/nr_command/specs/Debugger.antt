@@ -3,7 +3,7 @@ use Rattle.std.specs.Prelude.{ℕ, ◌+◌, ◌-◌, ◌<◌, ◌≤◌, ◌==�
 use Rattle.nr_rev.specs.Cell.{cell, bytes_of, queue_of}
 use Rattle.nr_rev.specs.Run.{Recording, world_at}
 use Rattle.nr_rev.specs.Worlds.{HasItems}
-use Rattle.nr_marks.specs.Marks.{mark_deletion, next_number}
+use Rattle.nr_marks.specs.Marks.{after_stop, mark_deletion, next_number}
 use Rattle.nr_marks.specs.Numbered.{empty, item_of, with_item, without_item}
 use Rattle.nr_marks.specs.declared.mark.Mark.{Mark}
 use Rattle.nr_marks.specs.declared.mark.Mark.TheVariants as marks
@@ -51,9 +51,13 @@ step Forward n last d = if nat_lt last (d.position + n) then to_end Forward last
 step Backward n last d = if nat_lt d.position n then to_end Backward last d
     else (replies.At (d.position - n), moved_to (d.position - n) d)
 
--- it goes to what was found, and says which marks hit there; where nothing was, to the end that way
+-- It goes to what was found, and says which marks hit there; those of them that are temporary are
+-- gone then. Where nothing was found it goes to the end that way, and the marks stay.
 abbrev pub stop_at : Direction → Recording → Debugger → Found → Ran
-stop_at way r d (Hit h) = (replies.AtHit h.position h.marks, moved_to h.position d)
+stop_at way r d (Hit h) = (
+  replies.AtHit h.position h.marks,
+  record d { position = h.position; marks = after_stop h.marks.items d.marks },
+)
 stop_at way r d Nothing = to_end way (length r.steps) d
 
 -- it goes to the nearest hit that way
@@ -120,6 +124,7 @@ run r commands.Continue d = continue d.direction r d
 run r commands.ReverseContinue d = continue Backward r d
 run r (commands.SetDirection way) d = (replies.Direction way, record d { direction = way })
 run r (commands.Break wanted) d = make_mark (marks.Break wanted) d
+run r (commands.TemporaryBreak wanted) d = make_mark (marks.TemporaryBreak wanted) d
 run r (commands.Watch c) d = make_mark (marks.Watch c) d
 run r (commands.Delete number) d = delete_mark number d
 run r commands.Checkpoint d = keep_position d

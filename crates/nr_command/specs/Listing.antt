@@ -3,18 +3,24 @@ use Rattle.std.specs.Prelude.{ℕ, List, ◌++◌, length, flat_map, codes, deci
 use Rattle.nr_rev.specs.Kind.{kind_name}
 use Rattle.nr_command.specs.Value.{cell_text}
 use Rattle.nr_command.specs.Checkpoints.{Checkpoint}
+use Rattle.nr_marks.specs.declared.mark.Break.{Break}
 use Rattle.nr_marks.specs.declared.mark.Break.TheVariants as breaks
 use Rattle.nr_marks.specs.declared.mark.Mark.{Mark}
-use Rattle.nr_marks.specs.declared.mark.Mark.TheVariants.{Break, Watch}
+use Rattle.nr_marks.specs.declared.mark.Mark.TheVariants as marks
 use Rattle.nr_marks.specs.Marks.{NumberedMark}
 use Rattle.nr_command.specs.declared.listing.Listing.{Listing}
 use Rattle.nr_command.specs.declared.listing.Listing.TheVariants.{Heading, Marks, Checkpoints}
 
+-- where a break hits: the kind of the steps, or the number of the step
+abbrev pub break_text : Break → List ℕ
+break_text (breaks.Kind kind) = kind_name kind
+break_text (breaks.Step step) = codes "@" ++ decimal step.value
+
 -- a mark, as the command that makes it
 abbrev pub mark_text : Mark → List ℕ
-mark_text (Break (breaks.Kind kind)) = codes "break " ++ kind_name kind
-mark_text (Break (breaks.Step step)) = codes "break @" ++ decimal step.value
-mark_text (Watch cell) = codes "watch " ++ cell_text cell
+mark_text (marks.Break wanted) = codes "break " ++ break_text wanted
+mark_text (marks.TemporaryBreak wanted) = codes "tbreak " ++ break_text wanted
+mark_text (marks.Watch cell) = codes "watch " ++ cell_text cell
 
 -- a line of the list of marks
 abbrev pub mark_line : NumberedMark → List ℕ

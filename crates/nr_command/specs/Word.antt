@@ -11,7 +11,7 @@ use Rattle.nr_marks.specs.declared.mark.Break.TheVariants as breaks
 use Rattle.nr_search.specs.declared.direction.Direction.{Direction}
 use Rattle.nr_search.specs.declared.direction.Direction.TheVariants.{Forward, Backward}
 use Rattle.nr_command.specs.declared.command.Command.{Command}
-use Rattle.nr_command.specs.declared.command.Command.TheVariants.{Step, ReverseStep, Continue, ReverseContinue, SetDirection, Watch, Delete, Checkpoint, Restart, DeleteCheckpoint}
+use Rattle.nr_command.specs.declared.command.Command.TheVariants.{Step, ReverseStep, Continue, ReverseContinue, SetDirection, Watch, Delete, Checkpoint, Restart, DeleteCheckpoint, TemporaryBreak}
 use Rattle.nr_command.specs.declared.command.Command.TheVariants as commands
 
 -- which command it is
@@ -27,11 +27,17 @@ opcode_of (Delete number) = 8
 opcode_of Checkpoint = 9
 opcode_of (Restart number) = 10
 opcode_of (DeleteCheckpoint number) = 11
+opcode_of (TemporaryBreak at) = 12
 
 -- an index, and 0 where there is none
 abbrev pub index_or_0 : Option ℕ → ℕ
 index_or_0 None = 0
 index_or_0 (Some index) = index
+
+-- a break as a number: its low byte says of which sort it is, the rest which one
+abbrev pub break_number : Break → ℕ
+break_number (breaks.Kind kind) = 256 * kind_number kind
+break_number (breaks.Step step) = 1 + 256 * step.value
 
 -- what is asked of it
 abbrev pub argument_of : Command → ℕ
@@ -39,8 +45,8 @@ argument_of (Step count) = count.value
 argument_of (ReverseStep count) = count.value
 argument_of (SetDirection Forward) = 0
 argument_of (SetDirection Backward) = 1
-argument_of (commands.Break (breaks.Kind kind)) = 256 * kind_number kind
-argument_of (commands.Break (breaks.Step step)) = 1 + 256 * step.value
+argument_of (commands.Break at) = break_number at
+argument_of (TemporaryBreak at) = break_number at
 argument_of (Watch cell) = cell_number cell + 256 * index_or_0 (cell_index cell)
 argument_of (Delete number) = number
 argument_of (Restart number) = number
@@ -51,11 +57,17 @@ argument_of _ = 0
 abbrev pub word_of : ℕ → Command → ℕ
 word_of tag command = opcode_of command + 256 * tag + 65536 * argument_of command
 
+-- the number of a step that a break holds has 32 bits, as its type says
+abbrev pub HasTypedStep : Break → Type 0
+HasTypedStep (breaks.Kind kind) = ⊤
+HasTypedStep (breaks.Step step) = step.value < 2 ^ 32
+
 -- the numbers that a command holds have 32 bits, as its type says
 abbrev pub HasTypedNumbers : Command → Type 0
 HasTypedNumbers (Step count) = count.value < 2 ^ 32
 HasTypedNumbers (ReverseStep count) = count.value < 2 ^ 32
-HasTypedNumbers (commands.Break (breaks.Step step)) = step.value < 2 ^ 32
+HasTypedNumbers (commands.Break at) = HasTypedStep at
+HasTypedNumbers (TemporaryBreak at) = HasTypedStep at
 HasTypedNumbers (Watch cell) = IfSome (cell_index cell) (λ index. index < 2 ^ 32)
 HasTypedNumbers (Delete number) = number < 2 ^ 32
 HasTypedNumbers (Restart number) = number < 2 ^ 32
@@ -85,7 +97,7 @@ abbrev pub direction_numbered : ℕ → Option Direction
 direction_numbered argument =
     if argument == 0 then Some Forward else if argument == 1 then Some Backward else None
 
--- the break that a word's argument names: its low byte says of which sort, the rest which one
+-- the break of a number
 abbrev pub break_numbered : ℕ → Option Break
 break_numbered argument =
     if argument % 256 == 0 then option_map breaks.Kind (kind_numbered (argument / 256))
@@ -116,6 +128,7 @@ command_with opcode argument =
     else if opcode == 9 then only_without argument Checkpoint
     else if opcode == 10 then option_map Restart (small argument)
     else if opcode == 11 then option_map DeleteCheckpoint (small argument)
+    else if opcode == 12 then option_map TemporaryBreak (break_numbered argument)
     else None
 
 -- the tag and the command of a word, if it is a command's

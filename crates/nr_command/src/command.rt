@@ -31,6 +31,9 @@ pub enum Command {
     Restart(u32),
     /// Deletes the checkpoint of this number.
     DeleteCheckpoint(u32),
+    /// Marks the positions before some steps, as `Break` does. The mark is gone after the first stop of `Continue` or
+    /// `ReverseContinue` where it hits.
+    TemporaryBreak(Break),
 }
 
 /// What is looked at. A look changes nothing.

@@ -86,6 +86,7 @@ impl Debugger {
                 Reply::Direction(direction)
             }
             Command::Break(wanted) => self.make_mark(Mark::Break(wanted)),
+            Command::TemporaryBreak(wanted) => self.make_mark(Mark::TemporaryBreak(wanted)),
             Command::Watch(cell) => self.make_mark(Mark::Watch(cell)),
             Command::Delete(number) => self.delete_mark(number),
             Command::Checkpoint => self.keep_position(),
@@ -132,7 +133,7 @@ impl Debugger {
         }
     }
 
-    /// Goes to the nearest hit that way, or to the end there.
+    /// Goes to the nearest hit that way, after which the temporary marks that hit are gone, or to the end there.
     fn go_on<W: Worlds + Drop + Sync, F: Finder>(
         &mut self,
         film: &Film<W>,
@@ -149,6 +150,7 @@ impl Debugger {
         match found {
             Found::Hit(hit) => {
                 self.position = hit.position;
+                self.marks.delete_temporary(hit.marks.as_slice());
                 Ok(Reply::AtHit {
                     position: hit.position,
                     marks: hit.marks,
@@ -163,6 +165,7 @@ impl Debugger {
     {
         let made = match mark {
             Mark::Break(wanted) => self.marks.add_break(wanted),
+            Mark::TemporaryBreak(wanted) => self.marks.add_tbreak(wanted),
             Mark::Watch(cell) => self.marks.add_watch(cell),
         };
         match made {

@@ -1,7 +1,7 @@
 //! Sends the lines of the lists of marks and checkpoints.
 
-ghost use Rattle.std.specs.Prelude.{ℕ, List, flat_map};
-ghost use Rattle.nr_command.specs.Listing.{checkpoint_line, checkpoints_text, listing_text, mark_line, marks_text};
+ghost use Rattle.std.specs.Prelude.{ℕ, List, ◌++◌, codes, decimal, flat_map};
+ghost use Rattle.nr_command.specs.Listing.{break_text, checkpoint_line, checkpoints_text, listing_text, mark_line, marks_text};
 ghost use Rattle.nr_text.specs.Buffered.{Writes};
 
 use crate::checkpoint::Checkpoint;
@@ -25,29 +25,44 @@ impl Listed for NumberedMark {
     ghost line = { mark_line };
 
     fn send_line<W: Write>(&self, w: &mut Buffered<W>) -> Result<(), WriteFailed> {
-        let number = Piece::Number(self.number);
         match self.item {
-            Mark::Break(Break::Kind(kind)) => {
-                let kind = Piece::Text(kind.name().as_bytes());
-                send_all(
-                    &[number, Piece::Text(b" break "), kind, Piece::Text(b"\n")],
-                    w,
-                )
-            }
-            Mark::Break(Break::Step(step)) => {
-                let step = Piece::Number(step.get());
-                send_all(
-                    &[number, Piece::Text(b" break @"), step, Piece::Text(b"\n")],
-                    w,
-                )
-            }
+            Mark::Break(wanted) => send_break(self.number, b" break ", wanted, w),
+            Mark::TemporaryBreak(wanted) => send_break(self.number, b" tbreak ", wanted, w),
             Mark::Watch(cell) => {
+                let number = Piece::Number(self.number);
                 let cell = Piece::Cell(cell);
                 send_all(
                     &[number, Piece::Text(b" watch "), cell, Piece::Text(b"\n")],
                     w,
                 )
             }
+        }
+    }
+}
+
+/// Writes the line of a break: its number, the command that makes it, and where it hits.
+fn send_break<W: Write>(
+    number: u32,
+    command: &'static [u8],
+    wanted: Break,
+    w: &mut Buffered<W>,
+) -> Result<(), WriteFailed>
+    ensures { Writes w.old w.new
+        (decimal number ++ command.now ++ break_text wanted ++ codes "\n") result }
+{
+    let number = Token::Number(u64::from(number));
+    let command = Token::Text(command);
+    match wanted {
+        Break::Kind(kind) => {
+            let kind = Token::Text(kind.name().as_bytes());
+            send_all(&[number, command, kind, Token::Text(b"\n")], w)
+        }
+        Break::Step(step) => {
+            let step = Token::Number(u64::from(step.get()));
+            send_all(
+                &[number, command, Token::Text(b"@"), step, Token::Text(b"\n")],
+                w,
+            )
         }
     }
 }

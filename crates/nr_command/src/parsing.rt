@@ -23,9 +23,9 @@ impl Command {
     ///
     /// The words are those of GDB's manual, chapters "Running Programs Backward" and "Setting a Bookmark to Return to
     /// Later". Commands are `stepi` and `reverse-stepi` with how often, `continue`, `reverse-continue`,
-    /// `set exec-direction`, `break` with a kind of step or `@` and a step's number, `watch` with a cell, `delete` and
-    /// `delete checkpoint`, `checkpoint`, `restart`. Looks are `print`, `dump` and `info`. Besides, there are `resume` and
-    /// `quit`.
+    /// `set exec-direction`, `break` and `tbreak` with a kind of step or `@` and a step's number, `watch` with a cell,
+    /// `delete` and `delete checkpoint`, `checkpoint`, `restart`. Looks are `print`, `dump` and `info`. Besides, there are
+    /// `resume` and `quit`.
     ///
     /// Words are separated by spaces. One carriage return at the end of the line is left out. A line of more than 256
     /// bytes is too long whatever it holds. Where the first word is none of these that is the fault, else any other
@@ -60,6 +60,7 @@ fn request(verb: &[u8], rest: &[&[u8]]) -> Result<Line, LineFault>
         }
         _ if is(verb, b"set") => Command::SetDirection(setting(rest)?),
         _ if is(verb, b"break") || is(verb, b"b") => Command::Break(break_of(rest)?),
+        _ if is(verb, b"tbreak") || is(verb, b"tb") => Command::TemporaryBreak(break_of(rest)?),
         _ if is(verb, b"watch") => Command::Watch(cell(rest)?),
         _ if is(verb, b"delete") => deletion(rest)?,
         _ if is(verb, b"checkpoint") => return alone(Line::Run(Command::Checkpoint), rest),

@@ -3,7 +3,7 @@
 ghost use Rattle.std.specs.Prelude.{◌≡◌, ◌<◌, ◌/◌, ◌%◌, ◌^◌, Some};
 ghost use Rattle.nr_rev.specs.Kind.{kind_numbered};
 ghost use Rattle.nr_journal.specs.Rule.{HasOpcode};
-ghost use Rattle.nr_command.specs.Word.{HasTypedNumbers, argument_of, break_numbered, cell_at, command_of, command_with, direction_numbered, from_one_below, only_without, opcode_of, small, watch_at, word_of};
+ghost use Rattle.nr_command.specs.Word.{HasTypedNumbers, HasTypedStep, argument_of, break_number, break_numbered, cell_at, command_of, command_with, direction_numbered, from_one_below, only_without, opcode_of, small, watch_at, word_of};
 
 use crate::command::Command;
 use crate::count::from_one;
@@ -48,6 +48,7 @@ impl Command {
             Command::Checkpoint => 9,
             Command::Restart(_) => 10,
             Command::DeleteCheckpoint(_) => 11,
+            Command::TemporaryBreak(_) => 12,
         }
     }
 
@@ -62,8 +63,7 @@ impl Command {
             Command::Continue | Command::ReverseContinue | Command::Checkpoint => 0,
             Command::SetDirection(Direction::Forward) => 0,
             Command::SetDirection(Direction::Backward) => 1,
-            Command::Break(Break::Kind(kind)) => 256 * u64::from(kind.number()),
-            Command::Break(Break::Step(step)) => 1 + 256 * u64::from(step.get()),
+            Command::Break(wanted) | Command::TemporaryBreak(wanted) => break_number(wanted),
             Command::Watch(cell) => {
                 u64::from(cell.number()) + 256 * u64::from(cell.index().unwrap_or(0))
             }
@@ -71,6 +71,18 @@ impl Command {
             | Command::Restart(number)
             | Command::DeleteCheckpoint(number) => { u64::from(number) }
         }
+    }
+}
+
+/// A break as a number, whose lowest byte says whether it is of a kind or of a step.
+fn break_number(wanted: Break) -> u64
+    ensures value { result ≡ break_number wanted }
+    ensures fits { result < 2 ^ 48 }
+    ensures typed { HasTypedStep wanted }
+{
+    match wanted {
+        Break::Kind(kind) => 256 * u64::from(kind.number()),
+        Break::Step(step) => 1 + 256 * u64::from(step.get()),
     }
 }
 
@@ -90,6 +102,7 @@ fn with_argument(opcode: u64, argument: u64) -> Option<Command>
         9 => only_without(argument, Command::Checkpoint),
         10 => Some(Command::Restart(small(argument)?)),
         11 => Some(Command::DeleteCheckpoint(small(argument)?)),
+        12 => Some(Command::TemporaryBreak(break_numbered(argument)?)),
         _ => None,
     }
 }
@@ -125,7 +138,7 @@ fn direction_numbered(argument: u64) -> Option<Direction>
     }
 }
 
-/// A break by a kind's number or by a step's, which the lowest byte says.
+/// The break of a number.
 fn break_numbered(argument: u64) -> Option<Break>
     ensures { result ≡ break_numbered argument }
 {

@@ -28,7 +28,7 @@ pub fn nothing_is_hidden()
 /// The greatest opcode of a word of the journal, how many passes enter a journal at most, and how many words it has at
 /// most.
 pub fn the_numbers()
-    ensures opcode { GREATEST_OPCODE ≡ 11 }
+    ensures opcode { GREATEST_OPCODE ≡ 12 }
     ensures passes { MOST_PASSES ≡ 64 }
     ensures words { MOST_WORDS ≡ 1000000 }
 {}

@@ -4,7 +4,7 @@ use crate::view::View;
 use atomic_table::TableRule;
 
 /// The greatest opcode of a word. The least is 1, so no word is 0.
-pub const GREATEST_OPCODE: u64 = 11;
+pub const GREATEST_OPCODE: u64 = 12;
 
 /// A word's lowest byte is its opcode and the next one its tag: how many values a byte has.
 pub const BYTE_VALUES: u64 = 256;

@@ -7,7 +7,6 @@ use Rattle.nr_rev.specs.Run.{Recording, world_at}
 use Rattle.nr_rev.specs.World.{World}
 use Rattle.nr_rev.specs.declared.cell_value.CellValue.{CellValue}
 use Rattle.nr_rev.specs.declared.cell_value.CellValue.TheVariants.{Absent}
-use Rattle.nr_rev.specs.declared.kind.Kind.{Kind}
 use Rattle.nr_rev.specs.declared.step.Step.{Step}
 use Rattle.nr_rev.specs.contracts.cell_value.CellValuePartialEq.TheImpl as value_eq
 use Rattle.nr_marks.specs.declared.mark.Break.{Break}
@@ -26,16 +25,23 @@ abbrev pub names : Break → NextStep → Bool
 names (break.Kind kind) step = same_kind kind step.kind
 names (break.Step number) step = non_zero_u32_get number == step.number
 
+-- A break hits where it names the step that comes next.
+abbrev pub break_hits : Break → Option NextStep → Bool
+break_hits wanted None = false
+break_hits wanted (Some step) = names wanted step
+
 -- The value that a mark watches in a world: its cell's. A break watches none.
 abbrev pub watched : World → Mark → CellValue
 watched w (mark.Break wanted) = Absent
+watched w (mark.TemporaryBreak wanted) = Absent
 watched w (mark.Watch c) = cell w c
 
--- A break hits where it names the step that comes next. A watch hits where its cell has another
--- value in this world than in the one before. A cell that isn't there has a value of its own.
+-- A break hits where it names the step that comes next, temporary or not. A watch hits where its
+-- cell has another value in this world than in the one before. A cell that isn't there has a value
+-- of its own.
 abbrev pub hits_by : CellValue → CellValue → Option NextStep → Mark → Bool
-hits_by before now None (mark.Break wanted) = false
-hits_by before now (Some step) (mark.Break wanted) = names wanted step
+hits_by before now next (mark.Break wanted) = break_hits wanted next
+hits_by before now next (mark.TemporaryBreak wanted) = break_hits wanted next
 hits_by before now next (mark.Watch c) = not (same_value before now)
 
 -- a mark hits between two worlds

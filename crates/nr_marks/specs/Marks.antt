@@ -1,7 +1,9 @@
--- The marks, and what is answered where one is made or deleted.
-use Rattle.std.specs.Prelude.{ℕ, ◌+◌, Result, Ok, Err, if◌then◌else◌}
-use Rattle.nr_marks.specs.Numbered.{NumberedItems, is_full, is_present}
+-- The marks, what is answered where one is made or deleted, and what a stop leaves of them.
+use Rattle.std.specs.Prelude.{ℕ, ◌+◌, ◌==◌, ◌&&◌, Bool, true, false, not, List, Result, Ok, Err, if◌then◌else◌}
+use Rattle.std.specs.List.{list_any}
+use Rattle.nr_marks.specs.Numbered.{NumberedItems, is_full, is_present, kept_by}
 use Rattle.nr_marks.specs.declared.mark.Mark.{Mark}
+use Rattle.nr_marks.specs.declared.mark.Mark.TheVariants.{TemporaryBreak}
 use Rattle.nr_marks.specs.declared.marks.MarkFault.{MarkFault}
 use Rattle.nr_marks.specs.declared.marks.MarkFault.TheVariants.{NoSuchMark, MarksFull}
 use Rattle.nr_marks.specs.declared.numbered.Numbered.{Numbered}
@@ -21,3 +23,16 @@ next_number table = if is_full table then Err MarksFull else Ok (table.made + 1)
 -- What deleting a mark answers.
 abbrev pub mark_deletion : ℕ → MarkList → Result (Unit {0}) MarkFault
 mark_deletion number table = if is_present number table then Ok tt else Err NoSuchMark
+
+-- The mark is gone after the first stop where it hits.
+abbrev pub is_temporary : Mark → Bool
+is_temporary (TemporaryBreak wanted) = true
+is_temporary _ = false
+
+-- A mark is gone after a stop where the marks with these numbers hit.
+abbrev pub goes : List ℕ → NumberedMark → Bool
+goes hits m = is_temporary m.item && list_any (λ number. number == m.number) hits
+
+-- What a stop leaves where the marks with these numbers hit: all but the temporary ones among them.
+abbrev pub after_stop : List ℕ → MarkList → MarkList
+after_stop hits table = kept_by (λ m. not (goes hits m)) table

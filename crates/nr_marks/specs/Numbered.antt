@@ -50,7 +50,10 @@ module _ {Item : Type 0} where
   abbrev pub is_present : ℕ → NumberedItems Item → Bool
   is_present number table = is_some (item_of number table)
 
-  -- What deleting an item leaves: the others, under their numbers, and its number isn't used again.
+  -- the items that pass a test, under their numbers; those of the others aren't used again
+  abbrev pub kept_by : (Numbered Item → Bool) → NumberedItems Item → NumberedItems Item
+  kept_by test table = record table { present = filter test table.present }
+
+  -- What deleting an item leaves: the others.
   abbrev pub without_item : ℕ → NumberedItems Item → NumberedItems Item
-  without_item number table =
-      record table { present = filter (λ n. not (n.number == number)) table.present }
+  without_item number table = kept_by (λ n. not (n.number == number)) table

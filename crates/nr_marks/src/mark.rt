@@ -2,7 +2,8 @@
 
 ghost use Rattle.std.specs.Prelude.{◌≡◌, ◌+◌, ◌<◌, ◌^◌};
 ghost use Rattle.std.specs.Option.{option_copied};
-ghost use Rattle.nr_marks.specs.Hit.{hits_by, names, numbered, watched};
+ghost use Rattle.nr_marks.specs.Hit.{break_hits, hits_by, names, numbered, watched};
+ghost use Rattle.nr_marks.specs.Marks.{is_temporary};
 
 use nr_rev::{Cell, CellValue, Kind, Step, Worlds};
 use std::num::NonZeroU32;
@@ -16,11 +17,13 @@ pub enum Break {
     Step(NonZeroU32),
 }
 
-/// What stops a debugger that continues, after GDB's `break` and `watch`.
+/// What stops a debugger that continues, after GDB's `break`, `tbreak` and `watch`.
 #[derive(Clone, Copy, Debug, PartialEq, Eq)]
 pub enum Mark {
     /// A breakpoint: stops before each step that it names.
     Break(Break),
+    /// A temporary breakpoint: stops as one that lasts, and is gone after the first stop where it hits.
+    TemporaryBreak(Break),
     /// A watchpoint: stops after each step that gives the cell another value. A cell that is not there has a value of
     /// its own, so a step that makes it stops too.
     Watch(Cell),
@@ -66,6 +69,16 @@ impl Break {
             Break::Step(number) => number.get() as usize == step.number,
         }
     }
+
+    /// Whether it hits at a position: by the step that comes next there.
+    pub fn hits(self, next: Option<NextStep>) -> bool
+        ensures { result ≡ break_hits self next }
+    {
+        match next {
+            Some(step) => self.names(step),
+            None => false,
+        }
+    }
 }
 
 impl Mark {
@@ -76,7 +89,7 @@ impl Mark {
         ensures { result ≡ watched (W.world world.now) self }
     {
         match self {
-            Mark::Break(_) => CellValue::Absent,
+            Mark::Break(_) | Mark::TemporaryBreak(_) => CellValue::Absent,
             Mark::Watch(cell) => world.cell(cell),
         }
     }
@@ -88,11 +101,15 @@ impl Mark {
         ensures { result ≡ hits_by before now next self }
     {
         match self {
-            Mark::Break(wanted) => match next {
-                Some(step) => wanted.names(step),
-                None => false,
-            },
+            Mark::Break(wanted) | Mark::TemporaryBreak(wanted) => wanted.hits(next),
             Mark::Watch(_) => before != now,
         }
+    }
+
+    /// Whether it is gone after the first stop where it hits, as `tbreak` of GDB is.
+    pub fn is_temporary(self) -> bool
+        ensures { result ≡ is_temporary self }
+    {
+        matches!(self, Mark::TemporaryBreak(_))
     }
 }

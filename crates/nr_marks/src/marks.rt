@@ -36,10 +36,22 @@ impl Model for Marks {
     ghost view = { λ m. m.list };
 }
 
+impl NumberedList<Mark> {
+    ghost use Rattle.std.specs.Prelude.{◌≡◌};
+    ghost use Rattle.nr_marks.specs.Marks.{after_stop};
+
+    // Deletes the temporary marks among those with these numbers.
+    fn delete_temporary(&mut self, hits: &[u32])
+        ensures { self.new ≡ after_stop hits.now self.old }
+    {
+        self.present.retain(|mark| !(mark.item.is_temporary() && hits.contains(&mark.number)));
+    }
+}
+
 impl Marks {
     ghost use Rattle.std.specs.Prelude.{◌≡◌, ◌≤◌, length, OnErr};
     ghost use Rattle.nr_marks.specs.Hit.{hits_between};
-    ghost use Rattle.nr_marks.specs.Marks.{mark_deletion, next_number};
+    ghost use Rattle.nr_marks.specs.Marks.{after_stop, mark_deletion, next_number};
     ghost use Rattle.nr_marks.specs.Numbered.{RisesWithin, empty, numbers_of, with_item, without_item};
     ghost use Rattle.nr_marks.specs.declared.marks.TheConstants.{MOST_MARKS};
     ghost use Rattle.nr_marks.specs.declared.mark.Mark.TheVariants as mark;
@@ -61,6 +73,16 @@ impl Marks {
         ensures unchanged { OnErr result (self.new ≡ self.old) }
     {
         self.add(Mark::Break(wanted))
+    }
+
+    /// Makes a temporary breakpoint and returns its number, the next one. Where there are 64 marks or the numbers are used
+    /// up, it is refused and nothing changes.
+    pub fn add_tbreak(&mut self, wanted: Break) -> Result<u32, MarkFault>
+        ensures number { result ≡ next_number self.old }
+        ensures marks { self.new ≡ with_item (mark.TemporaryBreak wanted) self.old }
+        ensures unchanged { OnErr result (self.new ≡ self.old) }
+    {
+        self.add(Mark::TemporaryBreak(wanted))
     }
 
     /// Makes a watchpoint and returns its number, the next one. Where there are 64 marks or the numbers are used up, it is
@@ -97,6 +119,14 @@ impl Marks {
         } else {
             Err(MarkFault::NoSuchMark)
         }
+    }
+
+    /// After a stop where the marks with these numbers hit: the temporary ones among them are gone, as GDB deletes a
+    /// breakpoint of `tbreak`. The others keep their numbers, and the numbers of those aren't used again.
+    pub fn delete_temporary(&mut self, hits: &[u32])
+        ensures { self.new ≡ after_stop hits.now self.old }
+    {
+        self.list.delete_temporary(hits);
     }
 
     /// The marks, rising by number.

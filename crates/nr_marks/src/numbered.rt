@@ -20,7 +20,7 @@ pub struct Numbered<T> {
 /// memory.
 #[derive(Debug, Drop)]
 pub struct NumberedList<T> {
-    present: ArrayVec<Numbered<T>, MOST_NUMBERED>,
+    pub(crate) present: ArrayVec<Numbered<T>, MOST_NUMBERED>,
     made: u32,
 }
 

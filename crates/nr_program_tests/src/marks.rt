@@ -41,6 +41,42 @@ fn a_break_hits_before_its_step(rt: HostRuntime) -> Result<(), AllocError> {
 }
 
 #[test]
+fn a_tbreak_is_gone_after_the_stop_where_it_hits(rt: HostRuntime) -> Result<(), AllocError> {
+    assert_replies(
+        &rt,
+        rt.alloc(),
+        READ,
+        "tbreak rwlock\ncontinue\ninfo breakpoints\nreverse-continue\n",
+        "mark 1\nat 2 by 1\nmarks 0\nat 0 start\n",
+    )?;
+    assert_replies(
+        &rt,
+        rt.alloc(),
+        READ,
+        "si 12\ntbreak arrive\nwatch rg 0\nrc\nrc\nrc\nrc\n",
+        "at 12\nmark 1\nmark 2\nat 10 by 2\nat 9 by 2\nat 7 by 1 2\nat 5 by 2\n",
+    )
+}
+
+#[test]
+fn a_tbreak_stays_where_it_does_not_hit(rt: HostRuntime) -> Result<(), AllocError> {
+    assert_replies(
+        &rt,
+        rt.alloc(),
+        READ,
+        "tb @8\nb rwlock\nc\nsi 5\nc\nrestart 0\nrc\ninfo breakpoints\n",
+        "mark 1\nmark 2\nat 2 by 2\nat 7\nat 12 end\nat 0\nat 0 start\nmarks 2\n1 tbreak @8\n2 break rwlock\n",
+    )?;
+    assert_replies(
+        &rt,
+        rt.alloc(),
+        READ,
+        "tb @8\nc\nrc\ndelete 1\ntb @8\n",
+        "mark 1\nat 7 by 1\nat 0 start\nfault 401 no such mark\nmark 2\n",
+    )
+}
+
+#[test]
 fn all_marks_that_hit_are_told(rt: HostRuntime) -> Result<(), AllocError> {
     assert_replies(
         &rt,

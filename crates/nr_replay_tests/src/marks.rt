@@ -39,8 +39,24 @@ fn at_most_64_marks_are_present(rt: HostRuntime) -> Result<(), Fail> {
         assert_eq!(rt; marks.add_watch(Cell::Clock), Ok(number));
     }
     assert_eq!(rt; marks.add_watch(Cell::Clock), Err(MarkFault::MarksFull));
+    let rwlock = Break::Kind(Kind::RwLock);
+    assert_eq!(rt; marks.add_tbreak(rwlock), Err(MarkFault::MarksFull));
     assert_eq!(rt; marks.delete(1), Ok(()));
     assert_eq!(rt; marks.add_watch(Cell::Clock), Ok(65));
     assert_eq!(rt; marks.len(), 64);
+    Ok(())
+}
+
+#[test]
+fn a_temporary_mark_is_deleted_where_it_hit(rt: HostRuntime) -> Result<(), Fail> {
+    let mut marks = Marks::new();
+    let rwlock = Break::Kind(Kind::RwLock);
+    assert_eq!(rt; marks.add_break(rwlock), Ok(1));
+    assert_eq!(rt; marks.add_tbreak(rwlock), Ok(2));
+    marks.delete_temporary([1].as_slice());
+    assert_eq!(rt; marks.len(), 2);
+    marks.delete_temporary([1, 2].as_slice());
+    assert_eq!(rt; marks.len(), 1);
+    assert_eq!(rt; marks.add_tbreak(rwlock), Ok(3));
     Ok(())
 }

@@ -77,11 +77,11 @@ fn applies_all_or_none(rt: HostRuntime) -> Result<(), Fail> {
     Ok(())
 }
 
-/// Applies all the steps and undoes them all: how many deltas there were, and the lock words of socket 0 in between and
-/// then.
+/// Applies all the steps and undoes them all: how many deltas there were, and the values of a cell in between and then.
 fn there_and_back(
     world: &mut World,
     steps: &[Step],
+    shown: Cell,
 ) -> Result<(usize, CellValue, CellValue), Refusal>
     requires well_formed { IsWorld world.old }
     requires few { length steps.now ≤ 8 }
@@ -91,28 +91,51 @@ fn there_and_back(
     let mut deltas = ArrayVec::new();
     transact(world, steps, &mut deltas)?;
     let made = deltas.len();
-    let there = world.cell(Cell::Lock(0));
+    let there = world.cell(shown);
     undo_all(world, &mut deltas);
-    Ok((made, there, world.cell(Cell::Lock(0))))
+    Ok((made, there, world.cell(shown)))
 }
 
 #[test]
 fn undoes_all(rt: HostRuntime) -> Result<(), Fail> {
     let mut world = little_world(rt.alloc())?;
     assert_eq!(rt;
-        there_and_back(&mut world, &[OPEN, INCREF, DECREF]),
+        there_and_back(&mut world, &[OPEN, INCREF, DECREF], Cell::Lock(0)),
         Ok((3, CellValue::Number(0), CellValue::Absent))
     );
     assert_eq!(rt; advance(&mut world, &OPEN), Ok(Answer::Number(0)));
     assert_eq!(rt;
-        there_and_back(&mut world, &[INCREF]),
+        there_and_back(&mut world, &[INCREF], Cell::Lock(0)),
         Ok((1, CellValue::Number(8), CellValue::Number(0)))
     );
     assert_eq!(rt; advance(&mut world, &INCREF), Ok(Answer::Yes));
     assert_eq!(rt;
-        there_and_back(&mut world, &[DECREF]),
+        there_and_back(&mut world, &[DECREF], Cell::Lock(0)),
         Ok((1, CellValue::Number(0), CellValue::Number(8)))
     );
+    Ok(())
+}
+
+const SHUT: Step = Step::CloseWrite {
+    goroutine: 0,
+    socket: 0,
+};
+
+#[test]
+fn undoes_the_shutting_of_a_write_side(rt: HostRuntime) -> Result<(), Fail> {
+    let mut world = little_world(rt.alloc())?;
+    assert_eq!(rt; advance(&mut world, &SHUT), Err(Refusal::NoSuchSocket));
+    assert_eq!(rt; advance(&mut world, &OPEN), Ok(Answer::Number(0)));
+    assert_eq!(rt;
+        there_and_back(&mut world, &[SHUT], Cell::Shut(0)),
+        Ok((1, CellValue::Number(1), CellValue::Number(0)))
+    );
+    assert_eq!(rt; advance(&mut world, &SHUT), Ok(Answer::Done));
+    assert_eq!(rt;
+        there_and_back(&mut world, &[SHUT], Cell::Shut(0)),
+        Ok((1, CellValue::Number(1), CellValue::Number(1)))
+    );
+    assert_eq!(rt; world.cell(Cell::Shut(1)), CellValue::Absent);
     Ok(())
 }
 

@@ -30,16 +30,27 @@ fn words_hold_opcode_tag_and_argument(rt: HostRuntime) -> Result<(), Fail> {
         (Command::ReverseContinue, 0, 4),
         (Command::SetDirection(Direction::Backward), 0, 65_541),
         (Command::Break(Break::Kind(Kind::Fire)), 0, 503_316_486),
+        (
+            Command::Break(Break::Kind(Kind::CloseWrite)),
+            0,
+            520_093_702,
+        ),
         (Command::Break(Break::Step(most)), 0, 72_057_594_021_216_262),
         (
             Command::Watch(Cell::Info(u32::MAX)),
             0,
             72_057_594_022_395_911,
         ),
+        (Command::Watch(Cell::Shut(0)), 0, 1_310_727),
         (Command::Delete(u32::MAX), 0, 281_474_976_645_128),
         (Command::Checkpoint, 0, 9),
         (Command::Restart(u32::MAX), 0, 281_474_976_645_130),
         (Command::DeleteCheckpoint(u32::MAX), 0, 281_474_976_645_131),
+        (
+            Command::TemporaryBreak(Break::Step(times(7))),
+            0,
+            117_506_060,
+        ),
     ];
     for (command, tag, word) in words {
         assert_eq!(rt; command.to_word(tag), word);
@@ -51,7 +62,7 @@ fn words_hold_opcode_tag_and_argument(rt: HostRuntime) -> Result<(), Fail> {
 #[test]
 fn other_numbers_are_no_words(rt: HostRuntime) -> Result<(), Fail> {
     // a continue with an argument, opcode 0 and one above the greatest, no steps, 2^32 steps, a break before step 0, a
-    // kind 31, and the clock of something
+    // kind 32, and the clock of something
     let others = [
         327_683,
         0,
@@ -59,7 +70,7 @@ fn other_numbers_are_no_words(rt: HostRuntime) -> Result<(), Fail> {
         1,
         281_474_976_710_657,
         65_542,
-        520_093_702,
+        536_870_918,
         16_842_759,
         u64::MAX,
     ];
@@ -84,6 +95,14 @@ fn lines_ask_for_commands(rt: HostRuntime) -> Result<(), Fail> {
             b"break rwlock",
             Line::Run(Command::Break(Break::Kind(Kind::RwLock))),
         ),
+        (
+            b"tbreak @7",
+            Line::Run(Command::TemporaryBreak(Break::Step(times(7)))),
+        ),
+        (
+            b"tb closewrite",
+            Line::Run(Command::TemporaryBreak(Break::Kind(Kind::CloseWrite))),
+        ),
         (b"watch rg 00", Line::Run(Command::Watch(Cell::ReadWord(0)))),
         (b"delete  2", Line::Run(Command::Delete(2))),
         (
@@ -107,6 +126,8 @@ fn other_lines_ask_for_nothing(rt: HostRuntime) -> Result<(), Fail> {
         (b"frob".as_slice(), LineFault::UnknownCommand),
         (b"stepi 0", LineFault::BadArgument),
         (b"break @0", LineFault::BadArgument),
+        (b"tbreak", LineFault::BadArgument),
+        (b"tb @0", LineFault::BadArgument),
         (b"info", LineFault::BadArgument),
         (b"watch clock 0", LineFault::BadArgument),
         (b"delete checkpoint", LineFault::BadArgument),
@@ -126,6 +147,8 @@ fn lists_are_printed_line_by_line(rt: HostRuntime) -> Result<(), Fail> {
         (1, Mark::Break(Break::Kind(Kind::RwLock))),
         (2, Mark::Break(Break::Step(times(7)))),
         (3, Mark::Watch(Cell::ReadWord(0))),
+        (4, Mark::TemporaryBreak(Break::Kind(Kind::RwLock))),
+        (5, Mark::TemporaryBreak(Break::Step(times(7)))),
     ] {
         let mark = NumberedMark { number, item: mark };
         assert!(rt; marks.try_push(mark).is_ok());
@@ -150,7 +173,7 @@ fn lists_are_printed_line_by_line(rt: HostRuntime) -> Result<(), Fail> {
         assert_eq!(rt; reported, Ok(()));
     }
     let text =
-        b"marks 3\n1 break rwlock\n2 break @7\n3 watch rg 0\nat 5 by 1 3\nat 5 of 12 reverse\n";
+        b"marks 5\n1 break rwlock\n2 break @7\n3 watch rg 0\n4 tbreak rwlock\n5 tbreak @7\nat 5 by 1 3\nat 5 of 12 reverse\n";
     assert!(rt; !out.has_failed());
     assert_eq!(rt; out.into_inner().as_slice(), text.as_slice());
     Ok(())

@@ -2,6 +2,7 @@
 
 ghost use Rattle.std.specs.Prelude.{◌≡◌, ◌≤◌};
 
+use crate::journal::place;
 use crate::sharing::{Lone, share};
 use nr_command::{Command, Query, Reply};
 use nr_front::FrontFault;
@@ -221,6 +222,30 @@ fn a_full_journal_takes_no_command(rt: HostRuntime) -> Result<(), Fail> {
     let wanted = [Answered::At(3), Answered::Full, is_at(3), Answered::Full];
     assert_eq!(rt; answers.as_slice(), wanted.as_slice());
     assert_eq!(rt; ended.seen, (1, 1));
+    Ok(())
+}
+
+/// What a front's step answers behind a word that is no command's, how many words it has seen then, and all words.
+fn step_behind_no_command<R: Threads + Sync>(
+    rt: &R,
+    alloc: Global,
+) -> Option<(Answered, usize, Vec<u64>)> {
+    let film = ticking(alloc, 9)?;
+    let (journal, mut one, _, mut third) = share(rt, alloc, 4, &film).ok()?;
+    let _placed = place(&journal, &mut third, 5);
+    let step = Call::Run(Command::Step(NonZeroU32::MIN));
+    let reply = ask(&mut one, &journal, step);
+    let seen = one.end().seen();
+    let words = journal.finish(alloc, &mut third).ok()?;
+    Some((reply, seen, words))
+}
+
+#[test]
+fn a_word_that_is_no_command_changes_nothing(rt: HostRuntime) -> Result<(), Fail> {
+    let (reply, seen, words) = step_behind_no_command(&rt, rt.alloc()).ok_or("not played")?;
+    assert_eq!(rt; (reply, seen), (Answered::At(1), 2));
+    // a continue with an argument, of tag 2; and a step of tag 0
+    assert_eq!(rt; words.as_slice(), [328_195, 65_537].as_slice());
     Ok(())
 }
 

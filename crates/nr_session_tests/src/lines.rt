@@ -173,6 +173,77 @@ fn anothers_command_comes_first(rt: HostRuntime) -> Result<(), Fail> {
 }
 
 #[test]
+fn a_temporary_break_is_gone_after_its_stop(rt: HostRuntime) -> Result<(), Fail> {
+    for (asked, text) in [
+        (
+            "tbreak @3\nc\ninfo breakpoints\nrc\nc\n",
+            "mark 1\nat 2 by 1\nmarks 0\nat 0 start\nat 9 end\n",
+        ),
+        (
+            "si 9\ntb @3\nrc\ninfo breakpoints\nc\n",
+            "at 9\nmark 1\nat 2 by 1\nmarks 0\nat 9 end\n",
+        ),
+        (
+            // another mark's stop, steps and the start leave it, and its number isn't used again
+            "tb @5\nb @3\nc\nsi 5\nrsi 8\ninfo breakpoints\nc\nc\ninfo breakpoints\ntb @7\n",
+            "mark 1\nmark 2\nat 2 by 2\nat 7\nat 0 start\nmarks 2\n1 tbreak @5\n2 break @3\nat 2 by 2\nat 4 by 1\nmarks 1\n2 break @3\nmark 3\n",
+        ),
+        (
+            // the others that hit there stay
+            "tb @3\nb tick\nc\nc\nc\ninfo breakpoints\n",
+            "mark 1\nmark 2\nat 1 by 2\nat 2 by 1 2\nat 3 by 2\nmarks 1\n2 break tick\n",
+        ),
+        (
+            // neither the end nor a checkpoint takes it away
+            "si 4\ntb @3\nc\ncheckpoint\nrestart 1\ninfo breakpoints\nrc\n",
+            "at 4\nmark 1\nat 9 end\ncheckpoint 1 at 9\nat 9\nmarks 1\n1 tbreak @3\nat 2 by 1\n",
+        ),
+    ] {
+        let (one, other, _) = play(
+            &rt,
+            rt.alloc(),
+            16,
+            undisturbed(asked),
+            Second::Other,
+            undisturbed("info position\n"),
+        )?;
+        assert_eq!(rt; one.text.as_slice(), text.as_bytes());
+        assert_eq!(rt; other.end, Ok(End::Closed));
+    }
+    Ok(())
+}
+
+#[test]
+fn a_temporary_break_is_gone_for_all(rt: HostRuntime) -> Result<(), Fail> {
+    let (one, other, _) = play(
+        &rt,
+        rt.alloc(),
+        8,
+        undisturbed("tb @3\nc\n"),
+        Second::Other,
+        undisturbed("info breakpoints\nrc\n"),
+    )?;
+    assert_eq!(rt; one.text.as_slice(), b"mark 1\nat 2 by 1\n".as_slice());
+    assert_eq!(rt; other.text.as_slice(), b"marks 0\nat 0 start\n".as_slice());
+    Ok(())
+}
+
+#[test]
+fn a_temporary_break_stays_where_memory_is_refused(rt: HostRuntime) -> Result<(), Fail> {
+    // the first search is refused, so nothing has stopped
+    let first = Script {
+        text: "tb @3\nc\nresume\ninfo breakpoints\n",
+        left: 300,
+        room: 300,
+        refused: 0b1,
+    };
+    let text = "mark 1\nfault 302 memory, placed 2\nat 2 by 1\nmarks 0\n";
+    let (one, _, _) = play(&rt, rt.alloc(), 8, first, Second::Same, undisturbed(""))?;
+    assert_eq!(rt; one.text.as_slice(), text.as_bytes());
+    Ok(())
+}
+
+#[test]
 fn a_full_journal_is_reported(rt: HostRuntime) -> Result<(), Fail> {
     let second = undisturbed("rsi\nprint clock\nq\nsi");
     let text = "fault 303 journal full\nclock = 3\nbye\n";
@@ -219,19 +290,68 @@ fn a_write_fails(rt: HostRuntime) -> Result<(), Fail> {
     Ok(())
 }
 
+/// How many whole lines a text has, and how many bytes are behind them.
+fn lines_and_rest(text: &[u8]) -> (u64, u64) {
+    let mut lines = 0u64;
+    let mut rest = 0u64;
+    for byte in text {
+        rest = rest.saturating_add(1);
+        if *byte == b'\n' {
+            lines = lines.saturating_add(1);
+            rest = 0;
+        }
+    }
+    (lines, rest)
+}
+
+#[test]
+fn a_write_fails_behind_each_byte(rt: HostRuntime) -> Result<(), Fail> {
+    let text = b"at 3\nlock 0 = absent\nat 4\n".as_slice();
+    for room in 0..text.len() {
+        let first = Script {
+            text: "stepi 3\nprint lock 0\nstepi",
+            left: 300,
+            room,
+            refused: 0,
+        };
+        let second = undisturbed("info position");
+        let (before, behind, placed) = play(&rt, rt.alloc(), 8, first, Second::Same, second)?;
+        let written = text.get(..room).ok_or("no text")?;
+        let (whole, part) = lines_and_rest(written);
+        assert_eq!(rt; before.end, Err(LineEnd::Write { whole, part }));
+        assert_eq!(rt; before.text.as_slice(), written);
+        // The line whose reply failed was run, and the front is where that led.
+        let there = if whole < 2 {
+            (b"at 3 of 9 forward\n".as_slice(), 1)
+        } else {
+            (b"at 4 of 9 forward\n".as_slice(), 2)
+        };
+        assert_eq!(rt; (behind.text.as_slice(), placed), there);
+    }
+    Ok(())
+}
+
 #[test]
 fn a_read_fails(rt: HostRuntime) -> Result<(), Fail> {
-    for (left, text) in [(0, ""), (4, ""), (5, "at 3\n"), (12, "at 3\n")] {
+    for left in 0..13 {
+        let (text, placed) = if left < 5 { ("", 0) } else { ("at 3\n", 1) };
         let first = Script {
             text: "si 3\nstepi 2",
             left,
             room: 300,
             refused: 0,
         };
-        let (before, _, _) = play(&rt, rt.alloc(), 8, first, Second::Same, undisturbed(""))?;
+        let (before, _, seen) = play(&rt, rt.alloc(), 8, first, Second::Same, undisturbed(""))?;
         assert_eq!(rt; before.end, Err(LineEnd::Read));
         assert_eq!(rt; before.text.as_slice(), text.as_bytes());
+        assert_eq!(rt; seen, placed);
         assert!(rt; before.read_failed && !before.write_failed);
     }
+    // Where the input ends there instead, its last line is run too.
+    let whole = undisturbed("si 3\nstepi 2");
+    let (before, _, seen) = play(&rt, rt.alloc(), 8, whole, Second::Same, undisturbed(""))?;
+    assert_eq!(rt; before.end, Ok(End::Closed));
+    assert_eq!(rt; before.text.as_slice(), b"at 3\nat 5\n".as_slice());
+    assert_eq!(rt; seen, 2);
     Ok(())
 }
