@@ -1,0 +1,266 @@
+#!/usr/bin/env python3
+"""Plays bad recordings and bad command lines with the built program:  scripts/hostile.py [--list] [NAME ..]
+
+Each case has a name in plain words; --list prints them all, and of those given only the ones that begin so are played.
+
+    reason     each reason for which a step doesn't apply, met once by `netrev check`. Three are left out, since no recording
+               of 1,000,000 steps reaches them: 6 (a full field of a lock word), 18 (a number at its last value) and 21 (a
+               corrupted descriptor). The tests of the crates meet those
+    line       a faulty line behind a header, and a faulty line behind a step that doesn't apply
+    header     what is no header
+    beginning  every beginning of each short recording, byte by byte: read where it ends with a line, else refused at its
+               last line
+    command    command lines that ask for nothing that there is
+
+Ends with status 1 at the first that isn't as it has to be, and prints the name of that case.
+"""
+
+import argparse
+import subprocess
+import sys
+import tempfile
+from pathlib import Path
+
+from sharing import NETREV, PATIENCE, ROOT, Wrong, expect
+
+HEADER = '{"buf":16,"desc":1,"gor":2,"netrev":1,"sock":1}'
+OPEN = '["sockopen",1,1]'
+DESCRIPTOR = '["pollopen",0,0]'
+WAIT = '["waitbegin",0,0,"r"]'
+LATE = ['["setdeadline",0,0,"r",1]', '["tick",{}]', '["pop"]']
+
+# a reason's number, and steps of which the last is refused for it
+REASONS = (
+    (1, ['["exit",1]']),
+    (2, [OPEN, '["blockarm",0]']),
+    (3, ['["spawn"]', '["spawn"]']),
+    (4, ['["incref",0,0]']),
+    (5, ['["pollreset",0,0,"r"]']),
+    (7, [OPEN, '["decref",0,0]']),
+    (8, ['["spawn"]', OPEN, DESCRIPTOR, WAIT, '["waitbegin",1,0,"r"]']),
+    (9, [OPEN, DESCRIPTOR, '["pollclose",0,0]']),
+    (10, [OPEN, DESCRIPTOR, '["evict",0,0]', '["evict",0,0]']),
+    (11, ['["spawn"]', OPEN, DESCRIPTOR, WAIT, '["pollreset",1,0,"r"]']),
+    (12, ['["tick",5]', '["tick",4]']),
+    (13, ['["pop"]']),
+    (14, [OPEN, DESCRIPTOR] + [step.format(time) for time in (1, 2, 3) for step in LATE]),
+    (15, ['["fire",0]']),
+    (16, [OPEN, '["arrive",0,"6869"]']),
+    (17, [OPEN, '["drain",0,1]']),
+    (19, ['["sockopen",0,1]']),
+    (20, [OPEN, '["peerclose",0]', '["peerclose",0]']),
+)
+
+# line 2, and what is wrong with it; or how many steps are read
+LINES = (
+    ('["spawn",1]', "104 arguments"),
+    ('["tick",-1]', "104 arguments"),
+    ('["exit",4294967296]', "104 arguments"),
+    ('["exit",1.0]', "104 arguments"),
+    ('["exit"]', "104 arguments"),
+    ('["exit","0"]', "104 arguments"),
+    ('["arrive",0,"6"]', "104 arguments"),
+    ('["arrive",0,"6g"]', "104 arguments"),
+    (f'["arrive",0,"{"0" * 131_074}"]', "104 arguments"),
+    ('["rwlock",0,0,"rw"]', "104 arguments"),
+    ('["setdeadline",0,0,"x",0]', "104 arguments"),
+    ('["pollevent",0,18446744073709551616,"r",0]', "104 arguments"),
+    ('["pollevent",0,1,"r",2]', "104 arguments"),
+    ('["jump"]', "103 unknown step"),
+    ('["Spawn"]', "103 unknown step"),
+    ('["closewrite",0,0]', "103 unknown step"),
+    ("{}", "103 unknown step"),
+    ("[]", "103 unknown step"),
+    ("[[]]", "103 unknown step"),
+    ("null", "103 unknown step"),
+    ('"spawn"', "103 unknown step"),
+    ("[" * 128 + "]" * 128, "102 not JSON"),
+    ('["\xff"]', "102 not JSON"),
+    ('["spawn"] ["spawn"]', "102 not JSON"),
+    ('["spawn",]', "102 not JSON"),
+    ("['spawn']", "102 not JSON"),
+    ("x", "102 not JSON"),
+    (" " * 200_001, "105 limit"),
+    (" " * 200_000, 0),
+    ("\t \r", 0),
+    (' [ "spawn" ] ', 1),
+    ('["\\u0073pawn"]', 1),
+)
+
+HEADERS = (
+    ("", "101 header"),
+    ("{}", "101 header"),
+    ("[]", "101 header"),
+    (HEADER.replace("16", "16.0"), "101 header"),
+    (HEADER.replace("16", '"16"'), "101 header"),
+    (HEADER.replace("16", "-1"), "101 header"),
+    (HEADER.replace(',"sock":1', ""), "101 header"),
+    (HEADER.replace("}", ',"more":1}'), "101 header"),
+    (HEADER.replace('"netrev":1', '"netrev":0'), "101 header"),
+    (HEADER.replace('"netrev":1', '"netrev":3'), "101 header"),
+    (HEADER.replace("16", "0"), "105 limit"),
+    (HEADER.replace("16", "65537"), "105 limit"),
+    (HEADER.replace('"desc":1', '"desc":257'), "105 limit"),
+    (HEADER.replace('"gor":2', '"gor":4097'), "105 limit"),
+    (HEADER.replace('"sock":1', '"sock":257'), "105 limit"),
+    (HEADER[:-1], "102 not JSON"),
+    (HEADER.replace("16", "65536"), 0),
+)
+
+UNKNOWN, BAD, LONG = "fault 201 unknown command", "fault 202 bad argument", "fault 203 line too long"
+COMMANDS = (
+    ("stepi" + " " * 251, "at 1"),
+    ("stepi" + " " * 252, LONG),
+    ("stepi 4294967296", BAD),
+    ("stepi 0", BAD),
+    ("stepi 1 1", BAD),
+    ("stepi -1", BAD),
+    ("stepi 0004294967295", "at 12 end"),
+    ("break @0", BAD),
+    ("break @4294967296", BAD),
+    ("break", BAD),
+    ("break nothing", BAD),
+    ("print rg", BAD),
+    ("watch clock 1", BAD),
+    ("watch rg 4294967296", BAD),
+    ("dump rg 0", BAD),
+    ("dump in", BAD),
+    ("info", BAD),
+    ("info marks", BAD),
+    ("set exec-direction", BAD),
+    ("set exec-direction backwards", BAD),
+    ("continue 1", BAD),
+    ("checkpoint 1", BAD),
+    ("restart", BAD),
+    ("delete checkpoint", BAD),
+    ("resume 1", BAD),
+    ("quit 1", BAD),
+    ("delete 1", "fault 401 no such mark"),
+    ("restart 1", "fault 403 no such checkpoint"),
+    ("delete checkpoint 0", "fault 403 no such checkpoint"),
+    ("resume", "nothing owed"),
+    ("frob", UNKNOWN),
+    ("Stepi", UNKNOWN),
+    ("step", UNKNOWN),
+)
+WALK = "scripts/recordings/woken-by-an-event.jsonl"  # twelve steps
+
+BEGUN = tuple(
+    f"examples/{name}.jsonl"
+    for name in ("first", "leaked-reference", "lost-wakeup", "past-deadline", "reused-descriptor", "stale-deadline")
+) + (WALK,)
+
+
+def printed(words, text=b""):
+    """The status and the lines that netrev ends with."""
+    ran = subprocess.run([NETREV, *words], input=text, stdout=subprocess.PIPE, stderr=subprocess.PIPE, timeout=PATIENCE)
+    expect("errors", b"", ran.stderr)
+    return ran.returncode, ran.stdout.decode()
+
+
+def check(folder, text):
+    """What `check` says of a text."""
+    path = Path(folder) / "recording.jsonl"
+    path.write_bytes(text)
+    return printed(["check", path])
+
+
+def wanted_of(place, fault):
+    """What is printed of a fault, or of so many steps."""
+    return (0, f"ok {fault} steps\n") if isinstance(fault, int) else (1, f"{place}: fault {fault}\n")
+
+
+def text_of(lines):
+    return "".join(f"{line}\n" for line in lines).encode("latin-1")
+
+
+def refused_steps(folder):
+    for reason, steps in REASONS:
+        wanted = wanted_of(f"step {len(steps)}", f"107 reason {reason}")
+        yield f"reason {reason}", lambda s=steps, w=wanted: expect("check", w, check(folder, text_of([HEADER, *s])))
+        before = (0, f"ok {len(steps) - 1} steps\n")
+        yield f"reason {reason}: without the last step", lambda s=steps, w=before: expect(
+            "check", w, check(folder, text_of([HEADER, *s[:-1]]))
+        )
+
+
+def faulty_lines(folder):
+    for line, fault in LINES:
+        wanted = wanted_of("line 2", fault)
+        name = line if len(line) < 40 else f"{line[:20]}.. of {len(line)} bytes"
+        yield f"line {name!r}", lambda t=text_of([HEADER, line]), w=wanted: expect("check", w, check(folder, t))
+    late = text_of([HEADER, '["exit",1]', OPEN, OPEN, '["jump"]'])
+    yield "line 5 faulty, where step 1 doesn't apply", lambda: expect(
+        "check", wanted_of("line 5", "103 unknown step"), check(folder, late)
+    )
+
+
+def faulty_headers(folder):
+    for line, fault in HEADERS:
+        wanted = wanted_of("line 2" if line == "" else "line 1", fault)
+        yield f"header {line!r}", lambda t=text_of([line]), w=wanted: expect("check", w, check(folder, t))
+
+
+def beginning(text):
+    """What is said of a beginning: its last line is whole, or no JSON."""
+    lines = text.split(b"\n")
+    if not lines[-1] and len(lines) > 1:
+        return wanted_of("", len(lines) - 2)
+    if not lines[-1]:
+        return wanted_of("line 1", "101 header")
+    return wanted_of(f"line {len(lines)}", "102 not JSON")
+
+
+def beginnings(folder):
+    for name in BEGUN:
+        whole = (ROOT / name).read_bytes()
+        yield f"beginning of {name}: each of {len(whole)}", lambda t=whole: every_beginning(folder, t)
+
+
+def every_beginning(folder, whole):
+    """Cuts the text at each byte. Where all of a line but its line feed is there, it is read with it."""
+    for size in range(len(whole) + 1):
+        text = whole[:size]
+        ended = text + b"\n" if whole[size : size + 1] == b"\n" else text
+        expect(f"check of the first {size} bytes", beginning(ended), check(folder, text))
+
+
+def faulty_commands(_folder):
+    for line, reply in COMMANDS:
+        name = line if len(line) < 40 else f"{line.strip()} and {len(line) - len(line.strip())} spaces"
+        yield f"command {name!r}", lambda line=line, reply=reply: expect(
+            "run", (0, f"{reply}\n"), printed(["run", ROOT / WALK], f"{line}\n".encode())
+        )
+
+
+def cases(folder):
+    for made in (refused_steps, faulty_lines, faulty_headers, beginnings, faulty_commands):
+        yield from made(folder)
+
+
+def main():
+    parser = argparse.ArgumentParser(description=__doc__, formatter_class=argparse.RawDescriptionHelpFormatter)
+    parser.add_argument("--list", action="store_true", help="print the names of the cases")
+    parser.add_argument("names", nargs="*", metavar="NAME", help="how the names of those to play begin")
+    given = parser.parse_args()
+    played = 0
+    with tempfile.TemporaryDirectory() as folder:
+        for name, play in cases(folder):
+            if given.names and not name.startswith(tuple(given.names)):
+                continue
+            if given.list:
+                print(name)
+                continue
+            try:
+                play()
+            except (Wrong, subprocess.TimeoutExpired) as error:
+                print(f"{name}: {error}")
+                return 1
+            played += 1
+    if not given.list:
+        print(f"hostile: {played} cases as they have to be")
+    return 0
+
+
+if __name__ == "__main__":
+    sys.exit(main())
