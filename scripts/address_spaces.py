@@ -19,6 +19,7 @@ dump in 0
 stepi 258
 dump in 0
 break @3
+tbreak @3
 watch in 0
 reverse-continue
 resume

@@ -76,8 +76,8 @@ def read_words(first, rest):
             return Asked("seek", first == "reverse-continue")
         case "set" if rest in (["exec-direction", "forward"], ["exec-direction", "reverse"]):
             return Asked("turn", rest[1] == "reverse")
-        case "break" if mark := break_of(rest):
-            return Asked("mark", mark)
+        case "break" | "tbreak" if place := break_of(rest):
+            return Asked("mark", f"{first} {place}")
         case "watch" if cell := cell_of(rest):
             return Asked("mark", f"watch {cell}")
         case "delete" if number is not None:
@@ -142,13 +142,13 @@ class Recording:
     def hits_of(self, mark):
         """The positions at which a mark hits, rising."""
         sort, what = mark.split(" ", 1)
-        if sort == "break" and what.startswith("@"):
+        if sort == "watch":
+            values = self.shown[f"print {what}"]
+            return tuple(at for at in range(1, self.length + 1) if values[at - 1] != values[at])
+        if what.startswith("@"):
             step = int(what[1:])
             return (step - 1,) if step <= self.length else ()
-        if sort == "break":
-            return tuple(at for at, kind in enumerate(self.kinds) if kind == what)
-        values = self.shown[f"print {what}"]
-        return tuple(at for at in range(1, self.length + 1) if values[at - 1] != values[at])
+        return tuple(at for at, kind in enumerate(self.kinds) if kind == what)
 
     @lru_cache(maxsize=200_000)
     def nearest(self, marks, position, reverse):
@@ -211,7 +211,8 @@ class Recording:
         found = self.nearest(state.marks, state.position, reverse)
         if found:
             hit, numbers = found
-            return moved(state, hit), (" ".join(["at", str(hit), "by", *map(str, numbers)]),)
+            reply = " ".join(["at", str(hit), "by", *map(str, numbers)])
+            return moved(state._replace(marks=left_standing(state.marks, numbers)), hit), (reply,)
         there = 0 if reverse else self.length
         return moved(state, there), ("at 0 start" if reverse else f"at {there} end",)
 
@@ -250,6 +251,11 @@ class Recording:
         if len(left) == len(state.checkpoints):
             return state, (NO_CHECKPOINT,)
         return state._replace(checkpoints=left), (f"deleted checkpoint {number}",)
+
+
+def left_standing(marks, hitting):
+    """The marks that still stand behind a stop at which those of these numbers hit: temporary ones among them are gone."""
+    return tuple(mark for mark in marks if mark[0] not in hitting or not mark[1].startswith("tbreak "))
 
 
 def moved(state, position):

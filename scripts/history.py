@@ -160,6 +160,10 @@ class Search:
         clue = self.clue_of(front)
         if clue.takes_away and self.shown[clue.takes_away]:
             return False
+        if len(state.marks) < len(self.state.marks) and not clue.takes_away:
+            stopped = {("mark", number) for number, _ in set(self.state.marks) - set(state.marks)}
+            if any(self.shown[name] > (name in clue.shows) for name in stopped):
+                return False
         here = self.state.position
         if state.position == here:
             return True

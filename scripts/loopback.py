@@ -97,7 +97,7 @@ class Lines:
         return self.dice.choice([restart, restart, f"{word} {self.most}", f"{word} {MOST}"])
 
     def mark(self):
-        word = self.dice.choice(["break", "b"])
+        word = self.dice.choice(["break", "b", "tbreak", "tb"])
         step = self.dice.randint(1, self.most + 2)
         watch = f"watch {self.dice.choice(SHOWN)}"
         return self.dice.choice([f"{word} {self.dice.choice(self.kinds)}", f"{word} @{step}", f"{word} @{step}", watch])

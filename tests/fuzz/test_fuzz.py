@@ -54,6 +54,7 @@ PLANTED = {
     "a reason exchanged": ("52", lambda: mock.patch.dict(steps.OF_KIND, decref=reason_exchanged)),
     "a mark that stays": ("1", lambda: mock.patch.object(polling, "event", error_stays)),
     "a command line shorter by one": ("2", lambda: mock.patch("debugger.MOST_LINE", 255)),
+    "a temporary break that stays": ("5", lambda: mock.patch("debugger.left_standing", lambda marks, hitting: marks)),
 }
 WITHIN = 15
 

@@ -19,7 +19,7 @@ def kept(name):
 class BadRecordings(unittest.TestCase):
     def test_each_is_explained(self):
         rows = kept("bad_recordings.json")
-        self.assertEqual(len(rows), 54)
+        self.assertEqual(len(rows), 55)
         with tempfile.TemporaryDirectory() as folder:
             file = Path(folder) / "bad.jsonl"
             for row in rows:

@@ -17,6 +17,7 @@ SHOWS_SOCKET = {
     "wsem": lambda socket: socket.counts[1],
     "in": lambda socket: len(socket.buffers[0]),
     "out": lambda socket: len(socket.buffers[1]),
+    "shut": lambda socket: int(socket.shut),
 }
 SHOWS_DESC = {
     "rg": lambda desc: word(desc.words[0]),

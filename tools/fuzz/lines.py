@@ -1,12 +1,12 @@
 """Random scripts of command lines: good ones for the most part, spelled in all the ways that they may be, and bad ones."""
 
-from nrdb.vocabulary import DUMPS
+from nrdb.vocabulary import DUMPS, KINDS
 
 from .cells import CELLS_OF_ALL, CELLS_OF_ONE, SHOWS_DESC, SHOWS_SOCKET
-from .reading import KINDS
 
 NONSENSE = (
     b"frob|stepi 0|stepi -1|stepi +1|stepi 1.0|stepi 4294967296|stepi 1 2|Stepi|ste|break|break @0|break @|"
+    b"tbreak|tb|tbreak @0|tbreak @|tbreak clock|tbreak rwlock 1|tbreak @4294967296|Tbreak pop|print shut|print shut x|"
     b"break @4294967296|break jump|break @1 @2|watch|watch clock 1|watch gor|watch gor -1|print|print lock|"
     b"print lock x|print rg 4294967296|p  rq 0|dump|dump in|dump clock|dump in 0 0|info|info marks|"
     b"info position now|delete|delete x|delete checkpoint|delete checkpoint 0|delete 0|restart|restart -1|set|"
@@ -85,9 +85,9 @@ class Speaker:
         return f"set exec-direction {self.dice.choice(['forward', 'reverse'])}"
 
     def break_(self):
-        kind = self.dice.choice(self.kinds if self.dice.random() < 0.8 else KINDS)
+        kind = self.dice.choice(self.kinds if self.dice.random() < 0.8 else list(KINDS))
         at = f"@{self.number(self.length)}"
-        return f"{self.dice.choice(['break', 'b'])} {self.dice.choice([kind, at])}"
+        return f"{self.dice.choice(['break', 'b', 'tbreak', 'tb'])} {self.dice.choice([kind, at])}"
 
     def cell(self):
         if self.dice.random() < 0.25:

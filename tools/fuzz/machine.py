@@ -52,6 +52,7 @@ class Socket(NamedTuple):
     queues: tuple = ((), ())
     buffers: tuple = (b"", b"")
     peer_closed: bool = False
+    shut: bool = False
 
 
 class Desc(NamedTuple):

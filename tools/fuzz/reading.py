@@ -21,7 +21,7 @@ def forms_of(kind):
     return tuple({"rc": "n", "wc": "n", "time": of_time}.get(argument, argument) for argument in kind.arguments)
 
 
-ARGUMENTS = {kind.name: forms_of(kind) for kind in OF_NRDB.values()}
+ARGUMENTS = {kind.name: forms_of(kind) for kind in OF_NRDB.values() if kind.is_recorded}
 KINDS = tuple(ARGUMENTS)
 
 

@@ -1,5 +1,5 @@
-"""The thirty kinds of step: each a function of the state and the arguments that gives the next state and the answer, or
-raises Refused with the first reason, in the order of the table of docs/MACHINE.md.
+"""The 30 kinds of step that recordings have: each a function of the state and the arguments that gives the next state and
+the answer, or raises Refused with the first reason, in the order of the table of docs/MACHINE.md.
 
 Answers are as docs/MACHINE.md names them, in small letters; a number, a code, `got` and `put` carry theirs.
 """

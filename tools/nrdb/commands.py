@@ -48,6 +48,7 @@ COMMANDS = {
         ),
         _netrev("set exec-direction reverse|forward", "turns stepi and continue round"),
         _netrev("break KIND | @K", "marks the steps of a kind, or step K: stops before it", "b"),
+        _netrev("tbreak KIND | @K", "as break, and is gone after the first stop at which it hits", "tb"),
         _netrev("watch CELL", "marks the changes of a cell: stops behind them"),
         _netrev("delete N | checkpoint N", "takes mark N away, or forgets checkpoint N"),
         _netrev("checkpoint", "remembers the position"),

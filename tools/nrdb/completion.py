@@ -24,6 +24,7 @@ def candidates(before: list, numbers: Callable[[Of], list]) -> list:
     if len(rest) == 0:
         return {
             "break": list(KINDS),
+            "tbreak": list(KINDS),
             "dump": list(DUMPS),
             "info": list(TOPICS),
             "set": ["exec-direction"],

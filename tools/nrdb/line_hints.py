@@ -11,7 +11,6 @@ FOREIGN = {
     "finish": "a step is the smallest unit here: until gor 0 idle goes to the step that makes goroutine 0 idle",
     "run": "the recording is replayed already: restart 0 goes to the start",
     "start": "restart 0 goes to the start",
-    "tbreak": "break, and delete it after the stop; until goes to a place once",
     "rwatch": "a recording has no reads: watch CELL stops behind changes",
     "awatch": "a recording has no reads: watch CELL stops behind changes",
     "unwatch": "delete N takes mark N away; info breakpoints lists them",
@@ -134,19 +133,19 @@ def spelled_number(word: str):
         return None
 
 
-def of_break(words: list) -> str:
+def of_break(words: list, command: str = "break") -> str:
     """Of what a break should stop at."""
     if not words:
-        return "break KIND or break @K: break rwlock, break @7"
+        return f"{command} KIND or {command} @K: {command} rwlock, {command} @7"
     word = words[0]
     if word == "line" and len(words) > 1 and (line := number_of(words[1])) and line > 1:
-        return f"without empty lines, line {line} is step {line - 1}: break @{line - 1}"
+        return f"without empty lines, line {line} is step {line - 1}: {command} @{line - 1}"
     if number_of(word):
-        return f"did you mean break @{number_of(word)}, before step {number_of(word)}?"
+        return f"did you mean {command} @{number_of(word)}, before step {number_of(word)}?"
     if word.startswith("@"):
-        return "@K is a step, counted from 1: break @7"
+        return f"@K is a step, counted from 1: {command} @7"
     if word in KINDS:
-        return f"break takes the kind alone: break {word}; for one socket or goroutine watch its cell, or use until"
+        return f"{command} takes the kind alone: {command} {word}; for one socket or goroutine watch its cell, or use until"
     if cell_of(words):
         return f"{word} is a cell: watch {' '.join(words)}"
     return kind_hint(word)
@@ -224,6 +223,7 @@ ADVICE = {
     "print": lambda words: of_cell(words, "print"),
     "watch": lambda words: of_cell(words, "watch"),
     "break": of_break,
+    "tbreak": lambda words: of_break(words, "tbreak"),
     "delete": of_delete,
     "dump": of_dump,
     "info": of_info,

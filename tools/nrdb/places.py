@@ -5,7 +5,7 @@ from .vocabulary import Of
 from .words import SIDES, LockWord, counted, info_words, lock_words
 from .world import World
 
-SOCKET_CELLS = ("lock", "rsem", "wsem", "in", "out")
+SOCKET_CELLS = ("lock", "rsem", "wsem", "in", "out", "shut")
 DESCRIPTOR_CELLS = ("info", "rg", "wg", "rd", "wd", "fdseq")
 
 
@@ -40,6 +40,8 @@ def _socket_row(number: int, values: list, queues: list, descriptor) -> Row:
     said += [f"queued to {SIDES[side]}: {' '.join(map(str, queue))}" for side, queue in zip("rw", queues) if queue]
     said += [f"{sem} {named[sem]}" for sem in ("rsem", "wsem") if named[sem] != "0"]
     said.append(f"in {counted(int(named['in']), 'byte')}, out {counted(int(named['out']), 'byte')}")
+    if named["shut"] == "1":
+        said.append("write side shut")
     said.append("no descriptor" if descriptor is None else f"descriptor {descriptor}")
     return Row(told, f"sock {number:<3} {'; '.join(said)}")
 

@@ -38,7 +38,7 @@ CAUSES = {
 
 CELLS_OF = {
     "g": ("gor",),
-    "s": ("lock", "in", "out"),
+    "s": ("lock", "in", "out", "shut"),
     "d": ("info", "rg", "wg", "rd", "wd", "fdseq"),
 }
 OF_TIME = {"tick": ("clock",), "pop": ("clock", "least", "timers", "firings"), "fire": ("firings",)}

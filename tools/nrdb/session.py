@@ -3,7 +3,7 @@
 import re
 from dataclasses import dataclass, field
 from pathlib import Path
-from typing import Callable, Mapping, Optional
+from typing import Callable, Mapping, Optional, Sequence
 
 from .changes import marks_table
 from .commands import COMMANDS, Ambiguous, is_answered_here, whole_words
@@ -20,6 +20,7 @@ from .world import World
 MOVED = re.compile(r"at (\d+)(?: (?:end|start|by ([\d ]+)))?\Z")
 STANDS = re.compile(r"at (\d+) of (\d+) (forward|reverse)\Z")
 VALUE = re.compile(r"((?:\w+)(?: \d+)?) = (.*)\Z")
+STOPPING = ("continue", "reverse-continue", "resume")
 NESTED = 8
 UNNAMED = "for this the recording has to be named: nrdb --join HOST:PORT FILE"
 
@@ -130,10 +131,12 @@ class Session:
     def pass_on(self, line: str, words: list) -> bool:
         """Sends a line to netrev, and shows its reply. A line that netrev knows goes as it was typed."""
         sent = " ".join(words) if words[0] in COMMANDS else line
+        # (a stop takes away the temporary breaks that it names, so what stands before it is asked for too)
+        stood = self.netrev.ask("info breakpoints")[1:] if words[0] in STOPPING and self.scout else []
         reply = self.netrev.ask(sent)
         self.show(line, reply, words[0] == "dump")
         if moved := MOVED.match(reply[0]):
-            self.arrive(int(moved[1]), (moved[2] or "").split())
+            self.arrive(int(moved[1]), (moved[2] or "").split(), stood)
         elif reply[0].startswith("fault"):
             self.printer.note(hint(words, reply[0]))
         return reply[0] != "bye"
@@ -153,13 +156,14 @@ class Session:
             return in_words(cell, value) if cell_of(cell.split()) else ""
         return absent_words(cell, self.recording.limits if self.recording else {})
 
-    def arrive(self, position: int, numbers: list) -> None:
-        """Tells where the session stands after a move, which marks hit there, and what is displayed."""
+    def arrive(self, position: int, numbers: list, stood: Sequence[str] = ()) -> None:
+        """Tells where the session stands after a move, which marks hit there, and what is displayed. Before the move these
+        marks stood, of which some may be gone."""
         self.stood = position
         self.printer.place(self.place(position))
         if numbers and self.scout:
-            listed = self.netrev.ask("info breakpoints")[1:]
-            hit = [mark for mark in listed if mark.split()[0] in numbers]
+            listed = {mark.split()[0]: mark for mark in [*stood, *self.netrev.ask("info breakpoints")[1:]]}
+            hit = [listed[number] for number in numbers if number in listed]
             self.printer.table(marks_table(self.scout, hit, position))
         self.show_displays()
 

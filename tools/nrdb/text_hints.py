@@ -129,6 +129,8 @@ def kind_of_step_hint(value) -> str:
     name = value[0] if isinstance(value, list) and value else None
     if not isinstance(name, str):
         return 'a step is an array, and begins with the name of its kind: ["spawn"], ["rwlock",0,0,"r"]'
+    if name in KINDS:
+        return f"{name} is a step of the machine that no recording of this version has"
     plain = re.sub(r"^(runtime|internal/poll|poll)[._]|[^a-z]", "", unicodedata.normalize("NFKC", name).lower())
     return GO_NAMES.get(plain) or kind_hint(plain if plain in KINDS else name.lower())
 

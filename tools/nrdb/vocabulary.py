@@ -22,11 +22,13 @@ class Of(Enum):
 
 @dataclass(frozen=True)
 class Kind:
-    """A kind of step: its name, the names of its arguments, and in a few words what it records."""
+    """A kind of step: its name, the names of its arguments, in a few words what it records, and whether a
+    recording can have it."""
 
     name: str
     arguments: tuple
     says: str
+    is_recorded: bool
 
     @property
     def usage(self) -> str:
@@ -42,9 +44,9 @@ class Cell:
     says: str
 
 
-def _kind(usage: str, says: str) -> Kind:
+def _kind(usage: str, says: str, is_recorded: bool = True) -> Kind:
     name, *arguments = usage.split()
-    return Kind(name, tuple(arguments), says)
+    return Kind(name, tuple(arguments), says, is_recorded)
 
 
 KINDS = {
@@ -80,6 +82,7 @@ KINDS = {
         _kind("tick time", "the clock moves"),
         _kind("pop", "the first due timer's function is started"),
         _kind("fire i", "the started timer function at place i runs"),
+        _kind("closewrite g s", "CloseWrite: the write side is shut, shutdown(SHUT_WR)", is_recorded=False),
     )
 }
 
@@ -105,6 +108,7 @@ CELLS = {
         Cell("wseq", Of.DESCRIPTOR, "the sequence of the timer for writing"),
         Cell("fdseq", Of.DESCRIPTOR, "which use of the number this is"),
         Cell("info", Of.DESCRIPTOR, "closing, event error and passed deadlines in one number"),
+        Cell("shut", Of.SOCKET, "1 where the write side is shut, else 0"),
     )
 }
 
@@ -210,11 +214,11 @@ def number_of(word: str) -> Optional[int]:
 
 
 def break_of(words: list) -> Optional[str]:
-    """The break that the words spell, as `info breakpoints` does, or None."""
+    """What a break that the words spell stops at, as `info breakpoints` has it, or None: a kind, or `@` and a step."""
     if len(words) != 1:
         return None
     word = words[0]
     if word in KINDS:
-        return f"break {word}"
+        return word
     step = number_of(word[1:]) if word.startswith("@") else None
-    return f"break @{step}" if step else None
+    return f"@{step}" if step else None
