@@ -1,4 +1,4 @@
-pub mod Versions
+pub mod AnswerLemmas
 pub mod Lines
 pub mod Members
 pub mod Loop
@@ -9,4 +9,5 @@ pub mod Texts
 pub mod PlainTextLemmas
 pub mod ReadBack
 pub mod Again
+pub mod Behind
 pub mod Written

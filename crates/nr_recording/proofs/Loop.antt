@@ -3,8 +3,8 @@ use Rattle.std.proofs.Common.{◌≡◌, ℕ, suc, ◌+◌, ◌≤◌, ◌<◌, 
 use Rattle.std.proofs.lemmas.List.{drop_more}
 use Rattle.std.proofs.lemmas.List.Folds.{list_any_at}
 use Rattle.std.proofs.Math.ListN.{drop_of_length-le}
-use Rattle.nr_rev.specs.declared.step.Step.{Step}
-use Rattle.nr_rev.specs.Run.{Recording}
+use Rattle.nr_recording.specs.Recording.{Recorded}
+use Rattle.nr_recording.specs.declared.recording.RecordedStep.{RecordedStep}
 use Rattle.nr_recording.specs.declared.reading.Header.{Header}
 use Rattle.nr_recording.specs.declared.fault.LineError.{LineError}
 use Rattle.nr_recording.specs.declared.fault.LineError.TheVariants as errors
@@ -48,11 +48,11 @@ wanted bytes line i n errors.Memory lt is h reported = list_any_at line_takes_me
 wanted bytes line i n (errors.Fault f) lt is h reported = absurd cc
 
 -- what is behind the last line takes no memory
-pub never_wanted : (n : ℕ) (header : Option Header) (steps : List Step) → ¬ (with_header n header steps ≡ Err faults.Memory)
+pub never_wanted : (n : ℕ) (header : Option Header) (steps : List RecordedStep) → ¬ (with_header n header steps ≡ Err faults.Memory)
 never_wanted n None steps = λ e. cc
 never_wanted n (Some header) steps = λ e. cc
 
-pub itself : (r read : Result Recording ReadFault) → r ≡ read → IsUnlessMemory r read
+pub itself : (r read : Result Recorded ReadFault) → r ≡ read → IsUnlessMemory r read
 itself (Ok x) read e = sym e
 itself (Err (faults.Line n f)) read e = sym e
 itself (Err faults.Memory) read e = tt

@@ -20,8 +20,13 @@ use Rattle.nr_rev.specs.declared.sides.Side.TheVariants as sides
 use Rattle.nr_rev.specs.declared.sides.Mode.TheVariants as modes
 use Rattle.nr_recording.specs.Reading.{lines}
 use Rattle.nr_recording.specs.declared.reading.TheConstants.{MOST_LINE_BYTES}
-use Rattle.nr_recording.specs.Spelling.{Argument, numeral, tag, time, side, mode, bit, digits, argument_data, arguments_data, IsInType, AreInTypes, line_data}
-use Rattle.nr_recording.specs.Writing.{limits_data, line_text}
+use Rattle.nr_recording.specs.Spelling.{Argument, numeral, tag, time, side, mode, bit, digits, answer, argument_data, arguments_data, IsInType, AreInTypes, line_data}
+use Rattle.nr_recording.specs.Answer.{counted_data, answer_data}
+use Rattle.nr_recording.specs.Version.{version_number}
+use Rattle.nr_recording.specs.Writing.{header_data, line_text}
+use Rattle.nr_recording.specs.declared.version.Version.{Version}
+use Rattle.nr_rev.specs.declared.answer.Answer.{Answer}
+use Rattle.nr_rev.specs.declared.answer.Answer.TheVariants as answers
 
 -- ---- bytes
 
@@ -115,6 +120,54 @@ hex_plain (b ∷ bytes) h =
     let two = digit_plain (b % 16) (omega arith) in
     rw (one, two) (hex_plain bytes (λ i. h (suc i)))
 
+-- ---- answers
+
+counted_shown : (text : List ℕ) (n : ℕ) → are_plain text ≡ true → are_shown (compact_text (counted_data text n)) ≡ true
+counted_shown text n h = one_shown 91 (quoted text ++ 44 ∷ (decimal n ++ 93 ∷ [])) refl
+    (both_shown (quoted text) (44 ∷ (decimal n ++ 93 ∷ [])) (quoted_shown text h)
+    (one_shown 44 (decimal n ++ 93 ∷ []) refl (both_shown (decimal n) (93 ∷ []) (decimal_shown n) refl)))
+
+answer_shown : (a : Answer) → are_shown (compact_text (answer_data a)) ≡ true
+answer_shown (answers.Number n) = counted_shown (codes "number") n refl
+answer_shown (answers.Code c) = counted_shown (codes "code") c refl
+answer_shown (answers.Got k) = counted_shown (codes "got") k refl
+answer_shown (answers.Put k) = counted_shown (codes "put") k refl
+answer_shown answers.Done = quoted_shown (codes "done") refl
+answer_shown answers.Yes = quoted_shown (codes "yes") refl
+answer_shown answers.No = quoted_shown (codes "no") refl
+answer_shown answers.Wait = quoted_shown (codes "wait") refl
+answer_shown answers.Last = quoted_shown (codes "last") refl
+answer_shown answers.NotLast = quoted_shown (codes "notlast") refl
+answer_shown answers.Eof = quoted_shown (codes "eof") refl
+answer_shown answers.Again = quoted_shown (codes "again") refl
+answer_shown answers.Stale = quoted_shown (codes "stale") refl
+answer_shown answers.Pipe = quoted_shown (codes "pipe") refl
+
+counted_short : (text : List ℕ) (n : ℕ) → are_plain text ≡ true → length (compact_text (counted_data text n)) ≤ length text + 69
+counted_short text n h = omega (
+  arith,
+  quoted_short text h,
+  decimal_short n,
+  length-append (quoted text) (44 ∷ (decimal n ++ 93 ∷ [])),
+  length-append (decimal n) (93 ∷ []),
+)
+
+answer_short : (a : Answer) → length (compact_text (answer_data a)) ≤ 75
+answer_short (answers.Number n) = omega (arith, counted_short (codes "number") n refl)
+answer_short (answers.Code c) = omega (arith, counted_short (codes "code") c refl)
+answer_short (answers.Got k) = omega (arith, counted_short (codes "got") k refl)
+answer_short (answers.Put k) = omega (arith, counted_short (codes "put") k refl)
+answer_short answers.Done = omega (arith, quoted_short (codes "done") refl)
+answer_short answers.Yes = omega (arith, quoted_short (codes "yes") refl)
+answer_short answers.No = omega (arith, quoted_short (codes "no") refl)
+answer_short answers.Wait = omega (arith, quoted_short (codes "wait") refl)
+answer_short answers.Last = omega (arith, quoted_short (codes "last") refl)
+answer_short answers.NotLast = omega (arith, quoted_short (codes "notlast") refl)
+answer_short answers.Eof = omega (arith, quoted_short (codes "eof") refl)
+answer_short answers.Again = omega (arith, quoted_short (codes "again") refl)
+answer_short answers.Stale = omega (arith, quoted_short (codes "stale") refl)
+answer_short answers.Pipe = omega (arith, quoted_short (codes "pipe") refl)
+
 -- ---- arguments
 
 argument_shown : (a : Argument) → IsInType a → are_shown (compact_text (argument_data a)) ≡ true
@@ -130,11 +183,12 @@ argument_shown (mode modes.Both) h = quoted_shown (codes "rw") refl
 argument_shown (bit false) h = decimal_shown 0
 argument_shown (bit true) h = decimal_shown 1
 argument_shown (digits bytes) h = quoted_shown (encode_lower bytes) (hex_plain bytes h)
+argument_shown (answer a) h = answer_shown a
 
 -- the most bytes that an argument and its comma take
 abbrev pub width : Argument → ℕ
 width (digits bytes) = 2 * length bytes + 3
-width _ = 66
+width _ = 76
 
 abbrev pub widths : List Argument → ℕ
 widths [] = 0
@@ -153,6 +207,7 @@ argument_short (mode modes.Both) h = omega (arith, quoted_short (codes "rw") ref
 argument_short (bit false) h = omega (arith, decimal_short 0)
 argument_short (bit true) h = omega (arith, decimal_short 1)
 argument_short (digits bytes) h = omega (arith, quoted_short (encode_lower bytes) (hex_plain bytes h), length-encode_with lower_digits bytes)
+argument_short (answer a) h = omega (arith, answer_short a)
 
 arguments_shown : (args : List Argument) → AreInTypes args → are_shown (items_text true (arguments_data args)) ≡ true
 arguments_shown [] h = refl
@@ -207,32 +262,32 @@ with_number k n ms = member k (number (unsigned n)) ms
 abbrev from_sock : Limits → Members
 from_sock l = with_number (codes "sock") l.sockets no_members
 
-abbrev from_version : Limits → Members
-from_version l = with_number (codes "netrev") 1 (from_sock l)
+abbrev from_version : Version → Limits → Members
+from_version version l = with_number (codes "netrev") (version_number version) (from_sock l)
 
-abbrev from_gor : Limits → Members
-from_gor l = with_number (codes "gor") l.goroutines (from_version l)
+abbrev from_gor : Version → Limits → Members
+from_gor version l = with_number (codes "gor") l.goroutines (from_version version l)
 
-abbrev from_desc : Limits → Members
-from_desc l = with_number (codes "desc") l.descriptors (from_gor l)
+abbrev from_desc : Version → Limits → Members
+from_desc version l = with_number (codes "desc") l.descriptors (from_gor version l)
 
-pub header_shown : (l : Limits) → are_shown (compact_text (limits_data l)) ≡ true
-header_shown l =
-    one_shown 123 (members_text false (with_number (codes "buf") l.buffer (from_desc l))) refl
-    (member_shown false (codes "buf") l.buffer (from_desc l) refl
-    (member_shown true (codes "desc") l.descriptors (from_gor l) refl
-    (member_shown true (codes "gor") l.goroutines (from_version l) refl
-    (member_shown true (codes "netrev") 1 (from_sock l) refl
+pub header_shown : (version : Version) (l : Limits) → are_shown (compact_text (header_data version l)) ≡ true
+header_shown version l =
+    one_shown 123 (members_text false (with_number (codes "buf") l.buffer (from_desc version l))) refl
+    (member_shown false (codes "buf") l.buffer (from_desc version l) refl
+    (member_shown true (codes "desc") l.descriptors (from_gor version l) refl
+    (member_shown true (codes "gor") l.goroutines (from_version version l) refl
+    (member_shown true (codes "netrev") (version_number version) (from_sock l) refl
     (member_shown true (codes "sock") l.sockets no_members refl refl)))))
 
-pub header_short : (l : Limits) → length (compact_text (limits_data l)) ≤ MOST_LINE_BYTES
-header_short l =
+pub header_short : (version : Version) (l : Limits) → length (compact_text (header_data version l)) ≤ MOST_LINE_BYTES
+header_short version l =
     let sock = member_short true (codes "sock") l.sockets no_members refl in
-    let version = member_short true (codes "netrev") 1 (from_sock l) refl in
-    let gor = member_short true (codes "gor") l.goroutines (from_version l) refl in
-    let desc = member_short true (codes "desc") l.descriptors (from_gor l) refl in
-    let buf = member_short false (codes "buf") l.buffer (from_desc l) refl in
-    omega (arith, sock, version, gor, desc, buf)
+    let number = member_short true (codes "netrev") (version_number version) (from_sock l) refl in
+    let gor = member_short true (codes "gor") l.goroutines (from_version version l) refl in
+    let desc = member_short true (codes "desc") l.descriptors (from_gor version l) refl in
+    let buf = member_short false (codes "buf") l.buffer (from_desc version l) refl in
+    omega (arith, sock, number, gor, desc, buf)
 
 -- ---- what is visible
 

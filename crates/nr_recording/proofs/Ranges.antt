@@ -1,15 +1,17 @@
 -- What was read keeps the ranges of a recording.
-use Rattle.std.proofs.Common.{◌≡◌, ◌<◌, ◌≤◌, ℕ, ℤ, pos, negsuc, Bool, true, false, ◌&&◌, if◌then◌else◌, ltb, leb, List, length, Option, Some, None, Result, Ok, Err, refl, subst, arith}
-use Rattle.std.specs.Prelude.{option_map, option_and_then, codes, ◌==◌}
+use Rattle.std.proofs.Common.{◌≡◌, ◌<◌, ◌≤◌, ℕ, zero, suc, ℤ, pos, negsuc, Bool, true, false, ◌&&◌, if◌then◌else◌, ltb, leb, List, [], ◌∷◌, ◌++◌, ◌∙◌, length, map, Option, Some, None, Result, Ok, Err, refl, subst, arith}
+use Rattle.std.specs.Prelude.{option_map, option_and_then, codes, ◌==◌, IfSome, slice_get}
 use Rattle.std.specs.Result.{result_ok}
 use Rattle.std.proofs.lemmas.Bool.{ltb-true, ltb-false, leb-true, le-leb, le-ltb, and_parts}
+use Rattle.std.proofs.lemmas.List.Folds.{list_all-append}
 use Rattle.std.proofs.lemmas.Option.{same_Some}
 use Rattle.hex.specs.Hex.{decode_of}
 use Rattle.hex.proofs.HexLemmas.{decode_of-ok}
 use Rattle.serde_json.specs.Data.{Data, Items, no_items, item}
 use Rattle.serde_json.specs.Find.{as_str, as_array}
 use Rattle.nr_rev.specs.declared.kind.Kind.{Kind}
-use Rattle.nr_rev.specs.Kind.{kind_named}
+use Rattle.nr_rev.specs.Kind.{kind_named, kind_of}
+use Rattle.nr_rev.specs.declared.answer.Answer.{Answer}
 use Rattle.nr_rev.specs.declared.limits.Limits.{Limits}
 use Rattle.nr_rev.specs.declared.step.Step.{Step}
 use Rattle.nr_rev.specs.declared.step.Step.TheVariants.{Tick}
@@ -19,13 +21,16 @@ use Rattle.nr_recording.specs.declared.fault.Fault.{Fault}
 use Rattle.nr_recording.specs.declared.fault.Fault.TheVariants as fault
 use Rattle.nr_recording.specs.Faults.{or_fault}
 use Rattle.nr_rev.specs.Limits.{is_limit, are_in_range, AreInRange}
-use Rattle.nr_recording.specs.Recording.{is_writable, are_writable, recording_of}
+use Rattle.nr_recording.specs.Reading.{AreOfHeader}
+use Rattle.nr_recording.specs.declared.reading.Header.{Header}
+use Rattle.nr_recording.specs.Recording.{fits, is_writable, are_writable, recording_of}
+use Rattle.nr_recording.specs.declared.recording.RecordedStep.{RecordedStep}
 use Rattle.nr_recording.specs.declared.version.Version.{Version}
-use Rattle.nr_recording.specs.declared.version.Version.TheVariants.{One}
-use Rattle.nr_recording.specs.Version.{has_kind, kept_kind, kind_in, may_end_with, most_buffer}
-use Rattle.nr_recording.specs.Arguments.{most_digits, bytes_named, hex_of, i64_of, from_zero, time_of, first_by, number, bytes, time, ◌and◌}
+use Rattle.nr_recording.specs.declared.version.Version.TheVariants.{One, Two}
+use Rattle.nr_recording.specs.Version.{has_kind, kept_kind, kind_in, may_have, most_buffer}
+use Rattle.nr_recording.specs.Arguments.{most_digits, bytes_named, hex_of, i64_of, from_zero, time_of, first_by, number, bytes, time, answer, ◌and◌}
 use Rattle.nr_recording.specs.Shapes.{step_from}
-use Rattle.nr_recording.specs.Steps.{first_of, step_in, step_of}
+use Rattle.nr_recording.specs.Steps.{first_of, step_in, answer_in, ends, step_of}
 use Rattle.nr_recording.specs.Header.{limit_of, limits_of, unsigned_at, member_count, header_of}
 use Rattle.nr_recording.proofs.Binds.{bind_ok, passed_ok, found_ok, map_some, then_some, kept_some, same_ok}
 
@@ -42,18 +47,18 @@ limit_ok most n m e =
 
 limits_ok : (version : Version) (gor sock desc buf : ℕ) (l : Limits) → limits_of version gor sock desc buf ≡ Ok l → AreInRange l × (l.buffer ≤ most_buffer version)
 unfolding limits_of
-limits_ok One gor sock desc buf l e =
+limits_ok version gor sock desc buf l e =
     let g = bind_ok (limit_of MOST_GOROUTINES gor) _ l e in
     let s = bind_ok (limit_of MOST_SOCKETS sock) _ l g.2 in
     let d = bind_ok (limit_of MOST_DESCRIPTORS desc) _ l s.2 in
-    let b = bind_ok (limit_of (most_buffer One) buf) _ l d.2 in
+    let b = bind_ok (limit_of (most_buffer version) buf) _ l d.2 in
     let made : Limits = record { goroutines = g.0; sockets = s.0; descriptors = d.0; buffer = b.0 } in
     let same : made ≡ l = cc (b.2) in
     let gs = limit_ok MOST_GOROUTINES gor g.0 g.1 in
     let ss = limit_ok MOST_SOCKETS sock s.0 s.1 in
     let ds = limit_ok MOST_DESCRIPTORS desc d.0 d.1 in
-    let bs = limit_ok (most_buffer One) buf b.0 b.1 in
-    subst (λ (x : Limits). AreInRange x × (x.buffer ≤ most_buffer One)) same (
+    let bs = limit_ok (most_buffer version) buf b.0 b.1 in
+    subst (λ (x : Limits). AreInRange x × (x.buffer ≤ most_buffer version)) same (
       record {
         goroutines = gs.0;
         goroutines_most = gs.1;
@@ -62,10 +67,14 @@ limits_ok One gor sock desc buf l e =
         descriptors = ds.0;
         descriptors_most = ds.1;
         buffer = bs.0;
-        buffer_most = omega (arith, bs.1);
+        buffer_most = within version b.0 bs.1;
       },
       bs.1,
     )
+  where
+    within : (version : Version) (n : ℕ) → n ≤ most_buffer version → n ≤ MOST_BUFFER
+    within One n most = omega (arith, most)
+    within Two n most = most
 
 pub header_fits : (version : Version) (d : Data) (l : Limits) → header_of version d ≡ Ok l → AreInRange l × (l.buffer ≤ most_buffer version)
 unfolding header_of
@@ -114,38 +123,43 @@ AreFew bytes = leb (length bytes) MOST_BYTES ≡ true
 few_bytes : OnlyReads AreFew bytes
 few_bytes = first_only AreFew hex_of bytes_few
 
-time_least : OnlyReads (λ t. is_writable (Tick t) ≡ true) time
-time_least = first_only (λ t. is_writable (Tick t) ≡ true) time_of (λ d t e. let m = then_some from_zero (i64_of d) t e in from m.0 t m.2)
+time_least : OnlyReads (λ t. fits (Tick t) ≡ true) time
+time_least = first_only (λ t. fits (Tick t) ≡ true) time_of (λ d t e. let m = then_some from_zero (i64_of d) t e in from m.0 t m.2)
   where
-    from : (z t : ℤ) → from_zero z ≡ Some t → is_writable (Tick t) ≡ true
+    from : (z t : ℤ) → from_zero z ≡ Some t → fits (Tick t) ≡ true
     from (pos n) t h =
         let kept = kept_some (ltb n 0) (Some (pos n)) t h in
         let same : pos n ≡ t = same_Some (pos n) t kept.1 in
-        subst (λ (x : ℤ). is_writable (Tick x) ≡ true) same (rw (le-leb 0 n (omega arith)) refl)
+        subst (λ (x : ℤ). fits (Tick x) ≡ true) same (rw (le-leb 0 n (omega arith)) refl)
     from (negsuc n) t h = absurd cc
 
--- a way to make steps makes none that could not be written
-abbrev MakesWritable : (Items → Result (Step × Items) Fault) → Type 0
-MakesWritable make = OnlyReads (λ step. is_writable step ≡ true) make
+-- a way to make steps makes just those of a kind that have room in a line
+record Makes (kind : Kind) (step : Step) : Type 0 where
+  kinded : kind_of step ≡ kind
+  fitting : fits step ≡ true
 
-of_found : {A : Type 0} (step : A → Step) (found : Items → Result (A × Items) Fault) → OnlyReads (λ x. is_writable (step x) ≡ true) found → MakesWritable (λ ds. step_from step (found ds))
-of_found {A = A} step found h ds p e = from (found ds) p (h ds) e
+abbrev MakesFitting : Kind → (Items → Result (Step × Items) Fault) → Type 0
+MakesFitting kind make = OnlyReads (Makes kind) make
+
+of_found : {A : Type 0} (kind : Kind) (step : A → Step) (found : Items → Result (A × Items) Fault) → ((x : A) → kind_of (step x) ≡ kind) → OnlyReads (λ x. fits (step x) ≡ true) found
+    → MakesFitting kind (λ ds. step_from step (found ds))
+of_found {A = A} kind step found kinded h ds p e = from (found ds) p (h ds) e
   where
-    from : (r : Result (A × Items) Fault) (p : Step × Items) → ((q : A × Items) → r ≡ Ok q → is_writable (step q.0) ≡ true) → step_from step r ≡ Ok p → is_writable p.0 ≡ true
-    from (Ok q) p h e = subst (λ (s : Step × Items). is_writable s.0 ≡ true) (same_ok {E = Fault} (step q.0, q.1) p e) (h q refl)
+    from : (r : Result (A × Items) Fault) (p : Step × Items) → ((q : A × Items) → r ≡ Ok q → fits (step q.0) ≡ true) → step_from step r ≡ Ok p → Makes kind p.0
+    from (Ok q) p h e = subst (λ (s : Step × Items). Makes kind s.0) (same_ok {E = Fault} (step q.0, q.1) p e) (record { kinded = kinded q.0; fitting = h q refl })
     from (Err f) p h e = absurd cc
 
--- a kind that always makes steps that can be written
-usual : {A : Type 0} (step : A → Step) (found : Items → Result (A × Items) Fault) → ((x : A) → is_writable (step x) ≡ true) → MakesWritable (λ ds. step_from step (found ds))
-usual step found h = of_found step found (λ ds p e. h p.0)
+-- a kind that always makes steps that have room
+usual : {A : Type 0} (kind : Kind) (step : A → Step) (found : Items → Result (A × Items) Fault) → ((x : A) → kind_of (step x) ≡ kind) → ((x : A) → fits (step x) ≡ true)
+    → MakesFitting kind (λ ds. step_from step (found ds))
+usual kind step found kinded h = of_found kind step found kinded (λ ds p e. h p.0)
 
--- only these kinds make steps that might be none that can be written
-kind_made : (kind : Kind) → has_kind One kind ≡ true → MakesWritable (step_in kind)
-kind_made Kind.CloseWrite has = absurd cc
-kind_made Kind.Arrive has = of_found _ _ (second_only AreFew number bytes few_bytes)
-kind_made Kind.SysWrite has = of_found _ _ (second_only (λ p. AreFew p.1) number (number and bytes) (second_only AreFew number bytes few_bytes))
-kind_made Kind.Tick has = of_found _ _ time_least
-kind_made _ has = usual _ _ (λ x. refl)
+-- only these kinds make steps that might have no room
+kind_made : (kind : Kind) → MakesFitting kind (step_in kind)
+kind_made Kind.Arrive = of_found _ _ _ (λ x. refl) (second_only AreFew number bytes few_bytes)
+kind_made Kind.SysWrite = of_found _ _ _ (λ x. refl) (second_only (λ p. AreFew p.1) number (number and bytes) (second_only AreFew number bytes few_bytes))
+kind_made Kind.Tick = of_found _ _ _ (λ x. refl) time_least
+kind_made _ = usual _ _ _ (λ x. refl) (λ x. refl)
 
 -- a kind that is read is one of the version's
 kind_had : (version : Version) (name : List ℕ) (kind : Kind) → kind_in version name ≡ Some kind → has_kind version kind ≡ true
@@ -158,24 +172,66 @@ kind_had version name kind e =
     from named true is e = subst (λ (k : Kind). has_kind version k ≡ true) (same_Some named kind e) is
     from named false is e = absurd cc
 
-pub step_writable : (version : Version) (d : Data) (step : Step) → step_of version d ≡ Ok step → is_writable step ≡ true
+-- what is read behind the arguments is an answer, just where the version has answers
+answer_had : (version : Version) (ds : Items) (p : Option Answer × Items) → answer_in version ds ≡ Ok p → may_have version p.0 ≡ true
+answer_had One ds p e = subst (λ (q : Option Answer × Items). may_have One q.0 ≡ true) (same_ok {E = Fault} (None, ds) p e) refl
+answer_had Two ds p e =
+    let found = bind_ok (answer ds) (λ found. Ok (Some found.0, found.1)) p e in
+    subst (λ (q : Option Answer × Items). may_have Two q.0 ≡ true) (same_ok {E = Fault} (Some found.0.0, found.0.1) p found.2) refl
+
+pub step_writable : (version : Version) (d : Data) (step : RecordedStep) → step_of version d ≡ Ok step → is_writable version step ≡ true
 unfolding step_of
 step_writable version d step e =
     let parts = bind_ok (or_fault fault.UnknownStep (option_and_then first_of (as_array d))) _ step e in
     let name = bind_ok (or_fault fault.UnknownStep (as_str parts.0.0)) _ step parts.2 in
     let kind = bind_ok (or_fault fault.UnknownStep (kind_in version name.0)) _ step name.2 in
     let found = bind_ok (step_in kind.0 parts.0.1) _ step kind.2 in
-    let ended = passed_ok (may_end_with version found.0.1) fault.Arguments (Ok found.0.0) step found.2 in
-    let same : found.0.0 ≡ step = cc (ended.1) in
-    subst (λ (s : Step). is_writable s ≡ true) same (kind_made kind.0 (had version kind.0 (kind_had version name.0 kind.0 (found_ok fault.UnknownStep (kind_in version name.0) kind.0 kind.1))) parts.0.1 found.0 found.1)
-  where
-    had : (version : Version) (kind : Kind) → has_kind version kind ≡ true → has_kind One kind ≡ true
-    had One kind h = h
+    let answered = bind_ok (answer_in version found.0.1) _ step found.2 in
+    let read : RecordedStep = record { step = found.0.0; answer = answered.0.0 } in
+    let ended = passed_ok (ends answered.0.1) fault.Arguments (Ok read) step answered.2 in
+    let made = kind_made kind.0 parts.0.1 found.0 found.1 in
+    let has = kind_had version name.0 kind.0 (found_ok fault.UnknownStep (kind_in version name.0) kind.0 kind.1) in
+    let may = answer_had version found.0.1 answered.0 answered.1 in
+    subst (λ (s : RecordedStep). is_writable version s ≡ true) (same_ok {E = Fault} read step ended.1) (rw (made.kinded, has, made.fitting, may) refl)
 
 -- ---- what is made
 
-pub recording_made : (l : Limits) (steps : List Step) → are_in_range l ≡ true → l.buffer ≤ most_buffer One → length steps ≤ MOST_STEPS → are_writable steps ≡ true → recording_of l steps ≡ Ok (record { limits = l; steps = steps })
-recording_made l steps limits most few writable =
-    let low : ltb (most_buffer One) l.buffer ≡ false = le-ltb _ _ most in
+pub recording_made : (version : Version) (l : Limits) (steps : List RecordedStep) → are_in_range l ≡ true → l.buffer ≤ most_buffer version → length steps ≤ MOST_STEPS → are_writable version steps ≡ true
+    → recording_of version l steps ≡ Ok (record { version = version; limits = l; steps = steps })
+recording_made version l steps limits most few writable =
+    let low : ltb (most_buffer version) l.buffer ≡ false = le-ltb _ _ most in
     let short : ltb MOST_STEPS (length steps) ≡ false = le-ltb _ _ few in
     rw (limits, low, short, writable) refl
+
+-- ---- a step of a recording
+
+-- the step of a run
+pub step_there : (steps : List RecordedStep) (n : ℕ) → option_map (λ s. s.step) (slice_get steps n) ≡ slice_get (map (λ s. s.step) steps) n
+step_there [] n = refl
+step_there (s ∷ steps) zero = refl
+step_there (s ∷ steps) (suc n) = step_there steps n
+
+-- has room in a line
+pub step_fits : (version : Version) (steps : List RecordedStep) (n : ℕ) → are_writable version steps ≡ true → IfSome (slice_get steps n) (λ s. fits s.step ≡ true)
+step_fits version [] n h = tt
+step_fits version (s ∷ steps) zero h =
+    let writable = and_parts (is_writable version s) (are_writable version steps) h in
+    let parts = and_parts (has_kind version (kind_of s.step) && fits s.step) (may_have version s.answer) writable.0 in
+    (and_parts (has_kind version (kind_of s.step)) (fits s.step) parts.0).1
+step_fits version (s ∷ steps) (suc n) h = step_fits version steps n (and_parts (is_writable version s) (are_writable version steps) h).1
+
+-- ---- what was seen so far
+
+-- before the header there are no steps
+pub none_before : (header : Option Header) (steps : List RecordedStep) → AreOfHeader header steps → ((h : Header) → ¬ (header ≡ Some h)) → steps ≡ []
+none_before None steps are none = are
+none_before (Some h) steps are none = absurd (none h refl)
+
+-- one more step of the header's version
+pub one_more_of : (header : Option Header) (begun : Header) (steps : List RecordedStep) (step : RecordedStep) → header ≡ Some begun → AreOfHeader header steps → is_writable begun.version step ≡ true
+    → AreOfHeader header (steps ++ step ∷ [])
+one_more_of None begun steps step is are one = absurd cc
+one_more_of (Some h) begun steps step is are one =
+    let same : h ≡ begun = same_Some h begun is in
+    let writable : is_writable h.version step ≡ true = rw same one in
+    list_all-append (is_writable h.version) steps (step ∷ []) ∙ rw (are, writable) refl

@@ -11,8 +11,8 @@ use Rattle.nr_recording.specs.declared.reading.TheConstants.{MOST_LINE_BYTES}
 use Rattle.nr_recording.specs.declared.recording.TheConstants.{MOST_STEPS}
 use Rattle.nr_recording.specs.declared.reading.Header.{Header}
 use Rattle.nr_recording.specs.declared.version.Version.{Version}
-use Rattle.nr_rev.specs.declared.step.Step.{Step}
-use Rattle.nr_rev.specs.Run.{Recording}
+use Rattle.nr_recording.specs.Recording.{Recorded}
+use Rattle.nr_recording.specs.declared.recording.RecordedStep.{RecordedStep}
 use Rattle.nr_recording.specs.Faults.{◌>>=◌}
 use Rattle.nr_recording.proofs.Binds.{bind_ok, guard_ok, choice, same_ok}
 use Rattle.nr_recording.specs.Header.{version_of, header_of}
@@ -63,28 +63,28 @@ first_ok n seen last line rest e =
 
 -- ---- what is read
 
-abbrev after_header : Header → List Step → Seen
+abbrev after_header : Header → List RecordedStep → Seen
 after_header header steps = record { header = Some header; steps = steps }
 
-with_step_ok : (header : Header) (steps : List Step) (d : Data) (next : Seen) → with_value (after_header header steps) (Some header) d ≡ Ok next
-    → (eqb (length steps) MOST_STEPS ≡ false) × ((e : Step) × (step_of header.version d ≡ Ok e) × (after_header header (steps ++ e ∷ []) ≡ next))
+with_step_ok : (header : Header) (steps : List RecordedStep) (d : Data) (next : Seen) → with_value (after_header header steps) (Some header) d ≡ Ok next
+    → (eqb (length steps) MOST_STEPS ≡ false) × ((e : RecordedStep) × (step_of header.version d ≡ Ok e) × (after_header header (steps ++ e ∷ []) ≡ next))
 with_step_ok header steps d next h =
     let g = guard_ok (eqb (length steps) MOST_STEPS) fault.TooManySteps (step_of header.version d >>= λ e. Ok (after_header header (steps ++ e ∷ []))) next h in
     let b = bind_ok (step_of header.version d) (λ e. Ok (after_header header (steps ++ e ∷ []))) next g.1 in
     (g.0, (b.0, b.1, same_ok {E = Fault} (after_header header (steps ++ b.0 ∷ [])) next b.2))
 
-skip_more : (version : Version) (line : List ℕ) (rest : List (List ℕ)) (es : List Step) → IsSkipped line → AreSteps version rest es → AreSteps version (line ∷ rest) es
+skip_more : (version : Version) (line : List ℕ) (rest : List (List ℕ)) (es : List RecordedStep) → IsSkipped line → AreSteps version rest es → AreSteps version (line ∷ rest) es
 skip_more version line rest [] s more = (s, more)
 skip_more version line rest (e ∷ es) s more = inl (s, more)
 
 -- the steps of some lines, behind the steps before them
-record Continues (header : Header) (steps : List Step) (rest : List (List ℕ)) (last : Seen) : Type 0 where
-  es : List Step
+record Continues (header : Header) (steps : List RecordedStep) (rest : List (List ℕ)) (last : Seen) : Type 0 where
+  es : List RecordedStep
   are : AreSteps header.version rest es
   ends : last ≡ after_header header (steps ++ es)
   fits : length (steps ++ es) ≤ MOST_STEPS
 
-steps_found : (rest : List (List ℕ)) (n : ℕ) (header : Header) (steps : List Step) (last : Seen) → length steps ≤ MOST_STEPS → with_lines n (after_header header steps) rest ≡ Ok last
+steps_found : (rest : List (List ℕ)) (n : ℕ) (header : Header) (steps : List RecordedStep) (last : Seen) → length steps ≤ MOST_STEPS → with_lines n (after_header header steps) rest ≡ Ok last
     → Continues header steps rest last
 unfolding with_lines
 steps_found [] n header steps last le h = record { es = []; are = tt; ends = rw (append-nil steps) (sym (same_ok {E = ReadFault} (after_header header steps) last h)); fits = rw (append-nil steps) le }
@@ -107,28 +107,26 @@ steps_found (line ∷ rest) n header steps last le h =
           })
     ]
 
-lines_found : (rest : List (List ℕ)) (n m : ℕ) (last : Seen) (w : Recording) → with_lines n nothing rest ≡ Ok last → recording_at_end m last ≡ Ok w → (version : Version) × AreLinesOf version rest w
+lines_found : (rest : List (List ℕ)) (n m : ℕ) (last : Seen) (w : Recorded) → with_lines n nothing rest ≡ Ok last → recording_at_end m last ≡ Ok w → AreLinesOf rest w
 unfolding with_lines
 lines_found [] n m last w h done_is =
     absurd (let e : nothing ≡ last = same_ok {E = ReadFault} nothing last h in let f : recording_at_end m nothing ≡ Ok w = subst (λ (x : Seen). recording_at_end m x ≡ Ok w) (sym e) done_is in cc)
 lines_found (line ∷ rest) n m last w h done_is =
     let f = first_ok n nothing last line rest h in
     elim (with_line_ok nothing line f.0 f.1) [
-      | inl s ↦ (
-          let more = lines_found rest (suc n) m last w (subst (λ (x : Seen). with_lines (suc n) x rest ≡ Ok last) (sym s.1) f.2) done_is in
-          (more.0, inl (s.0, more.1)))
+      | inl s ↦ inl (s.0, lines_found rest (suc n) m last w (subst (λ (x : Seen). with_lines (suc n) x rest ≡ Ok last) (sym s.1) f.2) done_is)
       | inr v ↦ (
           let version = bind_ok (version_of v.0) _ f.0 v.2 in
           let limits = bind_ok (header_of version.0 v.0) (λ limits. Ok (after_header (record { version = version.0; limits = limits }) [])) f.0 version.2 in
           let header : Header = record { version = version.0; limits = limits.0 } in
           let next = same_ok {E = Fault} (after_header header []) f.0 limits.2 in
           let more = steps_found rest (suc n) header [] last (omega arith) (subst (λ (x : Seen). with_lines (suc n) x rest ≡ Ok last) (sym next) f.2) in
-          let made : Recording = record { limits = limits.0; steps = more.es } in
+          let made : Recorded = record { version = version.0; limits = limits.0; steps = more.es } in
           let is : made ≡ w = same_ok {E = ReadFault} made w (subst (λ (x : Seen). recording_at_end m x ≡ Ok w) {y = after_header header more.es} more.ends done_is) in
-          (version.0, subst (λ (x : Recording). AreLinesOf version.0 (line ∷ rest) x) {x = made} is (inr ((v.0, v.1, version.1, limits.1), more.are, more.fits))))
+          subst (λ (x : Recorded). AreLinesOf (line ∷ rest) x) {x = made} is (inr ((v.0, v.1, version.1, limits.1), more.are, more.fits)))
     ]
 
-pub reading_found : (bytes : List ℕ) (w : Recording) → reading bytes ≡ Ok w → IsTextOf bytes w
+pub reading_found : (bytes : List ℕ) (w : Recorded) → reading bytes ≡ Ok w → IsTextOf bytes w
 unfolding reading
 reading_found bytes w h =
     let b = bind_ok (with_lines 1 nothing (lines bytes)) (recording_at_end (length (lines bytes))) w h in
@@ -136,7 +134,7 @@ reading_found bytes w h =
 
 -- ---- what is in the grammar
 
-steps_again : (rest : List (List ℕ)) (es : List Step) (n : ℕ) (header : Header) (steps : List Step) → AreSteps header.version rest es → length steps + length es ≤ MOST_STEPS
+steps_again : (rest : List (List ℕ)) (es : List RecordedStep) (n : ℕ) (header : Header) (steps : List RecordedStep) → AreSteps header.version rest es → length steps + length es ≤ MOST_STEPS
     → with_lines n (after_header header steps) rest ≡ Ok (after_header header (steps ++ es))
 unfolding with_lines
 steps_again [] [] n header steps are le = rw (append-nil steps) refl
@@ -153,22 +151,22 @@ steps_again (line ∷ rest) (e ∷ es) n header steps are le =
           ∙ rw (append_assoc steps (e ∷ []) es) refl)
     ]
 
-lines_again : (version : Version) (rest : List (List ℕ)) (n : ℕ) (w : Recording) → AreLinesOf version rest w
-    → with_lines n nothing rest ≡ Ok (after_header (record { version = version; limits = w.limits }) w.steps)
-lines_again version [] n w are = absurd are
-lines_again version (line ∷ rest) n w are =
-    let header : Header = record { version = version; limits = w.limits } in
+lines_again : (rest : List (List ℕ)) (n : ℕ) (w : Recorded) → AreLinesOf rest w
+    → with_lines n nothing rest ≡ Ok (after_header (record { version = w.version; limits = w.limits }) w.steps)
+lines_again [] n w are = absurd are
+lines_again (line ∷ rest) n w are =
+    let header : Header = record { version = w.version; limits = w.limits } in
     elim are [
-      | inl s ↦ first_then n _ _ line rest (skipped_then line nothing s.0) ∙ lines_again version rest (suc n) w s.1
+      | inl s ↦ first_then n _ _ line rest (skipped_then line nothing s.0) ∙ lines_again rest (suc n) w s.1
       | inr v ↦ (
           let one : with_value nothing None v.0.0 ≡ Ok (after_header header []) = rw (v.0.2, v.0.3) refl in
           first_then n _ _ line rest (value_then line v.0.0 nothing _ v.0.1 one) ∙ steps_again rest w.steps (suc n) header [] v.1 (omega (arith, v.2)))
     ]
 
-pub reading_again : (bytes : List ℕ) (w : Recording) → IsTextOf bytes w → reading bytes ≡ Ok w
+pub reading_again : (bytes : List ℕ) (w : Recorded) → IsTextOf bytes w → reading bytes ≡ Ok w
 unfolding reading
-reading_again bytes w are = rw (lines_again are.0 (lines bytes) 1 w are.1) refl
+reading_again bytes w are = rw (lines_again (lines bytes) 1 w are) refl
 
-pub answer_found : (bytes : List ℕ) (r : Result Recording ReadFault) → IsUnlessMemory r (reading bytes) → IfOk r (λ x. IsTextOf bytes x)
+pub answer_found : (bytes : List ℕ) (r : Result Recorded ReadFault) → IsUnlessMemory r (reading bytes) → IfOk r (λ x. IsTextOf bytes x)
 answer_found bytes (Ok x) h = reading_found bytes x h
 answer_found bytes (Err e) h = tt

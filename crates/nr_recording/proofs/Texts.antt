@@ -6,8 +6,8 @@ use Rattle.std.proofs.KnownBytes.{Appends-trans}
 use Rattle.std.proofs.Math.Seq.{take-append-add}
 use Rattle.std.proofs.lemmas.List.{take_more, get_or-map, length-map, take-append-le}
 use Rattle.std.proofs.lemmas.List.Folds.{concat-append}
-use Rattle.nr_rev.specs.declared.step.Step.{Step}
-use Rattle.nr_rev.specs.Run.{Recording}
+use Rattle.nr_recording.specs.Recording.{Recorded}
+use Rattle.nr_recording.specs.declared.recording.RecordedStep.{RecordedStep}
 use Rattle.nr_recording.specs.Writing.{step_data, line_text, line_texts, text, AppendsPart}
 
 one_more_text : (all : List (List ℕ)) (line : List ℕ) (i : ℕ) (a b c : Option (List ℕ)) → i < length all → line ≡ get_or all i line → Appends a b (concat (take i all)) → Appends b c line
@@ -18,15 +18,15 @@ one_more_text all line i a b c lt is before one =
     rw e (Appends-trans a b c (concat (take i all)) line before one)
 
 -- the i-th step's line is behind the header's
-line_there : (w : Recording) (e : Step) (i : ℕ) → i < length w.steps → e ≡ get_or w.steps i e → line_text (step_data e) ≡ get_or (line_texts w) (i + 1) (line_text (step_data e))
+line_there : (w : Recorded) (e : RecordedStep) (i : ℕ) → i < length w.steps → e ≡ get_or w.steps i e → line_text (step_data e) ≡ get_or (line_texts w) (i + 1) (line_text (step_data e))
 line_there w e i lt is =
-    let f : Step → List ℕ = λ x. line_text (step_data x) in
+    let f : RecordedStep → List ℕ = λ x. line_text (step_data x) in
     ap f is ∙ sym (get_or-map f w.steps i e (f e) lt) ∙ rw (add-one) refl
 
-pub one_more_line : (w : Recording) (e : Step) (i : ℕ) (a b c : Option (List ℕ)) → i < length w.steps → e ≡ get_or w.steps i e
+pub one_more_line : (w : Recorded) (e : RecordedStep) (i : ℕ) (a b c : Option (List ℕ)) → i < length w.steps → e ≡ get_or w.steps i e
     → Appends a b (concat (take (i + 1) (line_texts w))) → Appends b c (line_text (step_data e)) → Appends a c (concat (take (i + 1 + 1) (line_texts w)))
 one_more_line w e i a b c lt is before one =
-    let f : Step → List ℕ = λ x. line_text (step_data x) in
+    let f : RecordedStep → List ℕ = λ x. line_text (step_data x) in
     one_more_text (line_texts w) (f e) (i + 1) a b c (simp length-map (omega arith)) (line_there w e i lt is) before one
 
 -- the lines before the i-th, the i-th, and those after it
@@ -49,8 +49,8 @@ part_of_text all line i a b c lt is before part =
     (length front + n, omega (arith, lens, short), subst (Appends a c) (sym front_of_line) (Appends-trans a b c front (take n line) before part.2))
 
 -- a step's line that went out in part
-pub part_of_line : (w : Recording) (e : Step) (i : ℕ) (a b c : Option (List ℕ)) → i < length w.steps → e ≡ get_or w.steps i e
+pub part_of_line : (w : Recorded) (e : RecordedStep) (i : ℕ) (a b c : Option (List ℕ)) → i < length w.steps → e ≡ get_or w.steps i e
     → Appends a b (concat (take (i + 1) (line_texts w))) → AppendsPart b c (line_text (step_data e)) → AppendsPart a c (text w)
 part_of_line w e i a b c lt is before part =
-    let f : Step → List ℕ = λ x. line_text (step_data x) in
+    let f : RecordedStep → List ℕ = λ x. line_text (step_data x) in
     part_of_text (line_texts w) (f e) (i + 1) a b c (simp length-map (omega arith)) (line_there w e i lt is) before part

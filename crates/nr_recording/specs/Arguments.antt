@@ -13,18 +13,16 @@ use Rattle.serde_json.specs.Find.{as_number, as_u64, as_i64, as_str}
 use Rattle.nr_recording.specs.declared.fault.Fault.{Fault}
 use Rattle.nr_recording.specs.declared.fault.Fault.TheVariants as fault
 use Rattle.nr_recording.specs.declared.recording.TheConstants.{MOST_BYTES}
+use Rattle.nr_recording.specs.Answer.{answer_of}
 use Rattle.nr_recording.specs.Faults.{◌>>=◌, or_fault}
+use Rattle.nr_recording.specs.Numbers.{u32_of}
+use Rattle.nr_rev.specs.declared.answer.Answer.{Answer}
 use Rattle.nr_rev.specs.declared.sides.Side.{Side}
 use Rattle.nr_rev.specs.declared.sides.Side.TheVariants as sides
 use Rattle.nr_rev.specs.declared.sides.Mode.{Mode}
 use Rattle.nr_rev.specs.declared.sides.Mode.TheVariants as modes
 
 -- ---- one argument
-
--- an unsigned number of 32 bits
-abbrev pub u32_of : Data → Option ℕ
-u32_of d = option_and_then (λ n. if nat_lt n (2 ^ 32) then Some n else None)
-    (option_and_then as_u64 (as_number d))
 
 -- an unsigned number of 64 bits
 abbrev pub u64_of : Data → Option ℕ
@@ -131,6 +129,10 @@ side ds = first_by side_of ds
 -- one side or both
 abbrev pub mode : Items → Result (Mode × Items) Fault
 mode ds = first_by mode_of ds
+
+-- a recorded answer
+abbrev pub answer : Items → Result (Answer × Items) Fault
+answer ds = first_by answer_of ds
 
 -- bytes, as hexadecimal digits
 abbrev pub bytes : Items → Result (List ℕ × Items) Fault

@@ -49,7 +49,8 @@ read_fault_line f = read_fault_text f ++ codes "\n"
 abbrev pub make_fault_text : MakeFault → List ℕ
 make_fault_text makes.Limit = codes "a limit is out of its range"
 make_fault_text makes.TooManySteps = codes "more than 1,000,000 steps"
-make_fault_text makes.Step = codes "a step carries too many bytes or sets the clock below 0"
+make_fault_text makes.Step =
+    codes "a step carries too many bytes, sets the clock below 0 or is not of the version"
 
 -- why a recording was not written
 abbrev pub write_fault_text : WriteFault → List ℕ

@@ -6,6 +6,8 @@ pub mod Text
 pub mod Writing
 -- inner: what only definitions and proofs of this crate use
 pub mod Version
+pub mod Numbers
+pub mod Answer
 pub mod Arguments
 pub mod Spelling
 pub mod Shapes

@@ -4,8 +4,6 @@ use Rattle.std.specs.List.{slice_split, list_all, list_any}
 use Rattle.std.specs.Str.{is_utf8}
 use Rattle.serde_json.specs.Data.{Data}
 use Rattle.serde_json.specs.Read.{read}
-use Rattle.nr_rev.specs.declared.step.Step.{Step}
-use Rattle.nr_rev.specs.Run.{Recording}
 use Rattle.nr_recording.specs.declared.fault.Fault.{Fault}
 use Rattle.nr_recording.specs.declared.fault.Fault.TheVariants as fault
 use Rattle.nr_recording.specs.declared.fault.LineError.{LineError}
@@ -17,7 +15,8 @@ use Rattle.nr_recording.specs.declared.recording.TheConstants.{MOST_STEPS}
 use Rattle.nr_recording.specs.declared.reading.Header.{Header}
 use Rattle.nr_recording.specs.Faults.{◌>>=◌, or_fault}
 use Rattle.nr_rev.specs.Limits.{AreInRange}
-use Rattle.nr_recording.specs.Recording.{are_writable}
+use Rattle.nr_recording.specs.Recording.{Recorded, are_writable}
+use Rattle.nr_recording.specs.declared.recording.RecordedStep.{RecordedStep}
 use Rattle.nr_recording.specs.Header.{version_of, header_of}
 use Rattle.nr_recording.specs.Steps.{step_of, step_takes_memory}
 use Rattle.nr_recording.specs.Version.{most_buffer}
@@ -45,14 +44,19 @@ value_of line = if is_utf8 line then or_fault fault.NotJson (read line) else Err
 -- what was read of some lines
 pub record Seen : Type 0 where
   pub header : Option Header
-  pub steps : List Step
+  pub steps : List RecordedStep
+
+-- the steps seen are of the header's version; before the header there are none
+abbrev pub AreOfHeader : Option Header → List RecordedStep → Type 0
+AreOfHeader None steps = steps ≡ []
+AreOfHeader (Some header) steps = are_writable header.version steps ≡ true
 
 -- what holds of what was seen
 pub record IsSeen (seen : Seen) : Type 0 where
   pub limits : IfSome seen.header (λ header. AreInRange header.limits)
   pub buffer : IfSome seen.header (λ header. header.limits.buffer ≤ most_buffer header.version)
   pub few : length seen.steps ≤ MOST_STEPS
-  pub writable : are_writable seen.steps ≡ true
+  pub writable : AreOfHeader seen.header seen.steps
 
 -- before the first line
 abbrev pub nothing : Seen
@@ -108,16 +112,20 @@ with_lines n seen (line ∷ rest) =
 -- ---- the whole text
 
 -- without a header line the fault is that of line n
-abbrev pub with_header : ℕ → Option Header → List Step → Result Recording ReadFault
+abbrev pub with_header : ℕ → Option Header → List RecordedStep → Result Recorded ReadFault
 with_header n None steps = Err (errors.Line n fault.Header)
-with_header n (Some header) steps = Ok (record { limits = header.limits; steps = steps })
+with_header n (Some header) steps = Ok (record {
+  version = header.version;
+  limits = header.limits;
+  steps = steps;
+})
 
 -- what comes after the last line, whose number is n
-abbrev pub recording_at_end : ℕ → Seen → Result Recording ReadFault
+abbrev pub recording_at_end : ℕ → Seen → Result Recorded ReadFault
 recording_at_end n seen = with_header n seen.header seen.steps
 
 -- the recording, or the fault of the first faulty line
-unfoldable pub reading : List ℕ → Result Recording ReadFault
+unfoldable pub reading : List ℕ → Result Recorded ReadFault
 reading bytes = with_lines 1 nothing (lines bytes) >>= recording_at_end (length (lines bytes))
 
 -- what reading gives is this fault, unless memory ran out

@@ -1,43 +1,64 @@
--- Which limits and steps a recording may have.
-use Rattle.std.specs.Prelude.{◌≡◌, ◌≤◌, pos, int_le, List, length, Bool, true, not, nat_lt, nat_le, if◌then◌else◌, Result, Ok, Err}
+-- What a recording has, and which limits and steps make one.
+use Rattle.std.specs.Prelude.{◌≡◌, ◌≤◌, ℕ, pos, int_le, List, length, map, slice_get, Bool, true, not, ◌&&◌, nat_lt, nat_le, if◌then◌else◌, Option, option_and_then, Result, Ok, Err}
 use Rattle.std.specs.List.{list_all}
-use Rattle.nr_rev.specs.declared.limits.Limits.{Limits}
+use Rattle.nr_rev.specs.Kind.{kind_of}
 use Rattle.nr_rev.specs.Limits.{AreInRange, are_in_range}
-use Rattle.nr_rev.specs.declared.kind.Kind.{Kind}
-use Rattle.nr_rev.specs.declared.step.Step.{Step}
-use Rattle.nr_rev.specs.declared.step.Step.TheVariants.{Arrive, SysWrite, Tick, CloseWrite}
 use Rattle.nr_rev.specs.Run.{Recording}
-use Rattle.nr_recording.specs.declared.recording.TheConstants.{MOST_STEPS, MOST_BYTES}
-use Rattle.nr_recording.specs.Version.{has_kind, most_buffer}
-use Rattle.nr_recording.specs.declared.version.Version.TheVariants.{One}
+use Rattle.nr_rev.specs.declared.answer.Answer.{Answer}
+use Rattle.nr_rev.specs.declared.limits.Limits.{Limits}
+use Rattle.nr_rev.specs.declared.step.Step.{Step}
+use Rattle.nr_rev.specs.declared.step.Step.TheVariants.{Arrive, SysWrite, Tick}
+use Rattle.nr_recording.specs.Version.{has_kind, may_have, most_buffer}
 use Rattle.nr_recording.specs.declared.fault.MakeFault.{MakeFault}
 use Rattle.nr_recording.specs.declared.fault.MakeFault.TheVariants as fault
+use Rattle.nr_recording.specs.declared.recording.RecordedStep.{RecordedStep}
+use Rattle.nr_recording.specs.declared.recording.TheConstants.{MOST_STEPS, MOST_BYTES}
+use Rattle.nr_recording.specs.declared.version.Version.{Version}
 
--- the step has a line: the version has its kind, it doesn't carry too many bytes, and it sets no
--- clock below 0
-abbrev pub is_writable : Step → Bool
-is_writable (Arrive s bytes) = nat_le (length bytes) MOST_BYTES
-is_writable (SysWrite g s bytes) = nat_le (length bytes) MOST_BYTES
-is_writable (Tick t) = int_le (pos 0) t
-is_writable (CloseWrite g s) = has_kind One Kind.CloseWrite
-is_writable _ = true
+-- what is recorded: the version of the format, the limits, and the steps in order, with the answers
+-- that were recorded of them
+pub record Recorded : Type 0 where
+  pub version : Version
+  pub limits : Limits
+  pub steps : List RecordedStep
+
+-- the run that is recorded: its limits and steps
+abbrev pub run_of : Recorded → Recording
+run_of r = record { limits = r.limits; steps = map (λ recorded. recorded.step) r.steps }
+
+-- the answer that is recorded of the step after position n, if any is
+abbrev pub recorded_at : Recorded → ℕ → Option Answer
+recorded_at r n = option_and_then (λ recorded. recorded.answer) (slice_get r.steps n)
+
+-- the step has room in a line: it doesn't carry too many bytes, and sets no clock below 0
+abbrev pub fits : Step → Bool
+fits (Arrive s bytes) = nat_le (length bytes) MOST_BYTES
+fits (SysWrite g s bytes) = nat_le (length bytes) MOST_BYTES
+fits (Tick t) = int_le (pos 0) t
+fits _ = true
+
+-- the step has a line: the version has its kind, it has room there, and it has an answer where the
+-- version wants one
+abbrev pub is_writable : Version → RecordedStep → Bool
+is_writable version recorded = (has_kind version (kind_of recorded.step) && fits recorded.step)
+    && may_have version recorded.answer
 
 -- each step has
-abbrev pub are_writable : List Step → Bool
-are_writable steps = list_all is_writable steps
+abbrev pub are_writable : Version → List RecordedStep → Bool
+are_writable version steps = list_all (is_writable version) steps
 
 -- what holds of each recording
-pub record IsRecording (r : Recording) : Type 0 where
+pub record IsRecording (r : Recorded) : Type 0 where
   pub limits : AreInRange r.limits
-  pub buffer : r.limits.buffer ≤ most_buffer One
+  pub buffer : r.limits.buffer ≤ most_buffer r.version
   pub few : length r.steps ≤ MOST_STEPS
-  pub writable : are_writable r.steps ≡ true
+  pub writable : are_writable r.version r.steps ≡ true
 
 -- the recording of these limits and steps, or why there is none
-abbrev pub recording_of : Limits → List Step → Result Recording MakeFault
-recording_of limits steps =
+abbrev pub recording_of : Version → Limits → List RecordedStep → Result Recorded MakeFault
+recording_of version limits steps =
     if not (are_in_range limits) then Err fault.Limit
-    else (if nat_lt (most_buffer One) limits.buffer then Err fault.Limit
+    else (if nat_lt (most_buffer version) limits.buffer then Err fault.Limit
     else (if nat_lt MOST_STEPS (length steps) then Err fault.TooManySteps
-    else (if not (are_writable steps) then Err fault.Step
-    else Ok (record { limits = limits; steps = steps }))))
+    else (if not (are_writable version steps) then Err fault.Step
+    else Ok (record { version = version; limits = limits; steps = steps }))))

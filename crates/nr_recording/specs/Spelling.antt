@@ -3,13 +3,15 @@ use Rattle.std.specs.Prelude.{◌≡◌, ℕ, ◌<◌, ◌^◌, ℤ, pos, negsuc
 use Rattle.hex.specs.Hex.{encode_lower}
 use Rattle.serde_json.specs.Data.{Data, number, unsigned, string, array, no_items, item, Items}
 use Rattle.serde_json.specs.Find.{of_integer}
+use Rattle.nr_rev.specs.declared.answer.Answer.{Answer}
 use Rattle.nr_rev.specs.declared.sides.Side.{Side}
 use Rattle.nr_rev.specs.declared.sides.Side.TheVariants as sides
 use Rattle.nr_rev.specs.declared.sides.Mode.{Mode}
 use Rattle.nr_rev.specs.declared.sides.Mode.TheVariants as modes
+use Rattle.nr_recording.specs.Answer.{answer_data, IsAnswerInType}
 
 -- an argument of a step: a number of 32 bits, a tag of 64, a time with a sign, a side, a mode, a
--- bit or bytes
+-- bit, bytes, or the answer behind them
 pub data Argument : Type 0 where
   numeral : ℕ → Argument
   tag : ℕ → Argument
@@ -18,6 +20,7 @@ pub data Argument : Type 0 where
   mode : Mode → Argument
   bit : Bool → Argument
   digits : List ℕ → Argument
+  answer : Answer → Argument
 
 -- the word for a side
 abbrev pub side_name : Side → List ℕ
@@ -44,6 +47,7 @@ argument_data (side s) = string (side_name s)
 argument_data (mode m) = string (mode_name m)
 argument_data (bit b) = number (unsigned (bit_number b))
 argument_data (digits bytes) = string (encode_lower bytes)
+argument_data (answer a) = answer_data a
 
 -- the JSON of some arguments
 abbrev pub arguments_data : List Argument → Items
@@ -64,6 +68,7 @@ IsInType (side s) = ⊤
 IsInType (mode m) = ⊤
 IsInType (bit b) = ⊤
 IsInType (digits bytes) = (i : ℕ) → slice_index bytes i < 256
+IsInType (answer a) = IsAnswerInType a
 
 -- each argument is
 abbrev pub AreInTypes : List Argument → Type 0

@@ -1,19 +1,22 @@
 -- What step the value of a line is, and what line a step has: two rows a kind.
-use Rattle.std.specs.Prelude.{ℕ, List, [], ◌∷◌, Bool, false, Option, Some, None, option_and_then, Result, Ok, Err, if◌then◌else◌}
+use Rattle.std.specs.Prelude.{ℕ, List, [], ◌∷◌, ◌++◌, Bool, true, false, Option, Some, None, option_and_then, Result, Ok, Err, if◌then◌else◌}
 use Rattle.std.specs.Option.{option_map_or}
 use Rattle.serde_json.specs.Data.{Data, Items, no_items, item}
 use Rattle.serde_json.specs.Find.{as_str, as_array}
+use Rattle.nr_rev.specs.declared.answer.Answer.{Answer}
 use Rattle.nr_rev.specs.declared.kind.Kind.{Kind}
 use Rattle.nr_rev.specs.declared.step.Step.{Step}
 use Rattle.nr_rev.specs.Kind.{kind_name, kind_of}
 use Rattle.nr_recording.specs.declared.fault.Fault.{Fault}
 use Rattle.nr_recording.specs.declared.fault.Fault.TheVariants as fault
 use Rattle.nr_recording.specs.declared.version.Version.{Version}
+use Rattle.nr_recording.specs.declared.version.Version.TheVariants.{One, Two}
 use Rattle.nr_recording.specs.Faults.{◌>>=◌, or_fault}
-use Rattle.nr_recording.specs.Arguments.{◌and◌, number, next_takes_memory}
+use Rattle.nr_recording.specs.Arguments.{◌and◌, number, answer as answer_at, next_takes_memory}
 use Rattle.nr_recording.specs.Shapes.{bare, one, pair, triple, sided, arrival, transfer, deadline, event, timed}
-use Rattle.nr_recording.specs.Spelling.{Argument, numeral, tag, time, side, mode, bit, digits}
-use Rattle.nr_recording.specs.Version.{kind_in, may_end_with}
+use Rattle.nr_recording.specs.Spelling.{Argument, numeral, tag, time, side, mode, bit, digits, answer}
+use Rattle.nr_recording.specs.Version.{kind_in}
+use Rattle.nr_recording.specs.declared.recording.RecordedStep.{RecordedStep}
 
 -- ---- the kinds
 
@@ -94,23 +97,49 @@ kind_takes_memory _ ds = false
 -- ---- lines
 
 -- the name of a step's kind, and its arguments
-abbrev pub spelling_of : Step → List ℕ × List Argument
-spelling_of step = (kind_name (kind_of step), arguments_of step)
+abbrev pub step_spelling : Step → List ℕ × List Argument
+step_spelling step = (kind_name (kind_of step), arguments_of step)
+
+-- the answer, if one is recorded
+abbrev pub answer_arguments : Option Answer → List Argument
+answer_arguments None = []
+answer_arguments (Some a) = answer a ∷ []
+
+-- the name of the kind, the arguments, and behind them the answer
+abbrev pub spelling_of : RecordedStep → List ℕ × List Argument
+spelling_of recorded = (
+  kind_name (kind_of recorded.step),
+  arguments_of recorded.step ++ answer_arguments recorded.answer,
+)
 
 -- the first of some values, and the others
 abbrev pub first_of : Items → Option (Data × Items)
 first_of no_items = None
 first_of (item d ds) = Some (d, ds)
 
--- the step that the value of a line is: an array of a kind's name, its arguments, and what the
--- version lets follow them
-unfoldable pub step_of : Version → Data → Result Step Fault
+-- the answer that follows a step's arguments: in version 2 one does
+abbrev pub answer_in : Version → Items → Result (Option Answer × Items) Fault
+answer_in One ds = Ok (None, ds)
+answer_in Two ds = do
+  found ← answer_at ds
+  Ok (Some found.0, found.1)
+
+-- nothing is left
+abbrev pub ends : Items → Bool
+ends no_items = true
+ends (item d ds) = false
+
+-- the step that the value of a line is: an array of a kind's name, its arguments, the answer where
+-- the version has answers, and no more
+unfoldable pub step_of : Version → Data → Result RecordedStep Fault
 step_of version d = do
   parts ← or_fault fault.UnknownStep (option_and_then first_of (as_array d))
   name ← or_fault fault.UnknownStep (as_str parts.0)
   kind ← or_fault fault.UnknownStep (kind_in version name)
   found ← step_in kind parts.1
-  if may_end_with version found.1 then Ok found.0 else Err fault.Arguments
+  answered ← answer_in version found.1
+  if ends answered.1 then Ok (record { step = found.0; answer = answered.0 })
+      else Err fault.Arguments
 
 -- a line with this name and these arguments takes memory to read
 abbrev pub named_takes_memory : Version → List ℕ → Items → Bool

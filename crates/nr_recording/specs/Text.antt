@@ -2,11 +2,11 @@
 use Rattle.std.specs.Prelude.{◌≡◌, ◌≤◌, ◌⊎◌, ℕ, List, [], ◌∷◌, length, true, false, Ok, ⊤}
 use Rattle.serde_json.specs.Data.{Data}
 use Rattle.nr_rev.specs.declared.limits.Limits.{Limits}
-use Rattle.nr_rev.specs.declared.step.Step.{Step}
-use Rattle.nr_rev.specs.Run.{Recording}
 use Rattle.nr_recording.specs.declared.reading.TheConstants.{MOST_LINE_BYTES}
 use Rattle.nr_recording.specs.declared.recording.TheConstants.{MOST_STEPS}
+use Rattle.nr_recording.specs.declared.recording.RecordedStep.{RecordedStep}
 use Rattle.nr_recording.specs.declared.version.Version.{Version}
+use Rattle.nr_recording.specs.Recording.{Recorded}
 use Rattle.nr_recording.specs.Header.{version_of, header_of}
 use Rattle.nr_recording.specs.Steps.{step_of}
 use Rattle.nr_recording.specs.Reading.{lines, is_blank, value_of}
@@ -27,12 +27,12 @@ abbrev pub IsHeaderLine : Version → List ℕ → Limits → Type 0
 IsHeaderLine version line limits = (d : Data) × IsValueLine line d × (version_of d ≡ Ok version)
     × (header_of version d ≡ Ok limits)
 
--- the line is this step
-abbrev pub IsStepLine : Version → List ℕ → Step → Type 0
+-- the line is this step, with its answer where the version has answers
+abbrev pub IsStepLine : Version → List ℕ → RecordedStep → Type 0
 IsStepLine version line step = (d : Data) × IsValueLine line d × (step_of version d ≡ Ok step)
 
 -- a line for each step, and skipped lines
-abbrev pub AreSteps : Version → List (List ℕ) → List Step → Type 0
+abbrev pub AreSteps : Version → List (List ℕ) → List RecordedStep → Type 0
 AreSteps version [] [] = ⊤
 AreSteps version [] (step ∷ steps) = ⊥
 AreSteps version (line ∷ rest) [] = IsSkipped line × AreSteps version rest []
@@ -41,13 +41,13 @@ AreSteps version (line ∷ rest) (step ∷ steps) =
     ⊎ (IsStepLine version line step × AreSteps version rest steps)
 
 -- skipped lines, a header, and the steps
-abbrev pub AreLinesOf : Version → List (List ℕ) → Recording → Type 0
-AreLinesOf version [] r = ⊥
-AreLinesOf version (line ∷ rest) r =
-    (IsSkipped line × AreLinesOf version rest r)
-    ⊎ (IsHeaderLine version line r.limits × AreSteps version rest r.steps
+abbrev pub AreLinesOf : List (List ℕ) → Recorded → Type 0
+AreLinesOf [] r = ⊥
+AreLinesOf (line ∷ rest) r =
+    (IsSkipped line × AreLinesOf rest r)
+    ⊎ (IsHeaderLine r.version line r.limits × AreSteps r.version rest r.steps
     × (length r.steps ≤ MOST_STEPS))
 
--- the bytes are a text of the recording, in some version
-abbrev pub IsTextOf : List ℕ → Recording → Type 0
-IsTextOf bytes r = (version : Version) × AreLinesOf version (lines bytes) r
+-- the bytes are a text of the recording
+abbrev pub IsTextOf : List ℕ → Recorded → Type 0
+IsTextOf bytes r = AreLinesOf (lines bytes) r

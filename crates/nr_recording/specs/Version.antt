@@ -1,28 +1,31 @@
 -- The versions of the format: which number each has, and what it allows.
 use Rattle.std.specs.Prelude.{ℕ, ◌==◌, List, Bool, true, false, Option, Some, None, option_and_then, if◌then◌else◌}
-use Rattle.serde_json.specs.Data.{Items, no_items, item}
 use Rattle.nr_rev.specs.Kind.{kind_named}
+use Rattle.nr_rev.specs.declared.answer.Answer.{Answer}
 use Rattle.nr_rev.specs.declared.kind.Kind.{Kind}
+use Rattle.nr_rev.specs.declared.limits.TheConstants.{MOST_BUFFER}
 use Rattle.nr_recording.specs.declared.version.TheConstants.{MOST_BUFFER_IN_ONE}
 use Rattle.nr_recording.specs.declared.version.Version.{Version}
-use Rattle.nr_recording.specs.declared.version.Version.TheVariants.{One}
+use Rattle.nr_recording.specs.declared.version.Version.TheVariants.{One, Two}
 
 -- the number in the header
 abbrev pub version_number : Version → ℕ
 version_number One = 1
+version_number Two = 2
 
 -- the version of this number
 abbrev pub version_numbered : ℕ → Option Version
-version_numbered n = if n == version_number One then Some One else None
+version_numbered n = if n == 1 then Some One else (if n == 2 then Some Two else None)
 
 -- the greatest buf
 abbrev pub most_buffer : Version → ℕ
 most_buffer One = MOST_BUFFER_IN_ONE
+most_buffer Two = MOST_BUFFER
 
 -- whether there are steps of this kind: in version 1 none that shuts a write side
 abbrev pub has_kind : Version → Kind → Bool
 has_kind One Kind.CloseWrite = false
-has_kind One _ = true
+has_kind _ _ = true
 
 -- the kind, if there are steps of it
 abbrev pub kept_kind : Version → Kind → Option Kind
@@ -32,7 +35,9 @@ kept_kind version kind = if has_kind version kind then Some kind else None
 unfoldable pub kind_in : Version → List ℕ → Option Kind
 kind_in version name = option_and_then (kept_kind version) (kind_named name)
 
--- what is left of a step's line may follow its arguments: in version 1 nothing may
-abbrev pub may_end_with : Version → Items → Bool
-may_end_with One no_items = true
-may_end_with One (item d ds) = false
+-- a step has its answer in version 2, and none in version 1
+abbrev pub may_have : Version → Option Answer → Bool
+may_have One None = true
+may_have One (Some answer) = false
+may_have Two None = false
+may_have Two (Some answer) = true

@@ -5,31 +5,31 @@ use Rattle.std.specs.Io.KnownBytes.{Appends}
 use Rattle.serde_json.specs.Data.{Data, number, unsigned, object, no_members, member}
 use Rattle.serde_json.specs.Written.{compact_text}
 use Rattle.nr_rev.specs.declared.limits.Limits.{Limits}
-use Rattle.nr_rev.specs.declared.step.Step.{Step}
-use Rattle.nr_rev.specs.Run.{Recording}
 use Rattle.nr_recording.specs.declared.fault.WriteFault.{WriteFault}
 use Rattle.nr_recording.specs.declared.fault.WriteFault.TheVariants as faults
-use Rattle.nr_recording.specs.declared.version.Version.TheVariants.{One}
+use Rattle.nr_recording.specs.declared.recording.RecordedStep.{RecordedStep}
+use Rattle.nr_recording.specs.declared.version.Version.{Version}
+use Rattle.nr_recording.specs.Recording.{Recorded}
 use Rattle.nr_recording.specs.Spelling.{AreInTypes, line_data}
 use Rattle.nr_recording.specs.Steps.{spelling_of}
 use Rattle.nr_recording.specs.Version.{version_number}
 
--- the JSON of a step
-abbrev pub step_data : Step → Data
-step_data step = line_data (spelling_of step)
+-- the JSON of a step and of the answer that is recorded of it
+abbrev pub step_data : RecordedStep → Data
+step_data recorded = line_data (spelling_of recorded)
 
--- each number of the step is in the range of its type
-abbrev pub HasTypedArguments : Step → Type 0
-HasTypedArguments step = AreInTypes (spelling_of step).1
+-- each number of the step and of its answer is in the range of its type
+abbrev pub HasTypedArguments : RecordedStep → Type 0
+HasTypedArguments recorded = AreInTypes (spelling_of recorded).1
 
 -- ---- the whole text
 
--- the JSON of the header, in version 1
-abbrev pub limits_data : Limits → Data
-limits_data l = object (member (codes "buf") (number (unsigned l.buffer))
+-- the JSON of the header
+abbrev pub header_data : Version → Limits → Data
+header_data version l = object (member (codes "buf") (number (unsigned l.buffer))
     (member (codes "desc") (number (unsigned l.descriptors))
     (member (codes "gor") (number (unsigned l.goroutines))
-    (member (codes "netrev") (number (unsigned (version_number One)))
+    (member (codes "netrev") (number (unsigned (version_number version)))
     (member (codes "sock") (number (unsigned l.sockets)) no_members)))))
 
 -- a value in compact form, and a line feed
@@ -37,11 +37,12 @@ unfoldable pub line_text : Data → List ℕ
 line_text d = compact_text d ++ 10 ∷ []
 
 -- the lines with their line feeds
-abbrev pub line_texts : Recording → List (List ℕ)
-line_texts r = line_text (limits_data r.limits) ∷ map (λ step. line_text (step_data step)) r.steps
+abbrev pub line_texts : Recorded → List (List ℕ)
+line_texts r = line_text (header_data r.version r.limits)
+    ∷ map (λ recorded. line_text (step_data recorded)) r.steps
 
 -- the text that is written
-abbrev pub text : Recording → List ℕ
+abbrev pub text : Recorded → List ℕ
 text r = concat (line_texts r)
 
 -- ---- what an error leaves written

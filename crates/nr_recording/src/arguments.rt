@@ -2,19 +2,22 @@
 
 ghost use Rattle.std.specs.Prelude.{◌≡◌, true};
 ghost use Rattle.serde_json.specs.View.{view};
-ghost use Rattle.nr_recording.specs.Arguments.{u32_of, side_named, side_of, mode_named, mode_of, bit_named, bit_of, time_of, rest_of, with_rest, first_takes_memory, number as number_in, side as side_in, mode as mode_in, tag as tag_in, bit as bit_in, moment as moment_in, time as time_in, bytes as bytes_in};
+ghost use Rattle.nr_recording.specs.Numbers.{u32_of};
+ghost use Rattle.nr_recording.specs.Arguments.{side_named, side_of, mode_named, mode_of, bit_named, bit_of, time_of, rest_of, with_rest, first_takes_memory, number as number_in, side as side_in, mode as mode_in, answer as answer_in, tag as tag_in, bit as bit_in, moment as moment_in, time as time_in, bytes as bytes_in};
 ghost use Rattle.nr_recording.specs.Faults.{ReadsBy};
 
+use crate::answer::answer_of;
 use crate::fault::{Fault, LineError};
 use crate::recording::MOST_BYTES;
-use nr_rev::{Bytes, Mode, Side};
+use nr_rev::{Answer, Bytes, Mode, Side};
 use serde_json::Value;
 use std::alloc::Global;
 use std::slice::Iter;
 
 const MOST_DIGITS: usize = 2 * MOST_BYTES;
 
-fn u32_of(value: &Value) -> Option<u32>
+/// A number of 32 bits.
+pub(crate) fn u32_of(value: &Value) -> Option<u32>
     ensures { result ≡ u32_of (view value.now) }
 {
     u32::try_from(value.as_u64()?).ok()
@@ -128,6 +131,13 @@ pub(crate) fn mode(arguments: &mut Iter<'_, Value>) -> Result<Mode, Fault>
     ensures { mode_in (rest_of arguments.old) ≡ with_rest (rest_of arguments.new) result }
 {
     arguments.next().and_then(mode_of).ok_or(Fault::Arguments)
+}
+
+/// A recorded answer.
+pub(crate) fn answer(arguments: &mut Iter<'_, Value>) -> Result<Answer, Fault>
+    ensures { answer_in (rest_of arguments.old) ≡ with_rest (rest_of arguments.new) result }
+{
+    arguments.next().and_then(answer_of).ok_or(Fault::Arguments)
 }
 
 /// Bytes, as hexadecimal digits.

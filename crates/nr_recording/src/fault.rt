@@ -118,7 +118,8 @@ pub enum MakeFault {
     Limit,
     /// There are more than 1,000,000 steps.
     TooManySteps,
-    /// A step carries more than 65,536 bytes, or sets the clock below 0.
+    /// A step carries more than 65,536 bytes, sets the clock below 0, or is not of the version: version 1 has no step
+    /// that shuts a write side, and no answers; in version 2 each step has its answer.
     Step,
 }
 
@@ -129,7 +130,8 @@ impl Display for MakeFault {
         f.write_str(match self {
             MakeFault::Limit => "a limit is out of its range",
             MakeFault::TooManySteps => "more than 1,000,000 steps",
-            MakeFault::Step => "a step carries too many bytes or sets the clock below 0",
+            MakeFault::Step =>
+                "a step carries too many bytes, sets the clock below 0 or is not of the version",
         })
     }
 }

@@ -1,7 +1,9 @@
 //! Recordings of a run as text, a line of JSON for each step: reading and writing.
 #![tactic(auto)]
 
+mod answer;
 mod arguments;
+mod copying;
 mod fault;
 mod header;
 pub mod laws;
@@ -12,7 +14,9 @@ mod steps;
 mod version;
 mod writing;
 
+pub use copying::step_copy;
 pub use fault::{Fault, MakeFault, OutOfMemory, ReadFault, WriteFault};
 pub use reading::read;
-pub use recording::{MOST_STEPS, Recording};
+pub use recording::{MOST_STEPS, RecordedStep, Recording};
+pub use version::Version;
 pub use writing::write;

@@ -2,17 +2,17 @@
 
 ghost use Rattle.std.specs.Prelude.{◌≡◌, true, IfOk};
 ghost use Rattle.serde_json.specs.View.{view};
-ghost use Rattle.nr_rev.specs.Run.{Recording as Recorded};
+ghost use Rattle.nr_recording.specs.Recording.{Recorded};
 ghost use Rattle.nr_recording.specs.Faults.{ReadsBy};
 ghost use Rattle.nr_recording.specs.Reading.{value_of, is_space, is_blank, nothing, with_value, value_takes_memory, with_line, line_takes_memory, recording_at_end, reading, IsUnlessMemory, text_takes_memory};
 ghost use Rattle.nr_recording.specs.Text.{IsTextOf};
 
 use crate::fault::{Fault, LineError, ReadFault};
 use crate::header::{header, version};
-use crate::recording::{MOST_STEPS, Recording};
+use crate::recording::{MOST_STEPS, RecordedStep, Recording};
 use crate::steps::step;
 use crate::version::Version;
-use nr_rev::{Limits, Step};
+use nr_rev::Limits;
 use serde_json::Value;
 use std::alloc::Global;
 use std::marker::Model;
@@ -49,7 +49,7 @@ struct Header {
 #[derive(Drop)]
 struct RecordingReader {
     header: Option<Header>,
-    steps: Vec<Step>,
+    steps: Vec<RecordedStep>,
 }
 
 impl Model for RecordingReader {
@@ -115,7 +115,7 @@ impl RecordingReader {
                 line: last,
                 fault: Fault::Header,
             }),
-            Some(header) => Ok(Recording::checked(header.limits, self.steps)),
+            Some(header) => Ok(Recording::checked(header.version, header.limits, self.steps)),
         }
     }
 }
@@ -135,7 +135,7 @@ fn read_lines(alloc: Global, bytes: &[u8]) -> Result<Recording, ReadFault>
     reader.finish(number)
 }
 
-/// Reads the recording that the bytes are a text of: a line of JSON for the header and one for each
+/// Reads the recording, of either version, that the bytes are a text of: a line of JSON for the header and one for each
 /// step, and blank lines between. Else returns the first faulty line and the first thing that is
 /// wrong with it, or that memory ran out. Of a key that comes twice in the header the last value
 /// counts.

@@ -1,17 +1,19 @@
 //! The step that the value of a line says, and the value of a step's line: two rows a kind.
 
-ghost use Rattle.std.specs.Prelude.{◌≡◌, true, IfOk};
+ghost use Rattle.std.specs.Prelude.{◌≡◌, true, IfOk, ℕ, List, [], ◌∷◌, ◌++◌};
 ghost use Rattle.serde_json.specs.View.{view};
-ghost use Rattle.nr_recording.specs.Arguments.{rest_of};
+ghost use Rattle.nr_recording.specs.Arguments.{rest_of, with_rest};
 ghost use Rattle.nr_recording.specs.Faults.{Reads, ReadsBy};
-ghost use Rattle.nr_recording.specs.Spelling.{IsSpelling};
-ghost use Rattle.nr_recording.specs.Steps.{step_in, kind_takes_memory, spelling_of, step_of, step_takes_memory};
+ghost use Rattle.nr_recording.specs.Spelling.{Argument, IsSpelling, answer as answer_argument};
+ghost use Rattle.nr_recording.specs.Steps.{step_in, answer_in, kind_takes_memory, step_spelling, spelling_of, step_of, step_takes_memory};
 
-use crate::arguments::{bit, bytes, mode, moment, number, side, tag, time};
+use crate::answer::answer_value;
+use crate::arguments::{answer, bit, bytes, mode, moment, number, side, tag, time};
 use crate::fault::{Fault, LineError};
+use crate::recording::RecordedStep;
 use crate::spelling::{arrival, bare, deadline, event, one, pair, sided, timed, transfer, triple};
 use crate::version::Version;
-use nr_rev::{Kind, Step};
+use nr_rev::{Answer, Kind, Step};
 use serde_json::Value;
 use std::alloc::{AllocError, Global};
 use std::slice::Iter;
@@ -145,9 +147,9 @@ fn step_in(alloc: Global, kind: Kind, arguments: &mut Iter<'_, Value>) -> Result
     }
 }
 
-/// The value of the step's line: the name of its kind, and its arguments.
-pub(crate) fn step_value(alloc: Global, step: &Step) -> Result<Value, AllocError>
-    ensures { IfOk result (λ v. IsSpelling (view v) (spelling_of step.now)) }
+/// The name of the step's kind, and its arguments.
+fn step_value(alloc: Global, step: &Step) -> Result<Value, AllocError>
+    ensures { IfOk result (λ v. IsSpelling (view v) (step_spelling step.now)) }
 {
     let name = step.kind().name();
     match step {
@@ -228,9 +230,48 @@ pub(crate) fn step_value(alloc: Global, step: &Step) -> Result<Value, AllocError
     }
 }
 
-/// The step that the value of a line is.
+/// The answer that follows a step's arguments, where the version has answers.
+fn answer_in(version: Version, arguments: &mut Iter<'_, Value>) -> Result<Option<Answer>, Fault>
+    ensures { answer_in version (rest_of arguments.old) ≡ with_rest (rest_of arguments.new) result }
+{
+    match version {
+        Version::One => Ok(None),
+        Version::Two => Ok(Some(answer(arguments)?)),
+    }
+}
+
+/// The line with one more part, an answer.
+fn with_answer(alloc: Global, line: Value, answer: Answer) -> Result<Value, AllocError>
+    ensures { (name : List ℕ) (arguments : List Argument) → IsSpelling (view line) (name, arguments)
+        → IfOk result (λ v. IsSpelling (view v) (name, arguments ++ answer_argument answer ∷ [])) }
+{
+    match line {
+        Value::Array(mut parts) => {
+            parts.push(answer_value(alloc, answer)?)?;
+            Ok(Value::Array(parts))
+        }
+        other => Ok(other),
+    }
+}
+
+/// The value of a line: the name of the step's kind, its arguments, and the answer where one is recorded.
+pub(crate) fn line_value(alloc: Global, recorded: &RecordedStep) -> Result<Value, AllocError>
+    ensures { IfOk result (λ v. IsSpelling (view v) (spelling_of recorded.now)) }
+{
+    let line = step_value(alloc, &recorded.step)?;
+    match recorded.answer {
+        None => Ok(line),
+        Some(answer) => with_answer(alloc, line, answer),
+    }
+}
+
+/// The step that the value of a line is, with the answer that was recorded of it.
 #[tactic(auto, unfolding(crate::specs::Steps::step_of, crate::specs::Steps::step_takes_memory))]
-pub(crate) fn step(version: Version, alloc: Global, value: &Value) -> Result<Step, LineError>
+pub(crate) fn step(
+    version: Version,
+    alloc: Global,
+    value: &Value,
+) -> Result<RecordedStep, LineError>
     ensures found { Reads result (step_of version (view value.now)) }
     ensures memory { result ≡ Err LineError.Memory
         → step_takes_memory version (view value.now) ≡ true }
@@ -242,8 +283,9 @@ pub(crate) fn step(version: Version, alloc: Global, value: &Value) -> Result<Ste
         .ok_or(Fault::UnknownStep)?;
     let kind = version.kind(name).ok_or(Fault::UnknownStep)?;
     let step = step_in(alloc, kind, &mut parts)?;
-    if !version.may_end_with(parts.as_slice()) {
+    let answer = answer_in(version, &mut parts)?;
+    if parts.next().is_some() {
         return Err(LineError::Fault(Fault::Arguments));
     }
-    Ok(step)
+    Ok(RecordedStep { step, answer })
 }

@@ -1,22 +1,23 @@
 //! The versions of the format: what the lines of each may have.
 
 ghost use Rattle.std.specs.Prelude.{◌≡◌};
-ghost use Rattle.serde_json.specs.View.{items_view};
 
-use nr_rev::Kind;
-use serde_json::Value;
+use nr_rev::{Answer, Kind, MOST_BUFFER};
 
 /// The greatest `buf` of version 1.
 pub(crate) const MOST_BUFFER_IN_ONE: u32 = 65_536;
 
-/// A version of the format. There is one so far.
-#[derive(Clone, Copy)]
-pub(crate) enum Version {
+/// A version of the format.
+#[derive(Clone, Copy, Debug, PartialEq, Eq)]
+pub enum Version {
+    /// Steps alone. No step shuts a write side, and `buf` is at most 65,536.
     One,
+    /// Each step ends with the answer that was recorded. `buf` is at most 1,048,576.
+    Two,
 }
 
 impl Version {
-    ghost use Rattle.nr_recording.specs.Version.{version_number, version_numbered, most_buffer, has_kind, kind_in, may_end_with};
+    ghost use Rattle.nr_recording.specs.Version.{version_number, version_numbered, most_buffer, has_kind, kind_in, may_have};
 
     /// The version that a header of this number is of.
     pub(crate) fn numbered(number: u64) -> Option<Self>
@@ -24,6 +25,7 @@ impl Version {
     {
         match number {
             1 => Some(Version::One),
+            2 => Some(Version::Two),
             _ => None,
         }
     }
@@ -34,6 +36,7 @@ impl Version {
     {
         match self {
             Version::One => 1,
+            Version::Two => 2,
         }
     }
 
@@ -43,6 +46,7 @@ impl Version {
     {
         match self {
             Version::One => MOST_BUFFER_IN_ONE,
+            Version::Two => MOST_BUFFER,
         }
     }
 
@@ -52,6 +56,7 @@ impl Version {
     {
         match self {
             Version::One => !matches!(kind, Kind::CloseWrite),
+            Version::Two => true,
         }
     }
 
@@ -64,13 +69,13 @@ impl Version {
         if self.has(kind) { Some(kind) } else { None }
     }
 
-    /// Whether this may follow a step's arguments.
-    #[tactic(auto, using(crate::proofs::Versions::one_ends_at_once))]
-    pub(crate) fn may_end_with(self, rest: &[Value]) -> bool
-        ensures { result ≡ may_end_with self (items_view rest.now) }
+    /// Whether a step may have this answer, or none.
+    pub(crate) fn may_have(self, answer: Option<Answer>) -> bool
+        ensures { result ≡ may_have self answer }
     {
         match self {
-            Version::One => rest.is_empty(),
+            Version::One => answer.is_none(),
+            Version::Two => answer.is_some(),
         }
     }
 }

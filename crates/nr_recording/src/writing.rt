@@ -6,11 +6,11 @@ ghost use Rattle.serde_json.specs.View.{view};
 ghost use Rattle.serde_json.specs.Written.{has_float};
 ghost use Rattle.nr_recording.specs.Reading.{reading};
 ghost use Rattle.nr_recording.specs.Text.{IsTextOf};
-ghost use Rattle.nr_recording.specs.Writing.{limits_data, line_text, line_texts, text, is_device_failure, AppendsPart, AppendsLines};
+ghost use Rattle.nr_recording.specs.Writing.{header_data, line_text, line_texts, text, is_device_failure, AppendsPart, AppendsLines};
 
 use crate::fault::WriteFault;
 use crate::recording::Recording;
-use crate::steps::step_value;
+use crate::steps::line_value;
 use crate::version::Version;
 use nr_rev::Limits;
 use nr_text::Sink;
@@ -18,14 +18,14 @@ use serde_json::{Value, json};
 use std::alloc::{AllocError, Global};
 use std::io::Write;
 
-fn limits_value(alloc: Global, limits: Limits) -> Result<Value, AllocError>
-    ensures { IfOk result (λ v. view v ≡ limits_data limits) }
+fn header_value(alloc: Global, version: Version, limits: Limits) -> Result<Value, AllocError>
+    ensures { IfOk result (λ v. view v ≡ header_data version limits) }
 {
     json!(in alloc; {
         "buf": limits.buffer,
         "desc": limits.descriptors,
         "gor": limits.goroutines,
-        "netrev": Version::One.number(),
+        "netrev": version.number(),
         "sock": limits.sockets
     })
 }
@@ -54,7 +54,7 @@ fn write_line<W: Write>(alloc: Global, value: &Value, out: &mut Sink<W>) -> Resu
     Ok(())
 }
 
-/// Writes the recording's text, in version 1: each value in compact form, keys in alphabetical
+/// Writes the recording's text, in its version: each value in compact form, keys in alphabetical
 /// order, hexadecimal in lower case, and a line feed after each line. `WriteFault` says what an
 /// error leaves written. A write that was interrupted is tried again. On a sink on which no write
 /// had failed before, a failure is reported exactly where one failed, or took nothing.
@@ -81,9 +81,10 @@ pub fn write<W: Write>(
     // Where no write had failed before, one failed exactly where that is reported.
     ensures failed { out.new.failed ≡ (out.old.failed || is_device_failure result) }
 {
-    write_line(alloc, &limits_value(alloc, recording.limits())?, out)?;
-    for step in recording.steps() {
-        write_line(alloc, &step_value(alloc, step)?, out)?;
+    let header = header_value(alloc, recording.version(), recording.limits())?;
+    write_line(alloc, &header, out)?;
+    for recorded in recording.steps() {
+        write_line(alloc, &line_value(alloc, recorded)?, out)?;
     }
     Ok(())
 }

@@ -4,13 +4,13 @@ use Rattle.std.proofs.lemmas.List.Splits.{length-slice_split}
 use Rattle.std.proofs.lemmas.List.Sums.{count_by-le-length}
 use Rattle.std.proofs.lemmas.Iterator.Consumers.{YieldsList-turn, YieldsList-end}
 use Rattle.std.proofs.lemmas.Iterator.Splits.{YieldsList-from_slice_split}
-use Rattle.nr_rev.specs.Run.{Recording}
+use Rattle.nr_recording.specs.Recording.{Recorded}
 use Rattle.nr_recording.specs.declared.fault.ReadFault.{ReadFault}
 use Rattle.nr_recording.specs.Reading.{lines}
 use Rattle.nr_recording.proofs.Loop.{goes_on, stops, ends, wanted, never_wanted, itself}
 use Rattle.nr_recording.proofs.reading.read_lines.Goals as goal
 
-abbrev failed : ReadFault → Result Recording ReadFault
+abbrev failed : ReadFault → Result Recorded ReadFault
 failed e = Err e
 
 err_is : (d e : ReadFault) → failed d ≡ failed e → d ≡ e
