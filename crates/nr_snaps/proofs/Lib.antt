@@ -1,3 +1,4 @@
 pub mod Copies
 pub mod Frames
+pub mod AnswerLemmas
 pub mod RefusedLemmas

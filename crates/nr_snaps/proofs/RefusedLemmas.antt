@@ -1,10 +1,17 @@
--- A recording is refused at one step at most.
-use Rattle.std.proofs.Common.{◌≡◌, ℕ, zero, suc, ◌<◌, ◌⊎◌, inl, inr, List, [], ◌∷◌, arith, take, false, true, refl, sym, ap, subst, ◌∙◌, slice_get}
+-- A recording has a fault at one step at most.
+use Rattle.std.proofs.Common.{◌≡◌, ◌≢◌, ℕ, zero, suc, ◌+◌, ◌-◌, ◌<◌, ◌⊎◌, inl, inr, List, [], ◌∷◌, arith, take, false, true, Some, Ok, Err, refl, sym, ap, subst, ◌∙◌, slice_get}
 use Rattle.std.specs.Prelude.{IsOk}
+use Rattle.nr_recording.specs.Recording.{Recorded, run_of, recorded_at}
 use Rattle.nr_rev.specs.Run.{IsGood, IsRefusedAt, Recording, world_after, world_at}
 use Rattle.nr_rev.specs.Step.{outcome}
 use Rattle.nr_rev.specs.World.{empty_world}
+use Rattle.nr_rev.specs.declared.answer.Answer.{Answer}
 use Rattle.nr_rev.specs.declared.refusal.Refusal.{Refusal}
+use Rattle.nr_rev.specs.declared.step.Step.{Step}
+use Rattle.nr_snaps.specs.Answers.{answer_of, answer_at, AnswersAgree, AnswersAgreeTo, AnswersOtherwiseAt}
+use Rattle.nr_snaps.specs.Fault.{IsStepFault}
+use Rattle.nr_snaps.specs.declared.fault.LoadFault.{LoadFault}
+use Rattle.nr_snaps.specs.declared.fault.LoadFault.TheVariants as fault
 
 -- of a beginning, a shorter beginning is one of the whole
 take_of_take : {X : Type 0} (xs : List X) (n m : ℕ) → n < m → take n (take m xs) ≡ take n xs
@@ -19,39 +26,112 @@ get_of_take (x ∷ xs) zero (suc m) less = refl
 get_of_take (x ∷ xs) (suc n) (suc m) less = get_of_take xs n m (omega (arith, less))
 get_of_take xs n zero less = absurd (omega (arith, less))
 
+abbrev first : ℕ → Recording → Recording
+first n r = record r { steps = take n r.steps }
+
+-- where a step is refused it doesn't apply, nor does it answer
+refused_is_not_ok : (r : Recording) (n : ℕ) (step : Step) (reason : Refusal) → outcome (world_at r n) step ≡ Err reason → ¬ IsOk (outcome (world_at r n) step)
+refused_is_not_ok r n step reason refused ok = let no : false ≡ true = subst IsOk refused ok in absurd (grind (arith, no))
+
+refused_gives_none : (r : Recording) (n : ℕ) (given : Answer) (reason : Refusal) → IsRefusedAt r n reason → ¬ (answer_at r n ≡ Some given)
+refused_gives_none r n given reason refused gives =
+    let none : answer_at r n ≡ answer_of (Err reason) = rw (refused.next, refused.refused) refl in
+    let both = sym none ∙ gives in
+    absurd cc
+
 -- where the steps apply, none is refused
 pub good_is_not_refused : (r : Recording) (n : ℕ) (reason : Refusal) → IsRefusedAt r n reason → ¬ IsGood r
-good_is_not_refused r n reason refused good =
-    let applies = good n refused.step refused.next in
-    let no : false ≡ true = subst IsOk refused.refused applies in
-    absurd (grind (arith, no))
+good_is_not_refused r n reason refused good = refused_is_not_ok r n refused.step reason refused.refused (good n refused.step refused.next)
 
--- nor is one that comes before another that is refused
-not_before : (r : Recording) (n m : ℕ) (reason why : Refusal) → IsRefusedAt r n reason → IsRefusedAt r m why → ¬ (n < m)
-not_before r n m reason why first second less =
-    let next = get_of_take r.steps n m less ∙ first.next in
-    let there : world_at (record r { steps = take m r.steps }) n ≡ world_at r n = ap (λ steps. world_after (empty_world r.limits) steps) (take_of_take r.steps n m less) in
-    let applies = second.before n first.step next in
-    let no : false ≡ true = subst IsOk (ap (λ w. outcome w first.step) there ∙ first.refused) applies in
-    absurd (grind (arith, no))
+-- nor is one that comes before the end of those that apply
+not_before : (r : Recording) (n m : ℕ) (reason : Refusal) → IsRefusedAt r n reason → IsGood (first m r) → ¬ (n < m)
+not_before r n m reason refused good less =
+    let next = get_of_take r.steps n m less ∙ refused.next in
+    let there : world_at (first m r) n ≡ world_at r n = ap (λ steps. world_after (empty_world r.limits) steps) (take_of_take r.steps n m less) in
+    let applies = subst (λ w. IsOk (outcome w refused.step)) there (good n refused.step next) in
+    refused_is_not_ok r n refused.step reason refused.refused applies
+
+-- an answer that differs is none that agrees
+not_agreed : (r : Recorded) (n m : ℕ) → AnswersOtherwiseAt r n → AnswersAgreeTo r m → ¬ (n < m)
+not_agreed r n m other agree less =
+    other.differs.2 (agree n other.given less other.gives other.differs.0 other.differs.1)
+
+-- ---- one fault
+
+-- the place of a fault, counted from 0
+abbrev place : LoadFault → ℕ
+place fault.Memory = 0
+place (fault.Refused step reason) = step - 1
+place (fault.OtherAnswer step) = step - 1
+
+-- all is right before it, and nothing is beyond it
+record StopsAt (r : Recorded) (n : ℕ) : Type 0 where
+  before : IsGood (first n (run_of r))
+  agree : AnswersAgreeTo r n
+  stops : (m : ℕ) → IsGood (first m (run_of r)) → AnswersAgreeTo r m → ¬ (n < m)
+
+stops_at : (r : Recorded) (f : LoadFault) → IsStepFault r f → StopsAt r (place f)
+stops_at r fault.Memory is = absurd is
+stops_at r (fault.Refused step reason) is = record {
+  before = is.2.before;
+  agree = is.3;
+  stops = λ m good agree. not_before (run_of r) (step - 1) m reason is.2 good;
+}
+stops_at r (fault.OtherAnswer step) is = record {
+  before = is.1.before;
+  agree = is.1.agree;
+  stops = λ m good agree. not_agreed r (step - 1) m is.1 agree;
+}
 
 apart : (n m : ℕ) → (n ≡ m) ⊎ ((n < m) ⊎ (m < n))
 apart n m = grind arith
 
-pub one_place : (r : Recording) (n m : ℕ) (reason why : Refusal) → IsRefusedAt r n reason → IsRefusedAt r m why → n ≡ m
-one_place r n m reason why first second =
+one_place : (r : Recorded) (n m : ℕ) → StopsAt r n → StopsAt r m → n ≡ m
+one_place r n m here there =
     elim (apart n m) [
       | inl same ↦ same
       | inr other ↦ elim other [
-        | inl less ↦ absurd (not_before r n m reason why first second less)
-        | inr more ↦ absurd (not_before r m n why reason second first more)
+        | inl less ↦ absurd (here.stops m there.before there.agree less)
+        | inr more ↦ absurd (there.stops n here.before here.agree more)
       ]
     ]
 
-pub one_reason : (r : Recording) (n m : ℕ) (reason why : Refusal) → n ≡ m → IsRefusedAt r n reason → IsRefusedAt r m why → why ≡ reason
-one_reason r n m reason why same first second =
-    let second' = subst (λ k. IsRefusedAt r k why) (sym same) second in
-    let one = first.refused in
-    let other = second'.refused in
-    let steps = sym first.next ∙ second'.next in
+one_reason : (r : Recording) (n m : ℕ) (reason why : Refusal) → n ≡ m → IsRefusedAt r n reason → IsRefusedAt r m why → reason ≡ why
+one_reason r n m reason why same here there =
+    let there' = subst (λ k. IsRefusedAt r k why) (sym same) there in
+    let one = here.refused in
+    let other = there'.refused in
+    let steps = sym here.next ∙ there'.next in
     cc
+
+-- a step is refused, or it answers
+not_both : (r : Recorded) (n m : ℕ) (reason : Refusal) → n ≡ m → IsRefusedAt (run_of r) n reason → ¬ AnswersOtherwiseAt r m
+not_both r n m reason same refused other =
+    refused_gives_none (run_of r) n other.given reason refused (subst (λ k. answer_at (run_of r) k ≡ Some other.given) (sym same) other.gives)
+
+pub one_fault : (r : Recorded) (f g : LoadFault) → IsStepFault r f → IsStepFault r g → f ≡ g
+one_fault r fault.Memory g is also = absurd is
+one_fault r f fault.Memory is also = absurd also
+one_fault r (fault.Refused step reason) (fault.Refused other why) is also =
+    let same = one_place r (step - 1) (other - 1) (stops_at r (fault.Refused step reason) is) (stops_at r (fault.Refused other why) also) in
+    let steps : step ≡ other = omega (arith, same, is.0, also.0) in
+    let reasons = one_reason (run_of r) (step - 1) (other - 1) reason why same is.2 also.2 in
+    rw (steps, reasons) refl
+one_fault r (fault.Refused step reason) (fault.OtherAnswer other) is also =
+    let same = one_place r (step - 1) (other - 1) (stops_at r (fault.Refused step reason) is) (stops_at r (fault.OtherAnswer other) also) in
+    absurd (not_both r (step - 1) (other - 1) reason same is.2 also.1)
+one_fault r (fault.OtherAnswer step) (fault.Refused other why) is also =
+    let same = one_place r (other - 1) (step - 1) (stops_at r (fault.Refused other why) also) (stops_at r (fault.OtherAnswer step) is) in
+    absurd (not_both r (other - 1) (step - 1) why same also.2 is.1)
+one_fault r (fault.OtherAnswer step) (fault.OtherAnswer other) is also =
+    let same = one_place r (step - 1) (other - 1) (stops_at r (fault.OtherAnswer step) is) (stops_at r (fault.OtherAnswer other) also) in
+    let steps : step ≡ other = omega (arith, same, is.0, also.0) in
+    ap (λ n. fault.OtherAnswer n) steps
+
+-- where all steps apply and answer as recorded, there is none
+pub fault_is_bad : (r : Recorded) (f : LoadFault) → IsStepFault r f → ¬ (IsGood (run_of r) × AnswersAgree r)
+fault_is_bad r fault.Memory is right = absurd is
+fault_is_bad r (fault.Refused step reason) is right = good_is_not_refused (run_of r) (step - 1) reason is.2 right.0
+fault_is_bad r (fault.OtherAnswer step) is right =
+    let other = is.1 in
+    other.differs.2 (right.1 (step - 1) other.given other.gives other.differs.0 other.differs.1)

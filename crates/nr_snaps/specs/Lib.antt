@@ -1,5 +1,6 @@
 -- what callers need
 pub mod Film
+pub mod Answers
 pub mod Fault
 -- inner: what only definitions and proofs of this crate use
 pub mod Replay

@@ -18,12 +18,16 @@ use std::io::Write;
 pub enum LoadFault {
     /// The step of this number, counted from 1, does not apply after the ones before it.
     Refused { step: usize, reason: Refusal },
+    /// The step of this number, counted from 1, applies after the ones before it, and answers otherwise than is
+    /// recorded of it.
+    OtherAnswer { step: usize },
     /// No memory for the world that the steps are tried on, for a copy of it or for the list of
     /// copies.
     Memory,
 }
 
-/// It is a line, as `step 5: fault 107 reason 2`, where the reason is the number of the refusal, or `fault 108 memory`.
+/// It is a line, as `step 5: fault 107 reason 2`, where the reason is the number of the refusal, `step 5: fault 109
+/// answer`, or `fault 108 memory`.
 impl Text for LoadFault {
     ghost text = { load_fault_line };
 
@@ -36,6 +40,14 @@ impl Text for LoadFault {
                     Token::Text(b": fault 107 reason "),
                     Token::Number(u64::from(reason.number())),
                     Token::Text(b"\n"),
+                ];
+                send_all(&parts, w)
+            }
+            LoadFault::OtherAnswer { step } => {
+                let parts = [
+                    Token::Text(b"step "),
+                    Token::Number(*step as u64),
+                    Token::Text(b": fault 109 answer\n"),
                 ];
                 send_all(&parts, w)
             }
@@ -52,6 +64,7 @@ impl Display for LoadFault {
             LoadFault::Refused { step, reason } => {
                 write!(f, "step {step}: fault 107 reason {}", reason.number())
             }
+            LoadFault::OtherAnswer { step } => write!(f, "step {step}: fault 109 answer"),
             LoadFault::Memory => f.write_str("fault 108 memory"),
         }
     }

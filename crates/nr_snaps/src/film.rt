@@ -1,14 +1,15 @@
 //! A film: a recording whose steps all apply, with copies (snapshots) of its world.
 
-ghost use Rattle.std.specs.Prelude.{◌≡◌, ◌<◌, ◌≤◌, ◌+◌, ◌*◌, ◌/◌, length, slice_get, IfOk, OnOk, OnErr};
+ghost use Rattle.std.specs.Prelude.{◌≡◌, ◌<◌, ◌≤◌, ◌+◌, ◌*◌, ◌/◌, length, slice_get, IfOk, OnOk, OnErr, Some};
 ghost use Rattle.std.specs.Option.{option_copied};
 ghost use Rattle.nr_recording.specs.declared.recording.TheConstants.{MOST_STEPS};
 ghost use Rattle.nr_rev.specs.Run.{IsGood, LosesBytesAt};
+ghost use Rattle.nr_snaps.specs.Answers.{answer_at};
 ghost use Rattle.nr_snaps.specs.Film.{IsFrame};
 ghost use Rattle.nr_snaps.specs.declared.film.TheConstants.{LEAST_EVERY, MOST_EVERY};
 
 use nr_recording::Recording;
-use nr_rev::{Refusal, Step, Worlds};
+use nr_rev::{Answer, Refusal, Step, Worlds};
 use std::alloc::AllocError;
 use std::marker::Model;
 
@@ -31,14 +32,15 @@ pub struct Film<W: Worlds + Drop> {
 }
 
 impl<W: Worlds + Drop> Model for Film<W> {
+    ghost use Rattle.nr_recording.specs.Recording.{run_of};
     ghost use Rattle.nr_snaps.specs.Film.{Reel, IsFilm};
 
     ghost Value = { Reel W };
 
-    ghost view = { λ f. record { recording = f.recording; every = f.every; origin = f.start } };
+    ghost view = { λ f. record { recording = run_of f.recording; every = f.every; origin = f.start } };
 
     ghost invariant = { λ f. IsFilm W.is_well_formed W.world W.steps
-        (record { recording = f.recording; every = f.every; origin = f.start }) f.later.items };
+        (record { recording = run_of f.recording; every = f.every; origin = f.start }) f.later.items };
 }
 
 impl<W: Worlds + Drop> Film<W> {
@@ -101,18 +103,21 @@ impl<W: Worlds + Drop> Film<W> {
         }
     }
 
-    /// Leads a world from position n to the next one, and keeps no way back. It takes no memory.
+    /// Leads a world from position n to the next one, returns the answer of the step, and keeps no way back. It takes no
+    /// memory.
     #[inline(always)]
-    pub fn advance(&self, world: &mut W, n: usize)
+    pub fn advance(&self, world: &mut W, n: usize) -> Answer
         requires frame { IsFrame W.is_well_formed W.world W.steps self.now n world.old }
         requires below { n < length self.now.recording.steps }
-        ensures { IsFrame W.is_well_formed W.world W.steps self.now (n + 1) world.new }
+        ensures frame { IsFrame W.is_well_formed W.world W.steps self.now (n + 1) world.new }
+        ensures answer { answer_at self.now.recording n ≡ Some result }
     {
         let Some(step) = self.recording.step(n) else {
             unreachable!()
         };
-        let Ok(_) = world.advance(step) else {
+        let Ok(answer) = world.advance(step) else {
             unreachable!()
         };
+        answer
     }
 }

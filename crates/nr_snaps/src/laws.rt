@@ -2,9 +2,10 @@
 
 ghost use Rattle.std.specs.Prelude.{◌≡◌, ℕ};
 ghost use Rattle.nr_rev.specs.Run.{IsGood, Recording};
-ghost use Rattle.nr_rev.specs.declared.refusal.Refusal.{Refusal};
-ghost use Rattle.nr_snaps.specs.Fault.{IsLoadFault};
-ghost use Rattle.nr_snaps.specs.declared.fault.LoadFault.TheVariants.{Refused};
+ghost use Rattle.nr_recording.specs.Recording.{Recorded, run_of};
+ghost use Rattle.nr_snaps.specs.Answers.{AnswersAgree, answered};
+ghost use Rattle.nr_snaps.specs.Fault.{IsStepFault};
+ghost use Rattle.nr_snaps.specs.declared.fault.LoadFault.{LoadFault};
 ghost use Rattle.nr_snaps.specs.Film.{IsFrame, Reel};
 ghost use Rattle.nr_snaps.specs.declared.film.TheConstants.{LEAST_EVERY, MOST_EVERY};
 
@@ -23,10 +24,14 @@ pub fn the_numbers()
     ensures most { MOST_EVERY ≡ 65536 }
 {}
 
-/// A recording that is refused at a step is not good, and it is refused at that step alone, for that reason alone. So what
-/// `load` reports of a recording is exactly where, and exactly why.
-pub fn a_refused_recording_is_not_good()
-    ensures bad { (r : Recording) (step : ℕ) (reason : Refusal) → IsLoadFault r (Refused step reason) → ¬ IsGood r }
-    ensures exact { (r : Recording) (step other : ℕ) (reason why : Refusal) → IsLoadFault r (Refused step reason)
-        → IsLoadFault r (Refused other why) → (other ≡ step) × (why ≡ reason) }
+/// A recording that has a step's fault is not one whose steps all apply and give the answers that are recorded of them,
+/// and it has that fault alone. So what `load` reports of a recording is exactly where, and exactly why.
+pub fn a_recording_has_one_fault()
+    ensures bad { (r : Recorded) (fault : LoadFault) → IsStepFault r fault → ¬ (IsGood (run_of r) × AnswersAgree r) }
+    ensures exact { (r : Recorded) (fault other : LoadFault) → IsStepFault r fault → IsStepFault r other → fault ≡ other }
+{}
+
+/// With answers a recording has the same run. So it is loaded as the same film, and with answers once more it is the same.
+pub fn answers_leave_the_run()
+    ensures { (r : Recording) → run_of (answered r) ≡ r }
 {}

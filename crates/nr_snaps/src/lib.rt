@@ -4,6 +4,7 @@
 //! it. Each copy is the very state that the replay came through, not just one that means the same world.
 #![tactic(auto)]
 
+mod answers;
 mod fault;
 mod film;
 pub mod laws;

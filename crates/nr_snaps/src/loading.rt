@@ -1,8 +1,10 @@
 //! Replays a recording once, and keeps copies of the world on the way.
 
-ghost use Rattle.std.specs.Prelude.{◌≡◌, ◌≢◌, ◌≤◌, ◌<◌, ◌+◌, length, IfOk, IfErr, OnOk, OnErr};
+ghost use Rattle.std.specs.Prelude.{◌≡◌, ◌≢◌, ◌≤◌, ◌<◌, ◌+◌, length, IfOk, IfErr, OnOk, OnErr, MatchBool, Some};
+ghost use Rattle.nr_recording.specs.Recording.{run_of};
 ghost use Rattle.nr_rev.specs.Run.{IsGood, IsRefusedFor, IsWorldAt};
 ghost use Rattle.nr_rev.specs.declared.refusal.Refusal.TheVariants.{Memory};
+ghost use Rattle.nr_snaps.specs.Answers.{Agrees, AnswersAgree, AnswersAgreeTo, Differs, answer_at};
 ghost use Rattle.nr_snaps.specs.Fault.{IsLoadFault, IsStepFault};
 ghost use Rattle.nr_snaps.specs.Film.{HasCopies, IsFrame, Reel};
 ghost use Rattle.nr_snaps.specs.Replay.{LeadsOn};
@@ -12,7 +14,7 @@ ghost use Rattle.nr_snaps.specs.declared.fault.LoadFault.TheVariants as faults;
 use crate::fault::LoadFault;
 use crate::film::Film;
 use nr_recording::Recording;
-use nr_rev::{Refusal, Worlds};
+use nr_rev::{Answer, Refusal, Worlds};
 use std::alloc::Global;
 
 /// Makes films.
@@ -22,8 +24,8 @@ impl Snaps {
     /// Replays the recording once, and keeps a copy of the world at position 0 and at each `every`
     /// steps after it, up to the end.
     ///
-    /// `LoadFault::Refused` has the first step that does not apply, by its number from 1, with its
-    /// reason. The world at position 0, the copies and the list of them take memory; no step does.
+    /// A fault is that of the first step, by its number from 1, that does not apply, with its reason, or that applies
+    /// and answers otherwise than is recorded of it. The world at position 0, the copies and the list of them take memory; no step does.
     pub fn load<W: Worlds + Drop>(
         alloc: Global,
         recording: Recording,
@@ -32,10 +34,11 @@ impl Snaps {
         requires least { LEAST_EVERY ≤ every }
         requires most { every ≤ MOST_EVERY }
         ensures film { IfOk result (λ film. film
-            ≡ record { recording = recording; every = every; origin = film.origin }) }
+            ≡ record { recording = run_of recording; every = every; origin = film.origin }) }
         ensures origin { IfOk result (λ film.
-            IsWorldAt W.is_well_formed W.world recording 0 film.origin) }
-        ensures good { OnOk result (IsGood recording) }
+            IsWorldAt W.is_well_formed W.world (run_of recording) 0 film.origin) }
+        ensures good { OnOk result (IsGood (run_of recording)) }
+        ensures answers { OnOk result (AnswersAgree recording) }
         ensures fault { IfErr result (IsLoadFault recording) }
     {
         let Ok(start) = W::fresh(alloc, recording.limits()) else {
@@ -59,12 +62,13 @@ fn replay<W: Worlds + Drop>(
     every: usize,
 ) -> Result<Vec<W>, LoadFault>
     ghost film: { Reel W }
-    requires is { film ≡ record { recording = recording.now; every = every; origin = start.now } }
-    requires origin { IsWorldAt W.is_well_formed W.world recording.now 0 start.now }
+    requires is { film ≡ record { recording = run_of recording.now; every = every; origin = start.now } }
+    requires origin { IsWorldAt W.is_well_formed W.world (run_of recording.now) 0 start.now }
     requires some { 0 < every }
     ensures copies { IfOk result (λ later.
         HasCopies W.is_well_formed W.world W.steps film later.items) }
-    ensures good { OnOk result (IsGood recording.now) }
+    ensures good { OnOk result (IsGood (run_of recording.now)) }
+    ensures answers { OnOk result (AnswersAgree recording.now) }
     ensures fault { IfErr result (IsLoadFault recording.now) }
 {
     let mut world = copy_of(start)?;
@@ -96,38 +100,56 @@ fn play<W: Worlds>(
     to: usize,
 ) -> Result<(), LoadFault>
     ghost film: { Reel W }
-    requires is { film.recording ≡ recording.now }
-    requires origin { IsWorldAt W.is_well_formed W.world recording.now 0 film.origin }
+    requires is { film.recording ≡ run_of recording.now }
+    requires origin { IsWorldAt W.is_well_formed W.world (run_of recording.now) 0 film.origin }
     requires frame { IsFrame W.is_well_formed W.world W.steps film from world.old }
+    requires agree { AnswersAgreeTo recording.now from }
     requires order { from ≤ to }
     requires within { to ≤ length recording.now.steps }
     ensures frame { OnOk result (IsFrame W.is_well_formed W.world W.steps film to world.new) }
+    ensures agree { OnOk result (AnswersAgreeTo recording.now to) }
     ensures fault { IfErr result (IsStepFault recording.now) }
 {
     for n in from..to {
-        if let Err(reason) = advance(world, recording, n) {
-            return Err(LoadFault::Refused {
-                step: n + 1,
-                reason,
-            });
+        let given = match advance(world, recording, n) {
+            Ok(given) => given,
+            Err(reason) => {
+                return Err(LoadFault::Refused {
+                    step: n + 1,
+                    reason,
+                });
+            }
+        };
+        if differs(recording.answer(n), given) {
+            return Err(LoadFault::OtherAnswer { step: n + 1 });
         }
     }
     Ok(())
 }
 
-// Applies the step after position n, and keeps no way back. It takes no memory.
+// Whether another answer is recorded of a step than the one that it gave.
+fn differs(recorded: Option<Answer>, given: Answer) -> bool
+    ensures { MatchBool result (Differs recorded given) (Agrees recorded given) }
+{
+    match recorded {
+        Some(answer) => !answer.is(given),
+        None => false,
+    }
+}
+
+// Applies the step after position n, returns its answer, and keeps no way back. It takes no memory.
 #[inline(always)]
-fn advance<W: Worlds>(world: &mut W, recording: &Recording, n: usize) -> Result<(), Refusal>
-    requires is_at { IsWorldAt W.is_well_formed W.world recording.now n world.old }
+fn advance<W: Worlds>(world: &mut W, recording: &Recording, n: usize) -> Result<Answer, Refusal>
+    requires is_at { IsWorldAt W.is_well_formed W.world (run_of recording.now) n world.old }
     requires below { n < length recording.now.steps }
-    ensures leads { OnOk result (LeadsOn W.steps recording.now n world.old world.new) }
+    ensures leads { OnOk result (LeadsOn W.steps (run_of recording.now) n world.old world.new) }
+    ensures answer { IfOk result (λ answer. answer_at (run_of recording.now) n ≡ Some answer) }
     ensures well_formed { W.is_well_formed world.new }
-    ensures refused { IfErr result (IsRefusedFor recording.now n) }
+    ensures refused { IfErr result (IsRefusedFor (run_of recording.now) n) }
     ensures no_memory { IfErr result (λ reason. reason ≢ Memory) }
 {
     let Some(step) = recording.step(n) else {
         unreachable!()
     };
-    world.advance(step)?;
-    Ok(())
+    world.advance(step)
 }

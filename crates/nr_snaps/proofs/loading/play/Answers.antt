@@ -1,14 +1,17 @@
 use Rattle.std.proofs.Common.{◌≡◌, ◌+◌, ◌-◌, sym, subst, arith}
+use Rattle.nr_recording.specs.Recording.{run_of}
 use Rattle.nr_rev.specs.Run.{IsRefusedAt, IsWorldAt}
 use Rattle.nr_rev.proofs.RunLemmas.{IsGoodTo-prefix}
+use Rattle.nr_snaps.specs.Answers.{Agrees, AnswersAgreeTo, AnswersOtherwiseAt, Differs}
 use Rattle.nr_snaps.specs.Replay.{LeadsOn, Replays}
+use Rattle.nr_snaps.proofs.AnswerLemmas.{agree-next}
 use Rattle.nr_snaps.proofs.Frames.{IsFrame-next, Replays-good}
 use Rattle.nr_snaps.proofs.loading.play.Goals as goal
 
 -- the steps before it were replayed, so they apply, and it doesn't
 pub returns-in-Err-clause-fault : goal.returns-in-Err-clause-fault
 returns-in-Err-clause-fault g c =
-    let r = c.args.recording.now in
+    let r = run_of c.args.recording.now in
     let n = c.loop-n.n in
     let place : n ≡ n + 1 - 1 = omega arith in
     let is : g.film.recording ≡ r = assumption in
@@ -24,13 +27,40 @@ returns-in-Err-clause-fault g c =
         next = refused.1;
         refused = refused.2;
       }),
+      subst (λ k. AnswersAgreeTo c.args.recording.now k) place c.loop-n.invariant.agree,
+    )
+
+-- they gave what is recorded, and it doesn't
+pub returns-then-differs-clause-fault : goal.returns-then-differs-clause-fault
+returns-then-differs-clause-fault g c =
+    let r = run_of c.args.recording.now in
+    let n = c.loop-n.n in
+    let place : n ≡ n + 1 - 1 = omega arith in
+    let is : g.film.recording ≡ r = assumption in
+    let origin : IsWorldAt g.W.Reversible.is_well_formed g.W.Worlds.world r 0 g.film.origin = assumption in
+    let replays = subst (λ r. Replays g.W.Reversible.steps r g.film.origin n c.loop-n.world) is c.loop-n.invariant.frame.replays in
+    let good = Replays-good g.W.Reversible.is_well_formed g.W.Worlds.world g.W.Reversible.steps g.met.W.Worlds.steps_are r g.film.origin n c.loop-n.world origin.there replays in (
+      omega arith,
+      subst (λ k. AnswersOtherwiseAt c.args.recording.now k) place (record {
+        before = IsGoodTo-prefix r n good.0;
+        agree = c.loop-n.invariant.agree;
+        given = c.in-Ok.given;
+        gives = c.in-Ok.ensures.answer;
+        differs = subst (λ recorded. Differs recorded c.in-Ok.given) c.answer.ensures c.if-differs.ensures;
+      }),
     )
 
 pub loop-n-preserved : goal.loop-n-preserved
 loop-n-preserved g c =
-    let is : g.film.recording ≡ c.args.recording.now = assumption in
-    let leads = subst (λ r. LeadsOn g.W.Reversible.steps r c.loop-n.n c.loop-n.world c.advance.new.world) (sym is) c.in_default.ensures.leads in
+    let r = run_of c.args.recording.now in
+    let is : g.film.recording ≡ r = assumption in
+    let leads = subst (λ r. LeadsOn g.W.Reversible.steps r c.loop-n.n c.loop-n.world c.advance.new.world) (sym is) c.in-Ok.ensures.leads in
+    let agrees = subst (λ recorded. Agrees recorded c.in-Ok.given) c.answer.ensures c.if-differs.ensures in
     record {
       frame = IsFrame-next g.W.Reversible.is_well_formed g.W.Worlds.world g.W.Reversible.steps g.met.W.Worlds.steps_are g.film c.loop-n.n c.loop-n.world c.advance.new.world
           c.loop-n.invariant.frame leads c.advance.ensures.well_formed;
+      agree = agree-next c.args.recording.now c.loop-n.n c.in-Ok.given c.loop-n.invariant.agree c.in-Ok.ensures.answer agrees;
     }
+
+pub returns-clause-agree : goal.returns-clause-agree
+returns-clause-agree g c = λ k given below gives. c.loop-n.invariant.agree k given (omega (arith, below, c.loop-n-test.false)) gives

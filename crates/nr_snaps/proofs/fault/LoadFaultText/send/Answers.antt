@@ -6,3 +6,6 @@ returns-in-Refused g c = rw c.in-Refused.is (simp append_assoc (rw (c.from.ensur
 
 pub returns-in-Memory : goal.returns-in-Memory
 returns-in-Memory g c = rw c.in-Memory.is c.send.ensures
+
+pub returns-in-OtherAnswer : goal.returns-in-OtherAnswer
+returns-in-OtherAnswer g c = rw c.in-OtherAnswer.is (simp append_assoc c.send_all-in-OtherAnswer.ensures)

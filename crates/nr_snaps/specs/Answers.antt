@@ -1,0 +1,61 @@
+-- The answers that the steps of a run give, and those that are recorded of them.
+use Rattle.std.specs.Prelude.{◌≡◌, ◌≢◌, ℕ, ◌<◌, List, [], ◌∷◌, take, slice_get, Option, Some, None, option_and_then, Ok, Err}
+use Rattle.nr_recording.specs.Recording.{Recorded, run_of, recorded_at}
+use Rattle.nr_recording.specs.declared.recording.RecordedStep.{RecordedStep}
+use Rattle.nr_recording.specs.declared.version.Version.TheVariants.{Two}
+use Rattle.nr_rev.specs.Run.{IsGood, Recording, next_of, world_at}
+use Rattle.nr_rev.specs.Step.{Outcome, outcome}
+use Rattle.nr_rev.specs.World.{World, empty_world}
+use Rattle.nr_rev.specs.declared.answer.Answer.{Answer}
+use Rattle.nr_rev.specs.declared.step.Step.{Step}
+
+-- the answer of a step, where it applies
+abbrev pub answer_of : Outcome → Option Answer
+answer_of (Ok (answer, next)) = Some answer
+answer_of (Err reason) = None
+
+-- the answer that the step after position n gives
+abbrev pub answer_at : Recording → ℕ → Option Answer
+answer_at r n =
+    option_and_then (λ step. answer_of (outcome (world_at r n) step)) (slice_get r.steps n)
+
+-- what is recorded of a step, if anything, is the answer that it gave
+abbrev pub Agrees : Option Answer → Answer → Type 0
+Agrees recorded given = (answer : Answer) → recorded ≡ Some answer → answer ≡ given
+
+-- another answer is recorded of a step than the one that it gave
+abbrev pub Differs : Option Answer → Answer → Type 0
+Differs recorded given = (answer : Answer) × (recorded ≡ Some answer) × (answer ≢ given)
+
+-- each of the first n steps gives the answer that is recorded of it
+abbrev pub AnswersAgreeTo : Recorded → ℕ → Type 0
+AnswersAgreeTo r n = (k : ℕ) (given : Answer) → k < n → answer_at (run_of r) k ≡ Some given
+    → Agrees (recorded_at r k) given
+
+-- each step does
+abbrev pub AnswersAgree : Recorded → Type 0
+AnswersAgree r = (k : ℕ) (given : Answer) → answer_at (run_of r) k ≡ Some given
+    → Agrees (recorded_at r k) given
+
+-- the first n steps apply and give the answers that are recorded of them, and the next one applies
+-- and gives another
+pub record AnswersOtherwiseAt (r : Recorded) (n : ℕ) : Type 0 where
+  pub before : IsGood (record (run_of r) { steps = take n (run_of r).steps })
+  pub agree : AnswersAgreeTo r n
+  pub given : Answer
+  pub gives : answer_at (run_of r) n ≡ Some given
+  pub differs : Differs (recorded_at r n) given
+
+-- some steps from a world on, each with the answer that it gives
+abbrev pub answered_steps : World → List Step → List RecordedStep
+answered_steps w [] = []
+answered_steps w (step ∷ steps) = record { step = step; answer = answer_of (outcome w step) }
+    ∷ answered_steps (next_of w (outcome w step)) steps
+
+-- the recording of a run in version 2: its steps, each with the answer that it gives
+abbrev pub answered : Recording → Recorded
+answered r = record {
+  version = Two;
+  limits = r.limits;
+  steps = answered_steps (empty_world r.limits) r.steps;
+}

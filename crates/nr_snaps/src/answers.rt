@@ -1,0 +1,43 @@
+//! The recording of a film with the answers of its steps.
+
+ghost use Rattle.std.specs.Prelude.{◌≡◌, IfOk, Some};
+ghost use Rattle.nr_snaps.specs.Answers.{answered};
+
+use crate::film::Film;
+use nr_recording::{RecordedStep, Recording, Version, step_copy};
+use nr_rev::{Answer, Step, Worlds};
+use std::alloc::{AllocError, Global};
+
+impl<W: Worlds + Drop> Film<W> {
+    /// The recording of the film's steps in version 2, each with the answer that it gives, whichever version was loaded.
+    /// It takes memory for a world, for the list of the steps and for the bytes that they carry.
+    pub fn with_answers(&self, alloc: Global) -> Result<Recording, AllocError>
+        ensures { IfOk result (λ recorded. recorded ≡ answered self.now.recording) }
+    {
+        let Ok(mut world) = self.start.try_copy() else {
+            return Err(AllocError);
+        };
+        let mut steps = Vec::with_capacity(alloc, self.recording.len())?;
+        for n in 0..self.recording.len() {
+            let Some(step) = self.recording.step(n) else {
+                unreachable!()
+            };
+            let answer = self.advance(&mut world, n);
+            steps.push_reserved(answered_step(alloc, step, answer)?);
+        }
+        let Ok(recorded) = Recording::new(Version::Two, self.recording.limits(), steps) else {
+            unreachable!()
+        };
+        Ok(recorded)
+    }
+}
+
+fn answered_step(alloc: Global, step: &Step, answer: Answer) -> Result<RecordedStep, AllocError>
+    ensures { IfOk result (λ recorded.
+        recorded ≡ record { step = step.now; answer = Some answer }) }
+{
+    Ok(RecordedStep {
+        step: step_copy(alloc, step)?,
+        answer: Some(answer),
+    })
+}
