@@ -29,3 +29,8 @@ pub check_asks : (program file : Text) → IsPlain file → Ask (program ∷ cod
 unfolding clap_on_literals
 check_asks program [] plain = record { faultless = refl; is_asked = refl }
 check_asks program (x ∷ xs) plain = record { faultless = simp plain; is_asked = simp plain }
+
+pub upgrade_asks : (program file : Text) → IsPlain file → Ask (program ∷ codes "upgrade" ∷ file ∷ []) (codes "upgrade", file, None)
+unfolding clap_on_literals
+upgrade_asks program [] plain = record { faultless = refl; is_asked = refl }
+upgrade_asks program (x ∷ xs) plain = record { faultless = simp plain; is_asked = simp plain }

@@ -8,6 +8,7 @@ use Rattle.nr_recording.specs.Faults.{memory_line}
 use Rattle.nr_programs.specs.Run.{Checks, EndsPrinting, Runs}
 use Rattle.nr_programs.specs.Serving.{ServesAll}
 use Rattle.nr_programs.specs.Sharing.{is_in_range}
+use Rattle.nr_programs.specs.Upgrade.{Upgrades}
 use Rattle.nr_programs.specs.declared.run.ExitStatus.{ExitStatus}
 use Rattle.nr_programs.specs.declared.run.ExitStatus.TheVariants as statuses
 use Rattle.netrev.specs.declared.starting.Unstarted.{Unstarted}
@@ -31,20 +32,23 @@ unstarted_by _ other = other
 abbrev pub usage_text : List ℕ
 usage_text =
     codes
-    "usage: netrev run FILE\n       netrev check FILE\n       netrev serve FILE --port P [--fronts N] [--workers W] [--journal H] [--connections C]\n"
+    "usage: netrev run FILE\n       netrev check FILE\n       netrev upgrade FILE\n       netrev serve FILE --port P [--fronts N] [--workers W] [--journal H] [--connections C]\n"
 
 -- the numbers that a program is asked for with are in their ranges
 abbrev pub IsInRange : Program → Type 0
 IsInRange (program.Run file) = Unit {0}
 IsInRange (program.Check file) = Unit {0}
+IsInRange (program.Upgrade file) = Unit {0}
 IsInRange (program.Serve file sharing) = is_in_range sharing ≡ true
 
--- What a program does over the bytes of its file. `check` and `serve` read no input.
+-- What a program does over the bytes of its file. Only `run` reads input.
 abbrev pub Plays : Program → List ℕ → Incoming → Incoming → Outgoing → Outgoing → ExitStatus
     → Type 0
 Plays (program.Run file) bytes input left old new status = Runs bytes input left old new status
 Plays (program.Check file) bytes input left old new status =
     (left ≡ input) × Checks bytes old new status
+Plays (program.Upgrade file) bytes input left old new status =
+    (left ≡ input) × Upgrades bytes old new status
 Plays (program.Serve file sharing) bytes input left old new status =
     (left ≡ input) × ServesAll bytes sharing old new status
 

@@ -17,7 +17,7 @@ use std::alloc::{AllocError, Global};
 
 /// How the program is called.
 pub const USAGE: &str =
-    "usage: netrev run FILE\n       netrev check FILE\n       netrev serve FILE --port P [--fronts N] [--workers W] [--journal H] [--connections C]\n";
+    "usage: netrev run FILE\n       netrev check FILE\n       netrev upgrade FILE\n       netrev serve FILE --port P [--fronts N] [--workers W] [--journal H] [--connections C]\n";
 
 /// How many words a session's journal has room for, where the number isn't given.
 pub const USUAL_JOURNAL: u32 = 4_096;
@@ -29,6 +29,8 @@ pub enum Program<'a> {
     Run { file: &'a str },
     /// Reads and loads the recording.
     Check { file: &'a str },
+    /// Writes the recording in version 2, each step with the answer that it gives, to standard output.
+    Upgrade { file: &'a str },
     /// Commands and replies over the loopback, of several people who share one session.
     Serve { file: &'a str, sharing: Sharing },
 }
@@ -39,7 +41,10 @@ impl<'a> Program<'a> {
         ensures { result.now ≡ file_of self.now }
     {
         match self {
-            Program::Run { file } | Program::Check { file } | Program::Serve { file, .. } => file,
+            Program::Run { file }
+            | Program::Check { file }
+            | Program::Upgrade { file }
+            | Program::Serve { file, .. } => file,
         }
     }
 }
@@ -114,6 +119,7 @@ fn command<'a>(alloc: Global) -> Result<Command<'a>, AllocError>
 {
     let run = file_command(alloc, "run")?;
     let check = file_command(alloc, "check")?;
+    let upgrade = file_command(alloc, "upgrade")?;
     let serve = serve_command(alloc)?;
     Command::new(alloc, "netrev")
         .disable_help_flag(true)
@@ -121,6 +127,7 @@ fn command<'a>(alloc: Global) -> Result<Command<'a>, AllocError>
         .subcommand_required(true)
         .subcommand(run)?
         .subcommand(check)?
+        .subcommand(upgrade)?
         .subcommand(serve)
 }
 
@@ -167,6 +174,7 @@ fn matched_program<'a>(matches: &ArgMatches<'a>) -> Option<Program<'a>>
     match name {
         "run" => Some(Program::Run { file }),
         "check" => Some(Program::Check { file }),
+        "upgrade" => Some(Program::Upgrade { file }),
         "serve" => match sharing_in(inner) {
             Some(sharing) => Some(Program::Serve { file, sharing }),
             None => None,
@@ -200,6 +208,8 @@ pub fn plain_arguments_ask()
         → Ask (program ∷ codes "run" ∷ file ∷ []) (codes "run", file, None) }
     ensures check { (program file : List ℕ) → IsPlain file
         → Ask (program ∷ codes "check" ∷ file ∷ []) (codes "check", file, None) }
+    ensures upgrade { (program file : List ℕ) → IsPlain file
+        → Ask (program ∷ codes "upgrade" ∷ file ∷ []) (codes "upgrade", file, None) }
 {}
 
 #[cfg(test)]
@@ -210,6 +220,8 @@ mod tests {
     static RUN: [&str; 3] = ["netrev", "run", "a.jsonl"];
 
     static CHECK: [&str; 3] = ["netrev", "check", ""];
+
+    static UPGRADE: [&str; 3] = ["netrev", "upgrade", "a.jsonl"];
 
     static HYPHEN: [&str; 4] = ["netrev", "run", "--", "-x"];
 
@@ -285,6 +297,13 @@ mod tests {
         let alloc = rt.alloc();
         assert!(rt; asks_for(alloc, RUN.as_slice(), Program::Run { file: "a.jsonl" }));
         assert!(rt; asks_for(alloc, CHECK.as_slice(), Program::Check { file: "" }));
+        assert!(rt;
+            asks_for(
+                alloc,
+                UPGRADE.as_slice(),
+                Program::Upgrade { file: "a.jsonl" }
+            )
+        );
         assert!(rt; asks_for(alloc, HYPHEN.as_slice(), Program::Run { file: "-x" }));
     }
 

@@ -78,7 +78,7 @@ impl<'a> Loopback<'a> {
     pub(crate) fn new(rt: &'a HostRuntime, program: Program<'_>) -> Loopback<'a> {
         let (port, connections) = match program {
             Program::Serve { sharing, .. } => (sharing.port, sharing.connections),
-            Program::Run { .. } | Program::Check { .. } => (0, None),
+            Program::Run { .. } | Program::Check { .. } | Program::Upgrade { .. } => (0, None),
         };
         Loopback {
             rt,

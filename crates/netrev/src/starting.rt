@@ -7,7 +7,7 @@ ghost use Rattle.nr_programs.specs.declared.run.ExitStatus.{ExitStatus as Status
 ghost use Rattle.netrev.specs.declared.starting.Unstarted.TheVariants as reasons;
 
 use crate::arguments::{ArgumentsFault, Program, USAGE};
-use nr_programs::{ExitStatus, check_bytes, refuse, run_bytes, serve_bytes};
+use nr_programs::{ExitStatus, check_bytes, refuse, run_bytes, serve_bytes, upgrade_bytes};
 use nr_recording::OutOfMemory;
 use nr_rev::Worlds;
 use nr_serving::Ports;
@@ -139,6 +139,7 @@ where
     match program {
         Program::Run { .. } => run_bytes::<W, R, I, O>(rt, alloc, bytes, input, output),
         Program::Check { .. } => check_bytes::<W, O>(alloc, bytes, output),
+        Program::Upgrade { .. } => upgrade_bytes::<W, O>(alloc, bytes, output),
         Program::Serve { sharing, .. } => {
             serve_bytes::<W, R, P, O>(rt, alloc, bytes, sharing, ports, output)
         }

@@ -3,3 +3,4 @@ pub mod Opening
 pub mod Run
 pub mod Serving
 pub mod Sharing
+pub mod Upgrade

@@ -6,8 +6,10 @@ mod opening;
 mod run;
 mod serving;
 mod sharing;
+mod upgrade;
 
 pub use opening::OpenFault;
 pub use run::{ExitStatus, JOURNAL_ROOM, check_bytes, refuse, run_bytes};
 pub use serving::serve_bytes;
 pub use sharing::{MOST_FRONTS, MOST_JOURNAL, MOST_PORT, MOST_WORKERS, Sharing};
+pub use upgrade::upgrade_bytes;

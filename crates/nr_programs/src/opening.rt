@@ -16,7 +16,8 @@ use std::io::Write;
 pub enum OpenFault {
     /// A line is none of a recording, or there was no memory to read it.
     Read(ReadFault),
-    /// A step does not apply after the ones before it, or there was no memory to replay them.
+    /// A step does not apply after the ones before it, or answers otherwise than is recorded of it, or there was no memory
+    /// to replay them.
     Load(LoadFault),
 }
 
@@ -36,7 +37,8 @@ impl From<LoadFault> for OpenFault {
     }
 }
 
-/// It is the line of its cause, as `line 6: fault 102 not JSON`, `step 5: fault 107 reason 2` or `fault 108 memory`.
+/// It is the line of its cause, as `line 6: fault 102 not JSON`, `step 5: fault 107 reason 2`, `step 5: fault 109 answer`
+/// or `fault 108 memory`.
 impl Text for OpenFault {
     ghost text = { fault_line };
 

@@ -2,8 +2,8 @@
 
 ghost use Rattle.std.specs.Prelude.{◌≡◌, ◌⊎◌, false};
 ghost use Rattle.std.specs.Process.{exit_status};
-ghost use Rattle.nr_rev.specs.Run.{Recording, IsGood};
-ghost use Rattle.nr_recording.specs.Text.{IsTextOf};
+ghost use Rattle.nr_rev.specs.Run.{Recording};
+ghost use Rattle.nr_programs.specs.Opening.{IsGoodText};
 ghost use Rattle.nr_recording.specs.Faults.{memory_line};
 ghost use Rattle.nr_programs.specs.Run.{Runs, Walks, PrintsFault, Checks, EndsPrinting, status_code, ok_line};
 ghost use Rattle.nr_programs.specs.declared.run.ExitStatus.TheVariants as statuses;
@@ -91,8 +91,8 @@ where
     // What was read and written, whatever the bytes are.
     ensures runs { Runs bytes.now input.old input.new output.old output.new result }
 
-    // A recording whose steps all apply is walked, unless memory runs out before the first line.
-    ensures good { (r : Recording) → IsTextOf bytes.now r → IsGood r
+    // A recording whose steps all apply, and answer as is recorded of them, is walked, unless memory runs out before the first line.
+    ensures good { (r : Recording) → IsGoodText bytes.now r
         → Walks input.old input.new output.old output.new r result
         ⊎ PrintsFault memory_line input.old input.new output.old output.new result }
 {
@@ -171,8 +171,8 @@ pub fn check_bytes<W: Worlds + Drop, O: Write>(
     // What was written, whatever the bytes are.
     ensures checks { Checks bytes.now output.old output.new result }
 
-    // A recording whose steps all apply is accepted, unless memory runs out.
-    ensures good { (r : Recording) → IsTextOf bytes.now r → IsGood r
+    // A recording whose steps all apply, and answer as is recorded of them, is accepted, unless memory runs out.
+    ensures good { (r : Recording) → IsGoodText bytes.now r
         → EndsPrinting (ok_line r) statuses.Done
         output.old output.new result
         ⊎ EndsPrinting memory_line statuses.Refused

@@ -1,8 +1,8 @@
 //! The program `serve`, over the bytes of the file and the callers of each front.
 
 ghost use Rattle.std.specs.Prelude.{◌≡◌, IfOk, true};
-ghost use Rattle.nr_rev.specs.Run.{Recording, IsGood};
-ghost use Rattle.nr_recording.specs.Text.{IsTextOf};
+ghost use Rattle.nr_rev.specs.Run.{Recording};
+ghost use Rattle.nr_programs.specs.Opening.{IsGoodText};
 ghost use Rattle.nr_programs.specs.Run.{EndsPrinting};
 ghost use Rattle.nr_serving.specs.Session.{IsShared, words_of};
 ghost use Rattle.nr_programs.specs.Serving.{ServesAll, Shares, PrintsSession, placed_line, exit_status_of};
@@ -49,8 +49,8 @@ where
     // What was served and written, whatever the bytes are.
     ensures serves { ServesAll bytes.now sharing output.old output.new result }
 
-    // A recording whose steps all apply is shared, unless memory runs out.
-    ensures good { (r : Recording) → IsTextOf bytes.now r → IsGood r
+    // A recording whose steps all apply, and answer as is recorded of them, is shared, unless memory runs out.
+    ensures good { (r : Recording) → IsGoodText bytes.now r
         → Shares r sharing output.old output.new result }
 {
     match open::<W>(alloc, bytes) {

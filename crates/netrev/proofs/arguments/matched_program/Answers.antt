@@ -29,6 +29,14 @@ returns-in-check-clause-named c =
     let name : c.in-Some.name.now ≡ codes "check" = search rules in
     asked_in-file _ _ rows _ found read ∙ ap (λ (n : Text). asked_on n rows c.in-Some-get_str.file.now) name
 
+pub returns-in-upgrade-clause-named : goal.returns-in-upgrade-clause-named
+returns-in-upgrade-clause-named c =
+    let rows = rows_of (found_of c.in-Some.inner.now) in
+    let found : subcommand_rows_of c.args.matches.now ≡ Some (c.in-Some.name.now, rows) = both_views _ _ _ _ _ c.in-Some.ensures.name c.in-Some.ensures.rows in
+    let read : Some c.in-Some-get_str.file.now ≡ first_of (codes "file") rows = c.in-Some-get_str.ensures ∙ first_value-rows (found_of c.in-Some.inner.now) (codes "file") in
+    let name : c.in-Some.name.now ≡ codes "upgrade" = search rules in
+    asked_in-file _ _ rows _ found read ∙ ap (λ (n : Text). asked_on n rows c.in-Some-get_str.file.now) name
+
 pub returns-in-Some-sharing_in-clause-named : goal.returns-in-Some-sharing_in-clause-named
 returns-in-Some-sharing_in-clause-named c =
     let rows = rows_of (found_of c.in-Some.inner.now) in

@@ -14,13 +14,13 @@ returns-in-Ok-clause-runs g c =
     ]
 
 pub returns-in-Ok-clause-good : goal.returns-in-Ok-clause-good
-returns-in-Ok-clause-good g c = λ r text good.
-    let same : c.in-Ok.film.recording ≡ r = one_recording c.args.bytes.now c.in-Ok.film.recording r c.in-Ok.ensures.film.text text in
+returns-in-Ok-clause-good g c = λ r is.
+    let same : c.in-Ok.film.recording ≡ r = one_recording c.args.bytes.now c.in-Ok.film.recording r c.in-Ok.ensures.film is in
     rw (← same) c.walk.ensures
 
 pub returns-in-Err-clause-good : goal.returns-in-Err-clause-good
-returns-in-Err-clause-good g c = λ r text good.
+returns-in-Err-clause-good g c = λ r is.
     inr (record {
       unread = refl;
-      printed = prints_memory _ _ _ _ _ _ c.in-Err.ensures.fault text good c.refuse.ensures;
+      printed = prints_memory _ _ _ _ _ _ c.in-Err.ensures.fault is c.refuse.ensures;
     })

@@ -1,0 +1,30 @@
+-- What the program `upgrade` writes.
+use Rattle.std.specs.Prelude.{◌⊎◌, ℕ, ◌<◌, List, ◌++◌, length, take}
+use Rattle.std.specs.List.{concat}
+use Rattle.nr_recording.specs.Faults.{memory_line}
+use Rattle.nr_recording.specs.Writing.{line_texts, text}
+use Rattle.nr_rev.specs.Run.{Recording}
+use Rattle.nr_snaps.specs.Answers.{answered}
+use Rattle.nr_text.specs.Streams.{Outgoing}
+use Rattle.nr_programs.specs.Opening.{IsFirstFault, IsGoodText, fault_line}
+use Rattle.nr_programs.specs.Run.{EndsPrinting}
+use Rattle.nr_programs.specs.declared.opening.OpenFault.{OpenFault}
+use Rattle.nr_programs.specs.declared.run.ExitStatus.{ExitStatus}
+use Rattle.nr_programs.specs.declared.run.ExitStatus.TheVariants.{Done, Refused}
+
+-- The run's text in version 2 is written, each step with the answer that it gives. Or there was no
+-- memory for a line of it: the lines before that one are written, and then that.
+abbrev pub WritesAnswered : Recording → Outgoing → Outgoing → ExitStatus → Type 0
+WritesAnswered r old new status =
+    EndsPrinting (text (answered r)) Done old new status
+    ⊎ ((n : ℕ) × (n < length (line_texts (answered r)))
+    × EndsPrinting (concat (take n (line_texts (answered r))) ++ memory_line) Refused old new
+    status)
+
+-- The bytes are a recording whose steps all apply and answer as is recorded of them, and it is
+-- written with its answers; or its first fault is printed.
+abbrev pub Upgrades : List ℕ → Outgoing → Outgoing → ExitStatus → Type 0
+Upgrades bytes old new status =
+    ((r : Recording) × IsGoodText bytes r × WritesAnswered r old new status)
+    ⊎ ((fault : OpenFault) × IsFirstFault bytes fault
+    × EndsPrinting (fault_line fault) Refused old new status)

@@ -1,0 +1,60 @@
+//! The program `upgrade`, over the bytes of the file and the output.
+
+ghost use Rattle.std.specs.Prelude.{◌⊎◌};
+ghost use Rattle.nr_rev.specs.Run.{Recording};
+ghost use Rattle.nr_recording.specs.Faults.{memory_line};
+ghost use Rattle.nr_programs.specs.Opening.{IsGoodText};
+ghost use Rattle.nr_programs.specs.Run.{EndsPrinting};
+ghost use Rattle.nr_programs.specs.Upgrade.{Upgrades, WritesAnswered};
+ghost use Rattle.nr_programs.specs.declared.run.ExitStatus.TheVariants as statuses;
+
+use crate::opening::open;
+use crate::run::{ExitStatus, refuse};
+use nr_recording::{OutOfMemory, WriteFault, write};
+use nr_rev::Worlds;
+use nr_snaps::Film;
+use nr_text::Sink;
+use std::alloc::Global;
+use std::io::Write;
+
+/// Opens the recording, of either version, and writes it in version 2: each step with the answer that it gives.
+///
+/// `Refused`: the recording's first fault was printed, or `fault 108 memory`, as one line; the latter may stand behind
+/// whole lines of the recording, where there was no memory for the next one. `StreamFailed`: a write failed; then a
+/// prefix of these texts is written.
+pub fn upgrade_bytes<W: Worlds + Drop, O: Write>(
+    alloc: Global,
+    bytes: &[u8],
+    output: &mut Sink<O>,
+) -> ExitStatus
+    // What was written, whatever the bytes are.
+    ensures upgrades { Upgrades bytes.now output.old output.new result }
+
+    // A recording whose steps all apply, and answer as is recorded of them, is written, unless memory runs out.
+    ensures good { (r : Recording) → IsGoodText bytes.now r
+        → WritesAnswered r output.old output.new result
+        ⊎ EndsPrinting memory_line statuses.Refused output.old output.new result }
+{
+    match open::<W>(alloc, bytes) {
+        Ok(film) => write_answered(alloc, &film, output),
+        Err(fault) => refuse(&fault, output),
+    }
+}
+
+// Writes the film's steps with the answers that they give.
+fn write_answered<W: Worlds + Drop, O: Write>(
+    alloc: Global,
+    film: &Film<W>,
+    output: &mut Sink<O>,
+) -> ExitStatus
+    ensures { WritesAnswered film.now.recording output.old output.new result }
+{
+    let Ok(recording) = film.with_answers(alloc) else {
+        return refuse(&OutOfMemory, output);
+    };
+    match write(alloc, &recording, output) {
+        Ok(()) => ExitStatus::Done,
+        Err(WriteFault::Memory) => refuse(&OutOfMemory, output),
+        Err(WriteFault::Device) => ExitStatus::StreamFailed,
+    }
+}
