@@ -3,15 +3,16 @@
 ghost use Rattle.std.specs.Prelude.{◌≡◌, ◌+◌, ◌<◌, ◌≤◌, [], length, vec_len, vec_capacity, OnOk};
 ghost use Rattle.nr_rev.specs.Transaction.{LeadsBack};
 
+use nr_recording::RecordedStep;
 use nr_rev::{Refusal, Step, Worlds};
 
 /// Leads the world over the steps, or up to the first that does not apply, and keeps no way back.
-pub(crate) fn advance_all<W: Worlds>(world: &mut W, steps: &[Step]) -> Result<(), Refusal>
+pub(crate) fn advance_all<W: Worlds>(world: &mut W, steps: &[RecordedStep]) -> Result<(), Refusal>
     requires { W.is_well_formed world.old }
     ensures { W.is_well_formed world.new }
 {
-    for step in steps {
-        world.advance(step)?;
+    for recorded in steps {
+        world.advance(&recorded.step)?;
     }
     Ok(())
 }
@@ -42,7 +43,7 @@ fn apply_one<W: Worlds>(
 /// there before.
 pub(crate) fn apply_all<W: Worlds>(
     world: &mut W,
-    steps: &[Step],
+    steps: &[RecordedStep],
     deltas: &mut Vec<W::Delta>,
 ) -> Result<(), Refusal>
     requires well_formed { W.is_well_formed world.old }
@@ -52,8 +53,8 @@ pub(crate) fn apply_all<W: Worlds>(
     ensures back { LeadsBack W.back deltas.new.items world.new world.old }
     ensures room { vec_capacity deltas.new ≡ vec_capacity deltas.old }
 {
-    for step in steps {
-        apply_one(world, step, deltas)?;
+    for recorded in steps {
+        apply_one(world, &recorded.step, deltas)?;
     }
     Ok(())
 }

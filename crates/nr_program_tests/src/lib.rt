@@ -13,3 +13,5 @@ mod programs;
 mod serving;
 #[cfg(test)]
 mod sizes;
+#[cfg(test)]
+mod upgrade;

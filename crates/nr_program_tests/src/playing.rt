@@ -1,6 +1,6 @@
 //! Plays the programs on recordings: what came of it is a plain value, which tests compare.
 use nr_machine::World;
-use nr_programs::{ExitStatus, check_bytes, run_bytes};
+use nr_programs::{ExitStatus, check_bytes, run_bytes, upgrade_bytes};
 use nr_text::{Sink, Source};
 use std::alloc::{AllocError, Global};
 use std::io::{Read, Write};
@@ -90,6 +90,16 @@ pub(crate) fn run<R: Wait + Threads + Sync>(
 pub(crate) fn check(alloc: Global, recording: &str) -> Played {
     let mut output = Sink::new(Vec::new(alloc));
     let status = check_bytes::<World, _>(alloc, recording.as_bytes(), &mut output);
+    Played {
+        status,
+        text: output.into_inner(),
+    }
+}
+
+/// Writes a recording with its answers.
+pub(crate) fn upgrade(alloc: Global, recording: &str) -> Played {
+    let mut output = Sink::new(Vec::new(alloc));
+    let status = upgrade_bytes::<World, _>(alloc, recording.as_bytes(), &mut output);
     Played {
         status,
         text: output.into_inner(),

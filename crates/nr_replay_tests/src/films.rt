@@ -1,6 +1,6 @@
 //! Films for the tests.
 
-use nr_recording::Recording;
+use nr_recording::{RecordedStep, Recording, Version};
 use nr_rev::{Limits, Step, Worlds};
 use nr_snaps::{Film, Snaps};
 use std::alloc::{AllocError, Global};
@@ -18,9 +18,19 @@ pub const OPEN: Step = Step::SockOpen {
     write_capacity: 1,
 };
 
+/// These steps as a recording of version 1.
+pub(crate) fn recording_of(alloc: Global, steps: Vec<Step>) -> Option<Recording> {
+    let steps: Vec<RecordedStep> = steps
+        .into_iter()
+        .map(|step| RecordedStep { step, answer: None })
+        .collect(alloc)
+        .ok()?;
+    Recording::new(Version::One, LIMITS, steps).ok()
+}
+
 /// The film of these steps, with a copy each 64 of them, where they all apply.
 pub fn film_of<W: Worlds + Drop>(alloc: Global, steps: Vec<Step>) -> Option<Film<W>> {
-    let recording = Recording::new(LIMITS, steps).ok()?;
+    let recording = recording_of(alloc, steps)?;
     Snaps::load(alloc, recording, 64).ok()
 }
 

@@ -1,9 +1,12 @@
 //! Texts that are read, refused and written.
 
 use crate::streams::{Cup, Stutter};
-use nr_recording::{Fault, MakeFault, ReadFault, Recording, WriteFault, read, write};
-use nr_rev::{Limits, Step};
+use nr_recording::{
+    Fault, MakeFault, ReadFault, RecordedStep, Recording, Version, WriteFault, read, write,
+};
+use nr_rev::{Answer, Limits, Step};
 use nr_text::Sink;
+use std::alloc::Global;
 use std::test::Fail;
 
 const HEADER: &str = "{\"netrev\":1,\"gor\":4,\"sock\":2,\"desc\":2,\"buf\":16}\n";
@@ -25,6 +28,12 @@ const CLOSES: &str =
 /// Each kind, with the least and the greatest of its arguments.
 const ALL_KINDS: &str =
     "[\"spawn\"]\n[\"exit\",4294967295]\n[\"sockopen\",0,4294967295]\n[\"arrive\",0,\"00ff\"]\n[\"peerclose\",0]\n[\"sysread\",1,2,3]\n[\"syswrite\",1,2,\"\"]\n[\"drain\",1,2]\n[\"incref\",1,2]\n[\"increfclose\",1,2]\n[\"decref\",1,2]\n[\"rwlock\",1,2,\"r\"]\n[\"rwunlock\",1,2,\"w\"]\n[\"acquire\",1]\n[\"release\",1]\n[\"pollopen\",1,2]\n[\"pollclose\",1,2]\n[\"pollreset\",1,2,\"w\"]\n[\"waitbegin\",1,2,\"r\"]\n[\"blockarm\",1]\n[\"blockcheck\",1]\n[\"parkcommit\",1]\n[\"blockswap\",1]\n[\"waitcheck\",1]\n[\"setdeadline\",1,2,\"rw\",-9223372036854775808]\n[\"evict\",1,2]\n[\"pollevent\",1,18446744073709551615,\"w\",1]\n[\"tick\",9223372036854775807]\n[\"pop\"]\n[\"fire\",4294967295]\n";
+
+const ANSWERED_HEADER: &str = "{\"buf\":1048576,\"desc\":2,\"gor\":4,\"netrev\":2,\"sock\":2}\n";
+
+/// Each answer, with the least and the greatest number, behind steps of several shapes.
+const ALL_ANSWERS: &str =
+    "[\"spawn\",[\"number\",0]]\n[\"spawn\",[\"number\",4294967295]]\n[\"waitcheck\",0,[\"code\",3]]\n[\"sysread\",1,2,3,[\"got\",1]]\n[\"syswrite\",1,2,\"00ff\",[\"put\",2]]\n[\"tick\",0,\"done\"]\n[\"incref\",1,2,\"yes\"]\n[\"incref\",1,2,\"no\"]\n[\"blockarm\",1,\"wait\"]\n[\"decref\",1,2,\"last\"]\n[\"decref\",1,2,\"notlast\"]\n[\"sysread\",1,2,3,\"eof\"]\n[\"sysread\",1,2,3,\"again\"]\n[\"fire\",0,\"stale\"]\n[\"syswrite\",1,2,\"\",\"pipe\"]\n[\"closewrite\",1,2,\"done\"]\n[\"pop\",\"pipe\"]\n";
 
 fn at(line: usize, fault: Fault) -> Option<ReadFault> {
     Some(ReadFault::Line { line, fault })
@@ -122,6 +131,55 @@ fn refuses_faulty_steps(rt: HostRuntime) -> Result<(), Fail> {
 }
 
 #[test]
+fn refuses_steps_of_the_other_version(rt: HostRuntime) -> Result<(), Fail> {
+    for (header, line, fault) in [
+        (HEADER, "[\"spawn\",[\"number\",0]]", Fault::Arguments),
+        (HEADER, "[\"pop\",\"done\"]", Fault::Arguments),
+        (HEADER, "[\"closewrite\",0,0]", Fault::UnknownStep),
+        (ANSWERED_HEADER, "[\"spawn\"]", Fault::Arguments),
+        (ANSWERED_HEADER, "[\"exit\",0]", Fault::Arguments),
+        (
+            ANSWERED_HEADER,
+            "[\"pop\",\"done\",\"done\"]",
+            Fault::Arguments,
+        ),
+        (ANSWERED_HEADER, "[\"pop\",\"did\"]", Fault::Arguments),
+        (ANSWERED_HEADER, "[\"pop\",\"Done\"]", Fault::Arguments),
+        (ANSWERED_HEADER, "[\"pop\",1]", Fault::Arguments),
+        (ANSWERED_HEADER, "[\"pop\",[\"done\"]]", Fault::Arguments),
+        (ANSWERED_HEADER, "[\"pop\",[\"got\",-1]]", Fault::Arguments),
+        (ANSWERED_HEADER, "[\"pop\",[\"got\",1,1]]", Fault::Arguments),
+        (ANSWERED_HEADER, "[\"pop\",[\"done\",1]]", Fault::Arguments),
+        (ANSWERED_HEADER, "[\"pop\",[1,\"got\"]]", Fault::Arguments),
+        (
+            ANSWERED_HEADER,
+            "[\"pop\",[\"got\",4294967296]]",
+            Fault::Arguments,
+        ),
+        (ANSWERED_HEADER, "[\"pop\",null]", Fault::Arguments),
+        (ANSWERED_HEADER, "[\"pop\",{\"got\":1}]", Fault::Arguments),
+        (ANSWERED_HEADER, "[\"jump\",\"done\"]", Fault::UnknownStep),
+    ] {
+        let text = format!(in rt.alloc(); "{header}{line}")?;
+        assert_eq!(rt; fault_of(&rt, text.as_bytes()), at(2, fault), "{line}");
+    }
+    Ok(())
+}
+
+#[test]
+fn reads_and_writes_answers(rt: HostRuntime) -> Result<(), Fail> {
+    let text = format!(in rt.alloc(); "{ANSWERED_HEADER}{ALL_ANSWERS}")?;
+    let recording = read(rt.alloc(), text.as_bytes())?;
+    assert_eq!(rt; recording.version(), Version::Two);
+    assert_eq!(rt; recording.answer(1), Some(Answer::Number(u32::MAX)));
+    assert_eq!(rt; recording.answer(16), Some(Answer::Pipe));
+    assert_eq!(rt; recording.answer(17), None);
+    let out = written(&rt, &recording)?;
+    assert_eq!(rt; out.as_slice(), text.as_bytes());
+    Ok(())
+}
+
+#[test]
 fn refuses_faulty_headers(rt: HostRuntime) {
     for (text, line, fault) in [
         ("", 1, Fault::Header),
@@ -138,7 +196,7 @@ fn refuses_faulty_headers(rt: HostRuntime) {
             Fault::Header,
         ),
         (
-            "{\"netrev\":2,\"gor\":0,\"sock\":2,\"desc\":2,\"buf\":16}",
+            "{\"netrev\":3,\"gor\":0,\"sock\":2,\"desc\":2,\"buf\":16}",
             1,
             Fault::Header,
         ),
@@ -169,6 +227,16 @@ fn refuses_faulty_headers(rt: HostRuntime) {
         ),
         (
             "{\"netrev\":1,\"gor\":4,\"sock\":2,\"desc\":2,\"buf\":4294967296}",
+            1,
+            Fault::Limit,
+        ),
+        (
+            "{\"netrev\":1,\"gor\":4,\"sock\":2,\"desc\":2,\"buf\":65537}",
+            1,
+            Fault::Limit,
+        ),
+        (
+            "{\"netrev\":2,\"gor\":4,\"sock\":2,\"desc\":2,\"buf\":1048577}",
             1,
             Fault::Limit,
         ),
@@ -332,6 +400,11 @@ fn tells_refused_memory(rt: HostRuntime) {
     assert!(rt; has_memory);
 }
 
+/// A step and what is recorded of it.
+fn recorded(step: Step, answer: Option<Answer>) -> RecordedStep {
+    RecordedStep { step, answer }
+}
+
 #[test]
 fn makes_recordings(rt: HostRuntime) -> Result<(), Fail> {
     let limits = Limits {
@@ -340,22 +413,76 @@ fn makes_recordings(rt: HostRuntime) -> Result<(), Fail> {
         descriptors: 256,
         buffer: 65_536,
     };
-    let steps = vec![in rt.alloc(); Step::Pop, Step::Tick { time: 0 }]?;
-    let recording = Recording::new(limits, steps)?;
-    assert_eq!(rt; recording.limits(), limits);
+    let steps = vec![in rt.alloc();
+        recorded(Step::Pop, None),
+        recorded(Step::Tick { time: 0 }, None),
+    ]?;
+    let recording = Recording::new(Version::One, limits, steps)?;
+    assert_eq!(rt;
+        (recording.version(), recording.limits()),
+        (Version::One, limits)
+    );
     assert_eq!(rt; recording.len(), 2);
     assert!(rt; !recording.is_empty());
     assert!(rt; matches!(recording.step(1), Some(Step::Tick { time: 0 })));
     assert!(rt; recording.step(2).is_none());
-    let steps = vec![in rt.alloc(); Step::Tick { time: -1 }]?;
-    assert_eq!(rt; Recording::new(limits, steps).err(), Some(MakeFault::Step));
-    let limits = Limits {
-        sockets: 257,
-        ..limits
-    };
-    let none = Recording::new(limits, Vec::new(rt.alloc()));
-    assert_eq!(rt; none.err(), Some(MakeFault::Limit));
+    assert_eq!(rt; recording.answer(1), None);
     Ok(())
+}
+
+/// Why there is no recording of one step, with a buffer of this size.
+fn one_step_fault(
+    alloc: Global,
+    version: Version,
+    buffer: u32,
+    step: Step,
+    answer: Option<Answer>,
+) -> Option<MakeFault> {
+    let limits = Limits {
+        goroutines: 1,
+        sockets: 256,
+        descriptors: 256,
+        buffer,
+    };
+    let mut steps = Vec::new(alloc);
+    steps.push(recorded(step, answer)).ok()?;
+    Recording::new(version, limits, steps).err()
+}
+
+/// Why there is no recording of a step that shuts a write side.
+fn shut_fault(alloc: Global, version: Version, answer: Option<Answer>) -> Option<MakeFault> {
+    let step = Step::CloseWrite {
+        goroutine: 0,
+        socket: 0,
+    };
+    one_step_fault(alloc, version, 1, step, answer)
+}
+
+#[test]
+fn a_version_has_its_buffers(rt: HostRuntime) {
+    let fault = one_step_fault(rt.alloc(), Version::One, 65_537, Step::Pop, None);
+    assert_eq!(rt; fault, Some(MakeFault::Limit));
+    let done = Some(Answer::Done);
+    let fault = one_step_fault(rt.alloc(), Version::Two, 1_048_577, Step::Pop, done);
+    assert_eq!(rt; fault, Some(MakeFault::Limit));
+    let fault = one_step_fault(rt.alloc(), Version::Two, 1_048_576, Step::Pop, done);
+    assert_eq!(rt; fault, None);
+}
+
+#[test]
+fn a_version_has_its_steps_and_answers(rt: HostRuntime) {
+    let done = Some(Answer::Done);
+    let fault = shut_fault(rt.alloc(), Version::One, None);
+    assert_eq!(rt; fault, Some(MakeFault::Step));
+    let fault = shut_fault(rt.alloc(), Version::Two, done);
+    assert_eq!(rt; fault, None);
+    let fault = shut_fault(rt.alloc(), Version::Two, None);
+    assert_eq!(rt; fault, Some(MakeFault::Step));
+    let fault = one_step_fault(rt.alloc(), Version::One, 1, Step::Pop, done);
+    assert_eq!(rt; fault, Some(MakeFault::Step));
+    let back = Step::Tick { time: -1 };
+    let fault = one_step_fault(rt.alloc(), Version::One, 1, back, None);
+    assert_eq!(rt; fault, Some(MakeFault::Step));
 }
 
 #[test]

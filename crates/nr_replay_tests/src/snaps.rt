@@ -1,9 +1,9 @@
 //! Films over packed worlds.
 
-use crate::films::{LIMITS, add_ticks, ticking};
+use crate::films::{LIMITS, OPEN, add_ticks, recording_of, ticking};
 use nr_machine::World;
-use nr_recording::Recording;
-use nr_rev::{Cell, CellValue, Refusal, Step, Worlds};
+use nr_recording::{RecordedStep, Recording, Version};
+use nr_rev::{Answer, Cell, CellValue, Refusal, Step, Worlds};
 use nr_snaps::{Film, LoadFault, Snaps};
 use nr_text::Sink;
 use std::alloc::Global;
@@ -14,7 +14,7 @@ fn fault_of_the_last(alloc: Global) -> Option<LoadFault> {
     let mut steps = Vec::new(alloc);
     add_ticks(&mut steps, 70).ok()?;
     steps.push(Step::Tick { time: 69 }).ok()?;
-    let recording = Recording::new(LIMITS, steps).ok()?;
+    let recording = recording_of(alloc, steps)?;
     Snaps::load::<World>(alloc, recording, 64).err()
 }
 
@@ -64,5 +64,70 @@ fn a_refused_step_is_reported_with_its_reason(rt: HostRuntime) -> Result<(), Fai
     assert_eq!(rt; out.print(&LoadFault::Memory), Ok(()));
     let lines = b"step 71: fault 107 reason 12\nfault 108 memory\n";
     assert_eq!(rt; out.into_inner().as_slice(), lines.as_slice());
+    Ok(())
+}
+
+/// The fault of a recording of two steps in version 2: a socket is opened, and then this step.
+fn fault_of_second(alloc: Global, opened: Answer, step: Step, answer: Answer) -> Option<LoadFault> {
+    let mut steps = Vec::new(alloc);
+    let opened = Some(opened);
+    steps
+        .push(RecordedStep {
+            step: OPEN,
+            answer: opened,
+        })
+        .ok()?;
+    let answer = Some(answer);
+    steps.push(RecordedStep { step, answer }).ok()?;
+    let recording = Recording::new(Version::Two, LIMITS, steps).ok()?;
+    Snaps::load::<World>(alloc, recording, 64).err()
+}
+
+/// The same where the second step sets the clock to 1.
+fn fault_of_tick(alloc: Global, opened: Answer, answer: Answer) -> Option<LoadFault> {
+    fault_of_second(alloc, opened, Step::Tick { time: 1 }, answer)
+}
+
+#[test]
+fn another_answer_is_reported_where_its_step_applies(rt: HostRuntime) -> Result<(), Fail> {
+    let zero = Answer::Number(0);
+    let one = Answer::Number(1);
+    assert_eq!(rt; fault_of_tick(rt.alloc(), zero, Answer::Done), None);
+    assert_eq!(rt;
+        fault_of_tick(rt.alloc(), zero, Answer::Stale),
+        Some(LoadFault::OtherAnswer { step: 2 })
+    );
+    assert_eq!(rt;
+        fault_of_tick(rt.alloc(), one, Answer::Stale),
+        Some(LoadFault::OtherAnswer { step: 1 })
+    );
+    let drain = Step::Drain {
+        socket: 0,
+        count: 1,
+    };
+    let reason = Refusal::TooFewBytes;
+    assert_eq!(rt;
+        fault_of_second(rt.alloc(), zero, drain, Answer::Stale),
+        Some(LoadFault::Refused { step: 2, reason })
+    );
+    assert_eq!(rt;
+        LoadFault::OtherAnswer { step: 11 }
+            .to_string(rt.alloc())?
+            .as_str(),
+        "step 11: fault 109 answer"
+    );
+    Ok(())
+}
+
+#[test]
+fn a_film_has_its_answers(rt: HostRuntime) -> Result<(), Fail> {
+    let film = ticking::<World>(rt.alloc(), 65).ok_or("no film")?;
+    let recording = film.with_answers(rt.alloc())?;
+    assert_eq!(rt; (recording.version(), recording.len()), (Version::Two, 65));
+    assert!(rt; matches!(recording.step(64), Some(Step::Tick { time: 65 })));
+    assert_eq!(rt; recording.answer(64), Some(Answer::Done));
+    assert_eq!(rt; recording.answer(65), None);
+    let again = Snaps::load::<World>(rt.alloc(), recording, 64)?;
+    assert_eq!(rt; again.with_answers(rt.alloc())?.len(), 65);
     Ok(())
 }
