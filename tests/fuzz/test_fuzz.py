@@ -19,7 +19,7 @@ EXAMPLES = ROOT / "examples"
 NETREV = os.environ.get("NETREV") or str(ROOT / "crates/netrev/out/netrev")
 sys.path.insert(0, str(ROOT / "tools"))
 
-from fuzz import polling, steps  # noqa: E402
+from fuzz import polling, reading, steps  # noqa: E402
 from fuzz.__main__ import main, play, seeds  # noqa: E402
 from fuzz.cases import Case, make  # noqa: E402
 from fuzz.counts import Met  # noqa: E402
@@ -48,15 +48,30 @@ def error_stays(world, d, mode, error):
     return EVENT(world, d, mode, error or world.descs[d].error)
 
 
-EVENT = polling.event
+def sorts_compared(recorded, answer):
+    """Recorded answers of which the sort alone is compared, and not the number."""
+    return recorded is not None and recorded[0] != answer[0]
+
+
+def shut_for_nothing(world, g, s, data):
+    """`syswrite` of which a shut socket takes bytes as any does."""
+    shut = s < len(world.sockets) and world.sockets[s].shut
+    after, answer = WRITE(world.with_socket(s, shut=False) if shut else world, g, s, data)
+    return (after.with_socket(s, shut=True) if shut else after), answer
+
+
+EVENT, WRITE = polling.event, steps.syswrite
 # what is planted in the model, and a seed whose first cases show it (a change of how cases are made wants other seeds)
 PLANTED = {
-    "a reason exchanged": ("52", lambda: mock.patch.dict(steps.OF_KIND, decref=reason_exchanged)),
-    "a mark that stays": ("1", lambda: mock.patch.object(polling, "event", error_stays)),
-    "a command line shorter by one": ("2", lambda: mock.patch("debugger.MOST_LINE", 255)),
-    "a temporary break that stays": ("5", lambda: mock.patch("debugger.left_standing", lambda marks, hitting: marks)),
+    "a reason exchanged": ("86", lambda: mock.patch.dict(steps.OF_KIND, decref=reason_exchanged)),
+    "a mark that stays": ("17", lambda: mock.patch.object(polling, "event", error_stays)),
+    "a command line shorter by one": ("4", lambda: mock.patch("debugger.MOST_LINE", 255)),
+    "a temporary break that stays": ("127", lambda: mock.patch("debugger.left_standing", lambda marks, hitting: marks)),
+    "answers compared by their sort": ("100", lambda: mock.patch.object(reading, "differs", sorts_compared)),
+    "a shut socket that takes bytes": ("98", lambda: mock.patch.dict(steps.OF_KIND, syswrite=shut_for_nothing)),
 }
 WITHIN = 15
+REFUSED = b"step 11: fault 109 answer\n"
 
 
 @contextmanager
@@ -110,13 +125,29 @@ class Finding(unittest.TestCase):
 class Model(unittest.TestCase):
     def test_the_examples_are_answered_as_they_are_stored(self):
         names = sorted(path.stem for path in EXAMPLES.glob("*.jsonl"))
-        self.assertGreaterEqual(len(names), 6)
+        self.assertGreaterEqual(len(names), 10)
         for name in names:
             recording, script, replies = (
                 (EXAMPLES / f"{name}.{ending}").read_bytes() for ending in ("jsonl", "script", "replies")
             )
             with self.subTest(name):
-                self.assertEqual(wanted(Case("", "", "run", recording, script), Met()), (0, replies, ""))
+                status = int(replies.startswith(b"step "))
+                self.assertEqual(wanted(Case("", "", "run", recording, script), Met()), (status, replies, ""))
+
+    def test_an_upgrade_is_as_it_is_stored(self):
+        answers, other = ((EXAMPLES / f"{name}.jsonl").read_bytes() for name in ("answers", "other-answer"))
+        older = (ROOT / "scripts/recordings/woken-by-an-event.jsonl").read_bytes()
+        for recording, status, output in ((older, 0, answers), (answers, 0, answers), (other, 1, REFUSED)):
+            self.assertEqual(wanted(Case("", "", "upgrade", recording), Met()), (status, output, ""))
+
+    def test_a_second_upgrade_changes_nothing(self):
+        upgraded = 0
+        for case in map(make, seeds("upgrades", 60)):
+            once = wanted(case._replace(program="upgrade"), Met())
+            if once and once.status == 0:
+                upgraded += 1
+                self.assertEqual(wanted(case._replace(program="upgrade", recording=once.output), Met()), once)
+        self.assertGreater(upgraded, 20)
 
     def test_json_is_read_strictly(self):
         good = [b'"\\ud83d\\ude00"', b"1e300", b"-9223372036854775808", b"[" * 127 + b"]" * 127, b' {"a":1,"a":2}\r']

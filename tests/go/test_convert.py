@@ -2,6 +2,8 @@
 
 from __future__ import annotations
 
+import json
+import os
 import pathlib
 import subprocess
 import sys
@@ -11,8 +13,10 @@ import unittest
 ROOT = pathlib.Path(__file__).resolve().parents[2]
 REAL = ROOT / "examples/real"
 TOOLS = ROOT / "tools/go"
+NETREV = os.environ.get("NETREV", str(ROOT / "crates/netrev/out/netrev"))
 sys.path.insert(0, str(TOOLS))
 
+from convert import lock_answer  # noqa: E402
 from order import Kind, Point, in_order, read_log, without_failed_opens  # noqa: E402
 
 
@@ -30,7 +34,7 @@ def convert(log: str) -> tuple[subprocess.CompletedProcess[str], str]:
 class Converting(unittest.TestCase):
     def test_stored_logs_give_the_stored_recordings(self) -> None:
         logs = sorted(REAL.glob("*.log"))
-        self.assertEqual([log.stem for log in logs], ["leak", "lost", "past"])
+        self.assertEqual([log.stem for log in logs], ["half", "leak", "lost", "past"])
         for log in logs:
             run, made = convert(log.read_text())
             self.assertEqual(run.stderr, "")
@@ -44,7 +48,7 @@ class Converting(unittest.TestCase):
         self.assertEqual((run.returncode, made), (1, ""))
         self.assertIn(f"line {len(log.splitlines()) + 1}: no timer went off", run.stderr)
 
-    def test_answers_are_netrevs(self) -> None:
+    def test_answers_and_lock_words_are_netrevs(self) -> None:
         for recording in sorted(REAL.glob("*.jsonl")):
             with tempfile.TemporaryDirectory() as folder:
                 name = pathlib.Path(folder, recording.name)
@@ -52,14 +56,108 @@ class Converting(unittest.TestCase):
                     [sys.executable, str(TOOLS / "convert.py"), str(recording.with_suffix(".log")), str(name)],
                     capture_output=True, check=True,
                 )
-                compare = [sys.executable, str(TOOLS / "compare.py"), str(name)]
-                run = subprocess.run(compare, capture_output=True, text=True, check=False)
-                self.assertIn("answers compared, 0 differ", run.stdout)
-                answers = name.with_suffix(".answers")
-                answers.write_text(answers.read_text().replace("lock 2", "lock 1", 1))
-                run = subprocess.run(compare, capture_output=True, text=True, check=False)
-                self.assertEqual(run.returncode, 1)
-                self.assertIn(", 1 differ", run.stdout)
+                steps = name.read_text().count("\n") - 1
+                self.assertEqual(printed(NETREV, "check", name), (0, f"ok {steps} steps\n"))
+                compare = (sys.executable, TOOLS / "compare.py", name)
+                self.assertIn("lock words compared, 0 differ", printed(*compare)[1])
+                words = name.with_suffix(".words")
+                words.write_text(words.read_text().replace("lock 2", "lock 1", 1))
+                status, said = printed(*compare)
+                self.assertEqual(status, 1)
+                self.assertIn(", 1 differ", said)
+
+    def test_what_go_did_otherwise_is_found_at_its_step(self) -> None:
+        log = (REAL / "past.log").read_text()
+        points = [line for line in log.splitlines() if line.startswith("NR ")]
+        parked = next(line for line in reversed(points) if line.startswith("NR 22 "))
+        _, made = convert(log.replace(parked, parked.replace(" 1 0 0 0", " 0 0 0 0")))
+        recorded = [json.loads(line) for line in made.splitlines()[1:]]
+        with tempfile.TemporaryDirectory() as folder:
+            name = pathlib.Path(folder, "other.jsonl")
+            name.write_text(made)
+            step = min(
+                number for number, values in enumerate(recorded, 1) if values[0] == "parkcommit" and values[-1] == "no"
+            )
+            self.assertEqual(printed(NETREV, "check", name), (1, f"step {step}: fault 109 answer\n"))
+
+
+def printed(*words: object) -> tuple[int, str]:
+    """The status that these words end with, and what they print."""
+    run = subprocess.run([str(word) for word in words], capture_output=True, text=True, check=False)
+    return run.returncode, run.stdout
+
+
+OPENED = "NR 3 1 7 4 0 0\nNR 16 1 9 4 0 0\n"
+READ, WRITE, SHUT = "NR 6 1 7 {}\n", "NR 7 1 7 {}\n", "NR 31 1 7 0 0 0\n"
+# a log behind the opening of a socket, and the steps that are made of it
+LOGGED = (
+    (READ.format("8 2 0"), [["arrive", 0, "0000", "done"], ["sysread", 0, 0, 8, ["got", 2]]]),
+    (READ.format("8 -1 1"), [["sysread", 0, 0, 8, "again"]]),
+    (READ.format("8 0 0"), [["peerclose", 0, "done"], ["sysread", 0, 0, 8, "eof"]]),
+    (READ.format("8 -1 3"), []),
+    (WRITE.format("3 2 0"), [["syswrite", 0, 0, "0000", ["put", 2]]]),
+    (
+        WRITE.format("3 2 0") + WRITE.format("1 -1 1"),
+        [["syswrite", 0, 0, "0000", ["put", 2]], ["syswrite", 0, 0, "00", "again"]],
+    ),
+    (WRITE.format("3 -1 2"), []),
+    (WRITE.format("3 -1 3"), []),
+    (SHUT + WRITE.format("3 -1 2"), [["closewrite", 0, 0, "done"], ["syswrite", 0, 0, "000000", "pipe"]]),
+    ("NR 18 1 9 114 2 0\n", [["pollreset", 0, 0, "r", ["code", 2]]]),
+    ("NR 19 1 9 119 0 0\n", [["waitbegin", 0, 0, "w", ["code", 0]]]),
+    ("NR 20 1 9 114 0 0\n", [["blockarm", 0, "wait"]]),
+    ("NR 20 1 9 114 1 0\n", [["blockarm", 0, ["code", 0]]]),
+    ("NR 21 1 9 114 3 0\n", [["blockcheck", 0, ["code", 3]]]),
+    ("NR 22 1 1 0 0 0\n", [["parkcommit", 0, "yes"]]),
+    ("NR 22 1 0 0 0 0\n", [["parkcommit", 0, "no"]]),
+    ("NR 23 1 9 114 1 0\n", [["blockswap", 0, "yes"]]),
+    ("NR 23 1 9 114 0 0\n", [["blockswap", 0, "no"]]),
+    ("NR 24 1 9 114 1 0\n", [["waitcheck", 0, ["code", 1]]]),
+    ("NR 14 1 7 1 0 1\nNR 114 1 7 0 0 1\n", [["acquire", 0, "yes"]]),
+    ("NR 14 1 7 0 0 1\nNR 114 1 7 0 0 1\n", [["acquire", 0, "wait"], ["acquire", 0, "yes"]]),
+)
+FIRED = "NR 25 1 9 114 5 100\nNR 30 0 9 1 105 {}\n"
+# what a lock word was and became, for reading or not, and what Go's function returned then
+RETURNED = (
+    (Kind.INCREF, 0, 8, 0, "yes"),
+    (Kind.INCREF, 1, 1, 0, "no"),
+    (Kind.INCREF_CLOSE, 18, 27, 0, "yes"),
+    (Kind.INCREF_CLOSE, 9, 9, 0, "no"),
+    (Kind.DECREF, 9, 1, 0, "last"),
+    (Kind.DECREF, 17, 9, 0, "notlast"),
+    (Kind.DECREF, 8, 0, 0, "notlast"),
+    (Kind.RW_LOCK, 0, 10, 1, "yes"),
+    (Kind.RW_LOCK, 10, 10 + 2**23, 1, "wait"),
+    (Kind.RW_LOCK, 10, 22, 0, "yes"),
+    (Kind.RW_LOCK, 12, 12 + 2**43, 0, "wait"),
+    (Kind.RW_LOCK, 12, 22, 1, "yes"),
+    (Kind.RW_LOCK, 19, 19, 1, "no"),
+    (Kind.RW_UNLOCK, 11, 1, 1, "last"),
+    (Kind.RW_UNLOCK, 10, 0, 1, "notlast"),
+    (Kind.RW_UNLOCK, 19, 9, 1, "notlast"),
+)
+
+
+class Answering(unittest.TestCase):
+    def test_answers_are_what_the_log_has(self) -> None:
+        for log, steps in LOGGED:
+            with self.subTest(log):
+                run, made = convert(OPENED + log)
+                self.assertEqual((run.returncode, run.stderr), (0, ""))
+                header, *lines = map(json.loads, made.splitlines())
+                self.assertEqual(header["netrev"], 2)
+                self.assertEqual([line[-1] for line in lines[:2]], [["number", 0], ["number", 0]])
+                self.assertEqual(lines[2:], steps)
+
+    def test_a_firing_says_whether_it_was_current(self) -> None:
+        for bits, answer in ((1, "done"), (5, "stale")):
+            _, made = convert(OPENED + FIRED.format(bits))
+            self.assertEqual(json.loads(made.splitlines()[-1]), ["fire", 0, answer])
+
+    def test_lock_words_say_what_go_returned(self) -> None:
+        for kind, old, new, read, answer in RETURNED:
+            with self.subTest(kind, old=old, new=new, read=read):
+                self.assertEqual(lock_answer(Point(1, kind, 1, 7, (old, new, read))), answer)
 
 
 class Ordering(unittest.TestCase):

@@ -15,6 +15,7 @@ EXAMPLES = ROOT / "examples"
 HUNTS = EXAMPLES / "hunts"
 NETREV = os.environ.get("NETREV", str(ROOT / "crates/netrev/out/netrev"))
 NRDB = str(ROOT / "nrdb")
+DIFFERING = ("other-answer", "early-arrival")
 PATIENCE = 60  # seconds
 
 for folder in ("tools", "scripts"):
@@ -124,5 +125,6 @@ def shown(path):
 
 
 def recordings():
-    """The recordings of examples/ and its folders."""
-    return sorted(EXAMPLES.glob("**/*.jsonl"))
+    """The recordings of examples/ and its folders that netrev takes: those with an answer that differs are left out."""
+    found = sorted(EXAMPLES.glob("**/*.jsonl"))
+    return [path for path in found if path.stem not in DIFFERING]

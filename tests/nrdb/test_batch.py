@@ -65,8 +65,8 @@ class Batch(unittest.TestCase):
         self.assertEqual(
             [event["event"] for event in told], ["reply", "place", "reply", "place", "table", "reply", "note", "end"]
         )
-        last = {"number": 4, "line": 5, "kind": "incref", "arguments": [0, 0]}
-        following = {"number": 5, "line": 6, "kind": "rwlock", "arguments": [0, 0, "r"]}
+        last = {"number": 4, "line": 5, "kind": "incref", "arguments": [0, 0], "answer": None}
+        following = {"number": 5, "line": 6, "kind": "rwlock", "arguments": [0, 0, "r"], "answer": None}
         self.assertEqual(told[3], {"event": "place", "position": 4, "steps": 10, "last": last, "next": following})
         self.assertEqual(told[4]["rows"][0], {"step": 1, "line": 2, "does": "spawn", "next": False})
         self.assertEqual(told[-1], {"event": "end", "status": 0})

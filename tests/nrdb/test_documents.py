@@ -1,4 +1,4 @@
-"""The sessions that docs/ shows: each is what nrdb prints."""
+"""The sessions that docs/ shows: each is what nrdb prints, and so is what it says of a recording that is refused."""
 
 import re
 import unittest
@@ -17,6 +17,13 @@ def sessions(text):
             yield RECORDING.findall(text[: block.start()])[-1], lines
 
 
+def refusals(text):
+    """The blocks of a page that begin with a call of nrdb on a recording of examples/: that one, and the lines shown, up to
+    `...` where they end so."""
+    for block in re.finditer(r"^    \$ ./nrdb (examples/\S+)\n((?:    .*\n)+)", text, re.MULTILINE):
+        yield block[1], [line[4:] for line in block[2].splitlines()]
+
+
 class Documents(unittest.TestCase):
     def test_sessions_are_what_is_printed(self):
         count = 0
@@ -29,6 +36,18 @@ class Documents(unittest.TestCase):
                     self.assertEqual(said[2:], lines)
                 count += 1
         self.assertGreaterEqual(count, 5)
+
+    def test_refused_recordings_are_explained_as_is_shown(self):
+        count = 0
+        for page in sorted((ROOT / "docs").glob("*.md")):
+            for recording, lines in refusals(page.read_text(encoding="utf-8")):
+                with self.subTest(page.name, recording=recording):
+                    said = nrdb("--batch", ROOT / recording, status=1).splitlines()
+                    shown = lines[:-1] if lines[-1] == "..." else lines
+                    self.assertEqual(said[: len(shown)], shown)
+                    self.assertEqual(len(said) == len(shown), lines[-1] != "...")
+                count += 1
+        self.assertGreaterEqual(count, 3)
 
 
 if __name__ == "__main__":

@@ -6,7 +6,10 @@ import tempfile
 import unittest
 from pathlib import Path
 
-from support import EXAMPLES, NETREV, nrdb
+from support import EXAMPLES, NETREV, nrdb, recordings
+
+from nrdb.recorded_answers import answer_text
+from nrdb.recording import Recording
 
 HERE = Path(__file__).parent
 
@@ -19,7 +22,7 @@ def kept(name):
 class BadRecordings(unittest.TestCase):
     def test_each_is_explained(self):
         rows = kept("bad_recordings.json")
-        self.assertEqual(len(rows), 55)
+        self.assertEqual(len(rows), 76)
         with tempfile.TemporaryDirectory() as folder:
             file = Path(folder) / "bad.jsonl"
             for row in rows:
@@ -39,6 +42,37 @@ class BadRecordings(unittest.TestCase):
     def test_without_netrev(self):
         said = nrdb("--batch", "--netrev", f"{NETREV}.none", EXAMPLES / "first.jsonl", status=3)
         self.assertIn("`make netrev` builds netrev", said)
+
+
+class Answers(unittest.TestCase):
+    def test_the_machines_answer_is_told(self):
+        kinds = set()
+        with tempfile.TemporaryDirectory() as folder:
+            file = Path(folder) / "other.jsonl"
+            for recording, step in answered_steps():
+                kinds.add(step.kind)
+                values = [step.kind, *step.arguments, "eof" if step.answer != "eof" else "done"]
+                file.write_bytes(recording.before_line(step.line) + json.dumps(values).encode())
+                with self.subTest(step):
+                    said = nrdb("--batch", file, status=1).splitlines()
+                    self.assertEqual(said[0], f"step {step.number}: fault 109 answer")
+                    told = [line.split("   ")[0] for line in said[2:4]]
+                    self.assertEqual(told, [f"| recorded: {values[-1]}", f"| machine:  {answer_text(step.answer)}"])
+        self.assertGreaterEqual(len(kinds), 25)
+
+
+def answered_steps():
+    """Of each version 2 recording of examples/ the first and the last step of each kind with each of its answers."""
+    for recording in map(Recording.read, recordings()):
+        if recording.has_answers:
+            chosen = {}
+            for step in map(recording.step, range(1, recording.length + 1)):
+                of_one = chosen.setdefault((step.kind, answer_text(step.answer)), [step, step])
+                of_one[1] = step
+            for first, last in chosen.values():
+                yield recording, first
+                if last is not first:
+                    yield recording, last
 
 
 class BadLines(unittest.TestCase):

@@ -14,9 +14,13 @@ HEADER = '{"netrev":1,"gor":4,"sock":2,"desc":2,"buf":16}'
 
 
 def by_reading(data):
-    """The steps by reading each line: number, line and values."""
+    """The steps by reading each line: number, line, kind, arguments and the answer, which version 1 hasn't."""
     lines = [(number, line) for number, line in enumerate(data.split(b"\n"), 1) if line.strip(b" \t\r")]
-    return [(step, line, json.loads(text)) for step, (line, text) in enumerate(lines[1:], 1)]
+    is_second = json.loads(lines[0][1])["netrev"] == 2
+    for step, (line, text) in enumerate(lines[1:], 1):
+        kind, *arguments = json.loads(text)
+        answer = arguments.pop() if is_second else None
+        yield step, line, kind, tuple(arguments), answer
 
 
 def spellings(data):
@@ -32,17 +36,17 @@ class Text(unittest.TestCase):
     def test_steps_by_number_kind_and_socket(self):
         for path in recordings():
             for way, data in enumerate(spellings(path.read_bytes())):
-                recording, steps = Recording(data), by_reading(data)
+                recording, steps = Recording(data), list(by_reading(data))
                 with self.subTest(path.stem, way=way):
                     self.assertEqual(recording.length, len(steps))
-                    for number, line, (kind, *arguments) in steps:
-                        self.assertEqual(recording.step(number), (number, line, kind, tuple(arguments)))
+                    for step in steps:
+                        self.assertEqual(recording.step(step[0]), step)
                     for until in (0, 1, 5, len(steps), len(steps) + 9):
                         for socket in (None, 0, 1, 3):
                             told = [step.number for step in recording.steps_of(("rwlock", "incref"), until, socket)]
                             wanted = [
                                 number
-                                for number, _, (kind, *arguments) in steps[:until]
+                                for number, _, kind, arguments, _ in steps[:until]
                                 if kind in ("rwlock", "incref") and socket in (None, arguments[1])
                             ]
                             self.assertEqual(told, wanted)

@@ -7,7 +7,7 @@ import tempfile
 import unittest
 from pathlib import Path
 
-from support import HUNTS, nrdb, recordings, shown
+from support import EXAMPLES, HUNTS, nrdb, recordings, shown
 
 SEED = 20261125
 
@@ -78,7 +78,7 @@ class Timeline(unittest.TestCase):
         self.assertIn("none/page.html: No such file or directory", said)
 
     def test_shades_of_one_kind_differ_in_brightness(self):
-        _, data = page_of(shown(recordings()[0]).path)
+        _, data = page_of(EXAMPLES / "first.jsonl")
         for of in ("goroutine", "descriptor", "socket"):
             colours = [shade["colour"] for shade in data["shades"].values() if shade["of"] == of]
             lights = sorted(brightness(colour) for colour in colours)

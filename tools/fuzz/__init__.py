@@ -5,7 +5,7 @@ crates/: where it and the program differ, a page says something else than the pr
 That of the debugger is scripts/debugger.py; the names of kinds, arguments and dumps, and the header's limits, are the
 tables of tools/nrdb.
 
-    machine, lockword, polling, steps   the machine and the 30 kinds of step that recordings have
+    machine, lockword, polling, steps   the machine and the 31 kinds of step
     cells, wellformed                   what a state shows, and what holds of each
     jsontext, reading, session          what a text of bytes is as a recording, and what commands are answered
     randomsteps, texts, damage, lines   random recordings, texts and command lines

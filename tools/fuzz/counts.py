@@ -2,27 +2,35 @@
 
 from collections import Counter
 
-from .reading import KINDS
+from nrdb.vocabulary import KINDS
 
 
 class Met:
-    """Counts what the model met: applied steps by kind and answer, refused ones by kind and reason, faults, commands."""
+    """Counts what the model met: applied steps by kind and answer, refused ones by kind and reason, those whose recorded
+    answer was another, faults, commands."""
 
     def __init__(self):
         self.cases = Counter()
         self.answers = Counter()
         self.reasons = Counter()
+        self.others = Counter()
         self.faults = Counter()
         self.commands = Counter()
         self.replies = Counter()
         self.doubted = 0
 
     def applied(self, kind, answer):
-        name, *number = answer
-        self.answers[kind, f"code {number[0]}" if name == "code" else name] += 1
+        self.answers[kind, name_of(answer)] += 1
 
     def refused(self, kind, reason):
         self.reasons[kind, reason] += 1
+
+    def differed(self, kind, recorded, answer):
+        """A recorded answer that isn't the machine's: of the same sort, of another that the kind can give, or of none."""
+        if recorded[0] == answer[0]:
+            self.others["another number"] += 1
+        else:
+            self.others["another answer" if recorded[0] in KINDS[kind].answers else "none of the kind's"] += 1
 
     def printed(self, fault):
         """A fault of a recording, without its place."""
@@ -40,12 +48,18 @@ class Met:
         yield f"cases: {told(self.cases)}" + (f"; not judged {self.doubted}" if self.doubted else "")
         yield f"faults: {told(self.faults)}"
         yield f"reasons: {told(dict(sorted(reasons.items())))}"
+        yield f"recorded answers that differ: {told(self.others)}"
         yield f"steps: {sum(self.answers.values())}, of these"
         for kind in KINDS:
             refused = {f"reason {reason}": count for (of, reason), count in sorted(self.reasons.items()) if of == kind}
             yield f"    {kind}: {told({**kinds.get(kind, {}), **refused})}"
         yield f"lines that ask: {told(self.commands)}"
         yield f"replies: {told(self.replies)}"
+
+
+def name_of(answer):
+    """The name of an answer, of a code with its number."""
+    return f"code {answer[1]}" if answer[0] == "code" else answer[0]
 
 
 def by_first(counts):

@@ -3,7 +3,7 @@
 import re
 
 from .reading import LONGEST_LINE, RANGES
-from .texts import BLANKS, NUMBERS, PIECES, TEXTS
+from .texts import BLANKS, NO_ANSWERS, NUMBERS, PIECES, TEXTS
 
 
 def damaged(dice, text):
@@ -93,7 +93,7 @@ def number_changed(dice, text):
         return text
     found = dice.choice(numbers)
     number = int(found[0]) if len(found[0]) < 40 else 0
-    near = [number - 1, number + 1, -number, number * 10, *RANGES.values(), *NUMBERS]
+    near = [number - 1, number + 1, -number, number * 10, *RANGES[1].values(), RANGES[2]["buf"], *NUMBERS]
     return text[: found.start()] + str(dice.choice(near)).encode() + text[found.end() :]
 
 
@@ -107,6 +107,18 @@ def word_changed(dice, text):
     return text[: found.start()] + other + text[found.end() :]
 
 
+def last_element_changed(dice, text):
+    """What stands last in a line, which in version 2 is a recorded answer, goes, comes twice or becomes another."""
+    lines = text.split(b"\n")
+    place = dice.randrange(len(lines))
+    if found := re.fullmatch(rb"(\[.*),((?:\[[^\[\]]*\]|[^,\]]*))\](\s*)", lines[place]):
+        before, last, after = found.groups()
+        other = dice.choice([*NO_ANSWERS, '"done"', '"yes"', '["got",1]', '["code",0]']).encode()
+        put = dice.choice([b"", b"," + last + b"," + last, b"," + other, b"," + other])
+        lines[place] = before + put + b"]" + after
+    return b"\n".join(lines)
+
+
 def lines_ended_otherwise(dice, text):
     return text.replace(b"\n", dice.choice([b"\r\n", b"\r", b"\n\n"]))
 
@@ -115,4 +127,5 @@ DAMAGES = (
     *(byte_changed, byte_likened, cut_short, piece_doubled, piece_dropped, put_in),
     *(line_dropped, line_doubled, lines_exchanged, blank_line, line_lengthened),
     *(number_changed, number_changed, word_changed, word_changed, lines_ended_otherwise),
+    *(last_element_changed, last_element_changed),
 )

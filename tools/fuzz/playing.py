@@ -6,6 +6,7 @@ from typing import NamedTuple
 from .jsontext import Doubtful
 from .reading import Fault, positions, read_text
 from .session import replies_to
+from .texts import write_plain
 from .wellformed import breaches
 
 TIMEOUT = 120
@@ -22,8 +23,8 @@ class Printed(NamedTuple):
 def wanted(case, met):
     """What the model prints, or None where it has no opinion."""
     try:
-        limits, steps = read_text(case.recording)
-        worlds = held_together(positions(limits, steps, met), case)
+        recording = read_text(case.recording)
+        worlds, answers = held_together(positions(recording, met), case)
     except Fault as fault:
         met.printed(str(fault))
         return Printed(1, f"{fault}\n".encode())
@@ -33,8 +34,10 @@ def wanted(case, met):
     except Broken as broken:
         return Printed(0, b"", str(broken))
     if case.program == "check":
-        return Printed(0, f"ok {len(steps)} steps\n".encode())
-    replies = replies_to(steps, worlds, case.script, met)
+        return Printed(0, f"ok {len(recording.steps)} steps\n".encode())
+    if case.program == "upgrade":
+        return Printed(0, write_plain(recording._replace(version=2, answers=answers)))
+    replies = replies_to(recording.steps, worlds, case.script, met)
     return Printed(0, "".join(f"{line}\n" for line in replies).encode())
 
 
@@ -42,15 +45,18 @@ class Broken(Exception):
     """The model comes to a state that isn't well-formed."""
 
 
-def held_together(worlds, case):
-    """The states of all positions, each of them well-formed; of a recording that is only checked not all are kept."""
-    kept = []
-    for position, world in enumerate(worlds):
+def held_together(replayed, case):
+    """The states of all positions, each of them well-formed, and the answers. They are kept where the program needs them:
+    of a recording that is only checked neither."""
+    kept, answers = [], []
+    for position, (world, answer) in enumerate(replayed):
         if position < 500 and (broken := breaches(world)):
             raise Broken(f"the model's state at position {position} isn't well-formed: {broken}")
         if case.program == "run":
             kept.append(world)
-    return kept
+        if case.program == "upgrade" and position:
+            answers.append(answer)
+    return kept, answers
 
 
 def told(netrev, case, folder):

@@ -2,8 +2,10 @@
 so that waits, queues, timers, evictions and full buffers all come about. How often each, differs from recording to
 recording: most have a theme."""
 
+from nrdb.vocabulary import COUNTED_ANSWERS, KINDS as OF_NRDB, PLAIN_ANSWERS, VERSIONS
+
 from .machine import GREATEST_TIME, IDLE, Limits, Refused, World
-from .reading import ARGUMENTS, KINDS
+from .reading import ARGUMENTS, KINDS, RANGES, Recording
 from .steps import apply
 
 NEXT = {
@@ -18,7 +20,7 @@ NEXT = {
 OF_IDLE = {
     **{"rwlock": 6, "rwunlock": 9, "incref": 2, "decref": 2, "increfclose": 0.12, "exit": 0.1},
     **{"sysread": 4, "syswrite": 4, "pollreset": 3, "waitbegin": 8, "setdeadline": 6},
-    **{"pollopen": 1, "evict": 0.8, "pollclose": 2},
+    **{"pollopen": 1, "evict": 0.8, "pollclose": 2, "closewrite": 0.3},
 }
 OF_NOBODY = {
     **{"spawn": 2, "sockopen": 1, "arrive": 4, "drain": 3, "peerclose": 0.08},
@@ -29,6 +31,7 @@ THEMES = (
     "rwlock rwunlock increfclose spawn",
     "incref decref increfclose rwlock rwunlock",
     "sysread syswrite arrive drain peerclose",
+    "sysread syswrite drain closewrite",
     "setdeadline tick pop fire",
     "setdeadline tick pop waitbegin",
     "waitbegin setdeadline evict pollevent fire",
@@ -38,10 +41,29 @@ TIMES_AS_OFTEN = 8
 SELDOM = 0.03
 
 
-def random_limits(dice):
+def random_limits(dice, version):
+    most = RANGES[version]["buf"]
     if dice.random() < 0.03:
-        return Limits(4096, 256, 256, 65_536)
-    return Limits(dice.randint(1, 9), dice.randint(1, 3), dice.randint(1, 3), dice.choice([1, 2, 5, 16, 64, 65_536]))
+        return Limits(4096, 256, 256, most)
+    buffers = [1, 2, 5, 16, 64, most]
+    return Limits(dice.randint(1, 9), dice.randint(1, 3), dice.randint(1, 3), dice.choice(buffers))
+
+
+def random_answer(dice, kind, near):
+    """Some answer: of the sort of the one that it is to be near, another that the kind can give, or any."""
+    number = near[1] if len(near) == 2 else 0
+    names = dice.choice([near[:1], OF_NRDB[kind].answers, PLAIN_ANSWERS + COUNTED_ANSWERS])
+    name = dice.choice(names)
+    if name in PLAIN_ANSWERS:
+        return (name,)
+    return name, dice.choice([number + 1, max(number - 1, 0), 0, 1, 2, 3, 4_294_967_295])
+
+
+def other_answer(dice, kind, answer):
+    """Some answer that isn't this one."""
+    while (other := random_answer(dice, kind, answer)) == answer:
+        pass
+    return other
 
 
 def features(world):
@@ -61,37 +83,47 @@ def features(world):
         yield "a peer closed"
     if any(len(socket.buffers[0]) == socket.capacities[0] for socket in world.sockets):
         yield "an input full"
+    if any(socket.shut for socket in world.sockets):
+        yield "a shut socket"
 
 
 class Author:
     """Makes up steps for the state that a recording has come to."""
 
-    def __init__(self, dice, wild=0.03):
+    def __init__(self, dice, wild=0.03, version=None):
         self.dice = dice
-        self.limits = random_limits(dice)
+        self.version = version or dice.choice(VERSIONS)
+        self.limits = random_limits(dice, self.version)
         self.wild = wild
         self.past = SELDOM
         self.of_goroutines = dice.uniform(0.35, 0.8)
         theme = dice.choice(THEMES).split()
-        self.of_idle = {kind: self.weight(kind in theme, weight) for kind, weight in OF_IDLE.items()}
+        idle = {kind: weight for kind, weight in OF_IDLE.items() if kind in KINDS[self.version]}
+        self.of_idle = {kind: self.weight(kind in theme, weight) for kind, weight in idle.items()}
         self.of_nobody = {kind: self.weight(kind in theme, weight) for kind, weight in OF_NOBODY.items()}
 
     def weight(self, of_theme, weight):
         return weight * self.dice.random() ** 2 * (TIMES_AS_OFTEN if of_theme else 1) + 0.01
 
     def recording(self, length):
-        """Steps that all apply, and the states of all positions."""
-        worlds, steps = [World(self.limits)], []
+        """A Recording whose steps all apply, with their answers in version 2, and the states of all positions."""
+        worlds, steps, answers = [World(self.limits)], [], []
         for _ in range(3 * length):
             if len(steps) == length:
                 break
             step = self.step(worlds[-1])
             try:
-                worlds.append(apply(worlds[-1], step)[0])
+                world, answer = apply(worlds[-1], step)
             except Refused:
                 continue
+            worlds.append(world)
             steps.append(step)
-        return steps, worlds
+            answers.append(answer if self.version == 2 else None)
+        return Recording(self.version, self.limits, steps, answers), worlds
+
+    def any_answer(self, kind):
+        """What a step that doesn't apply has for its recorded answer: it is compared with nothing."""
+        return random_answer(self.dice, kind, ("done",)) if self.version == 2 else None
 
     def rare_position(self, worlds):
         """A position at which there is something that is seldom there: each such thing has the same chance."""
@@ -148,7 +180,7 @@ class Author:
         self.past = self.dice.choice([0.05, 0.2, 0.6])
         idle = [g for g, status in enumerate(world.goroutines) if status == IDLE]
         g = self.dice.choice(idle) if idle and self.dice.random() < 0.6 else self.near(len(world.goroutines))
-        kind = self.dice.choice(KINDS)
+        kind = self.dice.choice(KINDS[self.version])
         if g < len(world.goroutines) and world.goroutines[g][0] == "relock" and self.dice.random() < 0.5:
             kind = "rwlock"
         step = self.with_arguments(world, kind, g)
@@ -180,6 +212,8 @@ class Author:
                 return dice.randbytes(self.size(world))
             case "n" if kind == "drain" and s < len(world.sockets) and dice.random() < 0.9:
                 return min(self.size(world), len(world.sockets[s].buffers[1]))
+            case "n" if world.limits.buf > 65_536 and dice.random() < 0.2:
+                return dice.choice([65_536, 65_537, world.limits.buf, world.limits.buf, world.limits.buf + 1])
             case "n":
                 return self.size(world)
             case "tag":

@@ -2,8 +2,9 @@
 
 import re
 from functools import lru_cache
+from typing import NamedTuple
 
-from nrdb.vocabulary import HEADER, KINDS as OF_NRDB
+from nrdb.vocabulary import HEADERS, KINDS as OF_NRDB, VERSIONS, is_answer
 
 from .jsontext import NoJson, read_json
 from .machine import GREATEST_TIME, Limits, Refused, World
@@ -12,7 +13,11 @@ from .steps import apply
 LONGEST_LINE = 200_000
 MOST_STEPS = 1_000_000
 MOST_DIGITS = 131_072
-RANGES = {key: limit.greatest for key, limit in HEADER.items() if key != "netrev"}
+# of each version the header's greatest limits
+RANGES = {
+    version: {key: limit.greatest for key, limit in header.items() if key != "netrev"}
+    for version, header in HEADERS.items()
+}
 
 
 def forms_of(kind):
@@ -21,8 +26,18 @@ def forms_of(kind):
     return tuple({"rc": "n", "wc": "n", "time": of_time}.get(argument, argument) for argument in kind.arguments)
 
 
-ARGUMENTS = {kind.name: forms_of(kind) for kind in OF_NRDB.values() if kind.is_recorded}
-KINDS = tuple(ARGUMENTS)
+ARGUMENTS = {kind.name: forms_of(kind) for kind in OF_NRDB.values()}
+# of each version the kinds that its recordings can have
+KINDS = {version: tuple(kind.name for kind in OF_NRDB.values() if kind.since <= version) for version in VERSIONS}
+
+
+class Recording(NamedTuple):
+    """What a text says: steps as tuples, and in version 2 the recorded answer of each, as the machine's answers are."""
+
+    version: int
+    limits: Limits
+    steps: list
+    answers: list
 
 
 class Fault(Exception):
@@ -68,29 +83,41 @@ def value_of(line):
 
 
 def read_header(line):
+    """The version and the limits."""
     value = value_of(line)
-    if not isinstance(value, dict) or set(value) != {"netrev", *RANGES}:
+    if not isinstance(value, dict) or set(value) != {"netrev", *Limits._fields}:
         raise LineFault("101 header")
-    if not all(is_whole(number, 0, 2**64 - 1) for number in value.values()) or value["netrev"] != 1:
+    if not all(is_whole(number, 0, 2**64 - 1) for number in value.values()) or value["netrev"] not in VERSIONS:
         raise LineFault("101 header")
-    if not all(1 <= value[key] <= most for key, most in RANGES.items()):
+    version, limits = value["netrev"], Limits(*(value[key] for key in Limits._fields))
+    if not all(1 <= getattr(limits, key) <= most for key, most in RANGES[version].items()):
         raise LineFault("105 limit")
-    return Limits(*(value[key] for key in RANGES))
+    return version, limits
 
 
-def step_of(value):
-    if not isinstance(value, list) or not value or not isinstance(value[0], str) or value[0] not in ARGUMENTS:
+def step_of(version, value):
+    """The step of a line, and its recorded answer, which is None in version 1."""
+    if not isinstance(value, list) or not value or not isinstance(value[0], str) or value[0] not in KINDS[version]:
         raise LineFault("103 unknown step")
     kind, *arguments = value
+    answer = arguments.pop() if version == 2 and arguments else None
+    if version == 2 and not is_answer(answer):
+        raise LineFault("104 arguments")
     forms = ARGUMENTS[kind]
     if len(forms) != len(arguments) or not all(map(is_argument, forms, arguments)):
         raise LineFault("104 arguments")
-    return (kind, *(bytes.fromhex(value) if form == "bytes" else value for form, value in zip(forms, arguments)))
+    step = (kind, *(bytes.fromhex(value) if form == "bytes" else value for form, value in zip(forms, arguments)))
+    return step, None if answer is None else answer_of(answer)
+
+
+def answer_of(value):
+    """A recorded answer as the machine's are: a name, and for some a number behind it."""
+    return (value,) if isinstance(value, str) else tuple(value)
 
 
 def read_text(text):
-    """The limits and the steps of a text, or the Fault of its first faulty line."""
-    limits, steps = None, []
+    """The Recording of a text, or the Fault of its first faulty line."""
+    version, limits, steps, answers = 0, None, [], []
     for number, line in enumerate(text.split(b"\n"), 1):
         try:
             if len(line) > LONGEST_LINE:
@@ -98,28 +125,39 @@ def read_text(text):
             if not line.strip(b" \t\r"):
                 continue
             if limits is None:
-                limits = read_header(line)
+                version, limits = read_header(line)
                 continue
             value = value_of(line)
             if len(steps) == MOST_STEPS:
                 raise LineFault("106 too many steps")
-            steps.append(step_of(value))
+            step, answer = step_of(version, value)
+            steps.append(step)
+            answers.append(answer)
         except LineFault as fault:
             raise Fault(f"line {number}: fault {fault}") from fault
     if limits is None:
         raise Fault(f"line {text.count(10) + 1}: fault 101 header")
-    return limits, steps
+    return Recording(version, limits, steps, answers)
 
 
-def positions(limits, steps, met):
-    """The state of each position in turn, or the Fault of the first step that doesn't apply. `met` is told what is met."""
-    world = World(limits)
-    yield world
-    for number, step in enumerate(steps, 1):
+def differs(recorded, answer):
+    """Whether a recorded answer, if there is one, isn't the machine's."""
+    return recorded not in (None, answer)
+
+
+def positions(recording, met):
+    """The state of each position in turn with the answer that led to it, or the Fault of the first step that doesn't apply
+    or whose recorded answer is another. `met` is told what is met."""
+    world = World(recording.limits)
+    yield world, None
+    for number, (step, recorded) in enumerate(zip(recording.steps, recording.answers), 1):
         try:
             world, answer = apply(world, step)
         except Refused as refused:
             met.refused(step[0], refused.reason)
             raise Fault(f"step {number}: fault 107 reason {refused.reason}") from refused
+        if differs(recorded, answer):
+            met.differed(step[0], recorded, answer)
+            raise Fault(f"step {number}: fault 109 answer")
         met.applied(step[0], answer)
-        yield world
+        yield world, answer

@@ -1,4 +1,4 @@
-"""The 30 kinds of step that recordings have: each a function of the state and the arguments that gives the next state and
+"""The 31 kinds of step: each a function of the state and the arguments that gives the next state and
 the answer, or raises Refused with the first reason, in the order of the table of docs/MACHINE.md.
 
 Answers are as docs/MACHINE.md names them, in small letters; a number, a code, `got` and `put` carry theirs.
@@ -86,6 +86,8 @@ def syswrite(world, g, s, data):
     idle(world, g)
     sock = socket(world, s)
     need(data, 19)
+    if sock.shut:
+        return world, ("pipe",)
     held, output = sock.buffers
     room = sock.capacities[1] - len(output)
     if room == 0:
@@ -107,6 +109,12 @@ def operate(world, g, s, operation, *arguments):
     if answer == "wait":
         status = ("acquiring", s, *arguments)
     return world.with_socket(s, lock=lock).with_status(g, status), (answer,)
+
+
+def closewrite(world, g, s):
+    idle(world, g)
+    socket(world, s)
+    return world.with_socket(s, shut=True), ("done",)
 
 
 def incref(world, g, s):
@@ -269,7 +277,7 @@ OF_KIND = {
     for function in (
         *(spawn, exit, sockopen, arrive, peerclose, sysread, syswrite, drain, incref, increfclose, decref, rwlock),
         *(rwunlock, acquire, release, pollopen, pollclose, pollreset, waitbegin, blockarm, blockcheck, parkcommit),
-        *(blockswap, waitcheck, setdeadline, evict, pollevent, tick, pop, fire),
+        *(blockswap, waitcheck, setdeadline, evict, pollevent, tick, pop, fire, closewrite),
     )
 }
 

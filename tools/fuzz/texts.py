@@ -5,12 +5,15 @@ import json
 import re
 from itertools import chain
 
+from nrdb.vocabulary import COUNTED_ANSWERS, PLAIN_ANSWERS, VERSIONS
+
 from .reading import ARGUMENTS, KINDS, MOST_DIGITS, RANGES
 
 BLANKS = [b"", b"  ", b"\t", b"\r", b" \t \r"]
 PIECES = """[ ] { } , : " \\ 0 1 -0 1.0 1e0 -1 1e999 true false null "r" "rw" [] {} "spawn" "exit" ["spawn"] ["exit",0]
 "\\ud800" {"\\udc00":1} ["spawn",{"a":"\\ud800"}] "\\ud83d\\ude00" "\\u0072" NaN Infinity 00 .5 1. +1 'r' // "netrev":1 "gor":4 "sock":1 "desc":1 "buf":9
-18446744073709551615 18446744073709551616 -9223372036854775808 ["pop"] ["tick",5]""".split()
+18446744073709551615 18446744073709551616 -9223372036854775808 ["pop"] ["tick",5] "netrev":2 "done" ["got",2] ["code",0]
+["pop","done"] ["tick",5,"done"] ["spawn",["number",1]] ["closewrite",0,0,"done"]""".split()
 NUMBERS = [
     0,
     1,
@@ -34,34 +37,49 @@ ENDS = {
     "clock": [2**63 - 1],
 }
 WITH_LIMITS = ("arrive", "syswrite", "setdeadline", "pollevent", "tick")
-TEXTS = ["r", "w", "rw", "wr", "", "R", "6869", "686", "6g", "ABcd", "0x12", " 12", "é1", "00"]
+TEXTS = ["r", "w", "rw", "wr", "", "R", "6869", "686", "6g", "ABcd", "0x12", " 12", "é1", "00", "done", "Done", "got"]
+# what is no recorded answer, as it is written
+NO_ANSWERS = [
+    *("null", "0", "{}", "[]", '"Done"', '""', '"got"', '["done"]', '["got"]', '["got",1,1]', '["got","1"]'),
+    '["got",-1]',
+    *('["got",1.0]', '["got",4294967296]', '["Got",1]', '[1,"got"]', '["number",-0]', '[["got"],1]', '{"got":1}', "true"),
+]
 
 
-def header_of(limits, version=1):
-    return {"netrev": version, **limits._asdict()}
+def header_of(recording):
+    return {"netrev": recording.version, **recording.limits._asdict()}
 
 
-def line_of(step):
-    """A step as a line of compact JSON."""
-    return json.dumps([part.hex() if isinstance(part, bytes) else part for part in step], separators=(",", ":"))
+def json_answer(answer):
+    """An answer as the JSON value that a recording has of it."""
+    return answer[0] if len(answer) == 1 else list(answer)
 
 
-def write_plain(limits, steps):
-    lines = [json.dumps(header_of(limits), separators=(",", ":")), *map(line_of, steps)]
+def line_of(step, answer):
+    """A step as a line of compact JSON, with its recorded answer if there is one."""
+    parts = [part.hex() if isinstance(part, bytes) else part for part in step]
+    return json.dumps(parts + ([json_answer(answer)] if answer else []), separators=(",", ":"))
+
+
+def write_plain(recording):
+    """The text of a recording as netrev writes it."""
+    header = json.dumps(header_of(recording), separators=(",", ":"), sort_keys=True)
+    lines = [header, *map(line_of, recording.steps, recording.answers)]
     return "".join(f"{line}\n" for line in lines).encode()
 
 
-def write_text(dice, limits, steps):
+def write_text(dice, recording):
     """The text of a recording in one of the ways in which it may be written."""
-    plain = write_plain(limits, steps)
+    plain = write_plain(recording)
     if dice.random() < 0.4:
         return plain
     lines = plain.split(b"\n")[:-1]
-    lines[0] = shuffled_header(dice, limits)
+    lines[0] = shuffled_header(dice, recording)
     if dice.random() < 0.3:
         lines = [line.replace(b",", b" ,\t ") for line in lines]
     if dice.random() < 0.3:
         lines = [line.replace(b'"rw"', b'"\\u0072w"').replace(b'"r"', b'"\\u0072"') for line in lines]
+        lines = [line.replace(b'"done"', b'"d\\u006Fne"').replace(b'"code"', b'"\\u0063ode"') for line in lines]
     if dice.random() < 0.3:
         lines = [re.sub(rb'"[0-9a-f]+"', lambda found: found[0].upper(), line) for line in lines]
     if dice.random() < 0.3:
@@ -72,9 +90,9 @@ def write_text(dice, limits, steps):
     return text if dice.random() < 0.3 else text + end
 
 
-def shuffled_header(dice, limits):
+def shuffled_header(dice, recording):
     """The header with its keys in any order, and now and then one key twice."""
-    items = list(header_of(limits).items())
+    items = list(header_of(recording).items())
     dice.shuffle(items)
     if dice.random() < 0.2:
         items.insert(0, (dice.choice(items)[0], dice.choice([0, 1, "x", 3])))
@@ -87,14 +105,18 @@ def shuffled_header(dice, limits):
 def random_bytes(dice):
     alphabet = dice.choice([bytes(range(256)), b'[]{}",:0123456789-.eE \t\r\n\\urwspawnexit', b"\n\r\t []", b"\n\r\t "])
     data = bytes(dice.choices(alphabet, k=dice.choice([0, 1, 5, 40, 400])))
-    return data if dice.random() < 0.5 else b'{"netrev":1,"gor":4,"sock":2,"desc":2,"buf":16}\n' + data
+    return data if dice.random() < 0.5 else small_header(dice).encode() + b"\n" + data
+
+
+def small_header(dice):
+    return f'{{"netrev":{dice.choice(VERSIONS)},"gor":4,"sock":2,"desc":2,"buf":16}}'
 
 
 def random_json(dice):
     """Lines of pieces of JSON, most of which are no JSON, behind a good header or not."""
     lines = []
     if dice.random() < 0.7:
-        lines.append('{"netrev":1,"gor":4,"sock":2,"desc":2,"buf":16}')
+        lines.append(small_header(dice))
     for _ in range(dice.randint(1, 4)):
         if dice.random() < 0.5:
             lines.append(json.dumps(random_value(dice, 0)))
@@ -116,29 +138,42 @@ def random_value(dice, depth):
     if depth < 3 and roll < 0.35:
         return [random_value(dice, depth + 1) for _ in range(dice.randint(0, 4))]
     if depth < 3 and roll < 0.45:
-        return {dice.choice([*RANGES, "netrev", "x"]): random_value(dice, depth + 1) for _ in range(dice.randint(0, 5))}
-    return dice.choice([*KINDS, *TEXTS, *NUMBERS, 1.5, None, True, False])
+        keys = [*RANGES[1], "netrev", "x"]
+        return {dice.choice(keys): random_value(dice, depth + 1) for _ in range(dice.randint(0, 5))}
+    return dice.choice([*KINDS[2], *TEXTS, *PLAIN_ANSWERS, *COUNTED_ANSWERS, *NUMBERS, 1.5, None, True, False])
 
 
 def at_limits(dice):
     """A header and steps with arguments of the right number and form, most of them at a limit or one past."""
-    lines = [limits_header(dice)]
+    version = dice.choice(VERSIONS)
+    lines = [limits_header(dice, version)]
     for _ in range(dice.randint(1, 5)):
-        kind = dice.choice(KINDS if dice.random() < 0.7 else WITH_LIMITS)
+        kind = dice.choice(KINDS[version if dice.random() < 0.95 else 2] if dice.random() < 0.7 else WITH_LIMITS)
         arguments = [limits_argument(dice, form) for form in ARGUMENTS[kind]]
+        if (version == 2) == (dice.random() < 0.97):
+            arguments.append(limits_answer(dice))
         if dice.random() < 0.05:
-            arguments = dice.choice([arguments[:-1], [*arguments, "0"]])
+            arguments = dice.choice([arguments[:-1], [*arguments, "0"], [*arguments, '"done"']])
         lines.append(f"[{','.join(chain([json.dumps(kind)], arguments))}]")
     return "\n".join(lines).encode()
 
 
-def limits_header(dice):
-    header = {"netrev": "1"}
-    for key, most in RANGES.items():
+def limits_answer(dice):
+    """A recorded answer as it is written, or what is none."""
+    if dice.random() < 0.1:
+        return dice.choice(NO_ANSWERS)
+    if dice.random() < 0.5:
+        return json.dumps(dice.choice(PLAIN_ANSWERS))
+    return json.dumps([dice.choice(COUNTED_ANSWERS), dice.choice([0, 1, 2**32 - 1])])
+
+
+def limits_header(dice, version):
+    header = {"netrev": str(version)}
+    for key, most in RANGES[version].items():
         good = dice.random() < 0.95
         header[key] = str(dice.choice([1, most, 2, 4]) if good else dice.choice([0, most + 1, *NUMBERS, *ODD]))
     if dice.random() < 0.05:
-        header["netrev"] = dice.choice(["0", "2", "3", "1.0", "-0", "-1", '"1"'])
+        header["netrev"] = dice.choice(["0", "1", "2", "3", "1.0", "2.0", "-0", "-1", '"2"'])
     if dice.random() < 0.03:
         del header[dice.choice(list(header))]
     if dice.random() < 0.03:

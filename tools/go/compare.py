@@ -1,8 +1,8 @@
 #!/usr/bin/env python3
-"""Compares Go's own answers with netrev's:  compare.py NAME.jsonl
+"""Compares Go's own lock words with netrev's:  compare.py NAME.jsonl
 
-NAME.answers stands beside it (convert.py makes both). The environment's NETREV is the program; without it, the one that
-`make netrev` leaves. The status is 1 where one differs."""
+NAME.words stands beside it (convert.py makes both). The environment's NETREV is the program; without it, the one that
+`make netrev` leaves. The status is 1 where one differs. Go's answers are in the recording: `netrev check` compares them."""
 
 from __future__ import annotations
 
@@ -19,10 +19,10 @@ BUILT = pathlib.Path(__file__).resolve().parents[2] / "crates/netrev/out/netrev"
 AT_ONCE = 30_000
 
 
-def asked(recording: pathlib.Path, answers: list[list]) -> list[str]:
-    """What netrev prints where Go had these answers."""
+def asked(recording: pathlib.Path, words: list[list]) -> list[str]:
+    """What netrev prints where Go had these lock words."""
     commands, at = [], 0
-    for step, cell, _ in answers:
+    for step, cell, _ in words:
         if step > at:
             commands.append(f"stepi {step - at}")
             at = step
@@ -41,14 +41,14 @@ def main(arguments: list[str]) -> int:
         print(__doc__, file=sys.stderr)
         return 2
     recording = pathlib.Path(arguments[0])
-    answers = [json.loads(line) for line in recording.with_suffix(".answers").read_text().splitlines()]
+    words = [json.loads(line) for line in recording.with_suffix(".words").read_text().splitlines()]
     told: list[str] = []
-    for first in range(0, len(answers), AT_ONCE):
-        told += asked(recording, answers[first : first + AT_ONCE])
-    differ = [(answer, reply) for answer, reply in zip(answers, told, strict=True) if reply != f"{answer[1]} = {answer[2]}"]
+    for first in range(0, len(words), AT_ONCE):
+        told += asked(recording, words[first : first + AT_ONCE])
+    differ = [(word, reply) for word, reply in zip(words, told, strict=True) if reply != f"{word[1]} = {word[2]}"]
     for (step, cell, value), reply in differ[:8]:
         print(f"step {step}: Go had {cell} = {value}, netrev says {reply}")
-    print(f"{recording}: {len(answers)} answers compared, {len(differ)} differ")
+    print(f"{recording}: {len(words)} lock words compared, {len(differ)} differ")
     return 1 if differ else 0
 
 

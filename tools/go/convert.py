@@ -1,8 +1,9 @@
 #!/usr/bin/env python3
-"""Makes a recording of a log of the patched Go:  convert.py LOG NAME.jsonl
+"""Makes a recording of version 2 of a log of the patched Go:  convert.py LOG NAME.jsonl
 
-Beside it stands NAME.answers: a line of JSON for each of Go's own answers that a `print` can show, with the number of the
-step, the cell and its value. compare.py asks netrev for them.
+The recorded answers are Go's, as far as Go has one: README.md says which value of the log each is. So `netrev check` compares
+them with the machine's. Beside the recording stands NAME.words: a line of JSON for each lock word that Go left behind, with
+the number of the step, the cell and its value. compare.py asks netrev for them.
 
 Go doesn't see what the other end does. So bytes arrive just before the read that gets them, and are zeros; they are drained
 just before the write that they make room for; and a socket's output is just so large that it was full where Go found it so."""
@@ -21,7 +22,11 @@ from order import Kind, Point, in_order, read_log, without_failed_opens
 BUFFER = 65_536
 OUTPUT = 4_096
 CLOSED = 1
+REFERENCES = (2**20 - 1) << 3
+LOCK_BITS = {1: 2, 0: 4}  # the bit of the lock for reading, and of the one for writing
 READY = 1
+EAGAIN, EPIPE = 1, 2  # what the log has of a system call's error; 0 is none, and 3 any other
+STALE = 4
 MODES = {ord("r"): "r", ord("w"): "w", ord("r") + ord("w"): "rw"}
 LOCK_STEPS = {Kind.INCREF: "incref", Kind.INCREF_CLOSE: "increfclose", Kind.DECREF: "decref"}
 
@@ -36,9 +41,9 @@ def outputs(points: list[Point]) -> dict[int, int]:
     capacity: dict[int, int] = {}
     for point in points:
         if point.kind == Kind.WRITE:
-            _, took, again = point.seen
+            _, took, error = point.seen
             written[point.at] += max(took, 0)
-            if again and point.at not in capacity:
+            if error == EAGAIN and point.at not in capacity:
                 capacity[point.at] = max(1, min(written[point.at], BUFFER))
     return capacity
 
@@ -53,14 +58,39 @@ def firing_of(point: Point) -> tuple[str, int]:
     return ("r" if point.seen[2] & 1 else "w", point.seen[0])
 
 
+def counted(name: str, number: int) -> list[object]:
+    """An answer that has a number."""
+    return [name, number]
+
+
+def lock_answer(point: Point) -> str:
+    """What Go's function returned, by the lock word that it found and the one that it left."""
+    old, new, read = point.seen
+    if point.kind in (Kind.DECREF, Kind.RW_UNLOCK):
+        return "last" if new & (CLOSED | REFERENCES) == CLOSED else "notlast"
+    if old == new:
+        return "no"
+    return "wait" if point.kind == Kind.RW_LOCK and old & LOCK_BITS[read] else "yes"
+
+
 @dataclass
 class Socket:
-    """What is kept of a socket: its number, how full its output is, and whether the end was read."""
+    """What is kept of a socket: its number, how full its output is, whether the end was read, and whether the write side
+    was closed."""
 
     number: int
     capacity: int
     held: int = 0
     peer_closed: bool = False
+    shut: bool = False
+
+    def can_answer(self, point: Point) -> bool:
+        """Whether the machine has an answer for what a read or a write came to. It has none for most errors, nor for an
+        EPIPE that the other end brought about."""
+        _, got, error = point.seen
+        if got > 0 or error == EAGAIN:
+            return True
+        return error == EPIPE and self.shut if point.kind == Kind.WRITE else error == 0
 
 
 @dataclass
@@ -69,7 +99,7 @@ class Converter:
 
     points: list[Point]
     steps: list[list[object]] = field(default_factory=list)
-    answers: list[tuple[int, str, str]] = field(default_factory=list)
+    words: list[tuple[int, str, str]] = field(default_factory=list)
     goroutines: dict[int, int] = field(default_factory=dict)
     sockets: dict[int, Socket] = field(default_factory=dict)
     opened_by: dict[int, int] = field(default_factory=dict)
@@ -78,23 +108,19 @@ class Converter:
     made: int = 0
     tags: dict[int, int] = field(default_factory=lambda: defaultdict(lambda: 1))
     queued: dict[int, bool] = field(default_factory=dict)
-    waits: dict[int, str] = field(default_factory=dict)
     begin: int | None = None
     clock: int = 0
     deadlines: Deadlines = field(default_factory=Deadlines)
     later_fires: set[tuple[int, str, int]] = field(default_factory=set)
 
-    def step(self, *step: object) -> None:
-        self.steps.append(list(step))
-
-    def answer(self, cell: str, value: object) -> None:
-        self.answers.append((len(self.steps), cell, str(value)))
+    def step(self, *step: object, answer: object = "done") -> None:
+        self.steps.append([*step, answer])
 
     def goroutine(self, identity: int) -> int:
         """A goroutine's number; one that wasn't met before is spawned."""
         if identity not in self.goroutines:
             if self.goroutines:
-                self.step("spawn")
+                self.step("spawn", answer=counted("number", len(self.goroutines)))
             self.goroutines[identity] = len(self.goroutines)
         return self.goroutines[identity]
 
@@ -120,9 +146,12 @@ class Converter:
                 size = sizes.get(point.at, OUTPUT)
                 self.sockets[point.at] = Socket(number, size)
                 self.opened_by[point.goroutine] = number
-                self.step("sockopen", BUFFER, size)
+                self.step("sockopen", BUFFER, size, answer=counted("number", number))
             elif point.kind in (Kind.READ, Kind.WRITE):
                 self.transfer(point)
+            elif point.kind == Kind.CLOSE_WRITE:
+                self.sockets[point.at].shut = True
+                self.step("closewrite", self.goroutine(point.goroutine), self.sockets[point.at].number)
             elif point.kind < Kind.OPEN or point.kind == Kind.ACQUIRED:
                 self.locking(point)
             elif Kind.RESET <= point.kind <= Kind.WAIT_CHECK:
@@ -138,64 +167,66 @@ class Converter:
             self.step("release", g)
         elif point.kind == Kind.ACQUIRE:
             self.queued[g] = point.seen[0] == 0
-            self.step("acquire", g)
+            self.step("acquire", g, answer="wait" if self.queued[g] else "yes")
         elif point.kind == Kind.ACQUIRED:
             if self.queued.pop(g, False):
-                self.step("acquire", g)
+                self.step("acquire", g, answer="yes")
         else:
             side = ["r" if read else "w"] if point.kind in (Kind.RW_LOCK, Kind.RW_UNLOCK) else []
             name = LOCK_STEPS.get(point.kind) or ("rwlock" if point.kind == Kind.RW_LOCK else "rwunlock")
-            self.step(name, g, socket.number, *side)
-            self.answer(f"lock {socket.number}", new % 2**64)
+            self.step(name, g, socket.number, *side, answer=lock_answer(point))
+            self.words.append((len(self.steps), f"lock {socket.number}", str(new % 2**64)))
 
     def transfer(self, point: Point) -> None:
-        """Reads and writes, with what the other end does for them."""
+        """Reads and writes, with what the other end does for them. One for which the machine has no answer has no step."""
         g, socket = self.goroutine(point.goroutine), self.sockets[point.at]
-        asked, got, again = point.seen
-        if point.kind == Kind.WRITE:
-            for count in parts(got if got > 0 else min(asked, BUFFER)):
-                missing = socket.held + count - socket.capacity if got > 0 else 0
-                while missing > 0:
-                    self.step("drain", socket.number, min(missing, socket.held))
-                    socket.held -= min(missing, socket.held)
-                    missing = socket.held + count - socket.capacity if socket.held else 0
-                socket.held = min(socket.held + count, socket.capacity) if got > 0 else socket.held
-                self.step("syswrite", g, socket.number, "00" * count)
+        if socket.can_answer(point):
+            (self.write if point.kind == Kind.WRITE else self.read)(g, socket, point)
+
+    def write(self, g: int, socket: Socket, point: Point) -> None:
+        asked, got, error = point.seen
+        if got <= 0:
+            self.step("syswrite", g, socket.number, "00" * min(asked, BUFFER), answer="pipe" if error == EPIPE else "again")
             return
-        for count in parts(max(got, 0)) or [0]:
-            if count:
+        for count in parts(got):
+            missing = socket.held + count - socket.capacity
+            while missing > 0 and socket.held:
+                self.step("drain", socket.number, min(missing, socket.held))
+                socket.held -= min(missing, socket.held)
+                missing = socket.held + count - socket.capacity
+            socket.held = min(socket.held + count, socket.capacity)
+            self.step("syswrite", g, socket.number, "00" * count, answer=counted("put", count))
+
+    def read(self, g: int, socket: Socket, point: Point) -> None:
+        asked, got, error = point.seen
+        if got > 0:
+            for count in parts(got):
                 self.step("arrive", socket.number, "00" * count)
-            elif got == 0 and not again and not socket.peer_closed:
-                socket.peer_closed = True
-                self.step("peerclose", socket.number)
-            self.step("sysread", g, socket.number, min(asked, BUFFER))
+                self.step("sysread", g, socket.number, min(asked, BUFFER), answer=counted("got", count))
+            return
+        if error != EAGAIN and not socket.peer_closed:
+            socket.peer_closed = True
+            self.step("peerclose", socket.number)
+        self.step("sysread", g, socket.number, min(asked, BUFFER), answer="again" if error == EAGAIN else "eof")
 
     def waiting(self, point: Point) -> None:
         """Resets, and the way of a goroutine through a wait."""
         g = self.goroutine(point.goroutine)
-        status = f"gor {g}"
         mode, seen, _ = point.seen
         if point.kind == Kind.RESET:
-            self.step("pollreset", g, self.descriptors[point.at], MODES[mode])
+            self.step("pollreset", g, self.descriptors[point.at], MODES[mode], answer=counted("code", seen))
         elif point.kind == Kind.WAIT_BEGIN:
-            self.waits[g] = f"{self.descriptors[point.at]} {MODES[mode]}"
-            self.step("waitbegin", g, self.descriptors[point.at], MODES[mode])
-            self.answer(status, "idle" if seen else f"entering {self.waits[g]}")
+            self.step("waitbegin", g, self.descriptors[point.at], MODES[mode], answer=counted("code", seen))
         elif point.kind == Kind.ARM:
-            self.step("blockarm", g)
-            self.answer(status, "idle" if seen else f"armed {self.waits[g]}")
+            self.step("blockarm", g, answer=counted("code", 0) if seen else "wait")
         elif point.kind == Kind.CHECK:
-            self.step("blockcheck", g)
-            self.answer(status, f"{'swapping' if seen else 'parking'} {self.waits[g]}")
+            self.step("blockcheck", g, answer=counted("code", seen))
         elif point.kind == Kind.PARK:
-            self.step("parkcommit", g)
-            self.answer(status, f"{'parked' if point.at else 'swapping'} {self.waits[g]}")
+            self.step("parkcommit", g, answer="yes" if point.at else "no")
         elif point.kind == Kind.SWAP:
-            self.step("blockswap", g)
-            self.answer(status, "idle" if seen == READY else f"checking {self.waits[g]}")
+            self.step("blockswap", g, answer="yes" if seen == READY else "no")
         else:
-            self.step("waitcheck", g)
-            self.answer(status, "idle" if seen else f"entering {self.waits[g]}")
+            self.step("waitcheck", g, answer=counted("code", seen))
 
     def polling(self, point: Point) -> None:
         """Descriptors, deadlines and events."""
@@ -210,7 +241,7 @@ class Converter:
             self.made = max(self.made, d + 1)
             self.descriptors[point.at] = d
             self.deadlines.open(d)
-            self.step("pollopen", g, self.opened_by[point.goroutine])
+            self.step("pollopen", g, self.opened_by[point.goroutine], answer=counted("number", d))
         elif point.kind == Kind.CLOSE:
             d = self.descriptors[point.at]
             self.free.append(d)
@@ -258,8 +289,8 @@ class Converter:
             self.pop()
         place = self.deadlines.place(descriptor, side, sequence)
         assert place is not None
-        self.deadlines.fire(place, {1: "r", 2: "w", 3: "rw"}[point.seen[2]])
-        self.step("fire", place)
+        self.deadlines.fire(place, {1: "r", 2: "w", 3: "rw"}[point.seen[2] & ~STALE])
+        self.step("fire", place, answer="stale" if point.seen[2] & STALE else "done")
 
     def header(self) -> dict[str, int]:
         # A recording has room for two firings a descriptor that wait to be run. Several processors may have more.
@@ -269,7 +300,7 @@ class Converter:
         for name, count in counts.items():
             if count > most[name]:
                 raise Unconvertible(f"{name}: {count}, and a recording has {most[name]} at most")
-        return {"netrev": 1, **{name: max(1, count) for name, count in counts.items()}, "buf": BUFFER}
+        return {"netrev": 2, **{name: max(1, count) for name, count in counts.items()}, "buf": BUFFER}
 
 
 def main(arguments: list[str]) -> int:
@@ -286,8 +317,8 @@ def main(arguments: list[str]) -> int:
         print(f"{log}: {fault}", file=sys.stderr)
         return 1
     name.write_text("".join(json.dumps(line, separators=(",", ":")) + "\n" for line in lines))
-    name.with_suffix(".answers").write_text("".join(json.dumps(answer) + "\n" for answer in converter.answers))
-    print(f"{name}: {len(converter.steps)} steps, {len(converter.answers)} answers of Go's")
+    name.with_suffix(".words").write_text("".join(json.dumps(word) + "\n" for word in converter.words))
+    print(f"{name}: {len(converter.steps)} steps, {len(converter.words)} lock words of Go's")
     if unchained:
         print(f"{unchained} points of lock words fit nowhere and stand at the end", file=sys.stderr)
     return 0

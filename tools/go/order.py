@@ -37,6 +37,7 @@ class Kind(IntEnum):
     EVICT = 26
     EVENT = 27
     FIRE = 30
+    CLOSE_WRITE = 31
     ACQUIRED = 114
     OPEN_FAILED = 116
 
@@ -90,7 +91,7 @@ def without_failed_opens(points: list[Point]) -> list[Point]:
     return kept
 
 
-OF_A_SOCKET = LOCKING | {Kind.READ, Kind.WRITE, Kind.ACQUIRE, Kind.ACQUIRED, Kind.RELEASE}
+OF_A_SOCKET = LOCKING | {Kind.READ, Kind.WRITE, Kind.ACQUIRE, Kind.ACQUIRED, Kind.RELEASE, Kind.CLOSE_WRITE}
 
 
 class Chains:

@@ -43,7 +43,7 @@ def read_points(text: str) -> list[Function]:
             continue
         if found := re.fullmatch(r"behind (\d+) (.+)", line):
             functions[-1].behind.setdefault(int(found[1]), []).append(found[2])
-        elif found := re.fullmatch(r"in (\d+) put (\w+) for (\w+)", line):
+        elif found := re.fullmatch(r"in (\d+) put ([\w.]+) for ([\w.]+)", line):
             functions[-1].renamed[int(found[1])] = (found[3], found[2])
         elif found := re.fullmatch(r"(\S+) (\w+) ([0-9a-f]{12})", line):
             functions.append(Function(*found.groups()))

@@ -1,6 +1,6 @@
 #!/bin/sh
-# Records the sample programs with a patched copy of Go 1.19.8, and compares Go's answers with netrev's:
-#   tools/go/try.sh [FOLDER]
+# Records the sample programs with a patched copy of Go 1.19.8. `netrev check` compares Go's answers with the machine's, and
+# compare.py Go's lock words:  tools/go/try.sh [FOLDER]
 # It wants Debian's golang-go and Python, and the program that `make netrev` leaves (or the environment's NETREV). The copy
 # of Go and the recordings are left in FOLDER (a new one of /tmp, if it isn't named).
 set -eu
@@ -27,9 +27,9 @@ record() {
 
 failed=0
 for processors in 1 4; do
-	for name in past lost leak late writers busy; do
+	for name in past lost leak late writers busy half; do
 		record "$name" "$processors" || failed=$((failed + 1))
 	done
 done
-echo "12 runs in $folder, $failed of them refused or with answers that differ"
+echo "14 runs in $folder, $failed of them refused, or with answers or lock words that differ"
 [ "$failed" = 0 ]

@@ -9,6 +9,7 @@ from .commands import ALL_TOPICS, COMMANDS, TOPICS, Origin, whole_command
 from .holders import holders_table
 from .output import Row, Table
 from .places import descriptors_table, sockets_table, timers_table
+from .recorded_answers import spelled
 from .session import MOVED, Misused, Session
 from .timeline import write_timeline
 from .vocabulary import CELLS, KINDS, REASONS, Of, cell_of, number_of
@@ -48,7 +49,7 @@ def answer_help(session: Session, words: list) -> None:
     word = " ".join(words)
     reason = number_of(word)
     if word in KINDS:
-        return session.printer.note(f"step {KINDS[word].usage}: {KINDS[word].says}")
+        return session.printer.note(f"step {KINDS[word].usage}: {KINDS[word].says}; it answers {spelled(word)}")
     if word in CELLS:
         of = "" if CELLS[word].of is Of.ALL else f" of a {CELLS[word].of.value}"
         return session.printer.note(f"cell {word}: {CELLS[word].says}{of}")

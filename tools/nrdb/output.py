@@ -7,6 +7,7 @@ from abc import ABC, abstractmethod
 from dataclasses import dataclass
 from typing import Optional, TextIO
 
+from .recorded_answers import answer_text
 from .recording import Step
 
 
@@ -24,7 +25,8 @@ class Place:
         if self.position == 0:
             last = "(start)"
         else:
-            last = f"last step {self.position}" + (f": {self.last}" if self.last else "")
+            answered = f", answered {answer_text(self.last.answer)}" if self.last and self.last.answer not in (None, "done") else ""
+            last = f"last step {self.position}" + (f": {self.last}{answered}" if self.last else "")
         if self.position == self.steps:
             return f"{last}   (end)"
         then = f"next step {self.position + 1}"

@@ -16,12 +16,14 @@ SHOWN = 40
 
 
 class Step(NamedTuple):
-    """A step: its number from 1, the line that it stands in, its kind, and its arguments."""
+    """A step: its number from 1, the line that it stands in, its kind, its arguments, and in version 2 the recorded
+    answer, as JSON has it: a text, or a list of a text and a number."""
 
     number: int
     line: int
     kind: str
     arguments: tuple
+    answer: object = None
 
     def argument(self, name: str):
         """The argument of that name, or None where the kind has none."""
@@ -83,6 +85,11 @@ class Recording:
         header = json.loads(self.line(self.header_line))
         return header if isinstance(header, dict) else {}
 
+    @property
+    def has_answers(self) -> bool:
+        """Whether each step's array ends with a recorded answer: in version 2."""
+        return self.limits.get("netrev") == 2
+
     def step_or_none(self, number: int) -> Optional[Step]:
         """The step of that number, from 1, or None where there is none."""
         return self.step(number) if 1 <= number <= self.length else None
@@ -94,7 +101,8 @@ class Recording:
     def _made(self, number: int, values: list) -> Step:
         """The step of that number, by the array in its line."""
         kind, *arguments = values
-        return Step(number, self._numbers[number], kind, tuple(arguments))
+        answer = arguments.pop() if self.has_answers and arguments else None
+        return Step(number, self._numbers[number], kind, tuple(arguments), answer)
 
     def steps_of(self, kinds: tuple, until: int, socket: Optional[int] = None) -> Iterator[Step]:
         """The steps of these kinds among the first so many; and, where one is named, of this socket."""

@@ -1,18 +1,23 @@
-"""A recording that netrev refuses, explained: the line, what to mend in it, and of a step that doesn't apply what stood
-just before it at the places that it names."""
+"""A recording that netrev refuses, explained: the line, what to mend in it, and of a step that doesn't apply, or whose
+recorded answer isn't the machine's, what stood just before it at the places that it names."""
 
+import json
 import os
 import re
 import subprocess
 import tempfile
+from typing import Iterator
 
+from .recorded_answers import answer_text, answer_words, meaning
 from .recording import Recording, Step, shortened
 from .text_hints import text_hint
 from .vocabulary import KINDS, REASONS
 from .words import in_words
+from .world import opened_by
 
 LINE = re.compile(r"line (\d+): fault (\d+)")
 STEP = re.compile(r"step (\d+): fault 107 reason (\d+)")
+ANSWER = re.compile(r"step (\d+): fault 109 answer")
 FAR = 4_294_967_295
 LONGEST = 100
 
@@ -54,20 +59,83 @@ def explained(program: str, path: str, fault: str) -> list:
         return [f"line {number}: {line}", hint] if line.isprintable() and line and "\ufffd" not in line else [hint]
     if found := STEP.match(fault):
         return step_explained(program, recording, int(found[1]), int(found[2]))
+    if found := ANSWER.match(fault):
+        return answer_explained(program, recording, int(found[1]))
     return []
 
 
 def step_explained(program: str, recording: Recording, number: int, reason: int) -> list:
     """Why a step doesn't apply."""
     step = recording.step(number)
-    usage = KINDS[step.kind].usage
-    said = [
-        f"line {step.line}: {step}" + (f"   ({usage})" if step.arguments else ""),
-        f"reason {reason}: {REASONS[reason]}",
-    ]
+    said = [line_of(step), f"reason {reason}: {REASONS[reason]}"]
     if reason in CAUSES:
         said.append(CAUSES[reason])
     return said + [f"just before: {told}" for told in before(program, recording, step)]
+
+
+def line_of(step: Step) -> str:
+    """The step, and how steps of its kind are written."""
+    return f"line {step.line}: {step}" + (f"   ({KINDS[step.kind].usage})" if step.arguments else "")
+
+
+def answer_explained(program: str, recording: Recording, number: int) -> list:
+    """The recorded answer of a step and the machine's, side by side, and where to look."""
+    step = recording.step(number)
+    shown = before(program, recording, step)
+    said = [line_of(step), f"recorded: {with_meaning(step.kind, step.answer)}"]
+    said += [
+        f"machine:  {with_meaning(step.kind, answer)}"
+        for answer in likely(recording, step, shown)
+        if is_taken(program, recording, step, answer)
+    ]
+    if told := meaning(step.kind, step.answer):
+        said.append(told)
+    return said + [f"just before: {told}" for told in shown]
+
+
+def with_meaning(kind: str, answer) -> str:
+    """An answer with what it says."""
+    words = answer_words(kind, answer)
+    return answer_text(answer) + (f"   ({words})" if words else "")
+
+
+def likely(recording: Recording, step: Step, shown: list) -> Iterator:
+    """The answers that the machine may have to a step, by what is shown just before it: netrev decides which it is."""
+    for name in KINDS[step.kind].answers:
+        if name == "code":
+            yield from (["code", code] for code in range(4))
+        elif name in ("number", "got", "put"):
+            yield [name, count_of(recording, step, shown)]
+        else:
+            yield name
+
+
+def count_of(recording: Recording, step: Step, shown: list) -> int:
+    """The number that the machine must answer to a step: one that is made, or how many bytes move."""
+    earlier = step.number - 1
+    if step.kind == "pollopen":
+        return opened_by(recording, earlier)[1]
+    if step.kind in ("spawn", "sockopen"):
+        return sum(1 for _ in recording.steps_of((step.kind,), earlier)) + (step.kind == "spawn")
+    if step.kind == "sysread":
+        return min(step.argument("n"), held(shown, "in"))
+    opened = list(recording.steps_of(("sockopen",), earlier))[step.argument("s")]
+    return min(len(step.argument("bytes")) // 2, opened.argument("wc") - held(shown, "out"))
+
+
+def held(shown: list, cell: str) -> int:
+    """How many bytes a buffer holds, by the values that are shown."""
+    return next(int(told.split()[3]) for told in shown if told.startswith(f"{cell} "))
+
+
+def is_taken(program: str, recording: Recording, step: Step, answer) -> bool:
+    """Whether netrev takes the recording up to this step, with this for the step's answer."""
+    line = json.dumps([step.kind, *step.arguments, answer]).encode()
+    with tempfile.TemporaryDirectory(prefix="nrdb-") as folder:
+        cut = os.path.join(folder, "cut.jsonl")
+        with open(cut, "wb") as file:
+            file.write(recording.before_line(step.line) + line)
+        return subprocess.run([program, "check", cut], capture_output=True, check=False).returncode == 0
 
 
 def named_cells(step: Step) -> list:

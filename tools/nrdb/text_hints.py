@@ -6,8 +6,9 @@ import unicodedata
 from typing import Optional
 
 from .line_hints import kind_hint
+from .recorded_answers import spelled
 from .recording import Recording
-from .vocabulary import HEADER, HEADER_EXAMPLE, KINDS, MOST, Kind, Written, written
+from .vocabulary import HEADER_EXAMPLE, HEADERS, KINDS, MOST, VERSIONS, Kind, Written, is_answer, written
 
 MOST_BYTES = 200_000
 MOST_STEPS = 1_000_000
@@ -58,7 +59,9 @@ def text_hint(recording: Recording, number: int, fault: int) -> str:
     value = parsed(text)
     if fault == 102 or value is None:
         return json_hint(recording, number, text)
-    return {101: header_hint, 105: header_hint, 103: kind_of_step_hint, 104: arguments_hint}[fault](value)
+    if fault == 104:
+        return (answered_hint if recording.has_answers else arguments_hint)(value)
+    return {101: header_hint, 105: header_hint, 103: kind_of_step_hint}[fault](value)
 
 
 def parsed(text: str):
@@ -106,20 +109,24 @@ def header_hint(value) -> str:
         return "the whole is one array: the header and each step have a line of their own, without commas between"
     if not isinstance(value, dict):
         return f"the first line has to be the header: {HEADER_EXAMPLE}"
-    said = [f"key {key} is missing ({limit.says})" for key, limit in HEADER.items() if key not in value]
-    said += [f"key {key} isn't known" for key in value if key not in HEADER]
-    for key, limit in HEADER.items():
+    version = value.get("netrev", VERSIONS[0])
+    limits = HEADERS[version if version in VERSIONS else VERSIONS[-1]]
+    said = [f"key {key} is missing ({limit.says})" for key, limit in limits.items() if key not in value]
+    said += [f"key {key} isn't known" for key in value if key not in limits]
+    for key, limit in limits.items():
         given = value.get(key, limit.least)
         if not (type(given) is int and limit.least <= given <= limit.greatest):
-            said.append(f"{key} is {json.dumps(given)}, and has to be {limits_words(limit)}")
+            said.append(f"{key} is {json.dumps(given)}, and has to be {limits_words(key, limit)}")
     return "; ".join(said)
 
 
-def limits_words(limit) -> str:
+def limits_words(key: str, limit) -> str:
     """The values that a key may have."""
-    if limit.least == limit.greatest:
-        return f"{limit.least}"
-    return f"a whole number from {limit.least} to {limit.greatest}"
+    if key == "netrev":
+        return f"{limit.least} or {limit.greatest}"
+    newest = HEADERS[VERSIONS[-1]][key].greatest
+    more = "" if limit.greatest == newest else f"; version {VERSIONS[-1]} has up to {newest}"
+    return f"a whole number from {limit.least} to {limit.greatest}{more}"
 
 
 def kind_of_step_hint(value) -> str:
@@ -130,15 +137,28 @@ def kind_of_step_hint(value) -> str:
     if not isinstance(name, str):
         return 'a step is an array, and begins with the name of its kind: ["spawn"], ["rwlock",0,0,"r"]'
     if name in KINDS:
-        return f"{name} is a step of the machine that no recording of this version has"
+        return f"recordings have {name} from version {KINDS[name].since} on, and this is an earlier one"
     plain = re.sub(r"^(runtime|internal/poll|poll)[._]|[^a-z]", "", unicodedata.normalize("NFKC", name).lower())
     return GO_NAMES.get(plain) or kind_hint(plain if plain in KINDS else name.lower())
+
+
+def answered_hint(value: list) -> str:
+    """Of a step of version 2 whose arguments are wrong, or its recorded answer."""
+    kind, given = KINDS[value[0]], value[1:]
+    if given and is_answer(given[-1]):
+        return arguments_hint(value[:-1])
+    if len(given) <= len(kind.arguments):
+        return f"{kind.usage}: the recorded answer is missing: it stands last, and is {spelled(kind.name)}"
+    shown = json.dumps(given[-1])[:40]
+    return f"{kind.usage}: {shown} is no recorded answer: it stands last, and is {spelled(kind.name)}"
 
 
 def arguments_hint(value: list) -> str:
     """Of a step whose arguments are wrong."""
     kind = KINDS[value[0]]
     given = value[1:]
+    if len(given) == len(kind.arguments) + 1 and is_answer(given[-1]):
+        return f"{kind.usage}: version 1 has no recorded answers: take {json.dumps(given[-1])} away, or write version 2"
     if len(given) != len(kind.arguments):
         wanted = f"{len(kind.arguments)} ({' '.join(kind.arguments)})" if kind.arguments else "none"
         return f"{kind.usage}: arguments wanted: {wanted}, given: {len(given)}"

@@ -8,7 +8,7 @@ from typing import Optional
 MOST = 4_294_967_295
 MOST_LINE = 256
 MOST_STANDING = 64
-VERSION = 1
+VERSIONS = (1, 2)
 
 
 class Of(Enum):
@@ -22,13 +22,14 @@ class Of(Enum):
 
 @dataclass(frozen=True)
 class Kind:
-    """A kind of step: its name, the names of its arguments, in a few words what it records, and whether a
-    recording can have it."""
+    """A kind of step: its name, the names of its arguments, the names of the answers that it can give, in a few words
+    what it records, and the first version whose recordings can have it."""
 
     name: str
     arguments: tuple
+    answers: tuple
     says: str
-    is_recorded: bool
+    since: int
 
     @property
     def usage(self) -> str:
@@ -44,47 +45,61 @@ class Cell:
     says: str
 
 
-def _kind(usage: str, says: str, is_recorded: bool = True) -> Kind:
+def _kind(usage: str, answers: str, says: str, since: int = 1) -> Kind:
     name, *arguments = usage.split()
-    return Kind(name, tuple(arguments), says, is_recorded)
+    return Kind(name, tuple(arguments), tuple(answers.split()), says, since)
 
 
 KINDS = {
     kind.name: kind
     for kind in (
-        _kind("spawn", "a goroutine more"),
-        _kind("exit g", "goroutine g ends"),
-        _kind("sockopen rc wc", "a socket more, whose buffers hold rc and wc bytes"),
-        _kind("arrive s bytes", "bytes come from the network"),
-        _kind("peerclose s", "the peer closes"),
-        _kind("sysread g s n", "the system call that reads up to n bytes"),
-        _kind("syswrite g s bytes", "the system call that writes"),
-        _kind("drain s n", "the network takes n bytes"),
-        _kind("incref g s", "fdMutex.incref"),
-        _kind("increfclose g s", "fdMutex.increfAndClose: the socket is closed"),
-        _kind("decref g s", "fdMutex.decref"),
-        _kind("rwlock g s side", "fdMutex.rwlock: the read or write lock is asked for"),
-        _kind("rwunlock g s side", "fdMutex.rwunlock"),
-        _kind("acquire g", "runtime_Semacquire"),
-        _kind("release g", "runtime_Semrelease, one that g owes"),
-        _kind("pollopen g s", "runtime_pollOpen: a descriptor for socket s"),
-        _kind("pollclose g d", "runtime_pollClose: descriptor d is free"),
-        _kind("pollreset g d side", "runtime_pollReset: prepareRead, prepareWrite"),
-        _kind("waitbegin g d side", "runtime_pollWait begins"),
-        _kind("blockarm g", "netpollblock arms the word"),
-        _kind("blockcheck g", "netpollblock checks once more"),
-        _kind("parkcommit g", "netpollblockcommit: it parks, or an event was faster"),
-        _kind("blockswap g", "netpollblock goes on and takes the word"),
-        _kind("waitcheck g", "runtime_pollWait checks why it was woken"),
-        _kind("setdeadline g d mode time", "runtime_pollSetDeadline"),
-        _kind("evict g d", "pd.evict: closing, and whoever waits is woken"),
-        _kind("pollevent d tag mode err", "netpollready: the poller tells an event"),
-        _kind("tick time", "the clock moves"),
-        _kind("pop", "the first due timer's function is started"),
-        _kind("fire i", "the started timer function at place i runs"),
-        _kind("closewrite g s", "CloseWrite: the write side is shut, shutdown(SHUT_WR)", is_recorded=False),
+        _kind("spawn", "number", "a goroutine more"),
+        _kind("exit g", "done", "goroutine g ends"),
+        _kind("sockopen rc wc", "number", "a socket more, whose buffers hold rc and wc bytes"),
+        _kind("arrive s bytes", "done", "bytes come from the network"),
+        _kind("peerclose s", "done", "the peer closes"),
+        _kind("sysread g s n", "got eof again", "the system call that reads up to n bytes"),
+        _kind("syswrite g s bytes", "put again pipe", "the system call that writes"),
+        _kind("drain s n", "done", "the network takes n bytes"),
+        _kind("incref g s", "yes no", "fdMutex.incref"),
+        _kind("increfclose g s", "yes no", "fdMutex.increfAndClose: the socket is closed"),
+        _kind("decref g s", "last notlast", "fdMutex.decref"),
+        _kind("rwlock g s side", "yes no wait", "fdMutex.rwlock: the read or write lock is asked for"),
+        _kind("rwunlock g s side", "last notlast", "fdMutex.rwunlock"),
+        _kind("acquire g", "yes wait", "runtime_Semacquire"),
+        _kind("release g", "done", "runtime_Semrelease, one that g owes"),
+        _kind("pollopen g s", "number", "runtime_pollOpen: a descriptor for socket s"),
+        _kind("pollclose g d", "done", "runtime_pollClose: descriptor d is free"),
+        _kind("pollreset g d side", "code", "runtime_pollReset: prepareRead, prepareWrite"),
+        _kind("waitbegin g d side", "code", "runtime_pollWait begins"),
+        _kind("blockarm g", "wait code", "netpollblock arms the word"),
+        _kind("blockcheck g", "code", "netpollblock checks once more"),
+        _kind("parkcommit g", "yes no", "netpollblockcommit: it parks, or an event was faster"),
+        _kind("blockswap g", "yes no", "netpollblock goes on and takes the word"),
+        _kind("waitcheck g", "code", "runtime_pollWait checks why it was woken"),
+        _kind("setdeadline g d mode time", "done", "runtime_pollSetDeadline"),
+        _kind("evict g d", "done", "pd.evict: closing, and whoever waits is woken"),
+        _kind("pollevent d tag mode err", "done stale", "netpollready: the poller tells an event"),
+        _kind("tick time", "done", "the clock moves"),
+        _kind("pop", "done", "the first due timer's function is started"),
+        _kind("fire i", "done stale", "the started timer function at place i runs"),
+        _kind("closewrite g s", "done", "CloseWrite: the write side is shut, shutdown(SHUT_WR)", since=2),
     )
 }
+
+# a recorded answer is one of these names, or an array of one of those with a number
+PLAIN_ANSWERS = ("done", "yes", "no", "wait", "last", "notlast", "eof", "again", "stale", "pipe")
+COUNTED_ANSWERS = ("number", "code", "got", "put")
+
+
+def is_answer(value) -> bool:
+    """Whether a value of a recording is an answer, be it one that the step's kind can give or not."""
+    if isinstance(value, str):
+        return value in PLAIN_ANSWERS
+    if not (isinstance(value, list) and len(value) == 2 and isinstance(value[0], str)):
+        return False
+    return value[0] in COUNTED_ANSWERS and type(value[1]) is int and 0 <= value[1] <= MOST
+
 
 CELLS = {
     cell.name: cell
@@ -159,13 +174,18 @@ class Limit:
     says: str
 
 
-HEADER = {
-    "netrev": Limit(VERSION, VERSION, "the version"),
-    "gor": Limit(1, 4096, "goroutines"),
-    "sock": Limit(1, 256, "sockets"),
-    "desc": Limit(1, 256, "descriptors"),
-    "buf": Limit(1, 65_536, "bytes a buffer holds"),
-}
+def _header(most_bytes: int) -> dict:
+    return {
+        "netrev": Limit(VERSIONS[0], VERSIONS[-1], "the version"),
+        "gor": Limit(1, 4096, "goroutines"),
+        "sock": Limit(1, 256, "sockets"),
+        "desc": Limit(1, 256, "descriptors"),
+        "buf": Limit(1, most_bytes, "bytes a buffer holds"),
+    }
+
+
+# the header's keys by the version
+HEADERS = {1: _header(65_536), 2: _header(1_048_576)}
 HEADER_EXAMPLE = '{"netrev":1,"gor":4,"sock":2,"desc":2,"buf":16}'
 
 REASONS = (

@@ -43,21 +43,26 @@ class World:
         return made_at(self.netrev, of)
 
     def sockets_of_open(self) -> dict:
-        """The open descriptors, each with its socket: `pollopen` takes the number that was freed last, else the next
-        new one."""
-        free: list[int] = []
-        made, open_now = 0, dict[int, int]()
-        for step in self.recording.steps_of(("pollopen", "pollclose"), self.position):
-            if step.kind == "pollclose":
-                free.append(step.argument("d"))
-                del open_now[free[-1]]
-                continue
-            if free:
-                descriptor = free.pop()
-            else:
-                descriptor, made = made, made + 1
-            open_now[descriptor] = step.argument("s")
-        return open_now
+        """The open descriptors, each with its socket."""
+        return opened_by(self.recording, self.position)[0]
+
+
+def opened_by(recording: Recording, position: int) -> tuple:
+    """The descriptors that are open behind so many steps, each with its socket, and the number that `pollopen` takes
+    next: the one that was freed last, else the next new one."""
+    free: list[int] = []
+    made, open_now = 0, dict[int, int]()
+    for step in recording.steps_of(("pollopen", "pollclose"), position):
+        if step.kind == "pollclose":
+            free.append(step.argument("d"))
+            del open_now[free[-1]]
+            continue
+        if free:
+            descriptor = free.pop()
+        else:
+            descriptor, made = made, made + 1
+        open_now[descriptor] = step.argument("s")
+    return open_now, free[-1] if free else made
 
 
 def made_at(netrev: Netrev, of: Of) -> int:

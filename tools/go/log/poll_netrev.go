@@ -4,6 +4,7 @@ package poll
 
 import (
 	"sync/atomic"
+	"syscall"
 	"unsafe"
 )
 
@@ -34,7 +35,25 @@ func netrevRelease(mu *fdMutex) { runtime_netrev(15, netrevKey(mu), 0, 0, 0) }
 // A descriptor that is about to be opened in the poller.
 func netrevInit(fd *FD) { runtime_netrev(3, netrevKey(&fd.fdmu), int64(fd.Sysfd), 0, 0) }
 
-// A read or a write that returned.
-func netrevBytes(kind int64, fd *FD, asked, got int, again bool) {
-	runtime_netrev(kind, netrevKey(&fd.fdmu), int64(asked), int64(got), netrevBit(again))
+// A read or a write that returned, and its error: 1 for EAGAIN, 2 for EPIPE, 3 for any other.
+func netrevBytes(kind int64, fd *FD, asked, got int, err error) {
+	seen := int64(3)
+	switch err {
+	case nil:
+		seen = 0
+	case syscall.EAGAIN:
+		seen = 1
+	case syscall.EPIPE:
+		seen = 2
+	}
+	runtime_netrev(kind, netrevKey(&fd.fdmu), int64(asked), int64(got), seen)
+}
+
+// Shuts a side of a socket, and logs it where that was the write side.
+func (fd *FD) netrevShutdown(sysfd, how int) error {
+	err := syscall.Shutdown(sysfd, how)
+	if err == nil && how != syscall.SHUT_RD {
+		runtime_netrev(31, netrevKey(&fd.fdmu), 0, 0, 0)
+	}
+	return err
 }

@@ -123,12 +123,25 @@ func busy(*net.TCPConn, *net.TCPConn) {
 	}
 }
 
+// half closes its write side, writes all the same, and reads what the other end has still to say.
+func half(end, other *net.TCPConn) {
+	end.Write([]byte("all"))
+	end.CloseWrite()
+	end.Write([]byte("late"))
+	other.Read(make([]byte, 8))
+	other.Write([]byte("rest"))
+	end.Read(make([]byte, 8))
+	other.Close()
+	end.Read(make([]byte, 8))
+}
+
 func main() {
 	programs := map[string]func(end, other *net.TCPConn){
 		"past": past, "lost": lost, "leak": leak, "late": late, "writers": writers, "busy": busy,
+		"half": half,
 	}
 	if len(os.Args) != 2 || programs[os.Args[1]] == nil {
-		println("one of: past lost leak late writers busy")
+		println("one of: past lost leak late writers busy half")
 		os.Exit(2)
 	}
 	runtime.NetrevStart()
