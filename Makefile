@@ -8,7 +8,7 @@ PREFIX = /usr/local
 MINUTES = 5
 COUNT = 10000
 
-.PHONY: help look run hunt test refused loopback hostile system fuzz agree companion netrev examples share bench pace install clean
+.PHONY: help look run hunt test refused loopback hostile upgrades system fuzz agree companion netrev examples share bench pace install clean
 
 # Tells what there is to make.
 help:
@@ -44,9 +44,13 @@ refused: netrev
 loopback: netrev
 	@python3 scripts/loopback.py
 
-# Bad recordings and bad command lines: each reason, faulty lines and headers, every beginning of the short recordings.
+# Bad recordings and bad command lines: each reason, faulty lines, headers and answers, every beginning of the short recordings.
 hostile: netrev
 	@python3 scripts/hostile.py
+
+# `netrev upgrade` over the recordings that are here, compared with what is stored and with the fuzzer's model.
+upgrades: netrev
+	@python3 scripts/upgrades.py
 
 # The built program against the system: streams that are closed or full, odd files, signals, and little memory.
 system: netrev
@@ -74,8 +78,8 @@ netrev:
 # All examples, compared with their replies, and last a session that two share.
 examples: netrev
 	@for name in first lost-wakeup stale-deadline past-deadline reused-descriptor leaked-reference \
-		temporary-break \
-		real/past real/lost real/leak; do \
+		temporary-break answers shut-write-side other-answer \
+		real/past real/lost real/leak real/half; do \
 		echo; echo "== $$name"; sh examples/play.sh $$name || exit 1; \
 	done
 	@echo; echo "== shared"; sh examples/shared.sh

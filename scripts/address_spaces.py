@@ -114,8 +114,15 @@ def expect_walk(recording, replies):
                 expect(line, right, came)
 
 
-def play_memory(word, recording):
-    """A hundred sizes up to twice what the right replies take, and those about the least that the program loads in."""
+def expect_begun(right, output):
+    """Sees that the first lines of the right text went out, all whole, and then that memory ran out."""
+    lines = right.splitlines(keepends=True)[: output.count(b"\n") - 1]
+    expect("output", b"".join(lines) + NO_MEMORY, output)
+
+
+def play_memory(word, recording, upgraded=b""):
+    """A hundred sizes up to twice what the right replies take, and those about the least that the program loads in. With
+    `upgrade` the right text has to be named."""
 
     def play(size):
         try:
@@ -142,7 +149,13 @@ def play_memory(word, recording):
         expect("errors", b"", errors)
         if (status, output) == (1, NO_MEMORY):
             return "unstarted"
+        if word == "upgrade" and status == 1:
+            expect_begun(upgraded, output)
+            return "unstarted"
         expect("status", 0, status)
+        if word == "upgrade":
+            expect("output", upgraded, output)
+            return "whole"
         if word == "check":
             expect("output", f"ok {recording.length} steps\n".encode(), output)
             return "whole"

@@ -5,9 +5,9 @@
 # it neither proves nor tries again, unless it is told --anew. Where it passes, each edit that must fail has to have been
 # refused for what it means: not one that can't be tried, or that the prover gave up on, or that is refused only because a
 # proof file names what the edit takes away. And the program that was built has to stand scripts/refused.sh,
-# scripts/refused_serving.py, scripts/loopback.py, scripts/hostile.py and scripts/system.py, play examples/shared.sh and each
-# example, and pass the tests of nrdb, the companion, which play the hunts of examples/hunts, and those of tools/go and tools/fuzz. Both worlds have
-# to agree on the recordings of examples/ (scripts/agree.sh).
+# scripts/refused_serving.py, scripts/loopback.py, scripts/hostile.py, scripts/upgrades.py and scripts/system.py, play
+# examples/shared.sh and each example, and pass the tests of nrdb, the companion, which play the hunts of examples/hunts, and
+# those of tools/go and tools/fuzz. Both worlds have to agree on the recordings of examples/ (scripts/agree.sh).
 # The last line is that of `rt ci`, with one more failed for each of these that fails.
 set -eu
 cd "$(dirname "$0")/.."
@@ -29,11 +29,12 @@ sh scripts/agree.sh || more=$((more + 1))
 python3 scripts/refused_serving.py || more=$((more + 1))
 python3 scripts/loopback.py || more=$((more + 1))
 python3 scripts/hostile.py || more=$((more + 1))
+python3 scripts/upgrades.py || more=$((more + 1))
 python3 scripts/system.py || more=$((more + 1))
 sh examples/shared.sh || more=$((more + 1))
 python3 -m unittest discover -s tests/nrdb || more=$((more + 1))
 for name in first leaked-reference lost-wakeup past-deadline reused-descriptor stale-deadline \
-	temporary-break real/past real/lost real/leak; do
+	temporary-break answers shut-write-side other-answer real/past real/lost real/leak real/half; do
 	sh examples/play.sh "$name" || more=$((more + 1))
 done
 python3 -m unittest discover -s tests/go || more=$((more + 1))

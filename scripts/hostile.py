@@ -8,6 +8,8 @@ Each case has a name in plain words; --list prints them all, and of those given 
                corrupted descriptor). The tests of the crates meet those
     line       a faulty line behind a header, and a faulty line behind a step that doesn't apply
     header     what is no header
+    version    what each of the two versions has and the other hasn't: recorded answers, `closewrite`, large buffers
+    answer     recorded answers: what is none, one that isn't the machine's, and which of two faults is told
     beginning  every beginning of each short recording, byte by byte: read where it ends with a line, else refused at its
                last line
     command    command lines that ask for nothing that there is
@@ -98,6 +100,8 @@ HEADERS = (
     (HEADER.replace("}", ',"more":1}'), "101 header"),
     (HEADER.replace('"netrev":1', '"netrev":0'), "101 header"),
     (HEADER.replace('"netrev":1', '"netrev":3'), "101 header"),
+    (HEADER.replace('"netrev":1', '"netrev":"2"'), "101 header"),
+    (HEADER.replace('"netrev":1', '"netrev":2.0'), "101 header"),
     (HEADER.replace("16", "0"), "105 limit"),
     (HEADER.replace("16", "65537"), "105 limit"),
     (HEADER.replace('"desc":1', '"desc":257'), "105 limit"),
@@ -105,6 +109,52 @@ HEADERS = (
     (HEADER.replace('"sock":1', '"sock":257'), "105 limit"),
     (HEADER[:-1], "102 not JSON"),
     (HEADER.replace("16", "65536"), 0),
+)
+
+# a recording's lines, and the place and the fault that are printed, or how many steps are read
+SECOND = HEADER.replace('"netrev":1', '"netrev":2')
+LARGE = SECOND.replace('"buf":16', '"buf":1048576')
+VERSIONS = (
+    ("version 2, and nothing else", [SECOND], "", 0),
+    ("version 2: 1,048,576 bytes", [LARGE, '["sockopen",1048576,1048576,["number",0]]'], "", 1),
+    ("version 2: 1,048,577 bytes", [LARGE.replace("1048576", "1048577")], "line 1", "105 limit"),
+    ("version 2: no bytes", [LARGE.replace("1048576", "0")], "line 1", "105 limit"),
+    ("version 1: 65,537 bytes", [HEADER.replace("16", "65537")], "line 1", "105 limit"),
+    ("version 1: 1,048,576 bytes", [HEADER.replace("16", "1048576")], "line 1", "105 limit"),
+    ("version 3, and limits out of range", [LARGE.replace(":2,", ":3,").replace("1048576", "0")], "line 1", "101 header"),
+    ("version 2: closewrite", [SECOND, '["sockopen",1,1,["number",0]]', '["closewrite",0,0,"done"]'], "", 2),
+    ("version 2: closewrite twice", [SECOND, '["sockopen",1,1,["number",0]]', *['["closewrite",0,0,"done"]'] * 2], "", 3),
+    ("version 2: closewrite without an answer", [SECOND, '["closewrite",0,0]'], "line 2", "104 arguments"),
+    ("version 2: closewrite, no such socket", [SECOND, '["closewrite",0,0,"done"]'], "step 1", "107 reason 4"),
+    ("version 2: closewrite, gone", [SECOND, '["closewrite",1,0,"done"]'], "step 1", "107 reason 1"),
+    ("version 1: closewrite with an answer", [HEADER, '["closewrite",0,0,"done"]'], "line 2", "103 unknown step"),
+    ("version 2: an unknown kind", [SECOND, '["jump","done"]'], "line 2", "103 unknown step"),
+    ("version 1: an answer", [HEADER, '["spawn",["number",1]]'], "line 2", "104 arguments"),
+    ("version 1: an answer of a text", [HEADER, '["tick",1,"done"]'], "line 2", "104 arguments"),
+    ("version 2: an answer left out", [SECOND, '["spawn"]'], "line 2", "104 arguments"),
+    ("version 2: an argument left out", [SECOND, '["tick","done"]'], "line 2", "104 arguments"),
+    ("version 2: two answers", [SECOND, '["tick",1,"done","done"]'], "line 2", "104 arguments"),
+    ("version 2: the answer before the argument", [SECOND, '["tick","done",1]'], "line 2", "104 arguments"),
+)
+SPAWN, TICK, EXIT = '["spawn",["number",1]]', '["tick",1,"done"]', '["exit",9,"done"]'
+ANSWERS = (
+    ("the machine's", [SPAWN, TICK, '["incref",0,0,"yes"]'], "step 3", "107 reason 4"),
+    ("of the same sort", ['["spawn",["number",2]]'], "step 1", "109 answer"),
+    ("of another sort", ['["spawn",["got",1]]'], "step 1", "109 answer"),
+    ("that the kind can't give", ['["spawn","eof"]'], "step 1", "109 answer"),
+    ("that the kind can't give, with a number", ['["tick",1,["code",0]]'], "step 1", "109 answer"),
+    ("with the greatest number", ['["spawn",["number",4294967295]]'], "step 1", "109 answer"),
+    ("in another spelling", ['[ "spawn" , [ "n\\u0075mber" , 1 ] ]'], "", 1),
+    ("of a step that doesn't apply", ['["exit",9,["got",7]]'], "step 1", "107 reason 1"),
+    ("that differs, before a step that doesn't apply", [SPAWN, '["tick",1,"no"]', EXIT], "step 2", "109 answer"),
+    ("that differs, behind a step that doesn't apply", [EXIT, '["tick",1,"no"]'], "step 1", "107 reason 1"),
+    ("that differs, before another", ['["tick",1,"no"]', '["spawn",["number",2]]'], "step 1", "109 answer"),
+    ("that differs, before a faulty line", ['["tick",1,"no"]', '["jump"]'], "line 3", "103 unknown step"),
+)
+NO_ANSWERS = (
+    *('"Done"', '"gone"', '""', '"number"', '"got"', "null", "true", "0", "1", "{}", "[]", '["done"]', '["number"]'),
+    *('["number",1,1]', '["number","1"]', '["number",1.0]', '["number",-1]', '["number",-0]', '["number",4294967296]'),
+    *('["Number",1]', '["done",0]', '[1,"number"]', '[["number"],1]', '["number",[1]]', '{"number":1}', '"number 1"'),
 )
 
 UNKNOWN, BAD, LONG = "fault 201 unknown command", "fault 202 bad argument", "fault 203 line too long"
@@ -147,7 +197,10 @@ WALK = "scripts/recordings/woken-by-an-event.jsonl"  # twelve steps
 
 BEGUN = tuple(
     f"examples/{name}.jsonl"
-    for name in ("first", "leaked-reference", "lost-wakeup", "past-deadline", "reused-descriptor", "stale-deadline")
+    for name in (
+        *("first", "leaked-reference", "lost-wakeup", "past-deadline", "reused-descriptor", "stale-deadline"),
+        *("answers", "shut-write-side"),
+    )
 ) + (WALK,)
 
 
@@ -201,6 +254,23 @@ def faulty_headers(folder):
         yield f"header {line!r}", lambda t=text_of([line]), w=wanted: expect("check", w, check(folder, t))
 
 
+def versions_and_answers(folder):
+    """Rows of version 2, and of version 1 what only the other has; `check` and `upgrade` print the same fault of each."""
+    rows = [(f"version: {name}", *row) for name, *row in VERSIONS]
+    rows += [(f"answer {name}", [SECOND, *steps], *fault) for name, steps, *fault in ANSWERS]
+    for text in NO_ANSWERS:
+        rows.append((f"answer that is none: {text}", [SECOND, f'["spawn",{text}]'], "line 2", "104 arguments"))
+    for name, lines, place, fault in rows:
+        yield name, lambda t=text_of(lines), w=wanted_of(place, fault): both(folder, t, w)
+
+
+def both(folder, text, wanted):
+    """What `check` says of a text, and `upgrade` where that is a fault."""
+    expect("check", wanted, check(folder, text))
+    if wanted[0]:
+        expect("upgrade", wanted, printed(["upgrade", Path(folder) / "recording.jsonl"]))
+
+
 def beginning(text):
     """What is said of a beginning: its last line is whole, or no JSON."""
     lines = text.split(b"\n")
@@ -234,7 +304,7 @@ def faulty_commands(_folder):
 
 
 def cases(folder):
-    for made in (refused_steps, faulty_lines, faulty_headers, beginnings, faulty_commands):
+    for made in (refused_steps, faulty_lines, faulty_headers, versions_and_answers, beginnings, faulty_commands):
         yield from made(folder)
 
 

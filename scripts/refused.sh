@@ -1,12 +1,13 @@
 #!/bin/sh
 # Plays the built program with each of its allocations refused in turn:  scripts/refused.sh
 #
-# Over each example `run` and `check`, and besides a recording that is refused, a file that is missing and words that
-# ask for nothing. A refused allocation is told once, and of nothing else: while netrev loads as `fault 108 memory`
+# Over each example `run`, `check` and `upgrade`, and besides a recording that is refused, a file that is missing and words
+# that ask for nothing. A refused allocation is told once, and of nothing else: while netrev loads as `fault 108 memory`
 # with status 1, and after that in place of one reply: of a look as `fault 301 memory`, and the look is sent again; of a
 # `continue` or `reverse-continue` as `fault 302 memory, placed N`, and its reply is asked for by `resume`. Then that reply
-# and all others are the right ones. Where nothing is refused, or netrev could do without, status, replies and standard
-# error are the right ones. The first difference ends it.
+# and all others are the right ones. `upgrade` tells it as in loading, behind the first lines of the right text, all whole.
+# Where nothing is refused, or netrev could do without, status, replies and standard error are the right ones. The first
+# difference ends it.
 set -eu
 here=$(cd "$(dirname "$0")" && pwd)
 examples=$here/../examples
@@ -81,13 +82,19 @@ is_right() {
 	[ "$status" = "$1" ] && cmp -s "$work/output" "$work/right" && cmp -s "$work/errors" "$2"
 }
 
+# Whether it ended with status 1 behind the first lines of what is in $work/right, and said then that memory ran out.
+is_begun() {
+	head -n "$(($(wc -l < "$work/output") - 1))" "$work/right" | cat - "$work/no-memory" > "$work/begun"
+	[ "$status" = 1 ] && cmp -s "$work/output" "$work/begun"
+}
+
 # Refuses each allocation of netrev with the words from $3 on, until none is left to refuse. It is right to end with
 # status $1 and $2 on standard error, as it has to in the end. It is that too where it could do without the allocation,
 # and where one line had to be sent again.
 refuse_each() {
 	ends=$1 says=$2
 	shift 2
-	number=0 loading=0 lines=0
+	number=0 loading=0 lines=0 writing=0
 	while number=$((number + 1)); play "$@"; [ -s "$work/told" ]; do
 		all=$((all + 1))
 		if is_right "$ends" "$says"; then
@@ -97,13 +104,15 @@ refuse_each() {
 		[ ! -s "$work/errors" ] || differs "$@"
 		if [ "$lines" = 0 ] && [ "$status" = 1 ] && cmp -s "$work/output" "$work/no-memory"; then
 			loading=$((loading + 1))
+		elif [ "${1-}" = upgrade ] && is_begun; then
+			writing=$((writing + 1))
 		else
 			differs "$@"
 		fi
 	done
 	is_right "$ends" "$says" && [ ! -s "$work/asked" ] || differs "$@"
 	[ "$loading" != 0 ] || differs "$@"
-	told=$((told + loading + lines))
+	told=$((told + loading + lines + writing))
 }
 
 # An example with all its memory, and then with each allocation refused.
@@ -119,31 +128,50 @@ play_example() {
 	echo "ok $(($(wc -l < "$recording") - 1)) steps" > "$work/right"
 	refuse_each 0 "$work/nothing" check "$recording"
 	[ "$lines" = 0 ] || differs check "$recording"
+
+	python3 "$here/upgrades.py" --text "$recording" > "$work/right"
+	refuse_each 0 "$work/nothing" upgrade "$recording"
+}
+
+# A recording that is refused, whatever the program is: $work/right has its fault.
+play_refused() {
+	refuse_each 1 "$work/nothing" run "$1"
+	refuse_each 1 "$work/nothing" check "$1"
+	refuse_each 1 "$work/nothing" upgrade "$1"
+	refuse_each 1 "$work/nothing" serve "$1" --port 65535
 }
 
 for recording in "$examples"/*.jsonl; do
-	play_example "$(basename "$recording" .jsonl)"
+	name=$(basename "$recording" .jsonl)
+	if grep -q "^step [0-9]*: fault " "$examples/$name.replies"; then
+		input=$examples/$name.script
+		cp "$examples/$name.replies" "$work/right"
+		play_refused "$recording"
+	else
+		play_example "$name"
+	fi
 done
 
 input=$examples/first.script
 { head -n 4 "$examples/first.jsonl"; echo '["blockswap",0]'; } > "$work/refused.jsonl"
 echo "step 4: fault 107 reason 2" > "$work/right"
-refuse_each 1 "$work/nothing" run "$work/refused.jsonl"
-refuse_each 1 "$work/nothing" check "$work/refused.jsonl"
-refuse_each 1 "$work/nothing" serve "$work/refused.jsonl" --port 65535
+play_refused "$work/refused.jsonl"
 
 : > "$work/right"
 refuse_each 3 "$work/nothing" run "$work/missing.jsonl"
 refuse_each 3 "$work/nothing" check "$work/missing.jsonl"
+refuse_each 3 "$work/nothing" upgrade "$work/missing.jsonl"
 refuse_each 3 "$work/nothing" serve "$work/missing.jsonl" --port 65535
 
 {
 	echo "usage: netrev run FILE"
 	echo "       netrev check FILE"
+	echo "       netrev upgrade FILE"
 	echo "       netrev serve FILE --port P [--fronts N] [--workers W] [--journal H] [--connections C]"
 } > "$work/usage"
 refuse_each 2 "$work/usage" walk "$examples/first.jsonl"
 refuse_each 2 "$work/usage" run
+refuse_each 2 "$work/usage" upgrade
 refuse_each 2 "$work/usage"
 refuse_each 2 "$work/usage" serve "$examples/first.jsonl"
 refuse_each 2 "$work/usage" serve "$examples/first.jsonl" --port 65535 --fronts 2

@@ -12,6 +12,7 @@ Each case has a name in plain words; --list prints them all, and of those given 
     callers   callers who reset, say nothing or send a byte now and then: the others are served
     memory    address spaces of a hundred sizes, from too small for any program to ample: the right replies, or that memory
               ran out, and below the size that the system can load the program in, the system's own message
+    upgrade   `upgrade` in all of these: its text goes out whole, or its first lines and what went wrong
 
 Ends with status 1 at the first that isn't as it has to be, and prints the name of that case.
 """
@@ -33,16 +34,22 @@ from address_spaces import LOOKS, MEGABYTE, NO_MEMORY, ended, limit_memory, load
 from debugger import Recording
 from loopback import reset
 from sharing import NETREV, PATIENCE, ROOT, Server, Wrong, expect, read_to_end, talk
+from upgrades import upgrade_of
 
 FIRST = str(ROOT / "examples/first.jsonl")
 TEXT = Path(FIRST).read_bytes()
+UPGRADED = upgrade_of(TEXT)
 ROOM = '{"netrev":1,"gor":4096,"sock":256,"desc":256,"buf":65536}\n'
 TICKS = ROOM + "".join(f'["tick",{time}]\n' for time in range(1, 50_001))
 LARGE = ROOM + '["spawn"]\n' * 5 + '["sockopen",65536,65536]\n' * 256
 LARGE += f'["arrive",0,"{"ab" * 60_000}"]\n["arrive",255,"6869"]\n' + '["tick",1]\n' * 40 + '["sysread",0,0,60000]\n'
 ARRIVED, LAST = 262, 304  # where LARGE has the bytes, and its last position
+UPGRADED_TICKS = b'{"buf":65536,"desc":256,"gor":4096,"netrev":2,"sock":256}\n' + b"".join(
+    b'["tick",%d,"done"]\n' % time for time in range(1, 50_001)
+)
 USAGE = b"""usage: netrev run FILE
        netrev check FILE
+       netrev upgrade FILE
        netrev serve FILE --port P [--fronts N] [--workers W] [--journal H] [--connections C]
 """
 GOOD = b"ok 10 steps\n"
@@ -352,6 +359,45 @@ def started(words, **options):
                 stream.close()
 
 
+def upgrades():
+    for into, what in ((CLOSED, "closed"), (FULL, "full"), (gone, "without a reader")):
+        yield Case(f"upgrade: output {what}", "upgrade", FIRST, 3, into=into)
+        yield Case(f"upgrade: output {what}, a refused recording", "upgrade", "/dev/null", 3, into=into)
+        yield Case(f"upgrade: output {what}, no memory", "upgrade", FIRST, 3, into=into, memory=loads_in() + 8192)
+        yield Case(f"upgrade: output {what}, no such file", "upgrade", "no such file", 3, into=into)
+    yield Case("upgrade: output full, and never waits", "upgrade", FIRST, 3, into=full_pipe_that_never_waits)
+    yield Function("upgrade: output whose reader goes in the middle", play_reader_goes_in_an_upgrade)
+    for what, given in (("closed", CLOSED), ("that is a folder", opened("/", os.O_RDONLY)), ("empty", b"")):
+        yield Case(f"upgrade: input {what}", "upgrade", FIRST, 0, UPGRADED, input=given)
+    ticks = TICKS.encode()
+    for what, file, right in (
+        ("that is a pipe, in pieces of 3 bytes", pipe_of(3, 0.002, TEXT), UPGRADED),
+        ("that is a pipe, in pieces of 60000 bytes", pipe_of(60_000, 0.01, ticks), UPGRADED_TICKS),
+        ("that is upgraded already, and a pipe", pipe_of(60_000, 0.01, UPGRADED_TICKS), UPGRADED_TICKS),
+        ("with spaces in its name", file_of(" two  words ", TEXT), UPGRADED),
+    ):
+        yield Case(f"upgrade: file {what}", "upgrade", file, 0, right)
+    yield Case("upgrade: file that is standard input", "upgrade", "/dev/stdin", 0, UPGRADED, input=TEXT)
+    yield Case("upgrade: file that is a pipe, which ends at once", "upgrade", pipe_of(1, 0, b""), 1, EMPTY)
+    for what, file in (("isn't there", "no such file"), ("is a folder", "/"), ("can't be read", "/proc/self/mem")):
+        yield Case(f"upgrade: file that {what}", "upgrade", file, 3)
+    yield Case("upgrade: file of 64 GB, with 64 MB of memory", "upgrade", sparse, 1, NO_MEMORY, memory=64 * MEGABYTE)
+    yield Function("upgrade: memory of a hundred sizes", play_memory_of_upgrade)
+
+
+def play_memory_of_upgrade(folder):
+    text = LARGE.encode()
+    path = Path(os.fsdecode(file_of("recording", text)(folder)))
+    play_memory("upgrade", Recording.read(NETREV, path, LOOKS), upgrade_of(text))
+
+
+def play_reader_goes_in_an_upgrade(folder):
+    """Reads the first lines of an upgrade that is longer than a pipe's room, and goes."""
+    file_of("ticks", TICKS.encode())(folder)
+    file_of("positions", b"")(folder)
+    leave_pipe(folder, UPGRADED_TICKS[:100], False, "ticks", "upgrade")
+
+
 def play_output_of_serve(into):
     """Two are served, though nothing can be printed in the end."""
     redirected = {CLOSED: '"$@" >&-', FULL: '"$@" > /dev/full', gone: '"$@"'}[into]
@@ -386,9 +432,9 @@ def play_reader_goes_in_a_reply(folder):
     leave_pipe(folder, f"at {ARRIVED}\nin 0 = abab".encode(), False, "large")
 
 
-def leave_pipe(folder, first, ignored, recording=FIRST):
-    """Reads the first bytes that `run` prints, and no more; with SIGPIPE ignored by who starts it, or as a shell has it."""
-    words = [NETREV, "run", folder / recording]
+def leave_pipe(folder, first, ignored, recording=FIRST, word="run"):
+    """Reads the first bytes that are printed, and no more; with SIGPIPE ignored by who starts it, or as a shell has it."""
+    words = [NETREV, word, folder / recording]
     with open(folder / "positions", "rb") as commands:
         with started(words, stdin=commands, bufsize=0, restore_signals=not ignored) as process:
             came = b""
@@ -570,7 +616,7 @@ def memory():
 
 
 def cases():
-    for group in (outputs, inputs, files, lines, signals, callers, memory):
+    for group in (outputs, inputs, files, lines, signals, callers, memory, upgrades):
         yield from group()
 
 
