@@ -1,5 +1,5 @@
 -- The arguments of a step, by their shapes.
-use Rattle.std.specs.Prelude.{ℕ, ◌^◌, ◌*◌, ◌%◌, ◌==◌, List, length, Bool, true, false, not, ◌&&◌, ℤ, pos, int_lt, Option, Some, None, option_map, option_and_then, Result, Ok, Err, nat_lt, if◌then◌else◌, codes, ⊤}
+use Rattle.std.specs.Prelude.{ℕ, ◌*◌, ◌%◌, ◌==◌, List, length, Bool, true, false, not, ◌&&◌, ℤ, pos, int_lt, Option, Some, None, option_map, option_and_then, Result, Ok, Err, nat_lt, if◌then◌else◌, codes, ⊤}
 use Rattle.std.specs.Option.{option_map_or}
 use Rattle.std.specs.Str.{bytes_eq}
 use Rattle.std.specs.Result.{result_ok}

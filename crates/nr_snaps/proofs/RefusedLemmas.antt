@@ -1,7 +1,7 @@
 -- A recording has a fault at one step at most.
-use Rattle.std.proofs.Common.{◌≡◌, ◌≢◌, ℕ, zero, suc, ◌+◌, ◌-◌, ◌<◌, ◌⊎◌, inl, inr, List, [], ◌∷◌, arith, take, false, true, Some, Ok, Err, refl, sym, ap, subst, ◌∙◌, slice_get}
+use Rattle.std.proofs.Common.{◌≡◌, ℕ, zero, suc, ◌-◌, ◌<◌, ◌⊎◌, inl, inr, List, [], ◌∷◌, arith, take, false, true, Some, Err, refl, sym, ap, subst, ◌∙◌, slice_get}
 use Rattle.std.specs.Prelude.{IsOk}
-use Rattle.nr_recording.specs.Recording.{Recorded, run_of, recorded_at}
+use Rattle.nr_recording.specs.Recording.{Recorded, run_of}
 use Rattle.nr_rev.specs.Run.{IsGood, IsRefusedAt, Recording, world_after, world_at}
 use Rattle.nr_rev.specs.Step.{outcome}
 use Rattle.nr_rev.specs.World.{empty_world}

@@ -3,9 +3,9 @@ use Rattle.nr_recording.specs.Recording.{run_of}
 use Rattle.nr_rev.specs.Run.{IsRefusedAt, IsWorldAt}
 use Rattle.nr_rev.proofs.RunLemmas.{IsGoodTo-prefix}
 use Rattle.nr_snaps.specs.Answers.{Agrees, AnswersAgreeTo, AnswersOtherwiseAt, Differs}
-use Rattle.nr_snaps.specs.Replay.{LeadsOn, Replays}
+use Rattle.nr_snaps.specs.Replay.{LeadsOn}
 use Rattle.nr_snaps.proofs.AnswerLemmas.{agree-next}
-use Rattle.nr_snaps.proofs.Frames.{IsFrame-next, Replays-good}
+use Rattle.nr_snaps.proofs.Frames.{IsFrame-good, IsFrame-next}
 use Rattle.nr_snaps.proofs.loading.play.Goals as goal
 
 -- the steps before it were replayed, so they apply, and it doesn't
@@ -16,13 +16,12 @@ returns-in-Err-clause-fault g c =
     let place : n ≡ n + 1 - 1 = omega arith in
     let is : g.film.recording ≡ r = assumption in
     let origin : IsWorldAt g.W.Reversible.is_well_formed g.W.Worlds.world r 0 g.film.origin = assumption in
-    let replays = subst (λ r. Replays g.W.Reversible.steps r g.film.origin n c.loop-n.world) is c.loop-n.invariant.frame.replays in
-    let good = Replays-good g.W.Reversible.is_well_formed g.W.Worlds.world g.W.Reversible.steps g.met.W.Worlds.steps_are r g.film.origin n c.loop-n.world origin.there replays in
+    let good = IsFrame-good g.W.Reversible.is_well_formed g.W.Worlds.world g.W.Reversible.steps g.met.W.Worlds.steps_are g.film r is origin n c.loop-n.world c.loop-n.invariant.frame in
     let refused = c.in-Err.ensures.refused in (
       omega arith,
       c.in-Err.ensures.no_memory,
       subst (λ k. IsRefusedAt r k c.in-Err.reason) place (record {
-        before = IsGoodTo-prefix r n good.0;
+        before = IsGoodTo-prefix r n good;
         step = refused.0;
         next = refused.1;
         refused = refused.2;
@@ -38,11 +37,10 @@ returns-then-differs-clause-fault g c =
     let place : n ≡ n + 1 - 1 = omega arith in
     let is : g.film.recording ≡ r = assumption in
     let origin : IsWorldAt g.W.Reversible.is_well_formed g.W.Worlds.world r 0 g.film.origin = assumption in
-    let replays = subst (λ r. Replays g.W.Reversible.steps r g.film.origin n c.loop-n.world) is c.loop-n.invariant.frame.replays in
-    let good = Replays-good g.W.Reversible.is_well_formed g.W.Worlds.world g.W.Reversible.steps g.met.W.Worlds.steps_are r g.film.origin n c.loop-n.world origin.there replays in (
+    let good = IsFrame-good g.W.Reversible.is_well_formed g.W.Worlds.world g.W.Reversible.steps g.met.W.Worlds.steps_are g.film r is origin n c.loop-n.world c.loop-n.invariant.frame in (
       omega arith,
       subst (λ k. AnswersOtherwiseAt c.args.recording.now k) place (record {
-        before = IsGoodTo-prefix r n good.0;
+        before = IsGoodTo-prefix r n good;
         agree = c.loop-n.invariant.agree;
         given = c.in-Ok.given;
         gives = c.in-Ok.ensures.answer;
