@@ -11,9 +11,16 @@ both_views f g None x y e h = cc
 both_views f g (Some b) x y e h = cc
 
 -- a name with its file
-pub asked_in-file : (found : Option (Text × List Row)) (name : Text) (rows : List Row) (file : Text) → found ≡ Some (name, rows) → Some file ≡ first_of (codes "file") rows
+asked_in-file : (found : Option (Text × List Row)) (name : Text) (rows : List Row) (file : Text) → found ≡ Some (name, rows) → Some file ≡ first_of (codes "file") rows
     → asked_in found ≡ asked_on name rows file
 asked_in-file found name rows file is read = ap asked_in is ∙ ap (option_and_then (asked_on name rows)) (sym read)
+
+-- the name is this word
+pub asked_in-word : {B : Type 0} (f : B → Text) (g : B → List Row) (o : Option B) (name : Text) (rows : List Row) (file word : Text) → Some name ≡ option_map f o
+    → Some rows ≡ option_map (λ (p : Text × List Row). p.1) (option_map {U = Text × List Row} (λ b. (f b, g b)) o) → Some file ≡ first_of (codes "file") rows → name ≡ word
+    → asked_in (option_map {U = Text × List Row} (λ b. (f b, g b)) o) ≡ asked_on word rows file
+asked_in-word f g o name rows file word named with_rows read is =
+    asked_in-file _ name rows file (both_views f g o name rows named with_rows) read ∙ ap (λ (n : Text). asked_on n rows file) is
 
 -- and without one
 pub asked_in-none : (found : Option (Text × List Row)) (name : Text) (rows : List Row) → found ≡ Some (name, rows) → None ≡ first_of (codes "file") rows → asked_in found ≡ None

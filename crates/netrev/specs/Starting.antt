@@ -8,6 +8,7 @@ use Rattle.nr_recording.specs.Faults.{memory_line}
 use Rattle.nr_programs.specs.Run.{Checks, EndsPrinting, Runs}
 use Rattle.nr_programs.specs.Serving.{ServesAll}
 use Rattle.nr_programs.specs.Sharing.{is_in_range}
+use Rattle.nr_programs.specs.Transcript.{RunsTranscript}
 use Rattle.nr_programs.specs.Upgrade.{Upgrades}
 use Rattle.nr_programs.specs.declared.run.ExitStatus.{ExitStatus}
 use Rattle.nr_programs.specs.declared.run.ExitStatus.TheVariants as statuses
@@ -41,10 +42,11 @@ IsInRange (program.Check file) = Unit {0}
 IsInRange (program.Upgrade file) = Unit {0}
 IsInRange (program.Serve file sharing) = is_in_range sharing ≡ true
 
--- What a program does over the bytes of its file. Only `run` reads input.
+-- What a program does over the bytes of its file. Only `run` reads input, and writes its transcript.
 abbrev pub Plays : Program → List ℕ → Incoming → Incoming → Outgoing → Outgoing → ExitStatus
     → Type 0
-Plays (program.Run file) bytes input left old new status = Runs bytes input left old new status
+Plays (program.Run file) bytes input left old new status =
+    Runs bytes input left old new status × RunsTranscript bytes input left old new status
 Plays (program.Check file) bytes input left old new status =
     (left ≡ input) × Checks bytes old new status
 Plays (program.Upgrade file) bytes input left old new status =

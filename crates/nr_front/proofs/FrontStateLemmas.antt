@@ -14,7 +14,7 @@ use Rattle.nr_front.specs.Steps.{pending_after}
 use Rattle.nr_front.specs.declared.pending.Pending.{Pending}
 use Rattle.nr_front.specs.declared.pending.Pending.TheVariants.{Nothing}
 
-after_words-append : (r : Recording) (d : Debugger) (xs ys : List ℕ) → after_words r d (xs ++ ys) ≡ after_words r (after_words r d xs) ys
+pub after_words-append : (r : Recording) (d : Debugger) (xs ys : List ℕ) → after_words r d (xs ++ ys) ≡ after_words r (after_words r d xs) ys
 after_words-append r d [] ys = refl
 after_words-append r d (x ∷ xs) ys = after_words-append r (after_tagged r d (command_of x)) xs ys
 

@@ -1,3 +1,8 @@
+pub mod FaultLemmas
 pub mod OpeningLemmas
+pub mod RepliesLemmas
 pub mod ServingLemmas
+pub mod SharedLemmas
+pub mod TranscriptLemmas
 pub mod UpgradeLemmas
+pub mod WorkedLemmas

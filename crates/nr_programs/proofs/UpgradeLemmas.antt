@@ -1,13 +1,13 @@
 -- What is written of a recording, and what may follow it.
-use Rattle.std.proofs.Common.{◌≡◌, ℕ, ◌+◌, ◌<◌, Bool, true, false, ◌||◌, List, [], ◌++◌, length, take, inl, inr, Ok, Err, refl, sym, subst, ◌∙◌, length-append, arith}
+use Rattle.std.proofs.Common.{◌≡◌, ℕ, ◌+◌, Bool, true, false, ◌||◌, List, ◌++◌, length, take, inl, inr, refl, sym, subst, ◌∙◌, length-append, arith}
 use Rattle.std.proofs.KnownBytes.{Appends-trans}
 use Rattle.std.proofs.Math.Seq.{take-append-add}
 use Rattle.std.specs.Io.KnownBytes.{Appends}
 use Rattle.nr_recording.specs.Writing.{AppendsPart}
-use Rattle.nr_text.specs.Streams.{Outgoing, WritesAll, WritesPrefix, saturating_count}
+use Rattle.nr_text.specs.Streams.{Outgoing, WritesPrefix, saturating_count}
 use Rattle.nr_programs.specs.Run.{EndsPrinting}
 use Rattle.nr_programs.specs.declared.run.ExitStatus.{ExitStatus}
-use Rattle.nr_programs.specs.declared.run.ExitStatus.TheVariants.{Done, StreamFailed}
+use Rattle.nr_programs.specs.declared.run.ExitStatus.TheVariants.{StreamFailed}
 
 pub unfailed : (a b : Bool) → b ≡ (a || false) → b ≡ a
 unfailed true b e = e

@@ -1,6 +1,9 @@
 -- what callers need
+pub mod Examples
 pub mod Opening
 pub mod Run
 pub mod Serving
+pub mod Shared
 pub mod Sharing
+pub mod Transcript
 pub mod Upgrade

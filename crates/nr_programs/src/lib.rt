@@ -1,12 +1,14 @@
 //! The programs over the bytes of the file and the streams, from a recording's text to the exit status.
 #![tactic(auto)]
 
+pub mod headline;
 pub mod laws;
 mod opening;
 mod run;
 mod serving;
 mod sharing;
 mod upgrade;
+pub mod worked;
 
 pub use opening::OpenFault;
 pub use run::{ExitStatus, JOURNAL_ROOM, check_bytes, refuse, run_bytes};

@@ -6,6 +6,7 @@ ghost use Rattle.nr_rev.specs.Run.{Recording};
 ghost use Rattle.nr_programs.specs.Opening.{IsGoodText};
 ghost use Rattle.nr_recording.specs.Faults.{memory_line};
 ghost use Rattle.nr_programs.specs.Run.{Runs, Walks, PrintsFault, Checks, EndsPrinting, status_code, ok_line};
+ghost use Rattle.nr_programs.specs.Transcript.{RunsTranscript};
 ghost use Rattle.nr_programs.specs.declared.run.ExitStatus.TheVariants as statuses;
 
 use crate::opening::open;
@@ -95,6 +96,9 @@ where
     ensures good { (r : Recording) → IsGoodText bytes.now r
         → Walks input.old input.new output.old output.new r result
         ⊎ PrintsFault memory_line input.old input.new output.old output.new result }
+
+    // What is written is the transcript of the recording and of what is read.
+    ensures transcript { RunsTranscript bytes.now input.old input.new output.old output.new result }
 {
     match open::<W>(alloc, bytes) {
         Ok(film) => walk(rt, alloc, &film, input, output),

@@ -1,8 +1,10 @@
 use Rattle.std.proofs.Common.{◌≡◌, inl, inr, refl}
 use Rattle.nr_snaps.specs.declared.fault.LoadFault.TheVariants.{Memory}
 use Rattle.nr_programs.specs.Run.{Runs}
+use Rattle.nr_programs.specs.Transcript.{RunsTranscript}
 use Rattle.nr_programs.specs.declared.opening.OpenFault.TheVariants.{Load}
 use Rattle.nr_programs.proofs.OpeningLemmas.{one_recording, prints_memory}
+use Rattle.nr_programs.proofs.RepliesLemmas.{refused_transcribes, walks_transcribe}
 use Rattle.nr_programs.proofs.run.run_bytes.Goals as goal
 
 -- it is walked; or a refused allocation is a fault of loading
@@ -24,3 +26,14 @@ returns-in-Err-clause-good g c = λ r is.
       unread = refl;
       printed = prints_memory _ _ _ _ _ _ c.in-Err.ensures.fault is c.refuse.ensures;
     })
+
+pub returns-in-Ok-clause-transcript : goal.returns-in-Ok-clause-transcript
+returns-in-Ok-clause-transcript g c =
+    elim c.walk.ensures as (λ _. RunsTranscript c.args.bytes.now c.args.input.now c.walk.new.input c.args.output.now c.walk.new.output c.walk.result) [
+      | inl walks ↦ inl (walks_transcribe c.args.bytes.now c.in-Ok.film.recording _ _ _ _ _ c.in-Ok.ensures.film walks)
+      | inr prints_it ↦ inr prints_it
+    ]
+
+pub returns-in-Err-clause-transcript : goal.returns-in-Err-clause-transcript
+returns-in-Err-clause-transcript g c =
+    refused_transcribes c.args.bytes.now _ _ _ _ _ _ c.in-Err.ensures.fault c.requires.output (record { unread = refl; printed = c.refuse.ensures })

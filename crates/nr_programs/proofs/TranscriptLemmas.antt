@@ -1,0 +1,234 @@
+-- What the lines of a front are answered is the transcript.
+use Rattle.std.proofs.Common.{◌≡◌, inl, inr, ℕ, ◌+◌, List, [], ◌∷◌, ◌++◌, length, Option, Some, None, Result, Ok, Err, refl, sym, ap, ◌∙◌, subst, length-append}
+use Rattle.std.proofs.lemmas.List.{same_from_push}
+use Rattle.nr_rev.specs.Run.{Recording}
+use Rattle.nr_command.specs.Debugger.{after_words, opening, query_reply, run}
+use Rattle.nr_command.specs.Word.{word_of}
+use Rattle.nr_command.specs.declared.command.Command.{Command}
+use Rattle.nr_command.specs.declared.command.Line.{Line}
+use Rattle.nr_command.specs.declared.command.Line.TheVariants.{Run, Look, Resume, Quit, Empty}
+use Rattle.nr_command.specs.declared.command.LineFault.{LineFault}
+use Rattle.nr_command.specs.declared.command.Query.{Query}
+use Rattle.nr_command.specs.declared.debugger.Debugger.{Debugger}
+use Rattle.nr_command.specs.declared.reply.Fault.TheVariants as faults
+use Rattle.nr_command.specs.declared.reply.Reply.{Reply}
+use Rattle.nr_command.specs.declared.reply.Reply.TheVariants.{NothingOwed, Bye, Fault}
+use Rattle.nr_front.specs.FrontState.{FrontState, IsAt, IsBehind, RepliesLast, own_pending, owed_command, pending_command}
+use Rattle.nr_front.specs.Front.{Executes, IsLeftOwed, Learns, Looks, PlacesCommand, RepliesToLook, Resumes, StaysOwed, with_walker_state, without_pending}
+use Rattle.nr_front.specs.Replica.{WalkerState}
+use Rattle.nr_front.specs.declared.fault.FrontFault.{FrontFault}
+use Rattle.nr_front.specs.declared.fault.FrontFault.TheVariants.{Memory, Placed, Full}
+use Rattle.nr_front.specs.declared.pending.Pending.{Pending}
+use Rattle.nr_front.specs.declared.pending.Pending.TheVariants.{Nothing, Others, Own}
+use Rattle.nr_front.proofs.FrontStateLemmas.{after_words-append, run_last}
+use Rattle.nr_lines.specs.Turn.{MayReply, reply_given, resumed}
+use Rattle.nr_programs.specs.Transcript.{Answered, Met, Standing, enough, no_memory, no_memory_to_search, no_room, calm, behind_others, line_answer, owing}
+
+-- the front is where it stands by the transcript
+pub record Stands (r : Recording) (s : Standing) (d : FrontState) : Type 0 where
+  pub recording : d.recording ≡ r
+  pub placed : s.placed ≡ length d.pass_state.seen
+  pub owed : s.owed ≡ owed_command d
+  pub at : IsAt r d.pass_state.seen s.owed s.debugger
+
+-- it is answered this, and the front stands so behind it
+abbrev pub Gives : Recording → Answered → Option Reply → FrontState → Type 0
+Gives r a reply d' = (a.0 ≡ reply) × Stands r a.1 d'
+
+-- a line may be answered so
+abbrev pub MayGive : Recording → Option Command → Result Line LineFault → Standing → Option Reply → FrontState → Type 0
+MayGive r owed asked s reply d' = (m : Met) × ((line_answer r owed asked m s).0 ≡ reply) × Stands r (line_answer r owed asked m s).1 d'
+
+-- the command that is due is the own one that is owed
+due_command : (pending : Pending) (owed due : Command) → own_pending pending ≡ Some owed → pending_command pending ≡ Some due → due ≡ owed
+due_command Nothing owed due a b = cc
+due_command (Others command) owed due a b = cc
+due_command (Own command) owed due a b = cc
+
+-- words end with one word, behind which there is one debugger
+one_behind : (r : Recording) (words : List ℕ) (command : Command) (a b : Debugger) → IsBehind r words command a → IsBehind r words command b → a ≡ b
+one_behind r words command a b one other =
+    one.behind ∙ ap (after_words r opening) (same_from_push one.before other.before one.word other.word (sym one.last ∙ other.last)).0 ∙ sym other.behind
+
+module _ (r : Recording) (s : Standing) (d : FrontState) (here : Stands r s d) where
+  -- nothing is owed
+  none_owed : owed_command d ≡ None → s.owed ≡ None
+  none_owed unowed = here.owed ∙ unowed
+
+  at_words : owed_command d ≡ None → s.debugger ≡ after_words r opening d.pass_state.seen
+  at_words unowed = subst (λ o. IsAt r d.pass_state.seen o s.debugger) (none_owed unowed) here.at
+
+  -- the debugger behind words more
+  behind_more : (words : List ℕ) → owed_command d ≡ None → after_words r s.debugger words ≡ after_words r opening (d.pass_state.seen ++ words)
+  behind_more words unowed =
+      ap (λ (x : Debugger). after_words r x words) (at_words unowed) ∙ sym (after_words-append r opening d.pass_state.seen words)
+
+  -- words of others were seen
+  learnt : (d' : FrontState) → (l : Learns d d') → Stands r (behind_others r l.sees_others.0 s) d'
+  learnt d' l =
+      let words = l.sees_others.0 in
+      let seen = l.sees_others.1 in
+      record {
+        recording = l.same.recording ∙ here.recording;
+        placed = ap (λ n. n + length words) here.placed ∙ sym (length-append d.pass_state.seen words) ∙ ap length (sym seen);
+        owed = none_owed l.unowed ∙ sym l.unowed_still;
+        at = subst (λ o. IsAt r d'.pass_state.seen o (after_words r s.debugger words)) (sym (none_owed l.unowed))
+            (behind_more words l.unowed ∙ ap (after_words r opening) (sym seen));
+      }
+
+  -- the words before the one that was placed
+  before_placed : (command : Command) (d' : FrontState) (before : List ℕ) (word : ℕ) → (p : PlacesCommand command d d') → d'.pass_state.seen ≡ before ++ word ∷ [] → before ≡ d.pass_state.seen ++ p.between
+  before_placed command d' before word p last =
+      (same_from_push before (d.pass_state.seen ++ p.between) word (word_of d.pass_state.tag command) (sym last ∙ p.placed)).0
+
+  -- the debugger that the command is run by
+  placed_behind : (command : Command) (d' : FrontState) (debugger : Debugger) → (p : PlacesCommand command d d') → IsBehind r d'.pass_state.seen command debugger → after_words r s.debugger p.between ≡ debugger
+  placed_behind command d' debugger p behind =
+      behind_more p.between p.unowed ∙ ap (after_words r opening) (sym (before_placed command d' behind.before behind.word p behind.last)) ∙ sym behind.behind
+
+  -- how many words there are with it
+  placed_count : (command : Command) (d' : FrontState) → (p : PlacesCommand command d d') → s.placed + length p.between + 1 ≡ length d'.pass_state.seen
+  placed_count command d' p =
+      let both = length-append d.pass_state.seen p.between in
+      let all = length-append (d.pass_state.seen ++ p.between) (word_of d.pass_state.tag command ∷ []) in
+      ap (λ n. n + length p.between + 1) here.placed ∙ ap (λ n. n + 1) (sym both) ∙ sym all ∙ ap length (sym p.placed)
+
+  -- a command that was placed and run
+  command_run : (command : Command) (d' : FrontState) (reply : Reply) → (p : PlacesCommand command d d') → RepliesLast d' command reply → d'.pending ≡ Nothing
+      → MayGive r None (Ok (Run command)) s (Some reply) d'
+  command_run command d' reply p replies ran =
+      let is : d'.recording ≡ r = p.same.recording ∙ here.recording in
+      let behind : IsBehind r d'.pass_state.seen command replies.debugger = subst (λ x. IsBehind x d'.pass_state.seen command replies.debugger) is replies.behind in
+      let same = placed_behind command d' replies.debugger p behind in
+      let given : reply ≡ (run r command replies.debugger).0 = replies.answer ∙ ap (λ x. (run x command replies.debugger).0) is in (
+        record { others = p.between; supply = enough },
+        ap (λ x. Some (run r command x).0) same ∙ ap Some (sym given),
+        record {
+          recording = is;
+          placed = placed_count command d' p;
+          owed = sym (ap own_pending ran);
+          at = run_last r d'.pass_state.seen command replies.debugger _ behind (ap (λ x. (run r command x).1) same);
+        },
+      )
+
+  -- one that was placed, and whose reply is owed
+  command_owed : (command : Command) (d' : FrontState) (place : ℕ) → IsLeftOwed command d d' place → MayGive r None (Ok (Run command)) s (Some (reply_given (Err (Placed place)))) d'
+  command_owed command d' place left =
+      let p = left.places in
+      let is : d'.recording ≡ r = p.same.recording ∙ here.recording in
+      let due = due_command d'.pending command left.wanted.command left.now_owed left.wanted.pending in
+      let behind : IsBehind r d'.pass_state.seen command left.wanted.debugger =
+      subst (λ x. IsBehind x d'.pass_state.seen command left.wanted.debugger) is (subst (λ c. IsBehind d'.recording d'.pass_state.seen c left.wanted.debugger) due left.wanted.behind) in
+      let same = placed_behind command d' left.wanted.debugger p behind in (
+        record { others = p.between; supply = no_memory_to_search },
+        ap (λ n. Some (Fault (faults.Placed n))) (placed_count command d' p ∙ sym left.at),
+        record {
+          recording = is;
+          placed = placed_count command d' p;
+          owed = sym left.now_owed;
+          at = subst (λ x. IsBehind r d'.pass_state.seen command x) (sym same) behind;
+        },
+      )
+
+  -- a reply was owed, and nothing was done
+  stays_owed : (d' : FrontState) (place : ℕ) → (stays : StaysOwed d d' place) → Gives r (owing s) (Some (Fault (faults.Placed place))) d'
+  stays_owed d' place stays = (
+    ap (λ n. Some (Fault (faults.Placed n))) (here.placed ∙ sym stays.at),
+    subst (Stands r s) (sym stays.unchanged) here,
+  )
+
+  -- a command
+  executed : (command : Command) (d' : FrontState) (given : Result Reply FrontFault) → Executes command d d' given → MayGive r s.owed (Ok (Run command)) s (Some (reply_given given)) d'
+  executed command d' (Ok reply) h =
+      subst (λ o. MayGive r o (Ok (Run command)) s (Some reply) d') (sym (none_owed h.places.unowed)) (command_run command d' reply h.places h.replies h.run)
+  executed command d' (Err Memory) h =
+      subst (λ o. MayGive r o (Ok (Run command)) s (Some (Fault faults.Memory)) d') (sym (none_owed h.learns.unowed))
+      (record { others = h.learns.sees_others.0; supply = no_memory }, refl, learnt d' h.learns)
+  executed command d' (Err (Placed place)) (inl left) =
+      subst (λ o. MayGive r o (Ok (Run command)) s (Some (Fault (faults.Placed place))) d') (sym (none_owed left.places.unowed)) (command_owed command d' place left)
+  executed command d' (Err (Placed place)) (inr stays) =
+      subst (λ o. MayGive r o (Ok (Run command)) s (Some (Fault (faults.Placed place))) d') (sym (here.owed ∙ stays.still_owed)) (let stay = stays_owed d' place stays in (calm, stay.0, stay.1))
+  executed command d' (Err Full) h =
+      subst (λ o. MayGive r o (Ok (Run command)) s (Some (Fault faults.JournalFull)) d') (sym (none_owed h.learns.unowed))
+      (record { others = h.learns.sees_others.0; supply = no_room }, refl, learnt d' h.learns)
+
+  -- the walker doesn't matter
+  walked : (s' : Standing) (walker_state : WalkerState) (mid d' : FrontState) → d' ≡ with_walker_state walker_state mid → Stands r s' mid → Stands r s' d'
+  walked s' walker_state mid d' is there =
+      subst (Stands r s') (sym is) (record { recording = there.recording; placed = there.placed; owed = there.owed; at = there.at })
+
+  -- a look that is answered
+  look_given : (query : Query) (d' : FrontState) (reply : Reply) → RepliesToLook query d d' reply → MayGive r None (Ok (Look query)) s (Some reply) d'
+  look_given query d' reply h =
+      let l = h.catches_all.learns in
+      let seen = h.caught_up.pass_state.seen in
+      let is : h.caught_up.recording ≡ r = l.same.recording ∙ here.recording in
+      let same : after_words r s.debugger l.sees_others.0 ≡ after_words r opening seen = behind_more l.sees_others.0 l.unowed ∙ ap (after_words r opening) (sym l.sees_others.1) in
+      let given : reply ≡ query_reply r (after_words r opening seen) query = h.answer ∙ ap (λ x. query_reply x (after_words x opening seen) query) is in (
+        record { others = l.sees_others.0; supply = enough },
+        ap (λ x. Some (query_reply r x query)) same ∙ ap Some (sym given),
+        walked (behind_others r l.sees_others.0 s) _ h.caught_up d' h.led (learnt h.caught_up l),
+      )
+
+  -- a look
+  looked_at : (query : Query) (d' : FrontState) (given : Result Reply FrontFault) → Looks query d d' given → MayGive r s.owed (Ok (Look query)) s (Some (reply_given given)) d'
+  looked_at query d' (Ok reply) h =
+      subst (λ o. MayGive r o (Ok (Look query)) s (Some reply) d') (sym (none_owed h.catches_all.learns.unowed)) (look_given query d' reply h)
+  looked_at query d' (Err Memory) (inl h) =
+      subst (λ o. MayGive r o (Ok (Look query)) s (Some (Fault faults.Memory)) d') (sym (none_owed h.learns.unowed))
+      (record { others = h.learns.sees_others.0; supply = no_memory }, refl, learnt d' h.learns)
+  looked_at query d' (Err Memory) (inr h) =
+      let l = h.catches_all.learns in
+      subst (λ o. MayGive r o (Ok (Look query)) s (Some (Fault faults.Memory)) d') (sym (none_owed l.unowed))
+      (record { others = l.sees_others.0; supply = no_memory }, refl, walked (behind_others r l.sees_others.0 s) _ h.caught_up d' h.moved (learnt h.caught_up l))
+  looked_at query d' (Err (Placed place)) stays =
+      subst (λ o. MayGive r o (Ok (Look query)) s (Some (Fault (faults.Placed place))) d') (sym (here.owed ∙ stays.still_owed)) (let stay = stays_owed d' place stays in (calm, stay.0, stay.1))
+  looked_at query d' (Err Full) h = absurd h
+
+  -- the reply that is owed
+  owed_run : (command : Command) (d' : FrontState) (reply : Reply) → s.owed ≡ Some command → RepliesLast d command reply → d' ≡ without_pending d → MayGive r (Some command) (Ok Resume) s (Some reply) d'
+  owed_run command d' reply owed replies now =
+      let mine : IsBehind r d.pass_state.seen command s.debugger = subst (λ o. IsAt r d.pass_state.seen o s.debugger) owed here.at in
+      let theirs : IsBehind r d.pass_state.seen command replies.debugger = subst (λ x. IsBehind x d.pass_state.seen command replies.debugger) here.recording replies.behind in
+      let same = one_behind r d.pass_state.seen command s.debugger replies.debugger mine theirs in
+      let given : reply ≡ (run r command replies.debugger).0 = replies.answer ∙ ap (λ x. (run x command replies.debugger).0) here.recording in (
+        calm,
+        ap (λ x. Some (run r command x).0) same ∙ ap Some (sym given),
+        subst (Stands r (record { debugger = (run r command s.debugger).1; placed = s.placed; owed = None })) (sym now) (record {
+          recording = here.recording;
+          placed = here.placed;
+          owed = refl;
+          at = run_last r d.pass_state.seen command s.debugger _ mine refl;
+        }),
+      )
+
+  -- `resume`
+  resumes : (d' : FrontState) (given : Result (Option Reply) FrontFault) → Resumes d d' given → MayGive r s.owed (Ok Resume) s (Some (resumed given)) d'
+  resumes d' (Ok None) h =
+      subst (λ o. MayGive r o (Ok Resume) s (Some NothingOwed) d') (sym (none_owed h.unowed)) (calm, refl, subst (Stands r s) (sym h.unchanged) here)
+  resumes d' (Ok (Some reply)) h =
+      let owed = here.owed ∙ h.was_owed in
+      subst (λ o. MayGive r o (Ok Resume) s (Some reply) d') (sym owed) (owed_run h.command d' reply owed h.replies h.now)
+  resumes d' (Err Memory) h = absurd h
+  resumes d' (Err (Placed place)) h =
+      subst (λ o. MayGive r o (Ok Resume) s (Some (Fault (faults.Placed place))) d') (sym (here.owed ∙ h.stays.still_owed))
+      (let stay = stays_owed d' place h.stays in (record { others = []; supply = no_memory }, stay.0, stay.1))
+  resumes d' (Err Full) h = absurd h
+
+  -- what is answered the same, whether a reply is owed or not
+  quiet : (asked : Result Line LineFault) (reply given : Option Reply) (d' : FrontState) → ((o : Option Command) → line_answer r o asked calm s ≡ (reply, s)) → given ≡ reply → d' ≡ d → MayGive r s.owed asked s given d'
+  quiet asked reply given d' each is same =
+      let e = each s.owed in (
+        calm,
+        ap (λ (a : Answered). a.0) e ∙ sym is,
+        subst (Stands r (line_answer r s.owed asked calm s).1) (sym same) (subst (λ x. Stands r x d) (sym (ap (λ (a : Answered). a.1) e)) here),
+      )
+
+  -- any line
+  pub line_given : (asked : Result Line LineFault) (reply : Option Reply) (d' : FrontState) → MayReply asked d reply d' → MayGive r s.owed asked s reply d'
+  line_given (Ok (Run command)) reply d' h = subst (λ x. MayGive r s.owed (Ok (Run command)) s x d') (sym h.2) (executed command d' h.0 h.1)
+  line_given (Ok (Look query)) reply d' h = subst (λ x. MayGive r s.owed (Ok (Look query)) s x d') (sym h.2) (looked_at query d' h.0 h.1)
+  line_given (Ok Resume) reply d' h = subst (λ x. MayGive r s.owed (Ok Resume) s x d') (sym h.2) (resumes d' h.0 h.1)
+  line_given (Ok Quit) reply d' h = quiet (Ok Quit) (Some Bye) reply d' (λ o. elim o as (λ k. line_answer r k (Ok Quit) calm s ≡ (Some Bye, s)) [ None ↦ refl | Some c ↦ refl ]) h.0 h.1
+  line_given (Ok Empty) reply d' h = quiet (Ok Empty) None reply d' (λ o. elim o as (λ k. line_answer r k (Ok Empty) calm s ≡ (None, s)) [ None ↦ refl | Some c ↦ refl ]) h.0 h.1
+  line_given (Err fault) reply d' h = quiet (Err fault) (Some (Fault (faults.Line fault))) reply d' (λ o. elim o as (λ k. line_answer r k (Err fault) calm s ≡ (Some (Fault (faults.Line fault)), s)) [ None ↦ refl | Some c ↦ refl ]) h.0 h.1

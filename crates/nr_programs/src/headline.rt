@@ -1,0 +1,39 @@
+//! What the theorem rests on, as calls of two lines: undoing a step restores the state, and a position is the replay of the
+//! steps before it.
+
+ghost use Rattle.std.specs.Prelude.{◌≡◌, ◌≤◌, length, IfOk, OnOk};
+ghost use Rattle.nr_rev.specs.Cell.{cell};
+ghost use Rattle.nr_rev.specs.Run.{world_at};
+
+use nr_rev::{Cell, CellValue, Refusal, Reversible, Worlds};
+use nr_walker::Walker;
+use std::alloc::AllocError;
+
+/// Applies an operation to a machine whose operations can be undone, in any well-formed state, and undoes it. The state is
+/// what it was, in every part; so it is where the operation doesn't apply.
+pub fn there_and_back<M: Reversible>(machine: &mut M, op: &M::Op) -> Result<M::Answer, Refusal>
+    requires { M.is_well_formed machine.old }
+    ensures { machine.new ≡ machine.old }
+{
+    let (answer, delta) = machine.apply(op)?;
+    machine.undo(delta);
+    Ok(answer)
+}
+
+/// Leads a walker to position n, from wherever it stands, and returns the value of a cell there: that of the world which
+/// replaying the first n steps of its recording leads to.
+pub fn value_at<W: Worlds + Drop>(
+    walker: &mut Walker<'_, W>,
+    n: usize,
+    what: Cell,
+) -> Result<CellValue, AllocError>
+where
+    W::Delta: Drop,
+    requires { n ≤ length walker.old.film.recording.steps }
+    ensures value { IfOk result (λ value. value ≡ cell (world_at walker.old.film.recording n) what) }
+    ensures there { OnOk result (walker.new.position ≡ n) }
+    ensures film { OnOk result (walker.new.film ≡ walker.old.film) }
+{
+    walker.goto(n)?;
+    Ok(walker.world().cell(what))
+}
