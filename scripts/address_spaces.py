@@ -7,7 +7,7 @@ import signal
 import subprocess
 
 from debugger import State, is_command, read_line
-from sharing import NETREV, PATIENCE, Wrong, expect
+from sharing import NETREV, PATIENCE, Server, Wrong, expect, talk
 
 MEGABYTE = 1 << 20
 NO_MEMORY = b"fault 108 memory\n"
@@ -94,7 +94,8 @@ def loads_in():
 
 def expect_walk(recording, replies):
     """Sees that each reply is the right one, or that memory ran out for it as docs/COMMANDS.md says: of a look, which
-    may be asked again, or of a search, whose reply is owed then and given once by `resume`."""
+    may be asked again, or of a search, whose reply is owed then and given once by `resume`. Gives how many commands were
+    placed, and what is shown of the position then."""
     state, placed, owed = State(), 0, None
     expect("how many replies", WALK.count("\n"), len(replies))
     for line, came in zip(WALK.splitlines(), replies):
@@ -112,6 +113,7 @@ def expect_walk(recording, replies):
                 owed = right
             elif not (asked.sort == "look" and came == "fault 301 memory"):
                 expect(line, right, came)
+    return placed, recording.answer(state, read_line(b"info position"))[1][0]
 
 
 def expect_begun(right, output):
@@ -120,25 +122,26 @@ def expect_begun(right, output):
     expect("output", b"".join(lines) + NO_MEMORY, output)
 
 
+def ended_in(size, words, text):
+    """Starts netrev with so much address space, and gives its status, output and errors."""
+    pipe = subprocess.PIPE
+    limit = lambda: limit_memory(size)  # noqa: E731
+    try:
+        process = subprocess.Popen([NETREV, *words], stdin=pipe, stdout=pipe, stderr=pipe, preexec_fn=limit)
+    except OSError as failed:
+        return refused_start(failed), b"", b""
+    return ended(process, text)
+
+
 def play_memory(word, recording, upgraded=b""):
     """A hundred sizes up to twice what the right replies take, and those about the least that the program loads in. With
     `upgrade` the right text has to be named."""
 
     def play(size):
         try:
-            return judge(size, *start(size))
+            return judge(size, *ended_in(size, [word, recording.path], WALK.encode() if word == "run" else b""))
         except Wrong as wrong:
             raise Wrong(f"with {size // 1024} KB: {wrong}") from None
-
-    def start(size):
-        pipe = subprocess.PIPE
-        limit = lambda: limit_memory(size)  # noqa: E731
-        words = [NETREV, word, recording.path]
-        try:
-            process = subprocess.Popen(words, stdin=pipe, stdout=pipe, stderr=pipe, preexec_fn=limit)
-        except OSError as failed:
-            return refused_start(failed), b"", b""
-        return ended(process, WALK.encode() if word == "run" else b"")
 
     def judge(size, status, output, errors):
         if size < loads_in():
@@ -162,6 +165,14 @@ def play_memory(word, recording, upgraded=b""):
         expect_walk(recording, output.decode().splitlines())
         return "short" if b" memory" in output else "whole"
 
+    wanted = {"unloaded", "unstarted", "whole"}
+    if word == "run" and recording.length > 10:
+        wanted.add("short")
+    expect("what was met", wanted, {play(size) for size in a_hundred_sizes(play)})
+
+
+def a_hundred_sizes(play):
+    """Eighty up to what is ample, which is looked for, and those about the least that the program loads in."""
     least = loads_in()
     ample = least
     while play(ample) != "whole":
@@ -169,8 +180,44 @@ def play_memory(word, recording, upgraded=b""):
         expect("whether 1 GB is ample", True, ample <= MOST)
     spread = [ample * part // 80 for part in range(1, 81)]
     near = [least + step * 4096 for step in range(-4, 16)]
-    met = {play(size) for size in spread + near}
-    wanted = {"unloaded", "unstarted", "whole"}
-    if word == "run" and recording.length > 10:
-        wanted.add("short")
-    expect("what was met", wanted, met)
+    return spread + near
+
+
+def play_memory_of_serve(recording):
+    """A hundred sizes of a session that two callers share, one after the other."""
+
+    def play(size):
+        try:
+            return start(size)
+        except Wrong as wrong:
+            raise Wrong(f"with {size // 1024} KB: {wrong}") from None
+
+    def start(size):
+        through = ["sh", "-c", f'ulimit -c 0; ulimit -v {size // 1024}; exec "$@"', "sh"]
+        with Server(recording.path, fronts=2, workers=3, through=through) as server:
+            replies = said(server.call(0), [*WALK.splitlines(), "quit"])
+            shown = said(server.call(1), ["info position", "quit"])
+            return judge(size, replies, shown, *server.ended())
+
+    def said(caller, lines):
+        """What a caller is told, or nothing where netrev ended before it served."""
+        try:
+            return talk(caller, lines) if caller else []
+        except ConnectionError:
+            return []
+
+    def judge(size, replies, shown, status, output, errors):
+        if size < loads_in():
+            expect("whether the system refused to start it", True, status in (126, 127, 139, 137, -11, -9) and not output)
+            return "unloaded"
+        expect("errors", "", errors)
+        if not replies:
+            expect("status and output where nobody was served", (1, NO_MEMORY.decode()), (status, output))
+            return "unstarted"
+        placed, position = expect_walk(recording, replies[:-1])
+        expect("replies to the other", True, shown in ([position, "bye"], ["fault 301 memory", "bye"]))
+        if (status, output) != (1, NO_MEMORY.decode()):
+            expect("status and output", (0, f"placed {placed}\n"), (status, output))
+        return "short" if any(" memory" in line for line in [*replies, *shown, output]) else "whole"
+
+    expect("what was met", {"unloaded", "unstarted", "whole"}, {play(size) for size in a_hundred_sizes(play)} - {"short"})

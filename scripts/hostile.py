@@ -21,6 +21,7 @@ import argparse
 import subprocess
 import sys
 import tempfile
+from concurrent.futures import ThreadPoolExecutor
 from pathlib import Path
 
 from sharing import NETREV, PATIENCE, ROOT, Wrong, expect
@@ -161,6 +162,10 @@ UNKNOWN, BAD, LONG = "fault 201 unknown command", "fault 202 bad argument", "fau
 COMMANDS = (
     ("stepi" + " " * 251, "at 1"),
     ("stepi" + " " * 252, LONG),
+    ("stepi" + " " * 250 + "\r", "at 1"),
+    ("stepi" + " " * 251 + "\r", LONG),
+    (" " * 257, LONG),
+    (" " * 256 + "\r", LONG),
     ("stepi 4294967296", BAD),
     ("stepi 0", BAD),
     ("stepi 1 1", BAD),
@@ -196,12 +201,12 @@ COMMANDS = (
 WALK = "scripts/recordings/woken-by-an-event.jsonl"  # twelve steps
 
 BEGUN = tuple(
-    f"examples/{name}.jsonl"
-    for name in (
-        *("first", "leaked-reference", "lost-wakeup", "past-deadline", "reused-descriptor", "stale-deadline"),
-        *("answers", "shut-write-side"),
-    )
+    str(path.relative_to(ROOT))
+    for pattern in ("*.jsonl", "real/*.jsonl")
+    for path in sorted((ROOT / "examples").glob(pattern))
 ) + (WALK,)
+DIFFERS = {"examples/other-answer.jsonl": 11}  # the step whose recorded answer isn't the machine's
+AT_A_TIME = 8
 
 
 def printed(words, text=b""):
@@ -211,9 +216,9 @@ def printed(words, text=b""):
     return ran.returncode, ran.stdout.decode()
 
 
-def check(folder, text):
+def check(folder, text, name="recording"):
     """What `check` says of a text."""
-    path = Path(folder) / "recording.jsonl"
+    path = Path(folder) / f"{name}.jsonl"
     path.write_bytes(text)
     return printed(["check", path])
 
@@ -271,11 +276,12 @@ def both(folder, text, wanted):
         expect("upgrade", wanted, printed(["upgrade", Path(folder) / "recording.jsonl"]))
 
 
-def beginning(text):
-    """What is said of a beginning: its last line is whole, or no JSON."""
+def beginning(text, differs):
+    """What is said of a beginning: its last line is whole, or no JSON. Where all are whole, a step may answer otherwise."""
     lines = text.split(b"\n")
     if not lines[-1] and len(lines) > 1:
-        return wanted_of("", len(lines) - 2)
+        steps = len(lines) - 2
+        return wanted_of(f"step {differs}", "109 answer") if differs and steps >= differs else wanted_of("", steps)
     if not lines[-1]:
         return wanted_of("line 1", "101 header")
     return wanted_of(f"line {len(lines)}", "102 not JSON")
@@ -284,20 +290,27 @@ def beginning(text):
 def beginnings(folder):
     for name in BEGUN:
         whole = (ROOT / name).read_bytes()
-        yield f"beginning of {name}: each of {len(whole)}", lambda t=whole: every_beginning(folder, t)
+        differs = DIFFERS.get(name)
+        yield f"beginning of {name}: each of {len(whole)}", lambda t=whole, d=differs: every_beginning(folder, t, d)
 
 
-def every_beginning(folder, whole):
+def every_beginning(folder, whole, differs):
     """Cuts the text at each byte. Where all of a line but its line feed is there, it is read with it."""
-    for size in range(len(whole) + 1):
+
+    def cut(size):
         text = whole[:size]
         ended = text + b"\n" if whole[size : size + 1] == b"\n" else text
-        expect(f"check of the first {size} bytes", beginning(ended), check(folder, text))
+        expect(f"check of the first {size} bytes", beginning(ended, differs), check(folder, text, size % AT_A_TIME))
+
+    for first in range(0, len(whole) + 1, AT_A_TIME):
+        with ThreadPoolExecutor(AT_A_TIME) as pool:
+            list(pool.map(cut, range(first, min(first + AT_A_TIME, len(whole) + 1))))
 
 
 def faulty_commands(_folder):
     for line, reply in COMMANDS:
-        name = line if len(line) < 40 else f"{line.strip()} and {len(line) - len(line.strip())} spaces"
+        returned = " and a carriage return" if line.endswith("\r") else ""
+        name = line if len(line) < 40 else f"{line.strip() or 'nothing'} and {line.count(' ')} spaces{returned}"
         yield f"command {name!r}", lambda line=line, reply=reply: expect(
             "run", (0, f"{reply}\n"), printed(["run", ROOT / WALK], f"{line}\n".encode())
         )

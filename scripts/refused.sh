@@ -152,6 +152,14 @@ for recording in "$examples"/*.jsonl; do
 	fi
 done
 
+# The recording of twelve steps, with six lines of which two search.
+recording=$here/recordings/woken-by-an-event.jsonl
+input=$work/script
+printf '%s\n' "watch rg 0" continue "stepi 3" "print in 0" reverse-continue "info position" quit > "$input"
+printf '%s\n' "mark 1" "at 2 by 1" "at 5" "in 0 = 0" "at 2 by 1" "at 2 of 12 forward" bye > "$work/right"
+refuse_each 0 "$work/nothing" run "$recording"
+[ "$lines" != 0 ] || differs run "$recording"
+
 input=$examples/first.script
 { head -n 4 "$examples/first.jsonl"; echo '["blockswap",0]'; } > "$work/refused.jsonl"
 echo "step 4: fault 107 reason 2" > "$work/right"

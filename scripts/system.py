@@ -19,6 +19,7 @@ Ends with status 1 at the first that isn't as it has to be, and prints the name 
 
 import argparse
 import os
+import pty
 import signal
 import socket
 import subprocess
@@ -30,7 +31,7 @@ from contextlib import contextmanager
 from dataclasses import dataclass
 from pathlib import Path
 
-from address_spaces import LOOKS, MEGABYTE, NO_MEMORY, ended, limit_memory, loads_in, play_memory
+from address_spaces import LOOKS, MEGABYTE, NO_MEMORY, ended, limit_memory, loads_in, play_memory, play_memory_of_serve
 from debugger import Recording
 from loopback import reset
 from sharing import NETREV, PATIENCE, ROOT, Server, Wrong, expect, read_to_end, talk
@@ -233,6 +234,9 @@ def inputs():
     yield Case("input empty: run", "run", FIRST, 0, input=opened("/dev/null", os.O_RDONLY))
     yield Case("input and output closed: run", "run", FIRST, 3, input=CLOSED, into=CLOSED)
     yield Function("input, output and errors closed: serve", play_nothing_open)
+    yield Function("input that is a terminal: run", play_terminal)
+    yield Function("input that is a terminal, which is gone: run", play_terminal_gone)
+    yield Function("output that is a terminal, which is gone: run", play_output_terminal_gone)
 
 
 def files():
@@ -416,6 +420,51 @@ def play_nothing_open(_folder):
         expect("the replies of front 0", ["at 3", "bye"], talk(first, ["stepi 3", "quit"]))
         expect("the replies of front 1", ["at 2", "bye"], talk(second, ["rsi", "quit"]))
         server.expect_end(3, "")
+
+
+@contextmanager
+def terminal():
+    """The two ends of a terminal, which are closed in the end: who types, and who reads what is typed."""
+    ends = list(pty.openpty())
+    try:
+        yield ends
+    finally:
+        for one in ends:
+            if one is not None:
+                os.close(one)
+
+
+def play_terminal(_folder):
+    """A line is answered when it is typed, and Ctrl-D ends the input."""
+    with terminal() as (typist, typed), started([NETREV, "run", FIRST], stdin=typed, bufsize=0) as process:
+        os.write(typist, b"stepi\n")
+        expect("the reply", b"at 1\n", process.stdout.readline())
+        os.write(typist, b"info position\n\x04")
+        expect("status, output and errors", (0, b"at 1 of 10 forward\n", b""), ended(process))
+
+
+def play_terminal_gone(_folder):
+    """Who typed has gone: that is a failed read."""
+    with terminal() as ends, started([NETREV, "run", FIRST], stdin=ends[1], bufsize=0) as process:
+        os.write(ends[0], b"stepi\n")
+        expect("the reply", b"at 1\n", process.stdout.readline())
+        os.close(ends[0])
+        ends[0] = None
+        status, output, errors = ended(process)
+        # to who was reading already the system says that the read failed, to others that the input has ended
+        expect("the status is 0 or 3", True, status in (0, 3))
+        expect("output and errors", (b"", b""), (output, errors))
+
+
+def play_output_terminal_gone(_folder):
+    """Who reads has gone: that is a failed write."""
+    with terminal() as ends:
+        words = [NETREV, "run", FIRST]
+        pipe = subprocess.PIPE
+        process = subprocess.Popen(words, stdin=pipe, stdout=ends[1], stderr=pipe)
+        os.close(ends[0])
+        ends[0] = None
+        expect("status, output and errors", (3, b"", b""), ended(process, b"stepi\n"))
 
 
 def play_reader_goes(folder):
@@ -613,6 +662,12 @@ def memory():
                 play_memory(word, Recording.read(NETREV, path, LOOKS))
 
             yield Function(f"memory of a hundred sizes: {word} of {what}", play)
+
+        def share(folder, text=text):
+            path = Path(os.fsdecode(file_of("recording", text)(folder)))
+            play_memory_of_serve(Recording.read(NETREV, path, LOOKS))
+
+        yield Function(f"memory of a hundred sizes: serve of {what}", share)
 
 
 def cases():

@@ -1,0 +1,170 @@
+//! The calls that can be asked for.
+
+use crate::twice::Twice;
+use crate::walks::Leg;
+use crate::{films, fronts, journals, parts, searches, serving, texts, walks, worlds};
+use nr_machine::World;
+use nr_plain::PlainWorld;
+use nr_search::Direction;
+use std::sync::Wait;
+use std::thread::Threads;
+
+/// A call that takes memory.
+#[derive(Clone, Copy, Debug, PartialEq, Eq)]
+pub(crate) enum Call {
+    Read,
+    Write,
+    Load,
+    LoadRefused,
+    Fresh,
+    FreshPlain,
+    Copy,
+    CopyPlain,
+    TableWithLimits,
+    SockWithLimits,
+    TimersWithLimits,
+    TableCopy,
+    SockCopy,
+    TimersCopy,
+    WalkerNew,
+    GoForward,
+    GoToCopy,
+    GoBack,
+    SearchForward,
+    SearchBackward,
+    ManySearchForward,
+    ManySearchBackward,
+    JournalNew,
+    JournalSplit,
+    JournalFinish,
+    FrontNew,
+    Exec,
+    ExecBehindAnother,
+    Look,
+    Resume,
+    Session,
+    WithAnswers,
+    Check,
+    Upgrade,
+    Serve,
+}
+
+/// Their names.
+pub(crate) static CALLS: [(&str, Call); 35] = [
+    ("read", Call::Read),
+    ("write", Call::Write),
+    ("load", Call::Load),
+    ("load-refused-step", Call::LoadRefused),
+    ("fresh", Call::Fresh),
+    ("fresh-plain", Call::FreshPlain),
+    ("copy", Call::Copy),
+    ("copy-plain", Call::CopyPlain),
+    ("goroutines-with-limits", Call::TableWithLimits),
+    ("buffers-with-limits", Call::SockWithLimits),
+    ("timers-with-limits", Call::TimersWithLimits),
+    ("goroutines-copy", Call::TableCopy),
+    ("buffers-copy", Call::SockCopy),
+    ("timers-copy", Call::TimersCopy),
+    ("walker-new", Call::WalkerNew),
+    ("goto-forward", Call::GoForward),
+    ("goto-a-copy", Call::GoToCopy),
+    ("goto-back", Call::GoBack),
+    ("search-forward", Call::SearchForward),
+    ("search-backward", Call::SearchBackward),
+    ("search-forward-by-three", Call::ManySearchForward),
+    ("search-backward-by-three", Call::ManySearchBackward),
+    ("journal-new", Call::JournalNew),
+    ("journal-split", Call::JournalSplit),
+    ("journal-finish", Call::JournalFinish),
+    ("front-new", Call::FrontNew),
+    ("exec", Call::Exec),
+    ("exec-behind-anothers", Call::ExecBehindAnother),
+    ("look", Call::Look),
+    ("resume", Call::Resume),
+    ("six-lines", Call::Session),
+    ("with-answers", Call::WithAnswers),
+    ("check-bytes", Call::Check),
+    ("upgrade-bytes", Call::Upgrade),
+    ("serve-bytes", Call::Serve),
+];
+
+impl Call {
+    /// The call of this name.
+    pub(crate) fn named(word: &str) -> Option<Call> {
+        for (name, call) in CALLS.iter() {
+            if *name == word {
+                return Some(*call);
+            }
+        }
+        None
+    }
+
+    /// Makes it while memory may be refused, and once more with memory. `None` where there was no memory for what comes
+    /// before.
+    pub(crate) fn make_twice<H: Threads + Wait + Sync>(
+        self,
+        rt: &HostRuntime,
+        handles: &H,
+    ) -> Option<Twice> {
+        match self {
+            Call::Read => Some(texts::read_twice(rt)),
+            Call::Write => texts::write_twice(rt),
+            Call::Load => films::load_twice(rt),
+            Call::LoadRefused => films::load_refused_twice(rt),
+            Call::WithAnswers => films::answer_film_twice(rt),
+            Call::Check => Some(texts::check_twice(rt)),
+            Call::Upgrade => Some(texts::upgrade_twice(rt)),
+            Call::Fresh => Some(worlds::make_twice::<World>(rt)),
+            Call::FreshPlain => Some(worlds::make_twice::<PlainWorld>(rt)),
+            Call::Copy => worlds::copy_twice::<World>(rt),
+            Call::CopyPlain => worlds::copy_twice::<PlainWorld>(rt),
+            Call::Serve => Some(serving::serve_twice(rt, handles)),
+            _ => self.make_part_twice(rt, handles),
+        }
+    }
+
+    // The calls of a world's parts and of walks.
+    fn make_part_twice<H: Threads + Sync>(self, rt: &HostRuntime, handles: &H) -> Option<Twice> {
+        match self {
+            Call::TableWithLimits => Some(parts::make_table_twice(rt)),
+            Call::SockWithLimits => Some(parts::make_sock_twice(rt)),
+            Call::TimersWithLimits => Some(parts::make_timers_twice(rt)),
+            Call::TableCopy => parts::copy_table_twice(rt),
+            Call::SockCopy => parts::copy_sock_twice(rt),
+            Call::TimersCopy => parts::copy_timers_twice(rt),
+            Call::WalkerNew => walks::make_twice(rt),
+            Call::GoForward => walks::go_twice(rt, &Leg::FORWARD),
+            Call::GoToCopy => walks::go_twice(rt, &Leg::TO_COPY),
+            Call::GoBack => walks::go_twice(rt, &Leg::BACK),
+            _ => self.make_session_twice(rt, handles),
+        }
+    }
+
+    // The calls of searches, journals and fronts.
+    fn make_session_twice<H: Threads + Sync>(self, rt: &HostRuntime, handles: &H) -> Option<Twice> {
+        match self {
+            Call::SearchForward => searches::search_twice(rt, handles, Direction::Forward),
+            Call::SearchBackward => searches::search_twice(rt, handles, Direction::Backward),
+            Call::ManySearchForward => searches::search_by_many_twice(
+                rt,
+                handles,
+                Direction::Forward,
+            ),
+            Call::ManySearchBackward => searches::search_by_many_twice(
+                rt,
+                handles,
+                Direction::Backward,
+            ),
+            Call::JournalNew => Some(journals::make_twice(rt)),
+            Call::JournalSplit => journals::split_twice(rt),
+            Call::JournalFinish => journals::finish_twice(rt),
+            Call::FrontNew => fronts::make_twice(rt, handles),
+            Call::Exec => fronts::exec_twice(rt, handles),
+            Call::ExecBehindAnother => fronts::exec_behind_another_twice(rt, handles),
+            Call::Look => fronts::look_twice(rt, handles),
+            Call::Resume => fronts::resume_twice(rt, handles),
+            Call::Session => fronts::play_twice(rt, handles),
+            _ => None,
+        }
+    }
+}

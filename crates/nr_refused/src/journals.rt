@@ -1,0 +1,121 @@
+//! Journals: they are made, shared out and read to the end.
+
+ghost use Rattle.std.specs.Prelude.{◌≡◌};
+ghost use Rattle.nr_journal.specs.Rule.{HasOpcode, tag_of};
+
+use crate::twice::{Came, Twice, grant, refuse};
+use nr_journal::{Journal, Offered, Pass, Seat};
+use std::alloc::{AllocError, Global};
+
+// A checkpoint's word with the pass's tag: opcode 9, and no argument.
+fn word_of(pass: &Pass) -> u64
+    ensures { HasOpcode result × (tag_of result ≡ pass.now.pass_state.tag) }
+{
+    9 + 256 * u64::from(pass.tag())
+}
+
+// Places it.
+fn place(journal: &Journal, pass: &mut Pass) -> bool
+    requires { pass.old.table ≡ journal.now }
+    ensures { pass.new.table ≡ journal.now }
+{
+    let word = word_of(pass);
+    matches!(journal.offer(pass, word), Offered::Placed)
+}
+
+// Whether just two words can be placed in a new journal.
+fn has_room_for_two(journal: &Journal, seat: Seat) -> bool
+    requires { seat.table ≡ journal.now }
+{
+    let Ok(mut pass) = journal.enter(seat) else {
+        return false;
+    };
+    let placed = [
+        place(journal, &mut pass),
+        place(journal, &mut pass),
+        place(journal, &mut pass),
+    ];
+    placed == [true, true, false] && pass.seen() == 2
+}
+
+// Makes a journal of two words.
+fn make(alloc: Global) -> Came {
+    match Journal::new(alloc, 2) {
+        Ok((journal, seat)) => Came::of(has_room_for_two(&journal, seat)),
+        Err(AllocError) => Came::Refused,
+    }
+}
+
+/// Makes it twice.
+pub(crate) fn make_twice(rt: &HostRuntime) -> Twice {
+    refuse(rt);
+    let first = make(rt.alloc());
+    grant(rt);
+    Twice {
+        first,
+        again: make(rt.alloc()),
+    }
+}
+
+// What comes of reading so many checkpoints with tag 0.
+fn is_read(words: Result<Vec<u64>, AllocError>, count: usize) -> Came {
+    match words {
+        Ok(words) => {
+            let are_right = words.iter().all(|word| *word == 9);
+            Came::of(are_right && words.len() == count)
+        }
+        Err(AllocError) => Came::Refused,
+    }
+}
+
+// Whether two seats of a journal have two tags.
+fn have_two_tags(journal: &Journal, one: Seat, other: Seat) -> bool
+    requires one { one.table ≡ journal.now }
+    requires other { other.table ≡ journal.now }
+{
+    let (Ok(one), Ok(other)) = (journal.enter(one), journal.enter(other)) else {
+        return false;
+    };
+    (one.tag(), other.tag()) == (0, 1)
+}
+
+/// Takes a seat of another, which takes no memory.
+pub(crate) fn split_twice(rt: &HostRuntime) -> Option<Twice> {
+    let (journal, mut seat) = Journal::new(rt.alloc(), 2).ok()?;
+    refuse(rt);
+    let first = journal.split(&mut seat);
+    grant(rt);
+    let again = journal.split(&mut seat);
+    let came = Came::of(have_two_tags(&journal, first, again));
+    Some(Twice {
+        first: came,
+        again: came,
+    })
+}
+
+// Reads a journal twice in which a word was placed.
+fn finish_both(rt: &HostRuntime, journal: &Journal, seat: Seat) -> Option<Twice>
+    requires { seat.table ≡ journal.now }
+{
+    let Ok(mut pass) = journal.enter(seat) else {
+        return None;
+    };
+    if !place(journal, &mut pass) {
+        return None;
+    }
+    refuse(rt);
+    let first = journal.finish(rt.alloc(), &mut pass);
+    grant(rt);
+    let seen = pass.seen();
+    let is_placed = place(journal, &mut pass);
+    Some(Twice {
+        first: is_read(first, 1).leaving(seen == 1 && is_placed),
+        again: is_read(journal.finish(rt.alloc(), &mut pass), 2),
+    })
+}
+
+/// Reads a journal twice.
+pub(crate) fn finish_twice(rt: &HostRuntime) -> Option<Twice> {
+    let (journal, seat) = Journal::new(rt.alloc(), 4).ok()?;
+    finish_both(rt, &journal, seat)
+}

@@ -1,0 +1,83 @@
+//! Makes a call of netrev's libraries while requests for memory may be refused, and then once more with memory:
+//! `nr_refused CALL`, or `nr_refused all` for one call after the other.
+//!
+//! It refuses nothing itself. The line `refuse` says that requests may be refused from now on, and `grant` that none is any
+//! more; scripts/each_call.py puts scripts/refused.c before the C library, which goes by these lines. Then a line says what
+//! came of both calls. Where a call was refused, what it had to leave as it was has been compared.
+#![tactic(auto)]
+
+mod calls;
+mod films;
+mod fronts;
+mod journals;
+mod parts;
+mod searches;
+mod serving;
+mod switchboard;
+mod texts;
+mod twice;
+mod walks;
+mod worlds;
+
+use crate::calls::{CALLS, Call};
+use crate::twice::Twice;
+use std::process::ExitCode;
+use std::sync::Wait;
+use std::thread::Threads;
+use std::{env, io};
+
+fn main(rt: HostRuntime) -> ExitCode {
+    match run(&rt, &rt) {
+        Ok(status) => ExitCode::from(status),
+        Err(error) => {
+            let _told = eprintln!(rt; "nr_refused: {error}");
+            ExitCode::from(1)
+        }
+    }
+}
+
+// Does what the arguments ask for, and returns the exit status.
+fn run<H: Threads + Wait + Sync>(rt: &HostRuntime, handles: &H) -> io::Result<u8> {
+    let words: Vec<String> = env::args(rt)?.collect(rt.alloc())?;
+    let Some(word) = words.get(1) else {
+        return list(rt);
+    };
+    if word.as_str() == "all" {
+        return play_all(rt, handles);
+    }
+    match Call::named(word.as_str()) {
+        Some(call) => play(rt, handles, word.as_str(), call),
+        None => list(rt),
+    }
+}
+
+// Says which calls there are.
+fn list(rt: &HostRuntime) -> io::Result<u8> {
+    for (name, _) in CALLS.iter() {
+        println!(rt; "{name}")?;
+    }
+    Ok(2)
+}
+
+fn play_all<H: Threads + Wait + Sync>(rt: &HostRuntime, handles: &H) -> io::Result<u8> {
+    let mut worst = 0;
+    for (name, call) in CALLS.iter() {
+        worst = play(rt, handles, name, *call)?.max(worst);
+    }
+    Ok(worst)
+}
+
+// Makes a call twice, and says what came of it.
+fn play<H: Threads + Wait + Sync>(
+    rt: &HostRuntime,
+    handles: &H,
+    name: &str,
+    call: Call,
+) -> io::Result<u8> {
+    let (text, status) = match call.make_twice(rt, handles) {
+        None => ("no memory before it", 1),
+        Some(twice) => (twice.text(), if twice.is_right() { 0 } else { 1 }),
+    };
+    println!(rt; "{name}: {text}")?;
+    Ok(status)
+}

@@ -1,0 +1,176 @@
+//! The parts of a packed world that have room of their own: goroutines, buffers and timers. A lock word and a descriptor
+//! have none.
+
+use crate::twice::{Came, Twice, grant, refuse};
+use nr_gsema::{GOperation, GTable};
+use nr_rev::{Bytes, Refusal, Reversible, Side, Status, Step, TimerFunction};
+use nr_sockbuf::Sock;
+use nr_timers::{Timers, TimersOp};
+use std::alloc::{AllocError, Global};
+
+fn came_of_table(made: Result<GTable, AllocError>, goroutines: u32) -> Came {
+    match made {
+        Ok(table) => Came::of(has_goroutines(&table, goroutines)),
+        Err(AllocError) => Came::Refused,
+    }
+}
+
+// Whether just so many goroutines were made, which are idle, and nobody is queued.
+fn has_goroutines(table: &GTable, goroutines: u32) -> bool {
+    let last = goroutines
+        .checked_sub(1)
+        .and_then(|last| table.status(last));
+    let is_last = match last {
+        None => goroutines == 0,
+        Some(status) => status == Status::Idle,
+    };
+    is_last
+        && table.made() == goroutines
+        && table.status(goroutines).is_none()
+        && table.count(0, Side::Read) == Some(0)
+        && table.count(1, Side::Read).is_none()
+        && table.front_of(0, Side::Read).is_none()
+}
+
+/// Makes a table for four goroutines and a socket twice.
+pub(crate) fn make_table_twice(rt: &HostRuntime) -> Twice {
+    refuse(rt);
+    let first = GTable::with_limits(rt.alloc(), 4, 1);
+    grant(rt);
+    Twice {
+        first: came_of_table(first, 0),
+        again: came_of_table(GTable::with_limits(rt.alloc(), 4, 1), 0),
+    }
+}
+
+// A table with two goroutines.
+fn table_of_two(alloc: Global) -> Option<GTable> {
+    let mut table = GTable::with_limits(alloc, 4, 1).ok()?;
+    table.apply(&GOperation::Spawn).ok()?;
+    table.apply(&GOperation::Spawn).ok()?;
+    Some(table)
+}
+
+/// Copies a table of two goroutines twice.
+pub(crate) fn copy_table_twice(rt: &HostRuntime) -> Option<Twice> {
+    let table = table_of_two(rt.alloc())?;
+    refuse(rt);
+    let first = table.try_copy();
+    grant(rt);
+    Some(Twice {
+        first: came_of_table(first, 2).leaving(has_goroutines(&table, 2)),
+        again: came_of_table(table.try_copy(), 2),
+    })
+}
+
+fn came_of_sock(made: Result<Sock, AllocError>, bytes: &[u8]) -> Came {
+    match made {
+        Ok(sock) => Came::of(has_bytes(&sock, bytes)),
+        Err(AllocError) => Came::Refused,
+    }
+}
+
+// Whether just these bytes are to be read; where there are none, that it was not opened.
+fn has_bytes(sock: &Sock, bytes: &[u8]) -> bool {
+    sock.is_made() != bytes.is_empty()
+        && sock.byte(Side::Read, 0) == bytes.get(0).copied()
+        && sock.byte(Side::Read, 1) == bytes.get(1).copied()
+        && sock.byte(Side::Read, 2) == bytes.get(2).copied()
+        && sock.byte(Side::Write, 0).is_none()
+}
+
+/// Makes a socket's buffers twice.
+pub(crate) fn make_sock_twice(rt: &HostRuntime) -> Twice {
+    refuse(rt);
+    let first = Sock::with_limits(rt.alloc(), 16);
+    grant(rt);
+    Twice {
+        first: came_of_sock(first, b""),
+        again: came_of_sock(Sock::with_limits(rt.alloc(), 16), b""),
+    }
+}
+
+const OPEN: Step = Step::SockOpen {
+    read_capacity: 16,
+    write_capacity: 16,
+};
+
+// Buffers where two bytes have arrived.
+fn sock_of_two(alloc: Global) -> Option<Sock> {
+    let mut sock = Sock::with_limits(alloc, 16).ok()?;
+    let bytes = Bytes::new(Vec::from_slice(alloc, b"hi").ok()?);
+    sock.apply(&OPEN).ok()?;
+    sock.apply(&Step::Arrive { socket: 0, bytes }).ok()?;
+    Some(sock)
+}
+
+/// Copies a socket's buffers twice.
+pub(crate) fn copy_sock_twice(rt: &HostRuntime) -> Option<Twice> {
+    let sock = sock_of_two(rt.alloc())?;
+    refuse(rt);
+    let first = sock.try_copy();
+    grant(rt);
+    Some(Twice {
+        first: came_of_sock(first, b"hi").leaving(has_bytes(&sock, b"hi")),
+        again: came_of_sock(sock.try_copy(), b"hi"),
+    })
+}
+
+fn came_of_timers(made: Result<Timers, Refusal>, times: &[i64]) -> Came {
+    match made {
+        Ok(timers) => Came::of(has_times(&timers, times)),
+        Err(Refusal::Memory) => Came::Refused,
+        Err(_) => Came::Wrong,
+    }
+}
+
+// Whether just these timers are armed, by their places, and none has gone off.
+fn has_times(timers: &Timers, times: &[i64]) -> bool {
+    let due = |place| timers.at_place(place).map(|entry| entry.timer.due);
+    timers.len() == times.len()
+        && timers.next_number() == 1 + times.len() as u64
+        && timers.firings() == 0
+        && due(0) == times.get(0).copied()
+        && due(1) == times.get(1).copied()
+}
+
+/// Makes the timers of two descriptors twice.
+pub(crate) fn make_timers_twice(rt: &HostRuntime) -> Twice {
+    refuse(rt);
+    let first = Timers::with_limits(rt.alloc(), 2);
+    grant(rt);
+    Twice {
+        first: came_of_timers(first, &[]),
+        again: came_of_timers(Timers::with_limits(rt.alloc(), 2), &[]),
+    }
+}
+
+fn arm(side: Side, due: i64) -> TimersOp {
+    TimersOp::Arm {
+        descriptor: 0,
+        side,
+        due,
+        function: TimerFunction::Read,
+        sequence: 1,
+    }
+}
+
+// Timers of which the one armed later is due first.
+fn armed(alloc: Global) -> Option<Timers> {
+    let mut timers = Timers::with_limits(alloc, 2).ok()?;
+    timers.apply(&arm(Side::Read, 20)).ok()?;
+    timers.apply(&arm(Side::Write, 10)).ok()?;
+    Some(timers)
+}
+
+/// Copies two timers twice.
+pub(crate) fn copy_timers_twice(rt: &HostRuntime) -> Option<Twice> {
+    let timers = armed(rt.alloc())?;
+    refuse(rt);
+    let first = timers.try_copy(rt.alloc());
+    grant(rt);
+    Some(Twice {
+        first: came_of_timers(first, &[10, 20]).leaving(has_times(&timers, &[10, 20])),
+        again: came_of_timers(timers.try_copy(rt.alloc()), &[10, 20]),
+    })
+}

@@ -1,0 +1,81 @@
+//! A session of two fronts over callers in memory.
+
+use crate::switchboard::{Part, Seen, Switchboard};
+use crate::texts::TEXT;
+use crate::twice::{Came, Twice, grant, refuse};
+use nr_machine::World;
+use nr_programs::{ExitStatus, Sharing, serve_bytes};
+use nr_text::Sink;
+use std::alloc::Global;
+use std::sync::Wait;
+use std::thread::Threads;
+
+/// Lines whose replies are the same whichever front is served first, and that take no memory.
+static PARTS: [Part; 2] = [
+    Part {
+        lines: "checkpoint\nquit\n",
+        replies: "checkpoint 1 at 0\nbye\n",
+    },
+    Part {
+        lines: "info position\nwatch rg 0\n",
+        replies: "at 0 of 12 forward\nmark 1\n",
+    },
+];
+
+const SHARING: Sharing = Sharing {
+    port: 1,
+    fronts: 2,
+    workers: 1,
+    journal: 16,
+    connections: None,
+};
+
+// Serves the callers, and says how many bytes are out.
+fn serve_into<H: Threads + Wait + Sync>(
+    handles: &H,
+    alloc: Global,
+    seen: &[Seen],
+    room: &mut [u8],
+) -> (ExitStatus, usize) {
+    let all = room.len();
+    let mut out = Sink::new(room);
+    let mut ports = Switchboard {
+        parts: PARTS.as_slice(),
+        seen,
+    };
+    let bytes = TEXT.as_bytes();
+    let status = serve_bytes::<World, H, _, _>(
+        handles, alloc, bytes, SHARING, &mut ports, &mut out,
+    );
+    let left = out.into_inner().len();
+    (status, all.saturating_sub(left))
+}
+
+// Where memory is refused, none of the callers was served, or all were and only the words couldn't be collected.
+fn came_of_serving(status: ExitStatus, out: Option<&[u8]>, seen: &[Seen; 2]) -> Came {
+    let are_right = seen[0].is_right(&PARTS[0]) && seen[1].is_right(&PARTS[1]);
+    let are_untouched = seen[0].is_untouched() && seen[1].is_untouched();
+    match (status, out) {
+        (ExitStatus::Done, Some(b"placed 2\n")) => Came::of(are_right),
+        (ExitStatus::Refused, Some(b"fault 108 memory\n")) => {
+            Came::Refused.leaving(are_right || are_untouched)
+        }
+        _ => Came::Wrong,
+    }
+}
+
+/// Serves two callers twice.
+pub(crate) fn serve_twice<H: Threads + Wait + Sync>(rt: &HostRuntime, handles: &H) -> Twice {
+    let mut room = [0u8; 64];
+    let seen = [Seen::new(), Seen::new()];
+    refuse(rt);
+    let (status, count) = serve_into(handles, rt.alloc(), seen.as_slice(), room.as_mut_slice());
+    grant(rt);
+    let first = came_of_serving(status, room.get(..count), &seen);
+    let seen = [Seen::new(), Seen::new()];
+    let (status, count) = serve_into(handles, rt.alloc(), seen.as_slice(), room.as_mut_slice());
+    Twice {
+        first,
+        again: came_of_serving(status, room.get(..count), &seen),
+    }
+}

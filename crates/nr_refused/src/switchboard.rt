@@ -1,0 +1,110 @@
+//! Callers in memory: each sends its lines at once, and what it is answered is compared.
+
+use nr_serving::{Connection, Connections, Next, Ports};
+use std::io;
+use std::io::ErrorKind;
+use std::sync::atomic::AtomicU32;
+use std::sync::atomic::Ordering::SeqCst;
+
+/// The lines of a caller, and the replies that it has to get.
+pub(crate) struct Part {
+    pub(crate) lines: &'static str,
+    pub(crate) replies: &'static str,
+}
+
+/// What was seen of a caller.
+#[derive(Drop)]
+pub(crate) struct Seen {
+    reads: AtomicU32,
+    // how many bytes of the right replies came
+    right: AtomicU32,
+    written: AtomicU32,
+}
+
+impl Seen {
+    pub(crate) fn new() -> Seen {
+        Seen {
+            reads: AtomicU32::new(0),
+            right: AtomicU32::new(0),
+            written: AtomicU32::new(0),
+        }
+    }
+
+    /// Whether the right replies came, and nothing else.
+    pub(crate) fn is_right(&self, part: &Part) -> bool {
+        self.right.load(SeqCst) as usize == part.replies.len()
+            && self.written.load(SeqCst) as usize == part.replies.len()
+    }
+
+    /// Whether the caller was not served.
+    pub(crate) fn is_untouched(&self) -> bool {
+        self.reads.load(SeqCst) == 0 && self.written.load(SeqCst) == 0
+    }
+}
+
+/// A caller who plays a part.
+#[derive(Drop)]
+pub(crate) struct Caller<'a> {
+    part: &'a Part,
+    seen: &'a Seen,
+}
+
+impl Connection for Caller<'_> {
+    fn read(&self, buf: &mut [u8]) -> io::Result<usize> {
+        let lines = self.part.lines.as_bytes();
+        if self.seen.reads.fetch_add(1, SeqCst) > 0 {
+            return Ok(0);
+        }
+        if lines.len() > buf.len() {
+            return Err(ErrorKind::Other.into());
+        }
+        buf[..lines.len()].copy_from_slice(lines);
+        Ok(lines.len())
+    }
+
+    fn write(&self, bytes: &[u8]) -> io::Result<usize> {
+        let count = u32::try_from(bytes.len()).unwrap_or(u32::MAX);
+        let before = self.seen.written.fetch_add(count, SeqCst) as usize;
+        let expected = self.part.replies.as_bytes().get(before..);
+        if expected.is_some_and(|replies| replies.starts_with(bytes)) {
+            let _ = self.seen.right.fetch_add(count, SeqCst);
+        }
+        Ok(bytes.len())
+    }
+}
+
+/// One caller, or none any more.
+#[derive(Drop)]
+pub(crate) struct Callers<'a> {
+    caller: Option<Caller<'a>>,
+}
+
+impl<'a> Connections for Callers<'a> {
+    type Connection = Caller<'a>;
+
+    fn next(&mut self) -> Next<Caller<'a>> {
+        match self.caller.take() {
+            Some(caller) => Next::Serve(caller),
+            None => Next::Ended,
+        }
+    }
+}
+
+/// A caller at each front.
+#[derive(Drop)]
+pub(crate) struct Switchboard<'a> {
+    pub(crate) parts: &'a [Part],
+    pub(crate) seen: &'a [Seen],
+}
+
+impl<'a> Ports for Switchboard<'a> {
+    type Callers = Callers<'a>;
+
+    fn open(&mut self, front: usize) -> Callers<'a> {
+        let caller = match (self.parts.get(front), self.seen.get(front)) {
+            (Some(part), Some(seen)) => Some(Caller { part, seen }),
+            _ => None,
+        };
+        Callers { caller }
+    }
+}

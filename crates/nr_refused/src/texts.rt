@@ -1,0 +1,204 @@
+//! Recordings as texts: they are read, written and checked.
+
+use crate::twice::{Came, Twice, grant, refuse};
+use nr_machine::World;
+use nr_programs::{ExitStatus, check_bytes, upgrade_bytes};
+use nr_recording::{ReadFault, Recording, WriteFault, read, write};
+use nr_snaps::Film;
+use nr_text::Sink;
+use std::alloc::{AllocError, Global};
+
+/// A goroutine waits for bytes at a socket and reads them. It is as `write` writes it.
+pub(crate) const TEXT: &str = r#"{"buf":16,"desc":2,"gor":4,"netrev":1,"sock":2}
+["sockopen",16,16]
+["pollopen",0,0]
+["rwlock",0,0,"r"]
+["waitbegin",0,0,"r"]
+["blockarm",0]
+["blockcheck",0]
+["parkcommit",0]
+["arrive",0,"6869"]
+["pollevent",0,1,"r",0]
+["blockswap",0]
+["sysread",0,0,8]
+["rwunlock",0,0,"r"]
+"#;
+
+/// The same in version 2, each step with its answer.
+const ANSWERED: &str = r#"{"buf":16,"desc":2,"gor":4,"netrev":2,"sock":2}
+["sockopen",16,16,["number",0]]
+["pollopen",0,0,["number",0]]
+["rwlock",0,0,"r","yes"]
+["waitbegin",0,0,"r",["code",0]]
+["blockarm",0,"wait"]
+["blockcheck",0,["code",0]]
+["parkcommit",0,"yes"]
+["arrive",0,"6869","done"]
+["pollevent",0,1,"r",0,"done"]
+["blockswap",0,"yes"]
+["sysread",0,0,8,["got",2]]
+["rwunlock",0,0,"r","notlast"]
+"#;
+
+/// Room for more bytes than any text has that is written here.
+const ROOM: usize = 1_024;
+
+/// Reads the text twice.
+pub(crate) fn read_twice(rt: &HostRuntime) -> Twice {
+    let alloc = rt.alloc();
+    refuse(rt);
+    let first = read(alloc, TEXT.as_bytes());
+    grant(rt);
+    let again = read(alloc, TEXT.as_bytes());
+    Twice {
+        first: came_of_reading(alloc, first),
+        again: came_of_reading(alloc, again),
+    }
+}
+
+fn came_of_reading(alloc: Global, reading: Result<Recording, ReadFault>) -> Came {
+    match reading {
+        Ok(recording) => written(alloc, &recording, TEXT),
+        Err(ReadFault::Memory) => Came::Refused,
+        Err(_) => Came::Wrong,
+    }
+}
+
+// What comes of writing it into room enough, where it has to be this text.
+fn written(alloc: Global, recording: &Recording, text: &str) -> Came {
+    let mut room = [0u8; ROOM];
+    let (result, count) = write_into(alloc, recording, room.as_mut_slice());
+    came_of_writing(result, room.get(..count), text)
+}
+
+// Writes a recording, and says how many bytes are out.
+fn write_into(
+    alloc: Global,
+    recording: &Recording,
+    room: &mut [u8],
+) -> (Result<(), WriteFault>, usize) {
+    let all = room.len();
+    let mut out = Sink::new(room);
+    let result = write(alloc, recording, &mut out);
+    let left = out.into_inner().len();
+    (result, all.saturating_sub(left))
+}
+
+// Whether these are whole lines of a text, from the first on.
+fn are_first_lines(out: &[u8], text: &str) -> bool {
+    matches!(out.last(), None | Some(b'\n')) && text.as_bytes().starts_with(out)
+}
+
+// Where it was refused memory, just some first lines are out, whole.
+fn came_of_writing(outcome: Result<(), WriteFault>, out: Option<&[u8]>, text: &str) -> Came {
+    let Some(out) = out else {
+        return Came::Wrong;
+    };
+    match outcome {
+        Ok(()) => Came::of(out == text.as_bytes()),
+        Err(WriteFault::Memory) => Came::Refused.leaving(are_first_lines(out, text)),
+        Err(WriteFault::Device) => Came::Wrong,
+    }
+}
+
+/// Writes the recording of the text twice.
+pub(crate) fn write_twice(rt: &HostRuntime) -> Option<Twice> {
+    let recording = read(rt.alloc(), TEXT.as_bytes()).ok()?;
+    let mut room = [0u8; ROOM];
+    refuse(rt);
+    let (result, count) = write_into(rt.alloc(), &recording, room.as_mut_slice());
+    grant(rt);
+    Some(Twice {
+        first: came_of_writing(result, room.get(..count), TEXT),
+        again: written(rt.alloc(), &recording, TEXT),
+    })
+}
+
+/// Checks the text twice.
+pub(crate) fn check_twice(rt: &HostRuntime) -> Twice {
+    let mut room = [0u8; ROOM];
+    refuse(rt);
+    let (status, count) = check_into(rt.alloc(), room.as_mut_slice());
+    grant(rt);
+    let first = came_of_checking(status, room.get(..count));
+    let (status, count) = check_into(rt.alloc(), room.as_mut_slice());
+    Twice {
+        first,
+        again: came_of_checking(status, room.get(..count)),
+    }
+}
+
+// Checks the text, and says how many bytes are out.
+fn check_into(alloc: Global, room: &mut [u8]) -> (ExitStatus, usize) {
+    let all = room.len();
+    let mut out = Sink::new(room);
+    let status = check_bytes::<World, _>(alloc, TEXT.as_bytes(), &mut out);
+    let left = out.into_inner().len();
+    (status, all.saturating_sub(left))
+}
+
+fn came_of_checking(status: ExitStatus, out: Option<&[u8]>) -> Came {
+    match (status, out) {
+        (ExitStatus::Done, Some(b"ok 12 steps\n")) => Came::Right,
+        (ExitStatus::Refused, Some(b"fault 108 memory\n")) => Came::Refused,
+        _ => Came::Wrong,
+    }
+}
+
+fn came_of_answering(alloc: Global, answered: Result<Recording, AllocError>) -> Came {
+    match answered {
+        Ok(recording) => written(alloc, &recording, ANSWERED),
+        Err(AllocError) => Came::Refused,
+    }
+}
+
+/// Adds the answers to a film of the text twice.
+pub(crate) fn answer_twice(rt: &HostRuntime, film: &Film<World>) -> Twice {
+    let alloc = rt.alloc();
+    refuse(rt);
+    let first = film.with_answers(alloc);
+    grant(rt);
+    let first = came_of_answering(alloc, first);
+    Twice {
+        first,
+        again: came_of_answering(alloc, film.with_answers(alloc)),
+    }
+}
+
+/// Upgrades the text twice.
+pub(crate) fn upgrade_twice(rt: &HostRuntime) -> Twice {
+    let mut room = [0u8; ROOM];
+    refuse(rt);
+    let (status, count) = upgrade_into(rt.alloc(), room.as_mut_slice());
+    grant(rt);
+    let first = came_of_upgrading(status, room.get(..count));
+    let (status, count) = upgrade_into(rt.alloc(), room.as_mut_slice());
+    Twice {
+        first,
+        again: came_of_upgrading(status, room.get(..count)),
+    }
+}
+
+// Upgrades the text, and says how many bytes are out.
+fn upgrade_into(alloc: Global, room: &mut [u8]) -> (ExitStatus, usize) {
+    let all = room.len();
+    let mut out = Sink::new(room);
+    let status = upgrade_bytes::<World, _>(alloc, TEXT.as_bytes(), &mut out);
+    let left = out.into_inner().len();
+    (status, all.saturating_sub(left))
+}
+
+// Where it was refused memory, that is told behind whole lines.
+fn came_of_upgrading(status: ExitStatus, out: Option<&[u8]>) -> Came {
+    let Some(out) = out else {
+        return Came::Wrong;
+    };
+    match status {
+        ExitStatus::Done => Came::of(out == ANSWERED.as_bytes()),
+        ExitStatus::Refused => match out.strip_suffix(b"fault 108 memory\n") {
+            Some(lines) => Came::Refused.leaving(are_first_lines(lines, ANSWERED)),
+            None => Came::Wrong,
+        },
+        _ => Came::Wrong,
+    }
+}

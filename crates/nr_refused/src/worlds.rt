@@ -1,0 +1,140 @@
+//! Worlds of either representation: they are made and copied.
+
+use crate::films::is_at;
+use crate::texts::TEXT;
+use crate::twice::{Came, Twice, grant, refuse};
+use nr_recording::{Recording, read};
+use nr_rev::{Cell, CellValue, Limits, Refusal, Side, Status, Worlds};
+use std::alloc::Global;
+
+const LIMITS: Limits = Limits {
+    goroutines: 4,
+    sockets: 2,
+    descriptors: 2,
+    buffer: 16,
+};
+
+/// Cells of which each has a value where bytes have arrived.
+static CELLS: [Cell; 12] = [
+    Cell::Clock,
+    Cell::Waiters,
+    Cell::Timers,
+    Cell::Firings,
+    Cell::Goroutine(0),
+    Cell::Goroutine(1),
+    Cell::Lock(0),
+    Cell::ReadSemaphore(0),
+    Cell::Input(0),
+    Cell::Output(0),
+    Cell::ReadWord(0),
+    Cell::DescriptorSequence(0),
+];
+
+// Whether nothing but goroutine 0 is there, and nothing is waited for.
+fn is_empty<W: Worlds>(world: &W) -> bool
+    requires { W.is_well_formed world.now }
+{
+    is_at(world, 0)
+        && world.cell(Cell::Goroutine(0)) == CellValue::Status(Status::Idle)
+        && world.cell(Cell::Goroutine(1)) == CellValue::Absent
+        && world.cell(Cell::Timers) == CellValue::Number(0)
+}
+
+// Makes a world.
+fn make<W: Worlds + Drop>(alloc: Global) -> Came {
+    match W::fresh(alloc, LIMITS) {
+        Ok(world) => Came::of(is_empty(&world)),
+        Err(Refusal::Memory) => Came::Refused,
+        Err(_) => Came::Wrong,
+    }
+}
+
+/// Makes it twice.
+pub(crate) fn make_twice<W: Worlds + Drop>(rt: &HostRuntime) -> Twice {
+    refuse(rt);
+    let first = make::<W>(rt.alloc());
+    grant(rt);
+    Twice {
+        first,
+        again: make::<W>(rt.alloc()),
+    }
+}
+
+/// The position behind which bytes have arrived, and a goroutine is to be woken.
+const ARRIVED: usize = 9;
+
+// Takes the steps up to that position, and says whether they all apply.
+fn lead<W: Worlds>(world: &mut W, recording: &Recording) -> bool
+    requires { W.is_well_formed world.old }
+    ensures { W.is_well_formed world.new }
+{
+    let mut has_applied = true;
+    for n in 0..ARRIVED {
+        has_applied &= match recording.step(n) {
+            Some(step) => world.advance(step).is_ok(),
+            None => false,
+        };
+    }
+    has_applied
+}
+
+// Whether two worlds have the same cells, and the same bytes to be read.
+fn are_alike<W: Worlds>(one: &W, other: &W) -> bool
+    requires one { W.is_well_formed one.now }
+    requires other { W.is_well_formed other.now }
+{
+    let mut are_alike = have_same_bytes(one, other);
+    for cell in CELLS.iter() {
+        are_alike &= one.cell(*cell) == other.cell(*cell);
+    }
+    are_alike
+}
+
+fn have_same_bytes<W: Worlds>(one: &W, other: &W) -> bool {
+    match (one.bytes(0, Side::Read), other.bytes(0, Side::Read)) {
+        (Ok(Some(one)), Ok(Some(other))) => one.as_slice() == other.as_slice(),
+        _ => false,
+    }
+}
+
+// Copies a world. From then on there is memory.
+fn copy<W: Worlds + Drop>(rt: &HostRuntime, world: &W) -> Came
+    requires { W.is_well_formed world.now }
+{
+    match world.try_copy() {
+        Ok(copy) => {
+            grant(rt);
+            Came::of(are_alike(world, &copy))
+        }
+        Err(Refusal::Memory) => {
+            grant(rt);
+            Came::Refused.leaving(is_at(world, ARRIVED))
+        }
+        Err(_) => Came::Wrong,
+    }
+}
+
+fn copy_both<W: Worlds + Drop>(rt: &HostRuntime, world: &W) -> Twice
+    requires { W.is_well_formed world.now }
+{
+    refuse(rt);
+    let first = copy(rt, world);
+    Twice {
+        first,
+        again: copy(rt, world),
+    }
+}
+
+// Copies a world that the recording leads to that position.
+fn copy_recorded<W: Worlds + Drop>(rt: &HostRuntime, recording: &Recording) -> Option<Twice> {
+    let mut world = W::fresh(rt.alloc(), LIMITS).ok()?;
+    let has_applied = lead(&mut world, recording);
+    let twice = copy_both(rt, &world);
+    if has_applied { Some(twice) } else { None }
+}
+
+/// Copies a world at that position twice.
+pub(crate) fn copy_twice<W: Worlds + Drop>(rt: &HostRuntime) -> Option<Twice> {
+    let recording = read(rt.alloc(), TEXT.as_bytes()).ok()?;
+    copy_recorded::<W>(rt, &recording)
+}
