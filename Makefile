@@ -35,8 +35,11 @@ hunt: netrev
 test:
 	@sh scripts/gate.sh
 
-# The built program with each of its allocations refused in turn, a missing file and bad usage; and a shared session too.
+# The built program with each of its allocations refused in turn, a missing file and bad usage; each call of the libraries
+# that takes memory, alone; and a shared session too.
 refused: netrev
+	cd crates/nr_refused && rt run -- all
+	@python3 scripts/each_call.py
 	@sh scripts/refused.sh
 	@python3 scripts/refused_serving.py
 

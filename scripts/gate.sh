@@ -7,7 +7,8 @@
 # proof file names what the edit takes away. And the program that was built has to stand scripts/refused.sh,
 # scripts/refused_serving.py, scripts/loopback.py, scripts/hostile.py, scripts/upgrades.py and scripts/system.py, play
 # examples/shared.sh and each example, and pass the tests of nrdb, the companion, which play the hunts of examples/hunts, and
-# those of tools/go and tools/fuzz. Both worlds have to agree on the recordings of examples/ (scripts/agree.sh).
+# those of tools/go and tools/fuzz. Each call that takes memory has to stand scripts/each_call.py. Both worlds have to agree on
+# the recordings of examples/ (scripts/agree.sh). What docs/THEOREM.md quotes has to stand in the source (scripts/theorem.py).
 # The last line is that of `rt ci`, with one more failed for each of these that fails.
 set -eu
 cd "$(dirname "$0")/.."
@@ -24,7 +25,9 @@ if grep -E "BAD EDIT|only by a limit of the prover|only because a proof file nam
 	echo "These edits say nothing of a contract: change a value and keep the names." >&2
 	more=$((more + 1))
 fi
+python3 scripts/theorem.py || more=$((more + 1))
 sh scripts/refused.sh || more=$((more + 1))
+python3 scripts/each_call.py || more=$((more + 1))
 sh scripts/agree.sh || more=$((more + 1))
 python3 scripts/refused_serving.py || more=$((more + 1))
 python3 scripts/loopback.py || more=$((more + 1))
