@@ -1,0 +1,152 @@
+//! More fronts than words, in threads of their own.
+
+ghost use Rattle.std.specs.Prelude.{◌≡◌};
+
+use crate::turns::Answered;
+use crate::woken::{Lone, film, front};
+use nr_command::Command;
+use nr_journal::{Journal, Seat};
+use nr_replay_tests::Observed;
+use nr_snaps::Film;
+use std::alloc::{AllocError, Global};
+use std::num::NonZeroU32;
+use std::test::*;
+use std::thread::{Threads, for_each_mut};
+
+/// A front with its journal, and what it was answered last.
+#[derive(Drop)]
+struct User<'a, 'f, R: Threads + Sync> {
+    journal: &'a Journal,
+    front: Lone<'f, R>,
+    answer: Answered,
+    ghost belongs: { front.table ≡ journal.now },
+}
+
+impl<'a, 'f, R: Threads + Sync> User<'a, 'f, R> {
+    fn join(
+        rt: &R,
+        alloc: Global,
+        journal: &'a Journal,
+        seat: Seat,
+        film: &'f Film<Observed>,
+    ) -> Option<User<'a, 'f, R>>
+        requires { seat.table ≡ journal.now }
+    {
+        let Ok(pass) = journal.enter(seat) else {
+            return None;
+        };
+        let front = front(rt, alloc, pass, film)?;
+        Some(User {
+            journal,
+            front,
+            answer: Answered::Otherwise,
+        })
+    }
+
+    fn step(&mut self) {
+        let reply = self
+            .front
+            .exec(self.journal, Command::Step(NonZeroU32::MIN));
+        self.answer = Answered::of(reply);
+    }
+
+    /// What it was answered, and how many words its pass has seen.
+    fn end(self) -> (Answered, usize) {
+        let User {
+            journal: _,
+            front,
+            answer,
+        } = self;
+        (answer, front.end().seen())
+    }
+}
+
+/// Each steps, in a thread of its own where there is one.
+fn step_each<R: Threads + Send + Sync>(rt: &R, users: &mut [User<'_, '_, R>]) {
+    for_each_mut(rt, users, 8, &|_, user: &mut User<'_, '_, R>| user.step());
+}
+
+/// Eight users of a journal.
+fn eight<'a, 'f, R: Threads + Sync>(
+    rt: &R,
+    alloc: Global,
+    journal: &'a Journal,
+    seat: &mut Seat,
+    film: &'f Film<Observed>,
+) -> Option<Vec<User<'a, 'f, R>>>
+    requires { seat.old.table ≡ journal.now }
+    ensures { seat.new.table ≡ journal.now }
+{
+    let mut users = Vec::new(alloc);
+    for _ in 0..8 {
+        let next = journal.split(seat);
+        let user = User::join(rt, alloc, journal, next, film)?;
+        users.push(user).ok()?;
+    }
+    Some(users)
+}
+
+/// What eight fronts were answered that each step once over a journal of seven words, with how many words each has seen;
+/// and the words.
+fn crowd<R: Threads + Send + Sync>(
+    rt: &R,
+    alloc: Global,
+    film: &Film<Observed>,
+) -> Option<(Vec<(Answered, usize)>, Vec<u64>)> {
+    let (journal, mut seat) = Journal::new(alloc, 7).ok()?;
+    let mut users = eight(rt, alloc, &journal, &mut seat, film)?;
+    step_each(rt, users.as_mut_slice());
+    let mut answers = Vec::new(alloc);
+    for user in users {
+        answers.push(user.end()).ok()?;
+    }
+    let Ok(mut late) = journal.enter(seat) else {
+        return None;
+    };
+    let words = journal.finish(alloc, &mut late).ok()?;
+    Some((answers, words))
+}
+
+/// How often each place from 1 on was answered.
+fn places(answers: &[(Answered, usize)]) -> [u32; 7] {
+    let mut places = [0u32; 7];
+    for (answer, seen) in answers {
+        if let Answered::At(position) = answer {
+            if *position == 0 || *seen < *position {
+                continue;
+            }
+            if let Some(count) = places.get_mut(*position - 1) {
+                *count = count.saturating_add(1);
+            }
+        }
+    }
+    places
+}
+
+/// The tags of words that are a step's, rising, each once.
+fn tags(alloc: Global, words: &[u64]) -> Result<Vec<u64>, AllocError> {
+    let mut tags = Vec::new(alloc);
+    for word in words {
+        if *word % 256 == 1 && *word / 65_536 == 1 {
+            tags.push(*word / 256 % 256)?;
+        }
+    }
+    tags.sort()?;
+    tags.dedup();
+    Ok(tags)
+}
+
+#[test]
+fn one_of_eight_fronts_finds_the_journal_full(rt: HostRuntime) -> Result<(), Fail> {
+    let film = film(rt.alloc()).ok_or("no film")?;
+    let (answers, words) = crowd(&rt, rt.alloc(), &film).ok_or("not played")?;
+    assert_eq!(rt; places(answers.as_slice()), [1; 7]);
+    let full = answers
+        .iter()
+        .filter(|answer| **answer == (Answered::Full, 7))
+        .count();
+    assert_eq!(rt; (answers.len(), full), (8, 1));
+    let tags = tags(rt.alloc(), words.as_slice())?;
+    assert_eq!(rt; (words.len(), tags.len()), (7, 7));
+    Ok(())
+}

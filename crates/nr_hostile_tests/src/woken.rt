@@ -1,0 +1,99 @@
+//! The recording, and fronts that share a journal over it.
+
+ghost use Rattle.std.specs.Prelude.{◌≡◌, ◌≤◌, [], IfSome};
+
+use nr_front::Front;
+use nr_journal::{Journal, Pass, Seat};
+use nr_recording::read;
+use nr_replay_tests::Observed;
+use nr_search::OneWorker;
+use nr_snaps::{Film, Snaps};
+use std::alloc::Global;
+use std::thread::Threads;
+
+/// A goroutine waits for bytes at a socket, is woken by an event and reads them.
+const WOKEN: &str = r#"{"netrev":1,"gor":4,"sock":2,"desc":2,"buf":16}
+["sockopen",16,16]
+["pollopen",0,0]
+["rwlock",0,0,"r"]
+["waitbegin",0,0,"r"]
+["blockarm",0]
+["blockcheck",0]
+["parkcommit",0]
+["arrive",0,"6869"]
+["pollevent",0,1,"r",0]
+["blockswap",0]
+["sysread",0,0,8]
+["rwunlock",0,0,"r"]
+"#;
+
+/// A front that searches alone.
+pub(crate) type Lone<'f, R> = Front<'f, Observed, OneWorker<R>>;
+
+/// Its film.
+pub(crate) fn film(alloc: Global) -> Option<Film<Observed>> {
+    let recording = read(alloc, WOKEN.as_bytes()).ok()?;
+    Snaps::load(alloc, recording, 64).ok()
+}
+
+/// A front at the film's first position.
+pub(crate) fn front<'f, R: Threads + Sync>(
+    _rt: &R,
+    alloc: Global,
+    pass: Pass,
+    film: &'f Film<Observed>,
+) -> Option<Lone<'f, R>>
+    requires { pass.pass_state.seen ≡ [] }
+    ensures { IfSome result (λ front. front.table ≡ pass.table) }
+{
+    match Front::new(alloc, pass, film, OneWorker::new(), 64) {
+        Ok(front) => Some(front),
+        Err(_) => None,
+    }
+}
+
+/// A pass that a seat of the journal gives.
+fn enter(journal: &Journal, seat: Seat) -> Option<Pass>
+    requires { seat.table ≡ journal.now }
+    ensures { IfSome result (λ pass. (pass.table ≡ journal.now) × (pass.pass_state.seen ≡ [])) }
+{
+    match journal.enter(seat) {
+        Ok(pass) => Some(pass),
+        Err(_) => None,
+    }
+}
+
+/// A front that a seat of the journal gives, at the film's first position.
+fn enter_front<'f, R: Threads + Sync>(
+    rt: &R,
+    alloc: Global,
+    journal: &Journal,
+    seat: Seat,
+    film: &'f Film<Observed>,
+) -> Option<Lone<'f, R>>
+    requires { seat.table ≡ journal.now }
+    ensures { IfSome result (λ front. front.table ≡ journal.now) }
+{
+    let pass = enter(journal, seat)?;
+    front(rt, alloc, pass, film)
+}
+
+/// A journal of so many words, two fronts with the tags 0 and 1, and a third pass.
+pub(crate) fn share<'f, R: Threads + Sync>(
+    rt: &R,
+    alloc: Global,
+    words: usize,
+    film: &'f Film<Observed>,
+) -> Option<(Journal, Lone<'f, R>, Lone<'f, R>, Pass)>
+    requires { (1 ≤ words) × (words ≤ 1000000) }
+    ensures { IfSome result (λ shared. (shared.1.table ≡ shared.0)
+        × (shared.2.table ≡ shared.0) × (shared.3.table ≡ shared.0)) }
+{
+    let (journal, mut first) = Journal::new(alloc, words).ok()?;
+    let mut second = journal.split(&mut first);
+    let third = journal.split(&mut second);
+    let one = enter_front(rt, alloc, &journal, first, film)?;
+    let other = enter_front(rt, alloc, &journal, second, film)?;
+    let third = enter(&journal, third)?;
+    Some((journal, one, other, third))
+}
