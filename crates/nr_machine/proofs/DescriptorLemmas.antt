@@ -24,16 +24,14 @@ use Rattle.nr_desc.specs.Code.{is_awaited}
 use Rattle.nr_desc.specs.Op as desc_op
 use Rattle.nr_desc.specs.declared.op.DescAnswer.{DescAnswer}
 use Rattle.nr_desc.specs.declared.op.DescOp.{DescOp}
-use Rattle.nr_timers.specs.TimersOf.{timers_of}
 use Rattle.nr_machine.specs.declared.delta.DescUndo.{DescUndo}
 use Rattle.nr_machine.specs.declared.delta.TheConstants.{MOST_WORDS}
 use Rattle.nr_machine.specs.declared.delta.WorldUndo.TheVariants.{Described}
 use Rattle.nr_machine.specs.declared.parts.Core.{Core}
-use Rattle.nr_machine.specs.Changing.{Describes, desc_outcome}
+use Rattle.nr_machine.specs.Changing.{Describes}
 use Rattle.nr_machine.specs.Changing as changing
 use Rattle.nr_machine.specs.Fits.{CoreFits, PartsFit}
 use Rattle.nr_machine.specs.Made.{Made}
-use Rattle.nr_machine.specs.Rows.{row_of}
 use Rattle.nr_machine.specs.World.{WorldParts, meant}
 use Rattle.nr_machine.proofs.FitsLemmas.{IsTiedAs, descriptor_fits, descriptor_tied, retied}
 use Rattle.nr_machine.proofs.RowsLemmas.{descriptor_set, row_at, row_past, row_with}

@@ -1,5 +1,5 @@
 -- The first timer goes off: the heap's first entry is the least one of all rows, and its row is there.
-use Rattle.std.proofs.Common.{◌≡◌, ◌≢◌, ℕ, zero, suc, ◌+◌, ◌*◌, ◌<◌, ◌≤◌, Bool, true, false, List, [], ◌∷◌, ◌++◌, length, map, Option, Some, None, Result, Ok, Err, inl, inr, ⊎_elim, refl, sym, ap, subst, ◌∙◌, arith, eq-eqb}
+use Rattle.std.proofs.Common.{◌≡◌, ℕ, zero, suc, ◌+◌, ◌*◌, ◌<◌, ◌≤◌, Bool, true, false, List, [], ◌∷◌, ◌++◌, length, map, Option, Some, None, Result, Ok, Err, inl, inr, ⊎_elim, refl, sym, ap, subst, ◌∙◌, arith, eq-eqb}
 use Rattle.std.proofs.lemmas.Bool.Decides.{nat_tests}
 use Rattle.std.proofs.lemmas.Option.{none-some, slice_get_cases, slice_get_within}
 use Rattle.std.specs.Prelude.{◌==◌, ◌&&◌, cond, find, if◌then◌else◌, int_le, nat_lt, option_map, slice_get, slice_index_or}
@@ -29,12 +29,12 @@ use Rattle.nr_timers.specs.declared.op.TimersOp.TheVariants.{Pop}
 use Rattle.nr_machine.specs.declared.delta.TheConstants.{MOST_WORDS}
 use Rattle.nr_machine.specs.declared.delta.WorldUndo.TheVariants.{Timers}
 use Rattle.nr_machine.specs.declared.parts.Core.{Core}
-use Rattle.nr_machine.specs.Fits.{CoreFits, IsWorld, PartsFit}
+use Rattle.nr_machine.specs.Fits.{IsWorld, PartsFit}
 use Rattle.nr_machine.specs.Made.{Made}
 use Rattle.nr_machine.specs.Numbered.{numbered}
 use Rattle.nr_machine.specs.Rows.{row_of, rows_of}
 use Rattle.nr_machine.specs.World.{WorldParts, meant}
-use Rattle.nr_machine.proofs.FitsLemmas.{IsTiedAs, retied, timed_fits, timed_tied}
+use Rattle.nr_machine.proofs.FitsLemmas.{retied, timed_fits, timed_tied}
 use Rattle.nr_machine.proofs.RowsLemmas.{row_at, timer_set}
 
 -- ---- the least entry

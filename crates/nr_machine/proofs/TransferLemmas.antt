@@ -1,29 +1,26 @@
 -- The steps at the buffers of a socket: what the parts come to is what the machine comes to.
-use Rattle.std.proofs.Common.{◌≡◌, inl, inr, ℕ, zero, suc, ◌+◌, ◌/◌, ◌<◌, ◌≤◌, Bool, true, List, [], ◌∷◌, length, set, Option, Some, None, Result, Ok, Err, refl, sym, ap, subst, ◌∙◌, arith, length-set, set-set}
-use Rattle.std.proofs.lemmas.Bool.Decides.{nat_tests}
+use Rattle.std.proofs.Common.{◌≡◌, inl, inr, ℕ, ◌+◌, ◌/◌, ◌<◌, ◌≤◌, true, List, [], length, set, Option, Some, None, Result, Ok, Err, refl, sym, ap, subst, ◌∙◌, arith, length-set, set-set}
 use Rattle.std.proofs.lemmas.Option.{slice_get_past, slice_get_within}
-use Rattle.std.specs.Prelude.{◌==◌, ◌&&◌, IfErr, IfOk, OnErr, drop, min, nat_le, nat_lt, slice_get}
+use Rattle.std.specs.Prelude.{◌==◌, ◌&&◌, IfErr, IfOk, OnErr, nat_le, nat_lt, slice_get}
 use Rattle.nr_rev.specs.declared.answer.Answer.{Answer}
-use Rattle.nr_rev.specs.declared.answer.Answer.TheVariants.{Done}
 use Rattle.nr_rev.specs.declared.lock.Lock.{Lock}
 use Rattle.nr_rev.specs.declared.refusal.Refusal.{Refusal}
 use Rattle.nr_rev.specs.declared.refusal.Refusal.TheVariants.{NoRoom, NoSuchSocket, PeerClosed, SizeOutOfRange, TooFewBytes}
-use Rattle.nr_rev.specs.declared.sides.Side.TheVariants.{Read, Write}
 use Rattle.nr_rev.specs.declared.step.Step.{Step}
 use Rattle.nr_rev.specs.declared.step.Step.TheVariants.{Arrive, PeerClose, SysRead, SysWrite, Drain, CloseWrite}
 use Rattle.nr_rev.specs.Refusing.{◌>>=◌, ◌>>◌, found_or, refused_if, refused_unless}
 use Rattle.nr_rev.specs.Reversible.{Refuses}
 use Rattle.nr_rev.specs.Socket.{Socket, room_of}
-use Rattle.nr_rev.specs.Step.{Outcome, idle, outcome, read_answer, socket_of as find_socket}
+use Rattle.nr_rev.specs.Step.{Outcome, idle, outcome, socket_of as find_socket}
 use Rattle.nr_rev.specs.World.{World, with_socket}
-use Rattle.nr_rev.specs.Worlds.{bytes_got, bytes_left, refusal_of}
+use Rattle.nr_rev.specs.Worlds.{bytes_left, refusal_of}
 use Rattle.nr_rev.proofs.ListUpdateLemmas.{slice_get-set_cases, slice_get-set_here}
 use Rattle.nr_rev.proofs.OutcomeLemmas.{Ends, Ends-bind, Ends-found_or, Ends-ok, Ends-refused_if, Ends-refused_unless, Ends-then}
 use Rattle.nr_sockbuf.specs.Delta as sock_delta
 use Rattle.nr_sockbuf.proofs.MemoryLemmas.{memory_is_for_bytes}
 use Rattle.nr_sockbuf.specs.Machine.{SockLoses, lifted, put_back, sock_of}
 use Rattle.nr_sockbuf.specs.Op as sock
-use Rattle.nr_sockbuf.specs.Sock.{OpenSock, SockParts, is_opened, with_bytes, with_opened}
+use Rattle.nr_sockbuf.specs.Sock.{OpenSock, SockParts, is_opened}
 use Rattle.nr_sockbuf.specs.declared.delta.SockDelta.{SockDelta}
 use Rattle.nr_machine.specs.declared.delta.TheConstants.{MOST_WORDS}
 use Rattle.nr_machine.specs.declared.delta.WorldUndo.TheVariants.{Sock}

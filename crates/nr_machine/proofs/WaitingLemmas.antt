@@ -1,8 +1,7 @@
 -- The steps of a wait: what the parts come to is what the machine comes to.
-use Rattle.std.proofs.Common.{◌≡◌, ℕ, ◌+◌, ◌*◌, ◌^◌, ◌<◌, ◌≤◌, Bool, true, false, List, [], ◌∷◌, length, Option, Some, None, Result, Ok, Err, refl, sym, ap, subst, ◌∙◌, arith}
-use Rattle.std.proofs.lemmas.List.Sums.{sum_by-cons}
+use Rattle.std.proofs.Common.{◌≡◌, ℕ, ◌+◌, ◌^◌, ◌<◌, Bool, true, false, List, [], length, Option, Some, None, Result, Ok, Err, refl, sym, ap, subst, ◌∙◌, arith}
 use Rattle.std.proofs.lemmas.Option.{slice_get_within}
-use Rattle.std.specs.Prelude.{slice_get, sum_by}
+use Rattle.std.specs.Prelude.{slice_get}
 use Rattle.nr_rev.specs.declared.answer.Answer.{Answer}
 use Rattle.nr_rev.specs.declared.descriptor.Descriptor.{Descriptor}
 use Rattle.nr_rev.specs.declared.descriptor.DescriptorRow.{DescriptorRow}
@@ -14,11 +13,10 @@ use Rattle.nr_rev.specs.declared.refusal.Refusal.TheVariants.{NoSuchDescriptor}
 use Rattle.nr_rev.specs.declared.sides.Side.{Side}
 use Rattle.nr_rev.specs.declared.status.Status.{Status}
 use Rattle.nr_rev.specs.declared.status.Status.TheVariants.{Entering, Parking, Swapping}
-use Rattle.nr_rev.specs.Lock.{bit}
 use Rattle.nr_rev.specs.Refusing.{◌>>=◌, found_or}
 use Rattle.nr_rev.specs.Sides.{of_side}
 use Rattle.nr_rev.specs.Step.{Outcome, armed_by, blockarm, blockswap, committed_by, parkcommit, row_of as find_row, status_of, swapped_by}
-use Rattle.nr_rev.specs.WellFormed.{held_count, is_held, socket_named}
+use Rattle.nr_rev.specs.WellFormed.{socket_named}
 use Rattle.nr_rev.specs.World.{World, with_descriptor, with_status}
 use Rattle.nr_rev.proofs.WaitersLemmas.{waiters_within}
 use Rattle.nr_rev.proofs.LookupLemmas.{Ends-status_of}
@@ -29,7 +27,6 @@ use Rattle.nr_desc.specs.declared.op.DescOp.TheVariants as op
 use Rattle.nr_gsema.specs.Applying.{IsQueuedUp}
 use Rattle.nr_gsema.specs.Step.{is_movable, names_within}
 use Rattle.nr_gsema.specs.declared.delta.GDelta.{GDelta}
-use Rattle.nr_timers.specs.TimersOf.{timers_of}
 use Rattle.nr_machine.specs.declared.delta.DescUndo.{DescUndo}
 use Rattle.nr_machine.specs.declared.delta.TheConstants.{MOST_WORDS}
 use Rattle.nr_machine.specs.declared.delta.WorldUndo.TheVariants.{Goroutine, Waited}
@@ -39,7 +36,6 @@ use Rattle.nr_machine.specs.Changing as changing
 use Rattle.nr_machine.specs.Delta.{ParkBack}
 use Rattle.nr_machine.specs.Fits.{CoreFits, IsWorld, PartsFit}
 use Rattle.nr_machine.specs.Made.{Made}
-use Rattle.nr_machine.specs.Rows.{row_of}
 use Rattle.nr_machine.specs.Waiting.{core_parked, parks, status_after, waiting, with_parked}
 use Rattle.nr_machine.specs.World.{WorldParts, meant}
 use Rattle.nr_machine.proofs.FitsLemmas.{IsTiedAs, descriptor_fits, descriptor_tied, retied, status_fits, status_tied, tied_then}

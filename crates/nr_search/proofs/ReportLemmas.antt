@@ -1,5 +1,5 @@
 -- What is known of segments as reports are noted.
-use Rattle.std.proofs.Common.{◌≡◌, ◌≢◌, ◌⊎◌, inl, inr, ℕ, ◌+◌, ◌<◌, ◌≤◌, true, false, All, List, [], ◌∷◌, ◌++◌, length, map, take, get_or, replicate, Some, Result, Ok, Err, refl, sym, ap, ◌∙◌, subst, arith}
+use Rattle.std.proofs.Common.{◌≡◌, ◌≢◌, ◌⊎◌, inl, inr, ℕ, ◌+◌, ◌<◌, ◌≤◌, false, All, List, [], ◌∷◌, ◌++◌, length, map, take, get_or, replicate, Some, Result, Ok, Err, refl, sym, ap, ◌∙◌, subst, arith}
 use Rattle.std.specs.Prelude.{OnErr}
 use Rattle.std.proofs.lemmas.List.{get_or-replicate, length-replicate, map_more, take_more}
 use Rattle.std.proofs.lemmas.List.Elements.{All-head, All-tail}
@@ -7,7 +7,6 @@ use Rattle.std.proofs.lemmas.Option.{slice_get-get_or, slice_get_past}
 use Rattle.nr_search.specs.Known.{AreTrue, IsLeftOpen, IsTrue, has_hit, is_searched, or_unknown, slot_of}
 use Rattle.nr_search.specs.Reports.{AddsTo, IsReport, noted, first_known, said_by, said_in}
 use Rattle.nr_search.specs.Segments.{nth_segment}
-use Rattle.nr_search.specs.declared.found.Found.{Found}
 use Rattle.nr_search.specs.declared.segments.Span.{Span}
 use Rattle.nr_search.specs.declared.slot.Report.{Report}
 use Rattle.nr_search.specs.declared.slot.Slot.{Slot}

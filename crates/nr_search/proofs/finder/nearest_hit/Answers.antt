@@ -1,4 +1,4 @@
-use Rattle.std.proofs.Common.{◌+◌, sym, ◌∙◌, subst, rules}
+use Rattle.std.proofs.Common.{◌+◌, subst, rules}
 use Rattle.std.specs.Prelude.{IfOk}
 use Rattle.nr_marks.specs.Hit.{hits_at}
 use Rattle.nr_marks.specs.Numbered.{RisesWithin, numbers_of}
