@@ -3,7 +3,7 @@
 
     quotes  each block of code of the page stands in the file that the line above the block names, letter by letter
     texts   each file of examples/ that crates/nr_programs/specs/Examples.antt has as bytes, byte by byte
-    runs    each recording of examples/ whose run it has, step by step
+    runs    each recording of examples/ and scripts/recordings/ whose run is there or in ShortRuns.antt, step by step
 
 Prints how many of each there are. Ends with status 1 at the first that differs, and says which.
 """
@@ -16,6 +16,7 @@ from pathlib import Path
 ROOT = Path(__file__).resolve().parent.parent
 PAGE = ROOT / "docs/THEOREM.md"
 EXAMPLES = ROOT / "crates/nr_programs/specs/Examples.antt"
+SHORT = ROOT / "crates/nr_programs/specs/ShortRuns.antt"
 
 # a line that names a file, and the block under it
 QUOTE = re.compile(r"^`([^`\n]+)`:?\n\n```\w*\n(.*?)^```$", re.MULTILINE | re.DOTALL)
@@ -25,7 +26,7 @@ BYTES = re.compile(r"^-- (examples/\S+)\nabbrev pub (\w+) : List ℕ\n\2 =(.*?)(
 TEXT = re.compile(r'codes "((?:[^"\\]|\\.)*)"')
 # a comment that names a recording, its limits and its steps
 RUN = re.compile(
-    r"^-- the run of (examples/\S+)\nabbrev pub (\w+) : Recording\n\2 = record \{\n"
+    r"^-- the run of (\S+\.jsonl)\nabbrev pub (\w+) : Recording\n\2 = record \{\n"
     r"  limits = record \{ (.*?) \};\n  steps =\s(.*?);\n\}$",
     re.MULTILINE | re.DOTALL,
 )
@@ -90,33 +91,33 @@ def steps_of(text):
     line = " ".join(text.split())
     steps = re.split(r" ∷ (?![^()]*\))", line)
     if steps.pop() != "[]":
-        raise Wrong(f"{EXAMPLES.name}: no list of steps: {line!r}")
+        raise Wrong(f"no list of steps: {line!r}")
     words = [WORD.findall(step) for step in steps]
     return [[name.lower(), *map(argument, arguments)] for name, *arguments in words]
 
 
-def runs():
-    """Checks the run of each example, and returns how many there are."""
-    found = RUN.findall(EXAMPLES.read_text())
+def runs(file):
+    """Checks each run of a file, and returns how many there are."""
+    found = RUN.findall(file.read_text())
     for name, definition, limits, steps in found:
         header, *lines = [json.loads(line) for line in (ROOT / name).read_text().splitlines() if line.strip()]
         wanted = "; ".join(f"{long} = {header[short]}" for short, long in LIMITS.items())
         if header["netrev"] == 2:
             lines = [line[:-1] for line in lines]
         if limits != wanted or steps_of(steps) != lines:
-            raise Wrong(f"{EXAMPLES.name}: {definition} isn't the run of {name}")
+            raise Wrong(f"{file.name}: {definition} isn't the run of {name}")
     return len(found)
 
 
 def main():
     try:
-        counts = quotes(), texts(), runs()
+        counts = quotes(), texts(), runs(EXAMPLES), runs(SHORT)
         if 0 in counts:
             raise Wrong("there is nothing to compare")
     except (Wrong, OSError, KeyError) as wrong:
         print(f"theorem.py: {wrong}", file=sys.stderr)
         return 1
-    print("theorem: {} quotes of the page, {} files and {} runs of examples/ are as they stand".format(*counts))
+    print("theorem: {} quotes of the page, {} files and {} runs of examples/, {} short runs are as they stand".format(*counts))
     return 0
 
 

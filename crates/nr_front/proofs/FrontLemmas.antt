@@ -27,9 +27,11 @@ exec_answers a b d e command reply x y is replies =
         same = record { table = p.same.table; recording = p.same.recording; workers = p.same.workers; walker_state = p.same.walker_state };
         placed = p.placed;
         others = p.others;
+        none_between = p.none_between;
         learned_before = p.learned_before;
         tag = p.tag;
         learned = p.learned;
+        alone = p.alone;
         looks = p.looks;
         unowed = p.unowed;
       };

@@ -1,5 +1,5 @@
 -- What a look, an offer and a command that is run do to a front, one after the other.
-use Rattle.std.proofs.Common.{◌≡◌, ℕ, ◌+◌, ◌<◌, ◌≤◌, List, [], ◌∷◌, ◌++◌, arith, length, refl, sym, ap, ◌∙◌, subst, append_assoc, append-nil, Option, Some, None, false, inl, inr}
+use Rattle.std.proofs.Common.{◌≡◌, ℕ, ◌+◌, ◌<◌, ◌≤◌, List, [], ◌∷◌, ◌++◌, arith, length, refl, sym, ap, ◌∙◌, subst, append_assoc, append-nil, Option, Some, None, true, false, inl, inr}
 use Rattle.std.specs.List.{All}
 use Rattle.std.proofs.lemmas.List.Elements.{All-append, All-cons, All-nil}
 use Rattle.atomic_table.specs.Seated.{TableId}
@@ -19,11 +19,12 @@ own_pending-others (Some tagged) = refl
 
 -- another's word was seen, and its command is due
 pub sees_word : (word : ℕ) (view old new : FrontState) (journal : TableId) → view ≡ old → old.table ≡ journal → IsUnmoved view new → new.pass_state ≡ having_seen view.pass_state word
-    → IsOthers view.pass_state.tag word → length view.pass_state.seen < journal_room journal → new.pending ≡ pending_after (command_of word) → SeesWord word old new
-sees_word word view old new journal is at same pass_state others room pending = record {
+    → IsOthers view.pass_state.tag word → view.pass_state.alone ≡ false → length view.pass_state.seen < journal_room journal → new.pending ≡ pending_after (command_of word) → SeesWord word old new
+sees_word word view old new journal is at same pass_state others company room pending = record {
   same = subst (λ (d : FrontState). IsUnmoved d new) is same;
   pass_state = pass_state ∙ ap (λ (d : FrontState). having_seen d.pass_state word) is;
   others = subst (λ (d : FrontState). IsOthers d.pass_state.tag word) is others;
+  company = subst (λ (d : FrontState). d.pass_state.alone ≡ false) is company;
   room = subst (λ (d : FrontState). length d.pass_state.seen < journal_room old.table) is (subst (λ (t : TableId). length view.pass_state.seen < journal_room t) (sym at) room);
   unowed = ap own_pending pending ∙ own_pending-others (command_of word);
 }
@@ -34,6 +35,7 @@ record SeesNothing (old new : PassState) : Type 0 where
   pub tag : new.tag ≡ old.tag
   pub learned : new.learned ≡ old.learned
   pub looks : old.looks ≤ new.looks
+  pub alone : new.alone ≡ old.alone
 
 same_pass_state : (old new : PassState) → new ≡ old → SeesNothing old new
 same_pass_state old new is = record {
@@ -41,6 +43,7 @@ same_pass_state old new is = record {
   tag = ap (λ (s : PassState). s.tag) is;
   learned = ap (λ (s : PassState). s.learned) is;
   looks = let e = ap (λ (s : PassState). s.looks) is in omega (arith, e);
+  alone = ap (λ (s : PassState). s.alone) is;
 }
 
 looked_once : (old new : PassState) → new ≡ looked old → SeesNothing old new
@@ -49,18 +52,21 @@ looked_once old new is = record {
   tag = ap (λ (s : PassState). s.tag) is;
   learned = ap (λ (s : PassState). s.learned) is;
   looks = let e = ap (λ (s : PassState). s.looks) is in omega (arith, e);
+  alone = ap (λ (s : PassState). s.alone) is;
 }
 
 sees_others_none : (old new : PassState) → SeesNothing old new → SeesOthers old new
-sees_others_none old new n = ([], n.seen ∙ sym (append-nil old.seen), All-nil (IsOthers old.tag), n.tag, n.learned)
+sees_others_none old new n = ([], n.seen ∙ sym (append-nil old.seen), All-nil (IsOthers old.tag), n.tag, n.learned, n.alone, (λ _. refl))
 
-sees_others_one : (old new : PassState) (word : ℕ) → new ≡ having_seen old word → IsOthers old.tag word → SeesOthers old new
-sees_others_one old new word is others = (
+sees_others_one : (old new : PassState) (word : ℕ) → new ≡ having_seen old word → IsOthers old.tag word → old.alone ≡ false → SeesOthers old new
+sees_others_one old new word is others company = (
   word ∷ [],
   ap (λ (s : PassState). s.seen) is,
   All-cons (IsOthers old.tag) word [] others (All-nil (IsOthers old.tag)),
   ap (λ (s : PassState). s.tag) is,
   ap (λ (s : PassState). s.learned) is,
+  ap (λ (s : PassState). s.alone) is,
+  (λ alone. absurd (let clash : false ≡ true = sym company ∙ alone in cc)),
 )
 
 sees_others_then : (a b d : PassState) → SeesOthers a b → SeesOthers b d → SeesOthers a d
@@ -70,6 +76,8 @@ sees_others_then a b d x y = (
   All-append (IsOthers a.tag) x.0 y.0 x.2 (subst (λ (t : ℕ). All (IsOthers t) y.0) x.3 y.2),
   y.3 ∙ x.3,
   y.4 ∙ x.4,
+  y.5 ∙ x.5,
+  (λ alone. ap (λ (l : List ℕ). l ++ y.0) (x.6 alone) ∙ y.6 (x.5 ∙ alone)),
 )
 
 same_then : (a b d : FrontState) → IsUnmoved a b → IsUnmoved b d → IsUnmoved a d
@@ -99,7 +107,7 @@ learns_then a b d x y = record {
 pub learns_word : (word : ℕ) (a b : FrontState) → owed_command a ≡ None → SeesWord word a b → Learns a b
 learns_word word a b unowed s = record {
   same = s.same;
-  sees_others = sees_others_one a.pass_state b.pass_state word s.pass_state s.others;
+  sees_others = sees_others_one a.pass_state b.pass_state word s.pass_state s.others s.company;
   looks = let e = ap (λ (t : PassState). t.looks) s.pass_state in omega (arith, e);
   unowed = unowed;
   unowed_still = s.unowed;
@@ -174,9 +182,11 @@ places_one a b command unowed all o = record {
   same = o.0;
   placed = ap (λ (t : PassState). t.seen) o.1 ∙ ap (λ (l : List ℕ). l ++ word_of a.pass_state.tag command ∷ []) (sym (append-nil a.pass_state.seen));
   others = All-nil (IsOthers a.pass_state.tag);
+  none_between = λ _. refl;
   learned_before = subst (λ (l : List ℕ). StartsWith l a.pass_state.learned) (sym (append-nil a.pass_state.seen)) (learned_seen a all o.3);
   tag = ap (λ (t : PassState). t.tag) o.1;
   learned = ap (λ (t : PassState). t.learned) o.1;
+  alone = ap (λ (t : PassState). t.alone) o.1;
   looks = let e = ap (λ (t : PassState). t.looks) o.1 in omega (arith, e);
   unowed = unowed;
 }
@@ -194,9 +204,11 @@ places_then a b d command x y =
           ∙ ap (λ (l : List ℕ). l ++ word_of b.pass_state.tag command ∷ []) before
           ∙ ap (λ (t : ℕ). (a.pass_state.seen ++ (x.sees_others.0 ++ y.between)) ++ word_of t command ∷ []) x.sees_others.3;
       others = All-append (IsOthers a.pass_state.tag) x.sees_others.0 y.between x.sees_others.2 (subst (λ (t : ℕ). All (IsOthers t) y.between) x.sees_others.3 y.others);
+      none_between = λ alone. ap (λ (l : List ℕ). l ++ y.between) (x.sees_others.6 alone) ∙ y.none_between (x.sees_others.5 ∙ alone);
       learned_before = subst (λ (l : List ℕ). StartsWith l a.pass_state.learned) before (subst (λ (t : List ℕ). StartsWith (b.pass_state.seen ++ y.between) t) x.sees_others.4 y.learned_before);
       tag = y.tag ∙ x.sees_others.3;
       learned = y.learned ∙ x.sees_others.4;
+      alone = y.alone ∙ x.sees_others.5;
       looks = let p = x.looks in let q = y.looks in omega (arith, p, q);
       unowed = x.unowed;
     }

@@ -1,5 +1,5 @@
 -- What the calls of a front do.
-use Rattle.std.specs.Prelude.{◌≡◌, ℕ, ◌≤◌, ◌⊎◌, List, [], ◌∷◌, ◌++◌, length, Option, Some, None, Result, Ok, Err}
+use Rattle.std.specs.Prelude.{◌≡◌, ℕ, ◌≤◌, ◌⊎◌, true, List, [], ◌∷◌, ◌++◌, length, Option, Some, None, Result, Ok, Err}
 use Rattle.std.specs.List.{All}
 use Rattle.nr_journal.specs.Pass.{SeesOthers, CatchesUp}
 use Rattle.nr_journal.specs.Rule.{IsOthers, StartsWith, journal_room}
@@ -58,16 +58,18 @@ pub record FindsFull (old new : FrontState) : Type 0 where
 
 -- The command's word, with the front's tag, was placed once, behind the words that were seen, among
 -- them all that the pass had learnt of. Those seen by this call, between the old ones and the own,
--- are others'.
+-- are others', and there is none where the pass is alone.
 pub record PlacesCommand (command : Command) (old new : FrontState) : Type 0 where
   pub between : List ℕ
   pub same : IsUnmoved old new
   pub placed : new.pass_state.seen ≡ (old.pass_state.seen ++ between)
       ++ word_of old.pass_state.tag command ∷ []
   pub others : All (IsOthers old.pass_state.tag) between
+  pub none_between : old.pass_state.alone ≡ true → between ≡ []
   pub learned_before : StartsWith (old.pass_state.seen ++ between) old.pass_state.learned
   pub tag : new.pass_state.tag ≡ old.pass_state.tag
   pub learned : new.pass_state.learned ≡ old.pass_state.learned
+  pub alone : new.pass_state.alone ≡ old.pass_state.alone
   pub looks : old.pass_state.looks ≤ new.pass_state.looks
   pub unowed : owed_command old ≡ None
 

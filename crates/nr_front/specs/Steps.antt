@@ -17,11 +17,12 @@ abbrev pub pending_after : Option (ℕ × Command) → Pending
 pending_after None = Nothing
 pending_after (Some tagged) = Others tagged.1
 
--- one word more was seen, another's
+-- one word more was seen, another's, so the pass isn't alone
 pub record SeesWord (word : ℕ) (old new : FrontState) : Type 0 where
   pub same : IsUnmoved old new
   pub pass_state : new.pass_state ≡ having_seen old.pass_state word
   pub others : IsOthers old.pass_state.tag word
+  pub company : old.pass_state.alone ≡ false
   pub room : length old.pass_state.seen < journal_room old.table
   pub unowed : owed_command new ≡ None
 

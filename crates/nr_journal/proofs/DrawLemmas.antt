@@ -1,6 +1,6 @@
 -- A seat is cut in two, and draws a tag.
-use Rattle.std.proofs.Common.{◌≡◌, ◌≢◌, ℕ, zero, ◌+◌, ◌<◌, List, [], ◌∷◌, ◌++◌, get_or, set, refl, sym, ap, ◌∙◌, subst, ⊎_elim, arith}
-use mathlib.Core.Option.{some, none}
+use Rattle.std.proofs.Common.{◌≡◌, ◌≢◌, ℕ, zero, ◌+◌, ◌<◌, List, [], ◌∷◌, ◌++◌, get_or, set, refl, sym, ap, ◌∙◌, subst, ⊎_elim, arith, true, false}
+use mathlib.Core.Option.{some, none, some-injective}
 use lib.ListN.{get_elem?}
 use mathlib.Core.Logic.{dite}
 use native.Mathlib.Decide.{ℕ_discrete}
@@ -12,16 +12,21 @@ use Rattle.atomic_table.specs.Table.{step, Allows, Splits}
 use Rattle.atomic_table.proofs.Lists.{at_set, set_again}
 use Rattle.nr_journal.specs.declared.view.View.{View}
 use Rattle.nr_journal.specs.declared.view.View.TheVariants.{Outside, Within, Note, Spent}
-use Rattle.nr_journal.specs.Rule.{tag_of, IsDrawn, AreDrawn, AreTaken, IsEntry, IsOthers, Fits, HasTag, AreApart, Kept, entering}
+use Rattle.nr_journal.specs.Rule.{tag_of, IsDrawn, AreDrawn, AreTaken, IsEntry, IsOthers, Fits, HasTag, AreApart, IsAlone, IsLeftAlone, Kept, entering}
 use Rattle.nr_journal.specs.Step.{Seat, Draws, DrawsFrom}
-use Rattle.nr_journal.proofs.RuleLemmas.{each_set, apart_set, taken_set, set_there, Rule, Picks, allowed, snoc_view, drawn_by}
+use Rattle.nr_journal.proofs.RuleLemmas.{each_set, apart_set, left_set, taken_set, set_there, Rule, Picks, allowed, snoc_view, drawn_by}
 
 -- a seat outside is cut in two
 pub twins : (room id : ℕ) (tried : ℕ) → Splits (Rule room) id (Outside tried) (Outside tried) (Outside tried)
 twins room id tried s k at =
     let old : set s.views id (Outside tried) ≡ s.views = set_again s.views id (Outside tried) at in
     let fits = k.each_view id (Outside tried) at in
-    subst (λ (vs : List View). Kept room s.words (vs ++ Outside tried ∷ [])) (sym old) (snoc_view room s.words s.views (Outside tried) k fits (λ tag has. has))
+    subst (λ (vs : List View). Kept room s.words (vs ++ Outside tried ∷ [])) (sym old) (snoc_view room s.words s.views (Outside tried) k fits (λ tag has. has) (λ never. never) nobody)
+  where
+    nobody : (i : ℕ) (v : View) → get_elem? s.views i ≡ some v → IsAlone v → ⊥
+    nobody i v e alone = dite (ℕ_discrete i id)
+        (λ (same : i ≡ id). subst IsAlone (some-injective v (Outside tried) (sym e ∙ (ap (λ (j : ℕ). get_elem? s.views j) same ∙ at))) alone)
+        (λ (other : i ≢ id). k.left_alone i id v (Outside tried) e at alone other)
 
 pub bit_kept : (tags m j : ℕ) → bit_at tags j ≡ 1 → bit_at (bit_or tags m) j ≡ 1
 bit_kept tags m j is = let o = bit_at_or tags m j in let l = bit_at-lt m j in
@@ -53,8 +58,8 @@ fits_drawn tags more log Spent up fits = tt
 module _ (room : ℕ) where
   -- the bits of the tags grow, and one view changes
   pub kept_drawn : (words : List ℕ) (views : List View) (k : Kept room words views) (id more : ℕ) (w : View) → ((j : ℕ) → IsDrawn k.tags j → IsDrawn more j)
-      → Fits more k.log w → AreApart (set views id w) → AreTaken more (set views id w) → Kept room (set words 0 more) (set views id w)
-  kept_drawn words views k id more w up fits apart taken = record {
+      → Fits more k.log w → AreApart (set views id w) → AreTaken more (set views id w) → IsLeftAlone (set views id w) → Kept room (set words 0 more) (set views id w)
+  kept_drawn words views k id more w up fits apart taken left = record {
     tags = more;
     log = k.log;
     free = k.free;
@@ -64,6 +69,7 @@ module _ (room : ℕ) where
     each_view = each_set (Fits more k.log) views id w (λ j v apart e. fits_drawn k.tags more k.log v up (k.each_view j v e)) fits;
     apart = apart;
     taken = taken;
+    left_alone = left;
   }
 
   -- a new tag
@@ -123,7 +129,8 @@ module _ (room : ℕ) where
           ),
           (k.log, refl),
         )
-            (apart_new words views k id tried clear) mine,
+            (apart_new words views k id tried clear) mine
+            (left_set views id (Outside tried) (Within (entering tried)) at (λ (is : false ≡ true). absurd cc) (λ never. absurd never) k.left_alone),
         ((λ _. refl), (λ not. absurd (not clear))),
       )
 
@@ -132,7 +139,8 @@ module _ (room : ℕ) where
         Outside (tried + 1),
         kept_drawn words views k id (bit_or k.tags (2 ^ tried)) (Outside (tried + 1)) up all_up
             (apart_set views id (Outside tried) (Outside (tried + 1)) at (λ t has. has) k.apart)
-            (theirs (let n : ℕ = bit_at k.tags tried in let two : n < 2 = bit_at-lt k.tags tried in let some_bit : n ≢ 0 = not in omega arith)),
+            (theirs (let n : ℕ = bit_at k.tags tried in let two : n < 2 = bit_at-lt k.tags tried in let some_bit : n ≢ 0 = not in omega arith))
+            (left_set views id (Outside tried) (Outside (tried + 1)) at (λ never. never) (λ never. never) k.left_alone),
         ((λ clear. absurd (not clear)), (λ _. refl)),
       )
 

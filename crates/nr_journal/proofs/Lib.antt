@@ -1,5 +1,6 @@
 pub mod RowLemmas
 pub mod RuleLemmas
+pub mod AloneLemmas
 pub mod LookLemmas
 pub mod OfferLemmas
 pub mod DrawLemmas

@@ -11,8 +11,9 @@ use Rattle.nr_journal.specs.declared.view.View.{View}
 use Rattle.nr_journal.specs.declared.view.View.TheVariants.{Within}
 use Rattle.nr_journal.specs.Rule.{IsOthers, StartsWith, Kept, looked, having_seen}
 use Rattle.nr_journal.specs.Step.{Seat, Looked, LookedFrom, Rereads, RereadsFrom}
+use Rattle.nr_journal.proofs.AloneLemmas.{not_alone}
 use Rattle.nr_journal.proofs.RowLemmas.{among}
-use Rattle.nr_journal.proofs.RuleLemmas.{same_tags, is_word, kept_view, at_place, before_end, kept_found, found_opcode, Rule, Picks, allowed, stays}
+use Rattle.nr_journal.proofs.RuleLemmas.{stand_alike, is_word, kept_view, at_place, before_end, kept_found, found_opcode, Rule, Picks, allowed, stays}
 
 module _ (room : ℕ) where
   pub looks_from : (words : List ℕ) (views : List View) (id : ℕ) (pass_state : PassState) → Kept room words views → get_elem? views id ≡ some (Within pass_state)
@@ -29,7 +30,7 @@ module _ (room : ℕ) where
           let zero_there : get_or words (suc (length pass_state.seen)) 0 ≡ 0 = at_place room words views k pass_state.seen (is ∙ append-nil pass_state.seen) in (
             Within (looked pass_state),
             subst (λ (ws : List ℕ). Kept room ws (set views id (Within (looked pass_state)))) (sym same)
-                (kept_view room words views id (Within pass_state) (Within (looked pass_state)) at k c (same_tags pass_state (looked pass_state) refl)),
+                (kept_view room words views id (Within pass_state) (Within (looked pass_state)) at k c (stand_alike pass_state (looked pass_state) refl refl)),
             ((λ z. (refl, subst (λ (l : List ℕ). StartsWith l pass_state.learned) (is ∙ append-nil pass_state.seen) c.2)), (λ not. absurd (not zero_there))),
           )
       go (v ∷ rest) is others =
@@ -39,7 +40,7 @@ module _ (room : ℕ) where
             Within (having_seen pass_state v),
             subst (λ (ws : List ℕ). Kept room ws (set views id (Within (having_seen pass_state v)))) (sym same) (kept_found room words views k id pass_state v rest at is others),
             subst (λ (n : ℕ). LookedFrom (Within pass_state) n (Within (having_seen pass_state v), [])) (sym there)
-                ((λ z. absurd (is_word v code z)), (λ not. (refl, code, All-head (IsOthers pass_state.tag) v rest others))),
+                ((λ z. absurd (is_word v code z)), (λ not. (refl, code, All-head (IsOthers pass_state.tag) v rest others, not_alone room words views k id pass_state v rest at is others))),
           )
 
   pub looks : (slots id i : ℕ) (me : Seat) (pass_state : PassState) → me ≡ (Within pass_state, []) → i ≡ suc (length pass_state.seen)

@@ -9,14 +9,14 @@ use Rattle.nr_journal.specs.declared.view.View.{View}
 use Rattle.nr_journal.specs.declared.view.View.TheVariants.{Within, Note, Spent}
 use Rattle.nr_journal.specs.Rule.{Fits, Kept, informed}
 use Rattle.nr_journal.specs.Step.{Seat, Compares, ComparesFrom}
-use Rattle.nr_journal.proofs.RuleLemmas.{same_tags, kept_view, Rule, allowed, snoc_view, stays}
+use Rattle.nr_journal.proofs.RuleLemmas.{stand_alike, kept_view, Rule, allowed, snoc_view, stays}
 
 -- a note of what a thread inside has seen
 pub tells : (room id : ℕ) (pass_state : PassState) → Splits (Rule room) id (Within pass_state) (Within pass_state) (Note pass_state.seen)
 tells room id pass_state s k at =
     let old : set s.views id (Within pass_state) ≡ s.views = set_again s.views id (Within pass_state) at in
     let c = (k.each_view id (Within pass_state) at).1 in
-    subst (λ (vs : List View). Kept room s.words (vs ++ Note pass_state.seen ∷ [])) (sym old) (snoc_view room s.words s.views (Note pass_state.seen) k (c.0, c.1) (λ tag has. has))
+    subst (λ (vs : List View). Kept room s.words (vs ++ Note pass_state.seen ∷ [])) (sym old) (snoc_view room s.words s.views (Note pass_state.seen) k (c.0, c.1) (λ tag has. has) (λ never. never) (λ i v e alone. tt))
 
 -- a thread inside takes in a note
 pub learns : (room id other : ℕ) (pass_state : PassState) (learned : List ℕ) → Joins (Rule room) id (Within pass_state) other (Note learned) (Within (informed pass_state learned)) Spent
@@ -25,9 +25,9 @@ learns room id other pass_state learned s k at apart there =
     let c = k.each_view id (Within pass_state) at in
     let fits : Fits k.tags k.log (Note learned) = k.each_view other (Note learned) theirs in
     kept_view room s.words (set s.views id (Within (informed pass_state learned))) other (Note learned) Spent there
-    (kept_view room s.words s.views id (Within pass_state) (Within (informed pass_state learned)) at k (c.0, c.1, fits) (same_tags pass_state (informed pass_state learned) refl))
+    (kept_view room s.words s.views id (Within pass_state) (Within (informed pass_state learned)) at k (c.0, c.1, fits) (stand_alike pass_state (informed pass_state learned) refl refl))
     tt
-    ((λ tag has. absurd has), (λ tag has. absurd has))
+    ((λ tag has. absurd has), (λ tag has. absurd has), (λ never. never), (λ note. note))
 
 module _ (room : ℕ) where
   pub compares : (slots id : ℕ) (me : Seat) (pass_state : PassState) → me ≡ (Within pass_state, []) → Allows (Rule room) slots id me 0 (λ n. n) (Compares (step slots 0 0 0 none) me)

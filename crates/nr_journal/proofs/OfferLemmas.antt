@@ -13,8 +13,9 @@ use Rattle.nr_journal.specs.declared.view.View.{View}
 use Rattle.nr_journal.specs.declared.view.View.TheVariants.{Outside, Within, Note, Spent}
 use Rattle.nr_journal.specs.Rule.{tag_of, HasOpcode, IsDrawn, IsEntry, IsOthers, StartsWith, Fits, HasTag, Kept, having_seen}
 use Rattle.nr_journal.specs.Step.{Seat, Offers, OffersFrom}
+use Rattle.nr_journal.proofs.AloneLemmas.{not_alone}
 use Rattle.nr_journal.proofs.RowLemmas.{placed}
-use Rattle.nr_journal.proofs.RuleLemmas.{each_set, apart_set, taken_set, is_word, at_place, before_end, kept_found, found_opcode, Rule, Picks, allowed}
+use Rattle.nr_journal.proofs.RuleLemmas.{each_set, apart_set, left_set, taken_set, is_word, at_place, before_end, kept_found, found_opcode, Rule, Picks, allowed}
 
 pub begins_more : (log learned : List ℕ) (word : ℕ) → StartsWith log learned → StartsWith (log ++ word ∷ []) learned
 begins_more log learned word c = (c.0 ++ word ∷ [], ap (λ (l : List ℕ). l ++ word ∷ []) c.1 ∙ append_assoc learned c.0 (word ∷ []))
@@ -56,6 +57,7 @@ module _ (room : ℕ) where
             (c.0, ([], ap (λ (l : List ℕ). l ++ word ∷ []) all ∙ sym (append-nil (pass_state.seen ++ word ∷ [])), All-nil (IsOthers pass_state.tag)), begins_more k.log pass_state.learned word c.2);
         apart = apart_set views id (Within pass_state) (Within (having_seen pass_state word)) at (λ t has. has) k.apart;
         taken = taken_set k.tags views id (Within pass_state) (Within (having_seen pass_state word)) at (λ t has. has) k.taken;
+        left_alone = left_set views id (Within pass_state) (Within (having_seen pass_state word)) at (λ alone. alone) (λ never. never) k.left_alone;
       }
 
   pub offers_from : (words : List ℕ) (views : List View) (id : ℕ) (pass_state : PassState) (word : ℕ) → Kept room words views → get_elem? views id ≡ some (Within pass_state)
@@ -87,7 +89,7 @@ module _ (room : ℕ) where
             Within (having_seen pass_state v),
             subst (λ (ws : List ℕ). Kept room ws (set views id (Within (having_seen pass_state v)))) (sym same) (kept_found room words views k id pass_state v rest at is others),
             subst (λ (n : ℕ). OffersFrom word (Within pass_state) n (Within (having_seen pass_state v), [])) (sym there)
-                ((λ z. absurd (is_word v has_code z)), (λ n. (refl, has_code, All-head (IsOthers pass_state.tag) v rest others))),
+                ((λ z. absurd (is_word v has_code z)), (λ n. (refl, has_code, All-head (IsOthers pass_state.tag) v rest others, not_alone room words views k id pass_state v rest at is others))),
           ))
 
   pub offers : (slots id i word : ℕ) (me : Seat) (pass_state : PassState) → me ≡ (Within pass_state, []) → i ≡ suc (length pass_state.seen) → length pass_state.seen < room → HasOpcode word

@@ -13,7 +13,7 @@ use Rattle.atomic_table.proofs.Lists.{at_set, at_snoc, at_longer, set_again, set
 use Rattle.nr_journal.specs.declared.view.PassState.{PassState}
 use Rattle.nr_journal.specs.declared.view.View.{View}
 use Rattle.nr_journal.specs.declared.view.View.TheVariants.{Outside, Within, Note, Spent}
-use Rattle.nr_journal.specs.Rule.{HasOpcode, IsDrawn, AreTaken, IsEntry, IsOthers, Fits, HasTag, AreApart, Kept, having_seen, newcomer}
+use Rattle.nr_journal.specs.Rule.{HasOpcode, IsDrawn, AreTaken, IsEntry, IsOthers, Fits, HasTag, AreApart, IsAlone, IsNote, IsLeftAlone, Kept, having_seen, newcomer}
 use Rattle.nr_journal.specs.Step.{Seat}
 use Rattle.nr_journal.proofs.RowLemmas.{All-right, behind, beside}
 
@@ -25,26 +25,46 @@ each_set P views id w others mine j v e = ⊎_elim
     (λ (t : (j ≢ id) × (get_elem? views j ≡ some v)). others j v t.0 t.1)
     (at_set views id j w v e)
 
--- a view with a tag had it before
-pub had : (views : List View) (id : ℕ) (v w : View) → get_elem? views id ≡ some v → ((tag : ℕ) → HasTag w tag → HasTag v tag)
-    → (j tag : ℕ) (u : View) → get_elem? (set views id w) j ≡ some u → HasTag u tag → (t : View) × (get_elem? views j ≡ some t) × HasTag t tag
-had views id v w at same j tag u e has = ⊎_elim
-    (λ (t : (j ≡ id) × (w ≡ u)). (v, subst (λ (k : ℕ). get_elem? views k ≡ some v) (sym t.0) at, same tag (subst (λ (x : View). HasTag x tag) (sym t.1) has)))
-    (λ (t : (j ≢ id) × (get_elem? views j ≡ some u)). (u, t.1, has))
+-- what holds of a view after a change of one held of a view there before
+pub had : (P : View → Type 0) (views : List View) (id : ℕ) (v w : View) → get_elem? views id ≡ some v → (P w → P v)
+    → (j : ℕ) (u : View) → get_elem? (set views id w) j ≡ some u → P u → (t : View) × (get_elem? views j ≡ some t) × P t
+had P views id v w at same j u e holds = ⊎_elim
+    (λ (t : (j ≡ id) × (w ≡ u)). (v, subst (λ (k : ℕ). get_elem? views k ≡ some v) (sym t.0) at, same (subst P (sym t.1) holds)))
+    (λ (t : (j ≢ id) × (get_elem? views j ≡ some u)). (u, t.1, holds))
     (at_set views id j w u e)
 
 pub apart_set : (views : List View) (id : ℕ) (v w : View) → get_elem? views id ≡ some v → ((tag : ℕ) → HasTag w tag → HasTag v tag) → AreApart views → AreApart (set views id w)
 apart_set views id v w at same apart i j tag a b ea eb ha hb =
-    let x = had views id v w at same i tag a ea ha in
-    let y = had views id v w at same j tag b eb hb in
+    let x = had (λ u. HasTag u tag) views id v w at (same tag) i a ea ha in
+    let y = had (λ u. HasTag u tag) views id v w at (same tag) j b eb hb in
     apart i j tag x.0 y.0 x.1 y.1 x.2 y.2
 
--- two views have the same tag, or none
-abbrev pub SameTags : View → View → Type 0
-SameTags v w = ((tag : ℕ) → HasTag w tag → HasTag v tag) × ((tag : ℕ) → HasTag v tag → HasTag w tag)
+-- a change of one view leaves a pass alone
+pub left_set : (views : List View) (id : ℕ) (v w : View) → get_elem? views id ≡ some v → (IsAlone w → IsAlone v) → (IsNote v → IsNote w) → IsLeftAlone views → IsLeftAlone (set views id w)
+left_set views id v w at alone note left i j a b ea eb is apart =
+    let x = had IsAlone views id v w at alone i a ea is in
+    ⊎_elim
+    (λ (t : (j ≡ id) × (w ≡ b)). subst IsNote t.1 (note (left i j x.0 v x.1 (subst (λ (k : ℕ). get_elem? views k ≡ some v) (sym t.0) at) x.2 apart)))
+    (λ (t : (j ≢ id) × (get_elem? views j ≡ some b)). left i j x.0 b x.1 t.1 x.2 apart)
+    (at_set views id j w b eb)
 
-pub same_tags : (pass_state other : PassState) → pass_state.tag ≡ other.tag → SameTags (Within pass_state) (Within other)
-same_tags pass_state other is = ((λ tag has. is ∙ has), (λ tag has. sym is ∙ has))
+-- so does a new view, which is a note wherever a pass is alone
+left_snoc : (views : List View) (w : View) → (IsAlone w → ⊥) → ((i : ℕ) (v : View) → get_elem? views i ≡ some v → IsAlone v → IsNote w) → IsLeftAlone views → IsLeftAlone (views ++ w ∷ [])
+left_snoc views w never note left i j a b ea eb is apart = ⊎_elim
+    (λ (x : get_elem? views i ≡ some a). ⊎_elim
+    (λ (y : get_elem? views j ≡ some b). left i j a b x y is apart)
+    (λ (y : w ≡ b). subst IsNote y (note i a x is))
+    (at_snoc views w b j eb))
+    (λ (x : w ≡ a). absurd (never (subst IsAlone (sym x) is)))
+    (at_snoc views w a i ea)
+
+-- two views have the same tag, or none, and are alike in what is beside them
+abbrev pub StandAlike : View → View → Type 0
+StandAlike v w = ((tag : ℕ) → HasTag w tag → HasTag v tag) × ((tag : ℕ) → HasTag v tag → HasTag w tag)
+    × (IsAlone w → IsAlone v) × (IsNote v → IsNote w)
+
+pub stand_alike : (pass_state other : PassState) → pass_state.tag ≡ other.tag → pass_state.alone ≡ other.alone → StandAlike (Within pass_state) (Within other)
+stand_alike pass_state other is alone = ((λ tag has. is ∙ has), (λ tag has. sym is ∙ has), (λ only. alone ∙ only), (λ never. never))
 
 pub set_there : (views : List View) (i : ℕ) (v w : View) → get_elem? views i ≡ some v → get_elem? (set views i w) i ≡ some w
 set_there [] i v w e = absurd (some-ne-none v (sym e))
@@ -79,25 +99,31 @@ begins room words is = record {
   room_is = omega arith;
   entries = All-nil (IsEntry 0);
   each_view = one;
-  apart = alone;
+  apart = one_tag;
   taken = none_drawn;
+  left_alone = nobody;
 }
   where
     one : (id : ℕ) (v : View) → get_elem? (newcomer ∷ []) id ≡ some v → Fits 0 [] v
     one zero v e = subst (Fits 0 []) (some-injective newcomer v e) (λ tag below. absurd (omega arith))
     one (suc id) v e = absurd (some-ne-none v (sym e))
 
-    alone : AreApart (newcomer ∷ [])
-    alone zero zero tag v w a b h i = refl
-    alone zero (suc j) tag v w a b h i = absurd (some-ne-none w (sym b))
-    alone (suc i) j tag v w a b h l = absurd (some-ne-none v (sym a))
+    one_tag : AreApart (newcomer ∷ [])
+    one_tag zero zero tag v w a b h i = refl
+    one_tag zero (suc j) tag v w a b h i = absurd (some-ne-none w (sym b))
+    one_tag (suc i) j tag v w a b h l = absurd (some-ne-none v (sym a))
 
     none_drawn : AreTaken 0 (newcomer ∷ [])
     none_drawn tag drawn = let z : zero ≡ 1 = sym (bit_at-zero tag) ∙ drawn in absurd (omega arith)
 
--- a new view, with no tag
-pub snoc_view : (room : ℕ) (words : List ℕ) (views : List View) (w : View) → (k : Kept room words views) → Fits k.tags k.log w → ((tag : ℕ) → HasTag w tag → ⊥) → Kept room words (views ++ w ∷ [])
-snoc_view room words views w k fits none_there = record {
+    nobody : IsLeftAlone (newcomer ∷ [])
+    nobody zero j v w a b is other = absurd (subst IsAlone (sym (some-injective newcomer v a)) is)
+    nobody (suc i) j v w a b is other = absurd (some-ne-none v (sym a))
+
+-- a new view, with no tag, which is a note wherever a pass is alone
+pub snoc_view : (room : ℕ) (words : List ℕ) (views : List View) (w : View) → (k : Kept room words views) → Fits k.tags k.log w → ((tag : ℕ) → HasTag w tag → ⊥)
+    → (IsAlone w → ⊥) → ((i : ℕ) (v : View) → get_elem? views i ≡ some v → IsAlone v → IsNote w) → Kept room words (views ++ w ∷ [])
+snoc_view room words views w k fits none_there never note = record {
   tags = k.tags;
   log = k.log;
   free = k.free;
@@ -113,11 +139,12 @@ snoc_view room words views w k fits none_there = record {
       (λ (x : w ≡ a). absurd (none_there tag (subst (λ (u : View). HasTag u tag) (sym x) ha)))
       (at_snoc views w a i ea);
   taken = λ tag drawn. let o = k.taken tag drawn in (o.0, o.1, at_longer views (w ∷ []) o.0 o.1 o.2, o.3);
+  left_alone = left_snoc views w never note k.left_alone;
 }
 
 module _ (room : ℕ) where
   -- one view changes, and no word
-  pub kept_view : (words : List ℕ) (views : List View) (id : ℕ) (v w : View) → get_elem? views id ≡ some v → (k : Kept room words views) → Fits k.tags k.log w → SameTags v w
+  pub kept_view : (words : List ℕ) (views : List View) (id : ℕ) (v w : View) → get_elem? views id ≡ some v → (k : Kept room words views) → Fits k.tags k.log w → StandAlike v w
       → Kept room words (set views id w)
   kept_view words views id v w at k fits same = record {
     tags = k.tags;
@@ -129,6 +156,7 @@ module _ (room : ℕ) where
     each_view = each_set (Fits k.tags k.log) views id w (λ j u apart e. k.each_view j u e) fits;
     apart = apart_set views id v w at same.0 k.apart;
     taken = taken_set k.tags views id v w at same.1 k.taken;
+    left_alone = left_set views id v w at same.2 same.3 k.left_alone;
   }
 
   -- the word at the place of a thread inside
@@ -146,7 +174,7 @@ module _ (room : ℕ) where
   kept_found words views k id pass_state v rest at is others = let c = k.each_view id (Within pass_state) at in
       kept_view words views id (Within pass_state) (Within (having_seen pass_state v)) at k
       (c.0, (rest, is ∙ sym (append_assoc pass_state.seen (v ∷ []) rest), All-tail (IsOthers pass_state.tag) v rest others), c.2)
-      (same_tags pass_state (having_seen pass_state v) refl)
+      (stand_alike pass_state (having_seen pass_state v) refl refl)
 
   pub found_opcode : (words : List ℕ) (views : List View) (k : Kept room words views) (seen : List ℕ) (v : ℕ) (rest : List ℕ) → k.log ≡ seen ++ v ∷ rest → HasOpcode v
   found_opcode words views k seen v rest is = (All-head (IsEntry k.tags) v rest (All-right (IsEntry k.tags) seen (v ∷ rest) (subst (All (IsEntry k.tags)) is k.entries))).0

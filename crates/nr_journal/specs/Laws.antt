@@ -1,5 +1,5 @@
 -- What the rule comes to.
-use Rattle.std.specs.Prelude.{◌≡◌, ℕ, ◌+◌, ◌<◌, List, [], ◌∷◌, length, slice_index}
+use Rattle.std.specs.Prelude.{◌≡◌, ℕ, ◌+◌, ◌<◌, true, List, [], ◌∷◌, length, slice_index}
 use mathlib.Core.Option.{some}
 use lib.ListN.{get_elem?}
 use Rattle.nr_journal.specs.declared.journal.Journal.TheInside as journal_parts
@@ -15,6 +15,12 @@ abbrev pub EmptyLookSeesAll : Type 0
 EmptyLookSeesAll = (room id : ℕ) (pass_state : PassState) (words : List ℕ) (views : List View)
     → (k : Kept room words views) → get_elem? views id ≡ some (Within pass_state)
     → slice_index words (length pass_state.seen + 1) ≡ 0 → k.log ≡ pass_state.seen
+
+-- a pass that is alone has seen all words
+abbrev pub AnOnlyPassSeesAll : Type 0
+AnOnlyPassSeesAll = (room id : ℕ) (pass_state : PassState) (words : List ℕ) (views : List View)
+    → (k : Kept room words views) → get_elem? views id ≡ some (Within pass_state)
+    → pass_state.alone ≡ true → k.log ≡ pass_state.seen
 
 -- each word of the log is, at its index, among the words that the pass with its tag has seen
 abbrev pub EachWordHasItsPass : Type 0

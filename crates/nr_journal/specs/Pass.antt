@@ -1,5 +1,5 @@
 -- What a contract sees of a pass, and what a call does to it.
-use Rattle.std.specs.Prelude.{◌≡◌, ◌<◌, ◌≤◌, ◌+◌, ◌⊎◌, ℕ, List, ◌++◌, length}
+use Rattle.std.specs.Prelude.{◌≡◌, ◌<◌, ◌≤◌, ◌+◌, ◌⊎◌, ℕ, true, false, List, [], ◌++◌, length}
 use Rattle.std.specs.List.{All}
 use Rattle.atomic_table.specs.Seated.{TableId}
 use Rattle.nr_journal.specs.declared.view.PassState.{PassState}
@@ -27,7 +27,7 @@ WasOffered word room before after Placed =
     (after ≡ having_seen before word) × (length before.seen < room)
 WasOffered word room before after (Lost v) =
     (after ≡ having_seen before v) × (length before.seen < room) × HasOpcode v
-    × IsOthers before.tag v
+    × IsOthers before.tag v × (before.alone ≡ false)
 WasOffered word room before after Full = (after ≡ before) × (length before.seen ≡ room)
 
 -- of two lists the shorter begins the longer
@@ -35,11 +35,12 @@ abbrev pub AreInLine : List ℕ → List ℕ → Type 0
 AreInLine xs ys =
     (length xs ≤ length ys → StartsWith ys xs) × (length ys ≤ length xs → StartsWith xs ys)
 
--- nothing was placed: any words that were seen beyond those before are others', and what it learnt
--- of is as it was
+-- Nothing was placed: any words that were seen beyond those before are others', and there is none
+-- where the pass is alone. What it learnt of is as it was.
 abbrev pub SeesOthers : PassState → PassState → Type 0
 SeesOthers before after = (added : List ℕ) × (after.seen ≡ before.seen ++ added)
     × All (IsOthers before.tag) added × (after.tag ≡ before.tag) × (after.learned ≡ before.learned)
+    × (after.alone ≡ before.alone) × (before.alone ≡ true → added ≡ [])
 
 -- one look more found no word, and then all that it learnt of is among what was seen; or all words
 -- are seen

@@ -1,11 +1,12 @@
 -- The rule of a journal. Word 0 of its table has the tag bits, and the words behind it are the
 -- journal.
-use Rattle.std.specs.Prelude.{◌≡◌, ◌≢◌, ℕ, ◌+◌, ◌-◌, ◌/◌, ◌%◌, ◌<◌, ◌≤◌, List, [], ◌∷◌, ◌++◌, length, replicate}
+use Rattle.std.specs.Prelude.{◌≡◌, ◌≢◌, ℕ, ◌+◌, ◌-◌, ◌/◌, ◌%◌, ◌<◌, ◌≤◌, true, false, if◌then◌else◌, List, [], ◌∷◌, ◌++◌, length, replicate}
 use Rattle.std.specs.List.{All}
 use Rattle.std.specs.Int.{bit_at}
 use mathlib.Core.Option.{some}
 use lib.ListN.{get_elem?}
 use Rattle.atomic_table.specs.Seated.{TableId}
+use Rattle.nr_journal.specs.declared.rule.Purpose.{Purpose}
 use Rattle.nr_journal.specs.declared.rule.TheConstants.{BYTE_VALUES, GREATEST_OPCODE}
 use Rattle.nr_journal.specs.declared.view.PassState.{PassState}
 use Rattle.nr_journal.specs.declared.view.View.{View}
@@ -72,6 +73,26 @@ abbrev pub AreTaken : ℕ → List View → Type 0
 AreTaken tags views = (tag : ℕ) → IsDrawn tags tag
     → (id : ℕ) × (v : View) × (get_elem? views id ≡ some v) × HasTag v tag
 
+-- it is the view of a pass that is alone
+abbrev pub IsAlone : View → Type 0
+IsAlone (Outside _) = ⊥
+IsAlone (Within pass_state) = pass_state.alone ≡ true
+IsAlone (Note _) = ⊥
+IsAlone Spent = ⊥
+
+-- it is a note, or one that was taken in
+abbrev pub IsNote : View → Type 0
+IsNote (Outside _) = ⊥
+IsNote (Within _) = ⊥
+IsNote (Note _) = Unit {0}
+IsNote Spent = Unit {0}
+
+-- beside a pass that is alone there are notes and nothing else
+abbrev pub IsLeftAlone : List View → Type 0
+IsLeftAlone views =
+    (i j : ℕ) (v w : View) → get_elem? views i ≡ some v → get_elem? views j ≡ some w
+    → IsAlone v → i ≢ j → IsNote w
+
 -- What a journal with so much room keeps. There is one log: the journal is the log and then zeros,
 -- each word of the log is an entry, and all that is known is true of it.
 pub record Kept (room : ℕ) (words : List ℕ) (views : List View) : Type 0 where
@@ -84,6 +105,7 @@ pub record Kept (room : ℕ) (words : List ℕ) (views : List View) : Type 0 whe
   pub each_view : (id : ℕ) (v : View) → get_elem? views id ≡ some v → Fits tags log v
   pub apart : AreApart views
   pub taken : AreTaken tags views
+  pub left_alone : IsLeftAlone views
 
 -- what the first seat knows: nothing
 abbrev pub newcomer : View
@@ -91,7 +113,15 @@ newcomer = Outside 0
 
 -- what a pass knows when it goes in with a tag
 abbrev pub entering : ℕ → PassState
-entering tag = record { tag = tag; seen = []; looks = 0; learned = [] }
+entering tag = record { tag = tag; seen = []; looks = 0; learned = []; alone = false }
+
+-- what a pass knows at first that is its journal's only one
+abbrev pub entering_alone : PassState
+entering_alone = record { tag = 0; seen = []; looks = 0; learned = []; alone = true }
+
+-- what is known at first: by the only pass, or by the first seat
+abbrev pub first_view : Purpose → View
+first_view purpose = if purpose.alone then Within entering_alone else newcomer
 
 -- one look more found no word
 abbrev pub looked : PassState → PassState
@@ -100,6 +130,7 @@ looked pass_state = record {
   seen = pass_state.seen;
   looks = pass_state.looks + 1;
   learned = pass_state.learned;
+  alone = pass_state.alone;
 }
 
 -- one word more was seen
@@ -109,6 +140,7 @@ having_seen pass_state word = record {
   seen = pass_state.seen ++ word ∷ [];
   looks = pass_state.looks;
   learned = pass_state.learned;
+  alone = pass_state.alone;
 }
 
 -- it learns now what another had seen, and forgets what it had learnt before
@@ -118,6 +150,7 @@ informed pass_state learned = record {
   seen = pass_state.seen;
   looks = pass_state.looks;
   learned = learned;
+  alone = pass_state.alone;
 }
 
 -- how many words a journal has room for: its table has the word of the tag bits beside

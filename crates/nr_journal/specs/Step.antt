@@ -1,5 +1,5 @@
 -- What whoever makes a step on a journal's table learns: what is known after it, by what was found.
-use Rattle.std.specs.Prelude.{◌≡◌, ◌≢◌, ℕ, ◌+◌, ◌-◌, List, [], slice_index}
+use Rattle.std.specs.Prelude.{◌≡◌, ◌≢◌, ℕ, ◌+◌, ◌-◌, false, List, [], slice_index}
 use Rattle.std.specs.Int.{bit_at}
 use Rattle.atomic_table.specs.Table.{Me, Step}
 use Rattle.nr_journal.specs.declared.view.PassState.{PassState}
@@ -11,11 +11,11 @@ use Rattle.nr_journal.specs.Rule.{HasOpcode, IsOthers, StartsWith, entering, inf
 abbrev pub Seat : Type 0
 Seat = Me (Unit {0}) View
 
--- the word behind all that was seen is another's
+-- the word behind all that was seen is another's, so the pass isn't alone
 abbrev pub Found : PassState → ℕ → Seat → Type 0
 Found pass_state found after =
     (after ≡ (Within (having_seen pass_state found), [])) × HasOpcode found
-    × IsOthers pass_state.tag found
+    × IsOthers pass_state.tag found × (pass_state.alone ≡ false)
 
 -- the word behind all that was seen is 0, so there is no more than what was seen and learnt of, or
 -- it is another's

@@ -1,13 +1,13 @@
 //! The journal: words that are written once each, by a compare-exchange, and read in one order.
 
-ghost use Rattle.std.specs.Prelude.{◌≡◌, ◌≢◌, ◌⊎◌, ℕ, ◌+◌, ◌^◌, ◌<◌, ◌≤◌, length, IfSome, IfNone, IfOk, IfErr, slice_index};
+ghost use Rattle.std.specs.Prelude.{◌≡◌, ◌≢◌, ◌⊎◌, ℕ, ◌+◌, ◌^◌, ◌<◌, ◌≤◌, false, length, IfSome, IfNone, IfOk, IfErr, slice_index};
 ghost use Rattle.std.specs.Ordering.{nat_cmp};
-ghost use Rattle.nr_journal.specs.Rule.{entering, informed, journal_room, StartsWith, looked, having_seen, HasOpcode, IsOthers, tag_of};
+ghost use Rattle.nr_journal.specs.Rule.{entering, entering_alone, informed, journal_room, StartsWith, looked, having_seen, HasOpcode, IsOthers, tag_of};
 ghost use Rattle.nr_journal.specs.Pass.{WasOffered, AreInLine, SeesOthers, CatchesUp};
 ghost use Rattle.nr_journal.specs.declared.rule.TheConstants.{MOST_PASSES, MOST_WORDS};
 
 use crate::pass::{Offered, Pass};
-use crate::rule::{InOneOrder, MOST_PASSES, MOST_WORDS};
+use crate::rule::{InOneOrder, MOST_PASSES, MOST_WORDS, Purpose};
 use crate::seat::{NoTag, Seat};
 use crate::step::{Compare, Draw, Learn, Look, Offer, Reread, Tell, Twin};
 use crate::view::View;
@@ -21,7 +21,7 @@ use std::marker::Model;
 /// other. No call waits.
 #[derive(Drop)]
 pub struct Journal {
-    table: Table<(), View, u64, InOneOrder, Global>,
+    table: Table<(), View, Purpose, InOneOrder, Global>,
     words: usize,
 }
 
@@ -34,7 +34,7 @@ impl Model for Journal {
 
     ghost view = { λ j. j.table.shared.table_id };
 
-    ghost invariant = { λ j. (j.table.shared.key ≡ j.words)
+    ghost invariant = { λ j. (j.table.shared.key.words ≡ j.words)
         × (j.table.shared.table_id.words ≡ j.words + 1)
         × (j.table.shared.table_id.slots ≡ 0) × (j.words ≤ MOST_WORDS) };
 }
@@ -49,8 +49,34 @@ impl Journal {
         ensures { IfOk result (λ r. (journal_room r.0 ≡ words) × (r.1.table ≡ r.0) × (r.1.tried ≡ 0)) }
     {
         let zeros = Vec::from_elem(alloc, 0u64, words + 1)?;
-        let (table, seat) = Table::of_words(alloc, zeros.as_slice(), &(words as u64))?;
+        let shared = Purpose {
+            words,
+            alone: false,
+        };
+        let (table, seat) = Table::of_words(alloc, zeros.as_slice(), &shared)?;
         Ok((Journal { table, words }, Seat { seat, tried: 0 }))
+    }
+
+    /// An empty journal with room for so many words, and the only pass that it ever has, whose tag is 0. So whatever the
+    /// pass sees it has placed.
+    ///
+    /// Memory is the only error; then nothing is left behind.
+    #[tactic(auto, using(crate::proofs::AloneLemmas::begins_alone))]
+    pub fn alone(alloc: Global, words: usize) -> Result<(Journal, Pass), AllocError>
+        requires { (1 ≤ words) × (words ≤ MOST_WORDS) }
+        ensures { IfOk result (λ r. (journal_room r.0 ≡ words) × (r.1.table ≡ r.0)
+            × (r.1.pass_state ≡ entering_alone)) }
+    {
+        let mut zeros = Vec::from_elem(alloc, 0u64, words + 1)?;
+        zeros[0] = 1;
+        let only = Purpose { words, alone: true };
+        let (table, seat) = Table::of_words(alloc, zeros.as_slice(), &only)?;
+        let pass = Pass {
+            seat,
+            place: 0,
+            tag: 0,
+        };
+        Ok((Journal { table, words }, pass))
     }
 
     /// A second seat of this journal, which knows as much as the first.
@@ -102,7 +128,7 @@ impl Journal {
         ensures table { pass.new.table ≡ pass.old.table }
         ensures room { IfSome result (λ v. length pass.old.pass_state.seen < journal_room self.now) }
         ensures some { IfSome result (λ v. (pass.new.pass_state ≡ having_seen pass.old.pass_state v)
-            × HasOpcode v × IsOthers pass.old.pass_state.tag v) }
+            × HasOpcode v × IsOthers pass.old.pass_state.tag v × (pass.old.pass_state.alone ≡ false)) }
         // a body that doesn't look can't know that it learnt of no more than it has seen
         ensures none { IfNone result (
             ((pass.new.pass_state ≡ looked pass.old.pass_state)

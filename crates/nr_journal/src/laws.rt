@@ -1,7 +1,7 @@
 //! What the rule comes to: laws that hold at every moment.
 
 ghost use Rattle.std.specs.Prelude.{◌≡◌};
-ghost use Rattle.nr_journal.specs.Laws.{BeginsEmpty, EachWordHasItsPass, EmptyLookSeesAll, NothingIsHidden};
+ghost use Rattle.nr_journal.specs.Laws.{AnOnlyPassSeesAll, BeginsEmpty, EachWordHasItsPass, EmptyLookSeesAll, NothingIsHidden};
 ghost use Rattle.nr_journal.specs.declared.rule.TheConstants.{GREATEST_OPCODE, MOST_PASSES, MOST_WORDS};
 
 /// A journal begins with no word, as long as there is only its first seat, which has tried no tag.
@@ -12,6 +12,11 @@ pub fn begins_empty()
 /// Where a pass looks and finds no word, the journal has just the words that it has seen.
 pub fn empty_look_sees_all()
     ensures { EmptyLookSeesAll }
+{}
+
+/// A pass that is its journal's only one has seen all words there are.
+pub fn an_only_pass_sees_all()
+    ensures { AnOnlyPassSeesAll }
 {}
 
 /// No word comes from nowhere: the pass whose tag it has is there and has seen it, at its index. And a pass sees a word

@@ -11,5 +11,5 @@ mod view;
 
 pub use crate::journal::Journal;
 pub use crate::pass::{Offered, Pass};
-pub use crate::rule::{BYTE_VALUES, GREATEST_OPCODE, InOneOrder, MOST_PASSES, MOST_WORDS};
+pub use crate::rule::{BYTE_VALUES, GREATEST_OPCODE, InOneOrder, MOST_PASSES, MOST_WORDS, Purpose};
 pub use crate::seat::{NoTag, Seat};

@@ -15,14 +15,22 @@ pub const MOST_PASSES: u32 = 64;
 /// The most words that a journal may be made for.
 pub const MOST_WORDS: usize = 1_000_000;
 
-/// What holds of a journal's words and of all that is known of them, whichever threads take which steps. The table
-/// gets the number of words that the journal has.
+/// What a journal's table is told when it is made.
+#[derive(Clone, Copy, Debug, PartialEq, Eq)]
+pub struct Purpose {
+    /// How many words the journal has room for.
+    pub words: usize,
+    /// Whether it has one pass from the start, and never another.
+    pub alone: bool,
+}
+
+/// What holds of a journal's words and of all that is known of them, whichever threads take which steps.
 pub struct InOneOrder;
 
-impl TableRule<(), View, u64> for InOneOrder {
-    ghost use Rattle.nr_journal.specs.Rule.{Kept, newcomer};
+impl TableRule<(), View, Purpose> for InOneOrder {
+    ghost use Rattle.nr_journal.specs.Rule.{Kept, first_view};
 
-    ghost holds = { λ room s. Kept room s.words s.views };
+    ghost holds = { λ purpose s. Kept purpose.words s.words s.views };
 
-    ghost first = { λ _. newcomer };
+    ghost first = { first_view };
 }

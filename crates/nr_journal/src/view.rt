@@ -12,6 +12,8 @@ pub struct PassState {
     pub looks: u64,
     /// The words that another pass had seen when the two met last.
     pub learned: LinkedList<u64>,
+    /// Whether it is the only pass that its journal ever has.
+    pub alone: bool,
 }
 
 /// What is known by whoever steps on the journal. No value of it is made.

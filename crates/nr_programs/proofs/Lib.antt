@@ -5,4 +5,3 @@ pub mod ServingLemmas
 pub mod SharedLemmas
 pub mod TranscriptLemmas
 pub mod UpgradeLemmas
-pub mod WorkedLemmas

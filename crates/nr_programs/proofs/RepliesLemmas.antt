@@ -1,9 +1,9 @@
 -- Line after line, what is written is the transcript.
-use Rattle.std.proofs.Common.{◌≡◌, ◌⊎◌, inl, inr, ℕ, ◌+◌, Bool, true, false, cond, not, ◌||◌, List, [], ◌∷◌, ◌++◌, take, drop, Result, Ok, Err, refl, sym, ap, ◌∙◌, subst, append-nil, append_assoc, take-append-drop}
+use Rattle.std.proofs.Common.{◌≡◌, ◌⊎◌, inl, inr, ℕ, Bool, true, false, cond, not, ◌||◌, List, [], ◌∷◌, ◌++◌, take, drop, Result, Ok, Err, refl, sym, ap, ◌∙◌, subst, append-nil, append_assoc, take-append-drop}
 use Rattle.std.specs.Io.KnownBytes.{Appends, Consumes, IsAtEnd}
 use Rattle.std.specs.List.{All, concat}
 use Rattle.std.proofs.KnownBytes.{Consumes-nil}
-use Rattle.std.proofs.lemmas.List.Elements.{All-head, All-tail}
+use Rattle.std.proofs.lemmas.List.Elements.{All-cons, All-head, All-nil, All-push, All-tail}
 use Rattle.std.proofs.lemmas.List.Folds.{concat-append}
 use Rattle.nr_rev.specs.Run.{Recording}
 use Rattle.nr_text.specs.Streams.{Incoming, Outgoing}
@@ -31,36 +31,53 @@ use Rattle.nr_programs.proofs.FaultLemmas.{IsOwn, opened_faulty, opened_good}
 use Rattle.nr_programs.proofs.TranscriptLemmas.{Stands, line_given}
 
 -- one line: its text, and where the front stands then
-record Goes (r : Recording) (s : Standing) (line text : List ℕ) (d' : FrontState) : Type 0 where
+record Goes (r : Recording) (s : Standing) (d : FrontState) (line text : List ℕ) (d' : FrontState) : Type 0 where
   pub met : Met
   pub after : Standing
   pub there : Stands r after d'
+  pub company : d'.pass_state.alone ≡ d.pass_state.alone
+  pub no_others : d.pass_state.alone ≡ true → met.others ≡ []
   pub text_is : (lines : List (List ℕ)) (more : List Met) → texts r s (line ∷ lines) (met ∷ more) ≡ text ∷ cond (is_quit (meaning_of line)) [] (texts r after lines more)
 
-goes : (r : Recording) (s : Standing) (d : FrontState) (line text : List ℕ) (d' : FrontState) → Stands r s d → Turn d line text d' → Goes r s line text d'
+goes : (r : Recording) (s : Standing) (d : FrontState) (line text : List ℕ) (d' : FrontState) → Stands r s d → Turn d line text d' → Goes r s d line text d'
 goes r s d line text d' here turn =
     let given = line_given r s d here (meaning_of line) turn.0 d' turn.1 in
-    let a = line_answer r s.owed (meaning_of line) given.0 s in
+    let a = line_answer r s.owed (meaning_of line) given.met s in
     record {
-      met = given.0;
+      met = given.met;
       after = a.1;
-      there = given.2;
-      text_is = λ lines more. ap (λ (t : List ℕ). t ∷ cond (is_quit (meaning_of line)) [] (texts r a.1 lines more)) (ap text_or_none given.1 ∙ sym turn.2);
+      there = given.there;
+      company = given.company;
+      no_others = given.no_others;
+      text_is = λ lines more. ap (λ (t : List ℕ). t ∷ cond (is_quit (meaning_of line)) [] (texts r a.1 lines more)) (ap text_or_none given.reply_is ∙ sym turn.2);
     }
 
 neither : (a b : Bool) → (a || b) ≡ false → (a ≡ false) × (b ≡ false)
 neither true b e = cc
 neither false b e = (refl, e)
 
+-- nothing of others is met
+abbrev pub MeetsNoOther : Met → Type 0
+MeetsNoOther m = m.others ≡ []
+
 -- lines none of which is quit
-record GoOn (r : Recording) (s : Standing) (lines given : List (List ℕ)) (d' : FrontState) : Type 0 where
+record GoOn (r : Recording) (s : Standing) (d : FrontState) (lines given : List (List ℕ)) (d' : FrontState) : Type 0 where
   pub met : List Met
   pub after : Standing
   pub there : Stands r after d'
+  pub company : d'.pass_state.alone ≡ d.pass_state.alone
+  pub no_others : d.pass_state.alone ≡ true → All MeetsNoOther met
   pub texts_are : (later : List (List ℕ)) (more : List Met) → texts r s (lines ++ later) (met ++ more) ≡ given ++ texts r after later more
 
-go_on : (r : Recording) (s : Standing) (d : FrontState) (lines given : List (List ℕ)) (d' : FrontState) → Stands r s d → has_quit lines ≡ false → Turns d lines given d' → GoOn r s lines given d'
-go_on r s d [] [] d' here none is = record { met = []; after = s; there = subst (Stands r s) (sym is) here; texts_are = λ later more. refl }
+go_on : (r : Recording) (s : Standing) (d : FrontState) (lines given : List (List ℕ)) (d' : FrontState) → Stands r s d → has_quit lines ≡ false → Turns d lines given d' → GoOn r s d lines given d'
+go_on r s d [] [] d' here none is = record {
+  met = [];
+  after = s;
+  there = subst (Stands r s) (sym is) here;
+  company = ap (λ (x : FrontState). x.pass_state.alone) is;
+  no_others = λ _. All-nil MeetsNoOther;
+  texts_are = λ later more. refl;
+}
 go_on r s d [] (text ∷ given) d' here none h = absurd h
 go_on r s d (line ∷ lines) [] d' here none h = absurd h
 go_on r s d (line ∷ lines) (text ∷ given) d' here none h =
@@ -71,6 +88,8 @@ go_on r s d (line ∷ lines) (text ∷ given) d' here none h =
       met = one.met ∷ rest.met;
       after = rest.after;
       there = rest.there;
+      company = rest.company ∙ one.company;
+      no_others = λ alone. All-cons MeetsNoOther one.met rest.met (one.no_others alone) (rest.no_others (one.company ∙ alone));
       texts_are = λ later more. one.text_is (lines ++ later) (rest.met ++ more) ∙ ap (λ q. text ∷ cond q [] (texts r one.after (lines ++ later) (rest.met ++ more))) no.0
           ∙ ap (λ (l : List (List ℕ)). text ∷ l) (rest.texts_are later more);
     }
@@ -104,25 +123,35 @@ lines_behind ended text front line back split =
     let more = more_lines ended text in
     (back ++ more.0, more.1 ∙ ap (λ (l : List (List ℕ)). l ++ more.0) split ∙ append_assoc front (line ∷ back) more.0)
 
+with_last : (met : List Met) (last : Met) → All MeetsNoOther met → MeetsNoOther last → All MeetsNoOther (met ++ last ∷ [])
+with_last met last all one = All-push MeetsNoOther met last all one
+
 -- what was written, and where the front stands then
-pub record Replied (r : Recording) (s : Standing) (d' : FrontState) (says : List Met → Type 0) : Type 0 where
+pub record Replied (r : Recording) (s : Standing) (d d' : FrontState) (says : List Met → Type 0) : Type 0 where
   pub met : List Met
+  pub no_others : d.pass_state.alone ≡ true → All MeetsNoOther met
   pub after : Standing
   pub there : Stands r after d'
   pub says_it : says met
 
 module _ (r : Recording) (s : Standing) (d d' : FrontState) (here : Stands r s d) (read out : List ℕ) where
   -- all lines were answered
-  pub all_answered : (ended : Bool) → Answered d (lines_of ended read) out d' → Replied r s d' (λ met. out ≡ replies r s ended read met)
+  pub all_answered : (ended : Bool) → Answered d (lines_of ended read) out d' → Replied r s d d' (λ met. out ≡ replies r s ended read met)
   all_answered ended h =
       let lines = lines_of ended read in
       let on = go_on r s d lines h.texts d' here h.no_quit h.turns in
       let whole : texts r s lines (on.met ++ []) ≡ h.texts =
       ap (λ (l : List (List ℕ)). texts r s l (on.met ++ [])) (sym (append-nil lines)) ∙ on.texts_are [] [] ∙ append-nil h.texts in
-      record { met = on.met ++ []; after = on.after; there = on.there; says_it = h.written ∙ ap concat (sym whole) }
+      record {
+        met = on.met ++ [];
+        no_others = λ alone. subst (All MeetsNoOther) (sym (append-nil on.met)) (on.no_others alone);
+        after = on.after;
+        there = on.there;
+        says_it = h.written ∙ ap concat (sym whole);
+      }
 
   -- one was quit
-  pub up_to_quit : (ended : Bool) → Quitted d (lines_of ended read) out d' → Replied r s d' (λ met. out ≡ replies r s true read met)
+  pub up_to_quit : (ended : Bool) → Quitted d (lines_of ended read) out d' → Replied r s d d' (λ met. out ≡ replies r s true read met)
   up_to_quit ended h =
       let by = ends_by d h.front h.line h.texts d' h.turns in
       let on = go_on r s d h.front by.front by.mid here h.no_quit by.turns in
@@ -133,10 +162,16 @@ module _ (r : Recording) (s : Standing) (d d' : FrontState) (here : Stands r s d
       ap (λ (l : List (List ℕ)). texts r s l met) later.1 ∙ on.texts_are (h.line ∷ later.0) (last.met ∷ [])
       ∙ ap (λ (l : List (List ℕ)). by.front ++ l) (last.text_is later.0 [] ∙ ap (λ q. by.text ∷ cond q [] (texts r last.after later.0 [])) h.quit)
       ∙ sym by.given_is in
-      record { met = met; after = last.after; there = last.there; says_it = h.written ∙ ap concat (sym whole) }
+      record {
+        met = met;
+        no_others = λ alone. with_last on.met last.met (on.no_others alone) (last.no_others (on.company ∙ alone));
+        after = last.after;
+        there = last.there;
+        says_it = h.written ∙ ap concat (sym whole);
+      }
 
   -- a write failed in the text of one
-  pub up_to_failure : (ended : Bool) (whole part : ℕ) → CutShort d (lines_of ended read) whole part out d' → Replied r s d' (λ met. StartsWith (replies r s true read met) out)
+  pub up_to_failure : (ended : Bool) (whole part : ℕ) → CutShort d (lines_of ended read) whole part out d' → Replied r s d d' (λ met. StartsWith (replies r s true read met) out)
   up_to_failure ended whole part h =
       let on = go_on r s d h.front h.texts h.mid here h.no_quit h.turns in
       let last = goes r on.after h.mid h.line h.text d' on.there h.turn in
@@ -150,6 +185,7 @@ module _ (r : Recording) (s : Standing) (d d' : FrontState) (here : Stands r s d
       ap (λ (t : List ℕ). t ++ concat beyond) (sym (take-append-drop h.n h.text)) ∙ append_assoc (take h.n h.text) (drop h.n h.text) (concat beyond) in
       record {
         met = met;
+        no_others = λ alone. with_last on.met last.met (on.no_others alone) (last.no_others (on.company ∙ alone));
         after = last.after;
         there = last.there;
         says_it = (
@@ -180,7 +216,7 @@ quit_among (x ∷ front) line back quit =
     elim (is_quit (meaning_of x)) as (λ t. (t || has_quit (front ++ line ∷ back)) ≡ true) [ true ↦ refl | false ↦ quit_among front line back quit ]
 
 -- what a session of one read and wrote, by how it ended
-module _ (recording : List ℕ) (r : Recording) (opening : opened recording ≡ Ok r) (from left : Incoming) (old new : Outgoing) (d d' : FrontState) (here : Stands r start d) where
+module _ (recording : List ℕ) (r : Recording) (opening : opened recording ≡ Ok r) (from left : Incoming) (old new : Outgoing) (d d' : FrontState) (here : Stands r start d) (alone : d.pass_state.alone ≡ true) where
   over : (ended : Bool) (commands : List ℕ) (met : List Met) → transcript_by recording ended commands met ≡ replies r start ended commands met
   over ended commands met = ap (λ o. replies_over o ended commands met) opening
 
@@ -188,10 +224,10 @@ module _ (recording : List ℕ) (r : Recording) (opening : opened recording ≡ 
   never_refused commands fault e = let both = sym opening ∙ e in absurd cc
 
   -- no write failed
-  whole_transcript : (status : ExitStatus) (commands written : List ℕ) (met : List Met) (failed : Bool) → Consumes from.remaining left.remaining commands → Appends old.contents new.contents written → left.failed ≡ failed
+  whole_transcript : (status : ExitStatus) (commands written : List ℕ) (met : List Met) (failed : Bool) → All MeetsNoOther met → Consumes from.remaining left.remaining commands → Appends old.contents new.contents written → left.failed ≡ failed
       → new.failed ≡ false → written ≡ replies r start (not failed) commands met → status ≡ status_of (Ok r) failed false → (status ≡ Done → IsAtEnd left.remaining ⊎ (has_quit (lines_of true commands) ≡ true))
       → Transcribes recording from left old new status
-  whole_transcript status commands written met failed reads writes is unfailed all ends complete =
+  whole_transcript status commands written met failed no_others reads writes is unfailed all ends complete =
       let whole : written ≡ transcript_by recording (not left.failed) commands met = all ∙ ap (λ f. replies r start (not f) commands met) (sym is) ∙ sym (over (not left.failed) commands met) in
       record {
         commands = commands;
@@ -199,6 +235,7 @@ module _ (recording : List ℕ) (r : Recording) (opening : opened recording ≡ 
         met = met;
         reads = reads;
         writes = writes;
+        alone = no_others;
         begins = all_of (transcript_by recording (not left.failed) commands met) written whole;
         whole = λ _. whole;
         complete = complete;
@@ -211,16 +248,16 @@ module _ (recording : List ℕ) (r : Recording) (opening : opened recording ≡ 
   transcribes (Ok Closed) h read write =
       let lines : Answered d (lines_of true h.read) h.out d' = subst (λ e. Answered d (lines_of e h.read) h.out d') h.ends.0 h.ends.1 in
       let all = all_answered r start d d' here h.read h.out true lines in
-      whole_transcript Done h.read h.out all.met false h.reads h.writes read write all.says_it refl (λ _. inl (h.at_end h.ends.0))
+      whole_transcript Done h.read h.out all.met false (all.no_others alone) h.reads h.writes read write all.says_it refl (λ _. inl (h.at_end h.ends.0))
   transcribes (Ok Quit) h read write =
       let all = up_to_quit r start d d' here h.read h.out h.ended h.ends in
       let later = lines_behind h.ended h.read h.ends.front h.ends.line h.ends.back h.ends.split in
       let quits : has_quit (lines_of true h.read) ≡ true = ap has_quit later.1 ∙ quit_among h.ends.front h.ends.line later.0 h.ends.quit in
-      whole_transcript Done h.read h.out all.met false h.reads h.writes read write all.says_it refl (λ _. inr quits)
+      whole_transcript Done h.read h.out all.met false (all.no_others alone) h.reads h.writes read write all.says_it refl (λ _. inr quits)
   transcribes (Err Read) h read write =
       let lines : Answered d (lines_of false h.read) h.out d' = subst (λ e. Answered d (lines_of e h.read) h.out d') h.ends.0 h.ends.1 in
       let all = all_answered r start d d' here h.read h.out false lines in
-      whole_transcript StreamFailed h.read h.out all.met true h.reads h.writes read write all.says_it refl (λ e. absurd (not_done (sym e)))
+      whole_transcript StreamFailed h.read h.out all.met true (all.no_others alone) h.reads h.writes read write all.says_it refl (λ e. absurd (not_done (sym e)))
   transcribes (Err (Write whole part)) h read write =
       let part_of = up_to_failure r start d d' here h.read h.out h.ended whole part h.ends in
       let all : transcript_by recording (not left.failed) h.read part_of.met ≡ replies r start true h.read part_of.met = over (not left.failed) h.read part_of.met ∙ ap (λ f. replies r start (not f) h.read part_of.met) read in
@@ -230,6 +267,7 @@ module _ (recording : List ℕ) (r : Recording) (opening : opened recording ≡ 
         met = part_of.met;
         reads = h.reads;
         writes = h.writes;
+        alone = part_of.no_others alone;
         begins = subst (λ t. StartsWith t h.out) (sym all) part_of.says_it;
         whole = λ unfailed. absurd (true_is_false (sym write ∙ unfailed));
         complete = λ e. absurd (not_done (sym e));
@@ -242,7 +280,7 @@ pub walks_transcribe : (bytes : List ℕ) (r : Recording) (from left : Incoming)
     → Transcribes bytes from left old new status
 walks_transcribe bytes r from left old new status is w =
     subst (λ (x : ExitStatus). Transcribes bytes from left old new x) (sym w.ends)
-    (transcribes bytes r (opened_good bytes r is) from left old new _ w.last (record { recording = refl; placed = refl; owed = refl; at = refl }) w.ending w.serves w.read_failed w.write_failed)
+    (transcribes bytes r (opened_good bytes r is) from left old new _ w.last (record { recording = refl; placed = refl; owed = refl; at = refl }) refl w.ending w.serves w.read_failed w.write_failed)
 
 -- of a recording with a fault it is the fault's line
 pub fault_transcribes : (bytes : List ℕ) (fault : OpenFault) (from left : Incoming) (old new : Outgoing) (status : ExitStatus) → IsOwn fault → IsFirstFault bytes fault → old.failed ≡ false
@@ -259,6 +297,7 @@ fault_transcribes bytes fault from left old new status own is unfailed prints =
         met = [];
         reads = unread;
         writes = all.1.0;
+        alone = All-nil MeetsNoOther;
         begins = all_of (transcript_by bytes (not left.failed) [] []) (fault_line fault) (sym over);
         whole = λ _. sym over;
         complete = λ e. absurd (refused_is_not_done (sym all.0 ∙ e));
@@ -273,6 +312,7 @@ fault_transcribes bytes fault from left old new status own is unfailed prints =
             met = [];
             reads = unread;
             writes = cut.out;
+            alone = All-nil MeetsNoOther;
             begins = (drop cut.n (fault_line fault), over ∙ sym (take-append-drop cut.n (fault_line fault)));
             whole = λ still. absurd (true_is_false (sym cut.failed ∙ still));
             complete = λ e. absurd (not_done (sym e ∙ part.0));

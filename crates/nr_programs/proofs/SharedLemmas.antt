@@ -1,12 +1,12 @@
 -- The callers of a shared session are answered by the transcript.
-use Rattle.std.proofs.Common.{◌≤◌, ℕ, Bool, true, false, List, [], ◌∷◌, ◌++◌, length, map, Some, Result, Ok, Err, refl, sym, ap, ◌∙◌, subst, arith, append-nil, append_assoc, length-append}
+use Rattle.std.proofs.Common.{◌≡◌, ◌≤◌, ℕ, Bool, true, false, not, List, [], ◌∷◌, ◌++◌, length, map, Some, Result, Ok, Err, refl, sym, ap, ◌∙◌, subst, arith, append-nil, append_assoc, length-append}
 use Rattle.std.specs.List.{All}
 use Rattle.std.proofs.lemmas.List.Elements.{All-cons, All-head, All-nil, All-tail}
 use Rattle.atomic_table.specs.Seated.{TableId}
 use Rattle.nr_rev.specs.Run.{Recording}
 use Rattle.nr_journal.specs.Rule.{StartsWith}
 use Rattle.nr_front.specs.FrontState.{FrontState}
-use Rattle.nr_lines.specs.Engine.{Answered, Grows, lines_of}
+use Rattle.nr_lines.specs.Engine.{Answered, Grows, is_read_failure, lines_of}
 use Rattle.nr_lines.specs.declared.ending.End.{End}
 use Rattle.nr_lines.specs.declared.ending.End.TheVariants.{Closed, Quit}
 use Rattle.nr_lines.specs.declared.ending.LineEnd.{LineEnd}
@@ -17,7 +17,7 @@ use Rattle.nr_serving.specs.Fronts.{Course, ServesCaller, ServesCallers}
 use Rattle.nr_serving.specs.Session.{BeginsFresh, HasOwn, IsShared, last_pass_state}
 use Rattle.nr_programs.specs.Shared.{AreAnswered, IsAnswered}
 use Rattle.nr_programs.specs.Transcript.{Standing, replies, start}
-use Rattle.nr_programs.proofs.RepliesLemmas.{all_answered, all_of, up_to_failure, up_to_quit}
+use Rattle.nr_programs.proofs.RepliesLemmas.{Replied, all_answered, all_of, up_to_failure, up_to_quit}
 use Rattle.nr_programs.proofs.TranscriptLemmas.{Stands}
 
 starts_trans : (a b c : List ℕ) → StartsWith b a → StartsWith c b → StartsWith c a
@@ -42,30 +42,27 @@ record Goes (r : Recording) (ending : Result End LineEnd) (s : Standing) (d' : F
   pub after : Standing
   pub there : Stands r after d'
 
+-- no write failed
+whole_of : (r : Recording) (ending : Result End LineEnd) (s : Standing) (d d' : FrontState) (commands written : List ℕ) → Replied r s d d' (λ met. written ≡ replies r s (not (is_read_failure ending)) commands met)
+    → Goes r ending s d'
+whole_of r ending s d d' commands written all = record {
+  answered = record {
+    commands = commands;
+    written = written;
+    met = all.met;
+    begins = all_of (replies r s (not (is_read_failure ending)) commands all.met) written all.says_it;
+    whole = λ _. all.says_it;
+  };
+  after = all.after;
+  there = all.there;
+}
+
 caller_goes : (r : Recording) (ending : Result End LineEnd) (s : Standing) (d d' : FrontState) → Stands r s d → ServesCaller ending d d' → Goes r ending s d'
 caller_goes r (Ok Closed) s d d' here h =
-    let lines : Answered d (lines_of true h.read) h.out d' = subst (λ e. Answered d (lines_of e h.read) h.out d') h.ends.0 h.ends.1 in
-    let all = all_answered r s d d' here h.read h.out true lines in
-    record {
-      answered = record { commands = h.read; written = h.out; met = all.met; begins = all_of (replies r s true h.read all.met) h.out all.says_it; whole = λ _. all.says_it };
-      after = all.after;
-      there = all.there;
-    }
-caller_goes r (Ok Quit) s d d' here h =
-    let all = up_to_quit r s d d' here h.read h.out h.ended h.ends in
-    record {
-      answered = record { commands = h.read; written = h.out; met = all.met; begins = all_of (replies r s true h.read all.met) h.out all.says_it; whole = λ _. all.says_it };
-      after = all.after;
-      there = all.there;
-    }
+    whole_of r (Ok Closed) s d d' h.read h.out (all_answered r s d d' here h.read h.out true (subst (λ e. Answered d (lines_of e h.read) h.out d') h.ends.0 h.ends.1))
+caller_goes r (Ok Quit) s d d' here h = whole_of r (Ok Quit) s d d' h.read h.out (up_to_quit r s d d' here h.read h.out h.ended h.ends)
 caller_goes r (Err Read) s d d' here h =
-    let lines : Answered d (lines_of false h.read) h.out d' = subst (λ e. Answered d (lines_of e h.read) h.out d') h.ends.0 h.ends.1 in
-    let all = all_answered r s d d' here h.read h.out false lines in
-    record {
-      answered = record { commands = h.read; written = h.out; met = all.met; begins = all_of (replies r s false h.read all.met) h.out all.says_it; whole = λ _. all.says_it };
-      after = all.after;
-      there = all.there;
-    }
+    whole_of r (Err Read) s d d' h.read h.out (all_answered r s d d' here h.read h.out false (subst (λ e. Answered d (lines_of e h.read) h.out d') h.ends.0 h.ends.1))
 caller_goes r (Err (Write whole part)) s d d' here h =
     let part_of = up_to_failure r s d d' here h.read h.out h.ended whole part h.ends in
     record {

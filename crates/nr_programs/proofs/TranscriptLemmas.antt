@@ -1,5 +1,5 @@
 -- What the lines of a front are answered is the transcript.
-use Rattle.std.proofs.Common.{◌≡◌, inl, inr, ℕ, ◌+◌, List, [], ◌∷◌, ◌++◌, length, Option, Some, None, Result, Ok, Err, refl, sym, ap, ◌∙◌, subst, length-append}
+use Rattle.std.proofs.Common.{◌≡◌, inl, inr, ℕ, ◌+◌, true, List, [], ◌∷◌, ◌++◌, length, Option, Some, None, Result, Ok, Err, refl, sym, ap, ◌∙◌, subst, length-append}
 use Rattle.std.proofs.lemmas.List.{same_from_push}
 use Rattle.nr_rev.specs.Run.{Recording}
 use Rattle.nr_command.specs.Debugger.{after_words, opening, query_reply, run}
@@ -22,7 +22,7 @@ use Rattle.nr_front.specs.declared.pending.Pending.{Pending}
 use Rattle.nr_front.specs.declared.pending.Pending.TheVariants.{Nothing, Others, Own}
 use Rattle.nr_front.proofs.FrontStateLemmas.{after_words-append, run_last}
 use Rattle.nr_lines.specs.Turn.{MayReply, reply_given, resumed}
-use Rattle.nr_programs.specs.Transcript.{Answered, Met, Standing, enough, no_memory, no_memory_to_search, no_room, calm, behind_others, line_answer, owing}
+use Rattle.nr_programs.specs.Transcript.{Answered, Met, Standing, Supply, enough, no_memory, no_memory_to_search, no_room, calm, behind_others, line_answer, owing}
 
 -- the front is where it stands by the transcript
 pub record Stands (r : Recording) (s : Standing) (d : FrontState) : Type 0 where
@@ -31,13 +31,13 @@ pub record Stands (r : Recording) (s : Standing) (d : FrontState) : Type 0 where
   pub owed : s.owed ≡ owed_command d
   pub at : IsAt r d.pass_state.seen s.owed s.debugger
 
--- it is answered this, and the front stands so behind it
-abbrev pub Gives : Recording → Answered → Option Reply → FrontState → Type 0
-Gives r a reply d' = (a.0 ≡ reply) × Stands r a.1 d'
-
--- a line may be answered so
-abbrev pub MayGive : Recording → Option Command → Result Line LineFault → Standing → Option Reply → FrontState → Type 0
-MayGive r owed asked s reply d' = (m : Met) × ((line_answer r owed asked m s).0 ≡ reply) × Stands r (line_answer r owed asked m s).1 d'
+-- a line may be answered so, by what it meets; and a pass that is alone meets nothing of others
+pub record MayGive (r : Recording) (owed : Option Command) (asked : Result Line LineFault) (s : Standing) (d : FrontState) (reply : Option Reply) (d' : FrontState) : Type 0 where
+  pub met : Met
+  pub reply_is : (line_answer r owed asked met s).0 ≡ reply
+  pub there : Stands r (line_answer r owed asked met s).1 d'
+  pub company : d'.pass_state.alone ≡ d.pass_state.alone
+  pub no_others : d.pass_state.alone ≡ true → met.others ≡ []
 
 -- the command that is due is the own one that is owed
 due_command : (pending : Pending) (owed due : Command) → own_pending pending ≡ Some owed → pending_command pending ≡ Some due → due ≡ owed
@@ -95,62 +95,78 @@ module _ (r : Recording) (s : Standing) (d : FrontState) (here : Stands r s d) w
 
   -- a command that was placed and run
   command_run : (command : Command) (d' : FrontState) (reply : Reply) → (p : PlacesCommand command d d') → RepliesLast d' command reply → d'.pending ≡ Nothing
-      → MayGive r None (Ok (Run command)) s (Some reply) d'
+      → MayGive r None (Ok (Run command)) s d (Some reply) d'
   command_run command d' reply p replies ran =
       let is : d'.recording ≡ r = p.same.recording ∙ here.recording in
       let behind : IsBehind r d'.pass_state.seen command replies.debugger = subst (λ x. IsBehind x d'.pass_state.seen command replies.debugger) is replies.behind in
       let same = placed_behind command d' replies.debugger p behind in
-      let given : reply ≡ (run r command replies.debugger).0 = replies.answer ∙ ap (λ x. (run x command replies.debugger).0) is in (
-        record { others = p.between; supply = enough },
-        ap (λ x. Some (run r command x).0) same ∙ ap Some (sym given),
-        record {
+      let given : reply ≡ (run r command replies.debugger).0 = replies.answer ∙ ap (λ x. (run x command replies.debugger).0) is in record {
+        met = record { others = p.between; supply = enough };
+        reply_is = ap (λ x. Some (run r command x).0) same ∙ ap Some (sym given);
+        there = record {
           recording = is;
           placed = placed_count command d' p;
           owed = sym (ap own_pending ran);
           at = run_last r d'.pass_state.seen command replies.debugger _ behind (ap (λ x. (run r command x).1) same);
-        },
-      )
+        };
+        company = p.alone;
+        no_others = p.none_between;
+      }
 
   -- one that was placed, and whose reply is owed
-  command_owed : (command : Command) (d' : FrontState) (place : ℕ) → IsLeftOwed command d d' place → MayGive r None (Ok (Run command)) s (Some (reply_given (Err (Placed place)))) d'
+  command_owed : (command : Command) (d' : FrontState) (place : ℕ) → IsLeftOwed command d d' place → MayGive r None (Ok (Run command)) s d (Some (reply_given (Err (Placed place)))) d'
   command_owed command d' place left =
       let p = left.places in
       let is : d'.recording ≡ r = p.same.recording ∙ here.recording in
       let due = due_command d'.pending command left.wanted.command left.now_owed left.wanted.pending in
       let behind : IsBehind r d'.pass_state.seen command left.wanted.debugger =
       subst (λ x. IsBehind x d'.pass_state.seen command left.wanted.debugger) is (subst (λ c. IsBehind d'.recording d'.pass_state.seen c left.wanted.debugger) due left.wanted.behind) in
-      let same = placed_behind command d' left.wanted.debugger p behind in (
-        record { others = p.between; supply = no_memory_to_search },
-        ap (λ n. Some (Fault (faults.Placed n))) (placed_count command d' p ∙ sym left.at),
-        record {
+      let same = placed_behind command d' left.wanted.debugger p behind in record {
+        met = record { others = p.between; supply = no_memory_to_search };
+        reply_is = ap (λ n. Some (Fault (faults.Placed n))) (placed_count command d' p ∙ sym left.at);
+        there = record {
           recording = is;
           placed = placed_count command d' p;
           owed = sym left.now_owed;
           at = subst (λ x. IsBehind r d'.pass_state.seen command x) (sym same) behind;
-        },
-      )
+        };
+        company = p.alone;
+        no_others = p.none_between;
+      }
+
+  -- others' words were seen, and then there was no memory or no room
+  refused : (asked : Result Line LineFault) (reply : Option Reply) (supply : Supply) (d' : FrontState) → (l : Learns d d')
+      → line_answer r None asked (record { others = l.sees_others.0; supply = supply }) s ≡ (reply, behind_others r l.sees_others.0 s) → MayGive r s.owed asked s d reply d'
+  refused asked reply supply d' l is =
+      subst (λ o. MayGive r o asked s d reply d') (sym (none_owed l.unowed)) (record {
+        met = record { others = l.sees_others.0; supply = supply };
+        reply_is = ap (λ (a : Answered). a.0) is;
+        there = subst (λ (a : Answered). Stands r a.1 d') (sym is) (learnt d' l);
+        company = l.sees_others.5;
+        no_others = l.sees_others.6;
+      })
 
   -- a reply was owed, and nothing was done
-  stays_owed : (d' : FrontState) (place : ℕ) → (stays : StaysOwed d d' place) → Gives r (owing s) (Some (Fault (faults.Placed place))) d'
-  stays_owed d' place stays = (
-    ap (λ n. Some (Fault (faults.Placed n))) (here.placed ∙ sym stays.at),
-    subst (Stands r s) (sym stays.unchanged) here,
-  )
+  stays_owed : (asked : Result Line LineFault) (supply : Supply) (d' : FrontState) (place : ℕ) → (stays : StaysOwed d d' place)
+      → line_answer r (Some stays.command) asked (record { others = []; supply = supply }) s ≡ owing s → MayGive r s.owed asked s d (Some (Fault (faults.Placed place))) d'
+  stays_owed asked supply d' place stays is =
+      subst (λ o. MayGive r o asked s d (Some (Fault (faults.Placed place))) d') (sym (here.owed ∙ stays.still_owed)) (record {
+        met = record { others = []; supply = supply };
+        reply_is = ap (λ (a : Answered). a.0) is ∙ ap (λ n. Some (Fault (faults.Placed n))) (here.placed ∙ sym stays.at);
+        there = subst (λ (a : Answered). Stands r a.1 d') (sym is) (subst (Stands r s) (sym stays.unchanged) here);
+        company = ap (λ (x : FrontState). x.pass_state.alone) stays.unchanged;
+        no_others = λ _. refl;
+      })
 
   -- a command
-  executed : (command : Command) (d' : FrontState) (given : Result Reply FrontFault) → Executes command d d' given → MayGive r s.owed (Ok (Run command)) s (Some (reply_given given)) d'
+  executed : (command : Command) (d' : FrontState) (given : Result Reply FrontFault) → Executes command d d' given → MayGive r s.owed (Ok (Run command)) s d (Some (reply_given given)) d'
   executed command d' (Ok reply) h =
-      subst (λ o. MayGive r o (Ok (Run command)) s (Some reply) d') (sym (none_owed h.places.unowed)) (command_run command d' reply h.places h.replies h.run)
-  executed command d' (Err Memory) h =
-      subst (λ o. MayGive r o (Ok (Run command)) s (Some (Fault faults.Memory)) d') (sym (none_owed h.learns.unowed))
-      (record { others = h.learns.sees_others.0; supply = no_memory }, refl, learnt d' h.learns)
+      subst (λ o. MayGive r o (Ok (Run command)) s d (Some reply) d') (sym (none_owed h.places.unowed)) (command_run command d' reply h.places h.replies h.run)
+  executed command d' (Err Memory) h = refused (Ok (Run command)) (Some (Fault faults.Memory)) no_memory d' h.learns refl
   executed command d' (Err (Placed place)) (inl left) =
-      subst (λ o. MayGive r o (Ok (Run command)) s (Some (Fault (faults.Placed place))) d') (sym (none_owed left.places.unowed)) (command_owed command d' place left)
-  executed command d' (Err (Placed place)) (inr stays) =
-      subst (λ o. MayGive r o (Ok (Run command)) s (Some (Fault (faults.Placed place))) d') (sym (here.owed ∙ stays.still_owed)) (let stay = stays_owed d' place stays in (calm, stay.0, stay.1))
-  executed command d' (Err Full) h =
-      subst (λ o. MayGive r o (Ok (Run command)) s (Some (Fault faults.JournalFull)) d') (sym (none_owed h.learns.unowed))
-      (record { others = h.learns.sees_others.0; supply = no_room }, refl, learnt d' h.learns)
+      subst (λ o. MayGive r o (Ok (Run command)) s d (Some (Fault (faults.Placed place))) d') (sym (none_owed left.places.unowed)) (command_owed command d' place left)
+  executed command d' (Err (Placed place)) (inr stays) = stays_owed (Ok (Run command)) enough d' place stays refl
+  executed command d' (Err Full) h = refused (Ok (Run command)) (Some (Fault faults.JournalFull)) no_room d' h.learns refl
 
   -- the walker doesn't matter
   walked : (s' : Standing) (walker_state : WalkerState) (mid d' : FrontState) → d' ≡ with_walker_state walker_state mid → Stands r s' mid → Stands r s' d'
@@ -158,77 +174,89 @@ module _ (r : Recording) (s : Standing) (d : FrontState) (here : Stands r s d) w
       subst (Stands r s') (sym is) (record { recording = there.recording; placed = there.placed; owed = there.owed; at = there.at })
 
   -- a look that is answered
-  look_given : (query : Query) (d' : FrontState) (reply : Reply) → RepliesToLook query d d' reply → MayGive r None (Ok (Look query)) s (Some reply) d'
+  look_given : (query : Query) (d' : FrontState) (reply : Reply) → RepliesToLook query d d' reply → MayGive r None (Ok (Look query)) s d (Some reply) d'
   look_given query d' reply h =
       let l = h.catches_all.learns in
       let seen = h.caught_up.pass_state.seen in
       let is : h.caught_up.recording ≡ r = l.same.recording ∙ here.recording in
       let same : after_words r s.debugger l.sees_others.0 ≡ after_words r opening seen = behind_more l.sees_others.0 l.unowed ∙ ap (after_words r opening) (sym l.sees_others.1) in
-      let given : reply ≡ query_reply r (after_words r opening seen) query = h.answer ∙ ap (λ x. query_reply x (after_words x opening seen) query) is in (
-        record { others = l.sees_others.0; supply = enough },
-        ap (λ x. Some (query_reply r x query)) same ∙ ap Some (sym given),
-        walked (behind_others r l.sees_others.0 s) _ h.caught_up d' h.led (learnt h.caught_up l),
-      )
+      let given : reply ≡ query_reply r (after_words r opening seen) query = h.answer ∙ ap (λ x. query_reply x (after_words x opening seen) query) is in record {
+        met = record { others = l.sees_others.0; supply = enough };
+        reply_is = ap (λ x. Some (query_reply r x query)) same ∙ ap Some (sym given);
+        there = walked (behind_others r l.sees_others.0 s) _ h.caught_up d' h.led (learnt h.caught_up l);
+        company = ap (λ (x : FrontState). x.pass_state.alone) h.led ∙ l.sees_others.5;
+        no_others = l.sees_others.6;
+      }
 
   -- a look
-  looked_at : (query : Query) (d' : FrontState) (given : Result Reply FrontFault) → Looks query d d' given → MayGive r s.owed (Ok (Look query)) s (Some (reply_given given)) d'
+  looked_at : (query : Query) (d' : FrontState) (given : Result Reply FrontFault) → Looks query d d' given → MayGive r s.owed (Ok (Look query)) s d (Some (reply_given given)) d'
   looked_at query d' (Ok reply) h =
-      subst (λ o. MayGive r o (Ok (Look query)) s (Some reply) d') (sym (none_owed h.catches_all.learns.unowed)) (look_given query d' reply h)
-  looked_at query d' (Err Memory) (inl h) =
-      subst (λ o. MayGive r o (Ok (Look query)) s (Some (Fault faults.Memory)) d') (sym (none_owed h.learns.unowed))
-      (record { others = h.learns.sees_others.0; supply = no_memory }, refl, learnt d' h.learns)
+      subst (λ o. MayGive r o (Ok (Look query)) s d (Some reply) d') (sym (none_owed h.catches_all.learns.unowed)) (look_given query d' reply h)
+  looked_at query d' (Err Memory) (inl h) = refused (Ok (Look query)) (Some (Fault faults.Memory)) no_memory d' h.learns refl
   looked_at query d' (Err Memory) (inr h) =
       let l = h.catches_all.learns in
-      subst (λ o. MayGive r o (Ok (Look query)) s (Some (Fault faults.Memory)) d') (sym (none_owed l.unowed))
-      (record { others = l.sees_others.0; supply = no_memory }, refl, walked (behind_others r l.sees_others.0 s) _ h.caught_up d' h.moved (learnt h.caught_up l))
-  looked_at query d' (Err (Placed place)) stays =
-      subst (λ o. MayGive r o (Ok (Look query)) s (Some (Fault (faults.Placed place))) d') (sym (here.owed ∙ stays.still_owed)) (let stay = stays_owed d' place stays in (calm, stay.0, stay.1))
+      subst (λ o. MayGive r o (Ok (Look query)) s d (Some (Fault faults.Memory)) d') (sym (none_owed l.unowed)) (record {
+        met = record { others = l.sees_others.0; supply = no_memory };
+        reply_is = refl;
+        there = walked (behind_others r l.sees_others.0 s) _ h.caught_up d' h.moved (learnt h.caught_up l);
+        company = ap (λ (x : FrontState). x.pass_state.alone) h.moved ∙ l.sees_others.5;
+        no_others = l.sees_others.6;
+      })
+  looked_at query d' (Err (Placed place)) stays = stays_owed (Ok (Look query)) enough d' place stays refl
   looked_at query d' (Err Full) h = absurd h
 
   -- the reply that is owed
-  owed_run : (command : Command) (d' : FrontState) (reply : Reply) → s.owed ≡ Some command → RepliesLast d command reply → d' ≡ without_pending d → MayGive r (Some command) (Ok Resume) s (Some reply) d'
+  owed_run : (command : Command) (d' : FrontState) (reply : Reply) → s.owed ≡ Some command → RepliesLast d command reply → d' ≡ without_pending d → MayGive r (Some command) (Ok Resume) s d (Some reply) d'
   owed_run command d' reply owed replies now =
       let mine : IsBehind r d.pass_state.seen command s.debugger = subst (λ o. IsAt r d.pass_state.seen o s.debugger) owed here.at in
       let theirs : IsBehind r d.pass_state.seen command replies.debugger = subst (λ x. IsBehind x d.pass_state.seen command replies.debugger) here.recording replies.behind in
       let same = one_behind r d.pass_state.seen command s.debugger replies.debugger mine theirs in
-      let given : reply ≡ (run r command replies.debugger).0 = replies.answer ∙ ap (λ x. (run x command replies.debugger).0) here.recording in (
-        calm,
-        ap (λ x. Some (run r command x).0) same ∙ ap Some (sym given),
-        subst (Stands r (record { debugger = (run r command s.debugger).1; placed = s.placed; owed = None })) (sym now) (record {
+      let given : reply ≡ (run r command replies.debugger).0 = replies.answer ∙ ap (λ x. (run x command replies.debugger).0) here.recording in record {
+        met = calm;
+        reply_is = ap (λ x. Some (run r command x).0) same ∙ ap Some (sym given);
+        there = subst (Stands r (record { debugger = (run r command s.debugger).1; placed = s.placed; owed = None })) (sym now) (record {
           recording = here.recording;
           placed = here.placed;
           owed = refl;
           at = run_last r d.pass_state.seen command s.debugger _ mine refl;
-        }),
-      )
+        });
+        company = ap (λ (x : FrontState). x.pass_state.alone) now;
+        no_others = λ _. refl;
+      }
 
   -- `resume`
-  resumes : (d' : FrontState) (given : Result (Option Reply) FrontFault) → Resumes d d' given → MayGive r s.owed (Ok Resume) s (Some (resumed given)) d'
+  resumes : (d' : FrontState) (given : Result (Option Reply) FrontFault) → Resumes d d' given → MayGive r s.owed (Ok Resume) s d (Some (resumed given)) d'
   resumes d' (Ok None) h =
-      subst (λ o. MayGive r o (Ok Resume) s (Some NothingOwed) d') (sym (none_owed h.unowed)) (calm, refl, subst (Stands r s) (sym h.unchanged) here)
+      subst (λ o. MayGive r o (Ok Resume) s d (Some NothingOwed) d') (sym (none_owed h.unowed)) (record {
+        met = calm;
+        reply_is = refl;
+        there = subst (Stands r s) (sym h.unchanged) here;
+        company = ap (λ (x : FrontState). x.pass_state.alone) h.unchanged;
+        no_others = λ _. refl;
+      })
   resumes d' (Ok (Some reply)) h =
       let owed = here.owed ∙ h.was_owed in
-      subst (λ o. MayGive r o (Ok Resume) s (Some reply) d') (sym owed) (owed_run h.command d' reply owed h.replies h.now)
+      subst (λ o. MayGive r o (Ok Resume) s d (Some reply) d') (sym owed) (owed_run h.command d' reply owed h.replies h.now)
   resumes d' (Err Memory) h = absurd h
-  resumes d' (Err (Placed place)) h =
-      subst (λ o. MayGive r o (Ok Resume) s (Some (Fault (faults.Placed place))) d') (sym (here.owed ∙ h.stays.still_owed))
-      (let stay = stays_owed d' place h.stays in (record { others = []; supply = no_memory }, stay.0, stay.1))
+  resumes d' (Err (Placed place)) h = stays_owed (Ok Resume) no_memory d' place h.stays refl
   resumes d' (Err Full) h = absurd h
 
   -- what is answered the same, whether a reply is owed or not
-  quiet : (asked : Result Line LineFault) (reply given : Option Reply) (d' : FrontState) → ((o : Option Command) → line_answer r o asked calm s ≡ (reply, s)) → given ≡ reply → d' ≡ d → MayGive r s.owed asked s given d'
+  quiet : (asked : Result Line LineFault) (reply given : Option Reply) (d' : FrontState) → ((o : Option Command) → line_answer r o asked calm s ≡ (reply, s)) → given ≡ reply → d' ≡ d → MayGive r s.owed asked s d given d'
   quiet asked reply given d' each is same =
-      let e = each s.owed in (
-        calm,
-        ap (λ (a : Answered). a.0) e ∙ sym is,
-        subst (Stands r (line_answer r s.owed asked calm s).1) (sym same) (subst (λ x. Stands r x d) (sym (ap (λ (a : Answered). a.1) e)) here),
-      )
+      let e = each s.owed in record {
+        met = calm;
+        reply_is = ap (λ (a : Answered). a.0) e ∙ sym is;
+        there = subst (Stands r (line_answer r s.owed asked calm s).1) (sym same) (subst (λ x. Stands r x d) (sym (ap (λ (a : Answered). a.1) e)) here);
+        company = ap (λ (x : FrontState). x.pass_state.alone) same;
+        no_others = λ _. refl;
+      }
 
   -- any line
-  pub line_given : (asked : Result Line LineFault) (reply : Option Reply) (d' : FrontState) → MayReply asked d reply d' → MayGive r s.owed asked s reply d'
-  line_given (Ok (Run command)) reply d' h = subst (λ x. MayGive r s.owed (Ok (Run command)) s x d') (sym h.2) (executed command d' h.0 h.1)
-  line_given (Ok (Look query)) reply d' h = subst (λ x. MayGive r s.owed (Ok (Look query)) s x d') (sym h.2) (looked_at query d' h.0 h.1)
-  line_given (Ok Resume) reply d' h = subst (λ x. MayGive r s.owed (Ok Resume) s x d') (sym h.2) (resumes d' h.0 h.1)
+  pub line_given : (asked : Result Line LineFault) (reply : Option Reply) (d' : FrontState) → MayReply asked d reply d' → MayGive r s.owed asked s d reply d'
+  line_given (Ok (Run command)) reply d' h = subst (λ x. MayGive r s.owed (Ok (Run command)) s d x d') (sym h.2) (executed command d' h.0 h.1)
+  line_given (Ok (Look query)) reply d' h = subst (λ x. MayGive r s.owed (Ok (Look query)) s d x d') (sym h.2) (looked_at query d' h.0 h.1)
+  line_given (Ok Resume) reply d' h = subst (λ x. MayGive r s.owed (Ok Resume) s d x d') (sym h.2) (resumes d' h.0 h.1)
   line_given (Ok Quit) reply d' h = quiet (Ok Quit) (Some Bye) reply d' (λ o. elim o as (λ k. line_answer r k (Ok Quit) calm s ≡ (Some Bye, s)) [ None ↦ refl | Some c ↦ refl ]) h.0 h.1
   line_given (Ok Empty) reply d' h = quiet (Ok Empty) None reply d' (λ o. elim o as (λ k. line_answer r k (Ok Empty) calm s ≡ (None, s)) [ None ↦ refl | Some c ↦ refl ]) h.0 h.1
   line_given (Err fault) reply d' h = quiet (Err fault) (Some (Fault (faults.Line fault))) reply d' (λ o. elim o as (λ k. line_answer r k (Err fault) calm s ≡ (Some (Fault (faults.Line fault)), s)) [ None ↦ refl | Some c ↦ refl ]) h.0 h.1

@@ -5,5 +5,6 @@ pub mod Run
 pub mod Serving
 pub mod Shared
 pub mod Sharing
+pub mod ShortRuns
 pub mod Transcript
 pub mod Upgrade

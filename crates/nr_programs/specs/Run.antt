@@ -2,7 +2,7 @@
 use Rattle.std.specs.Prelude.{◌≡◌, ◌⊎◌, ℕ, List, ◌++◌, length, Result, Ok, Err, codes, decimal}
 use Rattle.atomic_table.specs.Seated.{TableId}
 use Rattle.nr_rev.specs.Run.{Recording}
-use Rattle.nr_journal.specs.Rule.{entering, journal_room}
+use Rattle.nr_journal.specs.Rule.{entering_alone, journal_room}
 use Rattle.nr_front.specs.FrontState.{FrontState, opened_front}
 use Rattle.nr_front.specs.Replica.{at_start}
 use Rattle.nr_lines.specs.Engine.{AnswersLines, is_read_failure, is_write_failure}
@@ -35,19 +35,18 @@ EndsPrinting text wanted old new status =
     ((status ≡ wanted) × WritesAll old new text)
     ⊎ ((status ≡ StreamFailed) × ((part : ℕ) × WritesPrefix old new text part))
 
--- The lines that were read are answered by a front that had seen no word, over a journal of its
--- own, with one worker and a walker that keeps its last DELTAS_KEPT deltas. A failure of a stream
+-- The lines that were read are answered by a front that had seen no word, over a journal whose only
+-- pass it has, with one worker and a walker that keeps its last DELTAS_KEPT deltas. A failure of a stream
 -- is reported where there was one, and only there.
 pub record Walks (from left : Incoming) (old new : Outgoing) (r : Recording) (status : ExitStatus) :
     Type 0 where
   pub table : TableId
-  pub tag : ℕ
   pub room_is : journal_room table ≡ JOURNAL_ROOM
   pub last : FrontState
   pub ending : Result End LineEnd
   pub serves :
       AnswersLines from.remaining left.remaining old.contents new.contents
-      (opened_front (record { table = table; pass_state = entering tag }) r 1
+      (opened_front (record { table = table; pass_state = entering_alone }) r 1
       (at_start COPY_EVERY DELTAS_KEPT))
       last ending
   pub ends : status ≡ status_after ending

@@ -1,7 +1,7 @@
 -- The transcript: what the lines of a front are answered, as a function of the bytes.
 use Rattle.std.specs.Prelude.{◌≡◌, ◌⊎◌, ℕ, ◌+◌, Bool, true, false, not, ◌||◌, List, [], ◌∷◌, length, drop, Option, Some, None, Result, Ok, Err, if◌then◌else◌}
 use Rattle.std.specs.Io.KnownBytes.{Appends, Consumes, IsAtEnd}
-use Rattle.std.specs.List.{concat}
+use Rattle.std.specs.List.{All, concat}
 use Rattle.nr_rev.specs.Run.{Recording}
 use Rattle.nr_journal.specs.Rule.{StartsWith}
 use Rattle.nr_text.specs.Streams.{Incoming, Outgoing}
@@ -158,9 +158,9 @@ status_of (Ok r) read_failed write_failed =
 status_of (Err fault) read_failed write_failed = if write_failed then StreamFailed else Refused
 
 -- Commands were read and replies written: a prefix of the transcript of the commands, by what their
--- lines met, and all of it unless a write failed. Where a read failed, an unfinished last line is no
--- command. Where it ended well, the input is at its end, or a line is `quit`. Of a recording with a
--- fault no command was read.
+-- lines met, and all of it unless a write failed. They met nothing of others. Where a read failed,
+-- an unfinished last line is no command. Where it ended well, the input is at its end, or a line is
+-- `quit`. Of a recording with a fault no command was read.
 pub record Transcribes (recording : List ℕ) (from left : Incoming) (old new : Outgoing)
     (status : ExitStatus) : Type 0 where
   pub commands : List ℕ
@@ -168,6 +168,7 @@ pub record Transcribes (recording : List ℕ) (from left : Incoming) (old new : 
   pub met : List Met
   pub reads : Consumes from.remaining left.remaining commands
   pub writes : Appends old.contents new.contents written
+  pub alone : All (λ m. m.others ≡ []) met
   pub begins : StartsWith (transcript_by recording (not left.failed) commands met) written
   pub whole : new.failed ≡ false
       → written ≡ transcript_by recording (not left.failed) commands met

@@ -7,6 +7,7 @@ mod opening;
 mod run;
 mod serving;
 mod sharing;
+pub mod short;
 mod upgrade;
 pub mod worked;
 

@@ -126,11 +126,7 @@ where
     ensures { Walks input.old input.new output.old output.new film.now.recording result
         ⊎ PrintsFault memory_line input.old input.new output.old output.new result }
 {
-    let Ok((journal, seat)) = Journal::new(alloc, JOURNAL_ROOM) else {
-        return refuse(&OutOfMemory, output);
-    };
-    // there is a tag, since nobody else has a seat
-    let Ok(pass) = journal.enter(seat) else {
+    let Ok((journal, pass)) = Journal::alone(alloc, JOURNAL_ROOM) else {
         return refuse(&OutOfMemory, output);
     };
     let Ok(mut front) = Front::new(alloc, pass, film, OneWorker::<R>::new(), DELTAS_KEPT) else {

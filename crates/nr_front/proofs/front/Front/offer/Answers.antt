@@ -12,7 +12,7 @@ invariant_of-self-in-Lost g c =
 pub returns-in-Lost : goal.returns-in-Lost
 returns-in-Lost g c =
     let lost = c.in-Lost.ensures.offered in
-    sees_word _ _ _ _ _ c.self.view_is c.requires.table (record { table = c.offer-offered.ensures.table; recording = refl; workers = refl; walker_state = refl }) lost.0 lost.3 lost.1
+    sees_word _ _ _ _ _ c.self.view_is c.requires.table (record { table = c.offer-offered.ensures.table; recording = refl; workers = refl; walker_state = refl }) lost.0 lost.3 lost.4 lost.1
     c.at-self-inside.ensures
 
 pub returns-in-Placed : goal.returns-in-Placed

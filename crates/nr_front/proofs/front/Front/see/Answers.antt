@@ -13,5 +13,5 @@ pub returns-in-Some : goal.returns-in-Some
 returns-in-Some g c = (
   c.in-Some.word,
   sees_word _ _ _ _ _ c.self.view_is c.requires.table (record { table = c.next.ensures.table; recording = refl; workers = refl; walker_state = refl })
-      c.in-Some.ensures.some.0 c.in-Some.ensures.some.2 c.in-Some.ensures.room c.at-self-inside.ensures,
+      c.in-Some.ensures.some.0 c.in-Some.ensures.some.2 c.in-Some.ensures.some.3 c.in-Some.ensures.room c.at-self-inside.ensures,
 )

@@ -25,7 +25,7 @@ loop-preserved c =
     let e = c.in-Some.ensures in
     let i = c.loop.invariant in (
       e.table ∙ i.0,
-      subst (λ (s : PassState). SeesOthers c.args.pass.now.pass_state s) (sym e.some.0) (sees_others_one c.args.pass.now.pass_state c.loop.pass.pass_state c.in-Some.field-0 i.1 e.some.2),
+      subst (λ (s : PassState). SeesOthers c.args.pass.now.pass_state s) (sym e.some.0) (sees_others_one c.args.pass.now.pass_state c.loop.pass.pass_state c.in-Some.field-0 i.1 e.some.2 e.some.3),
       ap (λ (s : PassState). s.looks) e.some.0 ∙ i.2,
     )
 
