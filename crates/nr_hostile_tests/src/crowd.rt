@@ -2,8 +2,8 @@
 
 ghost use Rattle.std.specs.Prelude.{◌≡◌};
 
+use crate::sharing::{Lone, enter, enter_front, woken};
 use crate::turns::Answered;
-use crate::woken::{Lone, film, front};
 use nr_command::Command;
 use nr_journal::{Journal, Seat};
 use nr_replay_tests::Observed;
@@ -32,10 +32,7 @@ impl<'a, 'f, R: Threads + Sync> User<'a, 'f, R> {
     ) -> Option<User<'a, 'f, R>>
         requires { seat.table ≡ journal.now }
     {
-        let Ok(pass) = journal.enter(seat) else {
-            return None;
-        };
-        let front = front(rt, alloc, pass, film)?;
+        let front = enter_front(rt, alloc, journal, seat, film)?;
         Some(User {
             journal,
             front,
@@ -86,9 +83,29 @@ fn eight<'a, 'f, R: Threads + Sync>(
     Some(users)
 }
 
+/// What each was answered, with how many words it has seen.
+fn end_all<R: Threads + Sync>(
+    alloc: Global,
+    users: Vec<User<'_, '_, R>>,
+) -> Option<Vec<(Answered, usize)>> {
+    let mut answers = Vec::new(alloc);
+    for user in users {
+        answers.push(user.end()).ok()?;
+    }
+    Some(answers)
+}
+
+/// The words of a journal, for who comes late.
+fn all_words(alloc: Global, journal: &Journal, seat: Seat) -> Option<Vec<u64>>
+    requires { seat.table ≡ journal.now }
+{
+    let mut late = enter(journal, seat)?;
+    journal.finish(alloc, &mut late).ok()
+}
+
 /// What eight fronts were answered that each step once over a journal of seven words, with how many words each has seen;
 /// and the words.
-fn crowd<R: Threads + Send + Sync>(
+fn crowd_over<R: Threads + Send + Sync>(
     rt: &R,
     alloc: Global,
     film: &Film<Observed>,
@@ -96,15 +113,18 @@ fn crowd<R: Threads + Send + Sync>(
     let (journal, mut seat) = Journal::new(alloc, 7).ok()?;
     let mut users = eight(rt, alloc, &journal, &mut seat, film)?;
     step_each(rt, users.as_mut_slice());
-    let mut answers = Vec::new(alloc);
-    for user in users {
-        answers.push(user.end()).ok()?;
-    }
-    let Ok(mut late) = journal.enter(seat) else {
-        return None;
-    };
-    let words = journal.finish(alloc, &mut late).ok()?;
-    Some((answers, words))
+    let answers = end_all(alloc, users);
+    let words = all_words(alloc, &journal, seat);
+    Some((answers?, words?))
+}
+
+/// That, over twelve steps.
+fn crowd<R: Threads + Send + Sync>(
+    rt: &R,
+    alloc: Global,
+) -> Option<(Vec<(Answered, usize)>, Vec<u64>)> {
+    let film = woken(alloc)?;
+    crowd_over(rt, alloc, &film)
 }
 
 /// How often each place from 1 on was answered.
@@ -138,8 +158,7 @@ fn tags(alloc: Global, words: &[u64]) -> Result<Vec<u64>, AllocError> {
 
 #[test]
 fn one_of_eight_fronts_finds_the_journal_full(rt: HostRuntime) -> Result<(), Fail> {
-    let film = film(rt.alloc()).ok_or("no film")?;
-    let (answers, words) = crowd(&rt, rt.alloc(), &film).ok_or("not played")?;
+    let (answers, words) = crowd(&rt, rt.alloc()).ok_or("not played")?;
     assert_eq!(rt; places(answers.as_slice()), [1; 7]);
     let full = answers
         .iter()

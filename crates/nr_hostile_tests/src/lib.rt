@@ -1,13 +1,18 @@
-//! Tests of fronts whose streams fail, whose memory is refused and whose journal is full, over one recording.
+//! Tests of fronts and of the line loop by public calls: sessions of lines, streams that fail, memory that is refused,
+//! journals that are full, and fronts in threads of their own.
 #![tactic(auto)]
 
 #[cfg(test)]
-mod brim;
-#[cfg(test)]
 mod crowd;
+#[cfg(test)]
+mod lines;
+#[cfg(test)]
+mod pair;
+#[cfg(test)]
+mod scripts;
+#[cfg(test)]
+mod sharing;
 #[cfg(test)]
 mod streams;
 #[cfg(test)]
 mod turns;
-#[cfg(test)]
-mod woken;

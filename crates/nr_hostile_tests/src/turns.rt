@@ -1,15 +1,15 @@
-//! Two fronts that take turns, and a word that is no command.
+//! Two fronts that take turns, and words that are no commands.
 
-ghost use Rattle.std.specs.Prelude.{◌≡◌, ◌≤◌};
+ghost use Rattle.std.specs.Prelude.{◌≡◌};
 ghost use Rattle.nr_journal.specs.Rule.{HasOpcode, tag_of};
 
-use crate::woken::{Lone, film, share};
+use crate::sharing::{Lone, share, woken};
 use nr_command::{Command, Line, Reply};
 use nr_front::FrontFault;
 use nr_journal::{Journal, Offered, Pass};
 use nr_replay_tests::Observed;
 use nr_snaps::Film;
-use std::alloc::Global;
+use std::alloc::{AllocError, Global};
 use std::cmp::Ordering;
 use std::test::*;
 use std::thread::Threads;
@@ -19,6 +19,9 @@ use std::thread::Threads;
 pub(crate) enum Answered {
     At(usize),
     AtStart,
+    AtHit(usize),
+    Position { position: usize, last: usize },
+    NothingOwed,
     Full,
     Memory,
     /// None of these.
@@ -30,16 +33,29 @@ impl Answered {
         match reply {
             Ok(Reply::At(position)) => Answered::At(position),
             Ok(Reply::AtStart) => Answered::AtStart,
-            Ok(Reply::Position { position, .. }) => Answered::At(position),
+            Ok(Reply::AtHit { position, .. }) => Answered::AtHit(position),
+            Ok(Reply::Position { position, last, .. }) => Answered::Position { position, last },
             Err(FrontFault::Full) => Answered::Full,
             Err(FrontFault::Memory) => Answered::Memory,
             _ => Answered::Otherwise,
         }
     }
+
+    fn of_owed(reply: Result<Option<Reply>, FrontFault>) -> Answered {
+        match reply {
+            Ok(Some(reply)) => Answered::of(Ok(reply)),
+            Ok(None) => Answered::NothingOwed,
+            Err(fault) => Answered::of(Err(fault)),
+        }
+    }
 }
 
 /// Sends a front a line.
-fn ask<R: Threads + Sync>(front: &mut Lone<'_, R>, journal: &Journal, line: &str) -> Answered
+pub(crate) fn ask<R: Threads + Sync>(
+    front: &mut Lone<'_, R>,
+    journal: &Journal,
+    line: &str,
+) -> Answered
     requires { front.old.table ≡ journal.now }
     ensures { front.new.table ≡ front.old.table }
 {
@@ -49,159 +65,243 @@ fn ask<R: Threads + Sync>(front: &mut Lone<'_, R>, journal: &Journal, line: &str
     match asked {
         Line::Run(command) => Answered::of(front.exec(journal, command)),
         Line::Look(query) => Answered::of(front.look(journal, query)),
+        Line::Resume => Answered::of_owed(front.resume()),
         _ => Answered::Otherwise,
     }
 }
 
-/// What is known of a journal when two fronts have ended: how many words each has seen, how the count of a third pass that
-/// had seen none compares with that of the second, and the words.
-#[derive(Debug, PartialEq, Eq, Drop)]
+/// Which front is asked: that with tag 0, or the other one with tag 1.
+#[derive(Clone, Copy)]
+enum User {
+    One,
+    Other,
+}
+
+/// Lines that are sent one after the other, and what comes of them.
+struct Turns {
+    /// How many words the journal has room for.
+    room: usize,
+    /// Of the copies of the film's world that are asked for those are refused whose bits are set, from the lowest on.
+    refused: u32,
+    lines: &'static [(User, &'static str)],
+    answers: &'static [Answered],
+    words: &'static [u64],
+}
+
+/// Sends two fronts these lines.
+fn ask_all<R: Threads + Sync>(
+    alloc: Global,
+    journal: &Journal,
+    one: &mut Lone<'_, R>,
+    other: &mut Lone<'_, R>,
+    lines: &[(User, &'static str)],
+) -> Result<Vec<Answered>, AllocError>
+    requires { (one.old.table ≡ journal.now) × (other.old.table ≡ journal.now) }
+    ensures { (one.new.table ≡ journal.now) × (other.new.table ≡ journal.now) }
+{
+    let mut answers = Vec::new(alloc);
+    for (user, line) in lines {
+        let answer = match user {
+            User::One => ask(one, journal, line),
+            User::Other => ask(other, journal, line),
+        };
+        answers.push(answer)?;
+    }
+    Ok(answers)
+}
+
+/// What is known of a journal when two fronts have ended.
+#[derive(Drop)]
 struct Ended {
+    /// How many words each has seen.
     seen: (usize, usize),
-    behind: Ordering,
+    /// How the count of a third pass compares with the first's, and the first's with the second's.
+    met: (Ordering, Ordering),
+    /// The words that the third pass finds.
     words: Vec<u64>,
 }
 
 fn end(
     alloc: Global,
     journal: &Journal,
-    one: Pass,
+    mut one: Pass,
     mut other: Pass,
     mut third: Pass,
 ) -> Option<Ended>
     requires { (one.table ≡ journal.now) × (other.table ≡ journal.now) × (third.table ≡ journal.now) }
 {
-    let behind = journal.meet(&mut third, &mut other);
+    let behind = journal.meet(&mut third, &mut one);
+    let met = (behind, journal.meet(&mut one, &mut other));
     let words = journal.finish(alloc, &mut third).ok()?;
     Some(Ended {
         seen: (one.seen(), other.seen()),
-        behind,
+        met,
         words,
     })
 }
 
-/// The front with tag 0 sends the first line, or the other one; then the other the second.
-fn ask_both<R: Threads + Sync>(
-    one: &mut Lone<'_, R>,
-    other: &mut Lone<'_, R>,
-    journal: &Journal,
-    is_first: bool,
-    lines: (&str, &str),
-) -> (Answered, Answered)
-    requires { (one.old.table ≡ journal.now) × (other.old.table ≡ journal.now) }
-    ensures { (one.new.table ≡ journal.now) × (other.new.table ≡ journal.now) }
-{
-    let (first, second) = lines;
-    if is_first {
-        let answer = ask(one, journal, first);
-        return (answer, ask(other, journal, second));
-    }
-    let answer = ask(other, journal, first);
-    (answer, ask(one, journal, second))
+/// What two fronts of a film answer, and how it ends.
+fn take_turns_over<R: Threads + Sync>(
+    rt: &R,
+    alloc: Global,
+    film: &Film<Observed>,
+    turns: &Turns,
+) -> Option<(Vec<Answered>, Ended)> {
+    let words = turns.room.clamp(1, 8);
+    let (journal, mut one, mut other, third) = share(rt, alloc, words, film)?;
+    film.snap_below(0).refuse(turns.refused);
+    let answers = ask_all(alloc, &journal, &mut one, &mut other, turns.lines);
+    let ended = end(alloc, &journal, one.end(), other.end(), third);
+    Some((answers.ok()?, ended?))
 }
 
-/// That, and last both look.
 fn take_turns<R: Threads + Sync>(
     rt: &R,
     alloc: Global,
-    words: usize,
-    film: &Film<Observed>,
-    is_first: bool,
-    lines: (&str, &str),
-) -> Option<([Answered; 4], Ended)>
-    requires { (1 ≤ words) × (words ≤ 1000000) }
-{
-    let (journal, mut one, mut other, third) = share(rt, alloc, words, film)?;
-    let (first, second) = ask_both(&mut one, &mut other, &journal, is_first, lines);
-    let answers = [
-        first,
-        second,
-        ask(&mut one, &journal, "info position"),
-        ask(&mut other, &journal, "info position"),
-    ];
-    let ended = end(alloc, &journal, one.end(), other.end(), third)?;
-    Some((answers, ended))
+    turns: &Turns,
+) -> Option<(Vec<Answered>, Ended)> {
+    let film = woken(alloc)?;
+    take_turns_over(rt, alloc, &film, turns)
 }
 
-/// Two lines that are sent one after the other, and what comes of them.
-struct Turns {
-    /// How many words the journal has room for.
-    room: usize,
-    /// Whether the front with tag 0 sends the first line.
-    is_first: bool,
-    lines: (&'static str, &'static str),
-    answers: [Answered; 4],
-    words: &'static [u64],
-}
-
-static TURNS: [Turns; 4] = [
+static TURNS: [Turns; 5] = [
     Turns {
         room: 4,
-        is_first: true,
-        lines: ("stepi 3", "reverse-stepi"),
-        answers: [
+        refused: 0,
+        lines: &[
+            (User::One, "stepi 3"),
+            (User::Other, "reverse-stepi"),
+            (User::One, "info position"),
+            (User::Other, "info position"),
+            (User::One, "resume"),
+        ],
+        answers: &[
             Answered::At(3),
             Answered::At(2),
-            Answered::At(2),
-            Answered::At(2),
+            Answered::Position {
+                position: 2,
+                last: 12,
+            },
+            Answered::Position {
+                position: 2,
+                last: 12,
+            },
+            Answered::NothingOwed,
         ],
         words: &[196_609, 65_794],
     },
     Turns {
         room: 4,
-        is_first: false,
-        lines: ("reverse-stepi", "stepi 3"),
-        answers: [
+        refused: 0,
+        lines: &[
+            (User::Other, "reverse-stepi"),
+            (User::One, "stepi 3"),
+            (User::One, "info position"),
+            (User::Other, "info position"),
+        ],
+        answers: &[
             Answered::AtStart,
             Answered::At(3),
-            Answered::At(3),
-            Answered::At(3),
+            Answered::Position {
+                position: 3,
+                last: 12,
+            },
+            Answered::Position {
+                position: 3,
+                last: 12,
+            },
         ],
         words: &[65_794, 196_609],
     },
     Turns {
         room: 1,
-        is_first: true,
-        lines: ("stepi 3", "reverse-stepi"),
-        answers: [
+        refused: 0,
+        lines: &[
+            (User::One, "stepi 3"),
+            (User::Other, "reverse-stepi"),
+            (User::One, "info position"),
+            (User::Other, "info position"),
+            (User::One, "reverse-stepi"),
+        ],
+        answers: &[
             Answered::At(3),
             Answered::Full,
-            Answered::At(3),
-            Answered::At(3),
+            Answered::Position {
+                position: 3,
+                last: 12,
+            },
+            Answered::Position {
+                position: 3,
+                last: 12,
+            },
+            Answered::Full,
         ],
         words: &[196_609],
     },
     Turns {
         room: 1,
-        is_first: false,
-        lines: ("reverse-stepi", "stepi 3"),
-        answers: [
+        refused: 0,
+        lines: &[
+            (User::Other, "reverse-stepi"),
+            (User::One, "stepi 3"),
+            (User::One, "info position"),
+            (User::Other, "info position"),
+        ],
+        answers: &[
             Answered::AtStart,
             Answered::Full,
-            Answered::At(0),
-            Answered::At(0),
+            Answered::Position {
+                position: 0,
+                last: 12,
+            },
+            Answered::Position {
+                position: 0,
+                last: 12,
+            },
         ],
         words: &[65_794],
+    },
+    // The first front's search takes a copy. The other front is refused two for that search, and places nothing then. The
+    // words are a watch and a search by tag 0, and one step by tag 1.
+    Turns {
+        room: 8,
+        refused: 0b110,
+        lines: &[
+            (User::One, "watch rg 0"),
+            (User::One, "continue"),
+            (User::Other, "stepi"),
+            (User::Other, "info position"),
+            (User::One, "info position"),
+            (User::Other, "stepi"),
+            (User::One, "info position"),
+        ],
+        answers: &[
+            Answered::Otherwise,
+            Answered::AtHit(2),
+            Answered::Memory,
+            Answered::Memory,
+            Answered::Position {
+                position: 2,
+                last: 12,
+            },
+            Answered::At(3),
+            Answered::Position {
+                position: 3,
+                last: 12,
+            },
+        ],
+        words: &[786_439, 3, 65_793],
     },
 ];
 
 #[test]
 fn two_fronts_have_the_replies_of_their_order(rt: HostRuntime) -> Result<(), Fail> {
-    let film = film(rt.alloc()).ok_or("no film")?;
     for turns in TURNS.iter() {
-        let room = turns.room.clamp(1, 4);
-        let (came, ended) = take_turns(
-            &rt,
-            rt.alloc(),
-            room,
-            &film,
-            turns.is_first,
-            turns.lines,
-        ).ok_or("not played")?;
-        assert_eq!(rt; came, turns.answers);
+        let (answers, ended) = take_turns(&rt, rt.alloc(), turns).ok_or("not played")?;
+        assert_eq!(rt; answers.as_slice(), turns.answers);
         assert_eq!(rt; ended.words.as_slice(), turns.words);
         assert_eq!(rt; ended.seen, (turns.words.len(), turns.words.len()));
-        assert_eq!(rt; ended.behind, Ordering::Less);
+        assert_eq!(rt; ended.met, (Ordering::Less, Ordering::Equal));
     }
     Ok(())
 }
@@ -213,83 +313,51 @@ fn word_of(pass: &Pass, argument: u32) -> u64
     3 + 256 * u64::from(pass.tag()) + 65_536 * u64::from(argument)
 }
 
-/// Offers the word of opcode 3 with argument 5, where the pass has tag 0.
+/// Offers the word of opcode 3 with argument 5.
 fn offer_no_command(journal: &Journal, pass: &mut Pass) -> bool
     requires { pass.old.table ≡ journal.now }
     ensures { pass.new.table ≡ journal.now }
 {
     let word = word_of(pass, 5);
-    word == 327_683 && matches!(journal.offer(pass, word), Offered::Placed)
+    matches!(journal.offer(pass, word), Offered::Placed)
 }
 
-/// The first pass of a journal offers a word that is no command's, and then a front steps: what that is answered and how
-/// many words its pass has seen then, and all words.
-fn step_behind_no_command<R: Threads + Sync>(
+/// A word that is no command's by tag 2, a step by the front with tag 0, such a word by tag 0, and a step by the front with
+/// tag 1: whether each such word was placed, and what the steps are answered; and how it ends.
+fn step_behind_over<R: Threads + Sync>(
     rt: &R,
     alloc: Global,
     film: &Film<Observed>,
-) -> Option<(Answered, usize, Vec<u64>)> {
-    let (journal, mut seat) = Journal::new(alloc, 4).ok()?;
-    let second = journal.split(&mut seat);
-    let Ok(mut pass) = journal.enter(seat) else {
-        return None;
-    };
-    if !offer_no_command(&journal, &mut pass) {
-        return None;
-    }
-    let Ok(other) = journal.enter(second) else {
-        return None;
-    };
-    let mut front = crate::woken::front(rt, alloc, other, film)?;
-    let reply = ask(&mut front, &journal, "stepi");
-    let words = journal.finish(alloc, &mut pass).ok()?;
-    Some((reply, front.end().seen(), words))
+) -> Option<([bool; 2], [Answered; 2], Ended)> {
+    let (journal, mut one, mut other, mut third) = share(rt, alloc, 4, film)?;
+    let by_third = offer_no_command(&journal, &mut third);
+    let first = ask(&mut one, &journal, "stepi");
+    let mut pass = one.end();
+    let by_first = offer_no_command(&journal, &mut pass);
+    let second = ask(&mut other, &journal, "stepi");
+    let ended = end(alloc, &journal, pass, other.end(), third)?;
+    Some(([by_third, by_first], [first, second], ended))
+}
+
+fn step_behind_no_commands<R: Threads + Sync>(
+    rt: &R,
+    alloc: Global,
+) -> Option<([bool; 2], [Answered; 2], Ended)> {
+    let film = woken(alloc)?;
+    step_behind_over(rt, alloc, &film)
 }
 
 #[test]
 fn a_word_that_is_no_command_takes_a_place(rt: HostRuntime) -> Result<(), Fail> {
-    let film = film(rt.alloc()).ok_or("no film")?;
-    let (reply, seen, words) = step_behind_no_command(&rt, rt.alloc(), &film).ok_or("not played")?;
-    assert_eq!(rt; (reply, seen), (Answered::At(1), 2));
-    assert_eq!(rt; words.as_slice(), [327_683, 65_793].as_slice());
-    Ok(())
-}
-
-/// Where a search of the first front's can't be made by the other for want of memory: what the other is answered then to a
-/// step and to a look, and what the first one is, before and after the step is sent again.
-fn step_without_memory<R: Threads + Sync>(
-    rt: &R,
-    alloc: Global,
-    film: &Film<Observed>,
-) -> Option<([Answered; 5], Ended)> {
-    let (journal, mut one, mut other, third) = share(rt, alloc, 8, film)?;
-    let _mark = ask(&mut one, &journal, "watch rg 0");
-    let _found = ask(&mut one, &journal, "continue");
-    film.snap_below(0).refuse(0b11);
-    let answers = [
-        ask(&mut other, &journal, "stepi"),
-        ask(&mut other, &journal, "info position"),
-        ask(&mut one, &journal, "info position"),
-        ask(&mut other, &journal, "stepi"),
-        ask(&mut one, &journal, "info position"),
-    ];
-    let ended = end(alloc, &journal, one.end(), other.end(), third)?;
-    Some((answers, ended))
-}
-
-#[test]
-fn who_has_no_memory_for_anothers_search_places_nothing(rt: HostRuntime) -> Result<(), Fail> {
-    let film = film(rt.alloc()).ok_or("no film")?;
-    let (answers, ended) = step_without_memory(&rt, rt.alloc(), &film).ok_or("not played")?;
-    let wanted = [
-        Answered::Memory,
-        Answered::Memory,
-        Answered::At(2),
-        Answered::At(3),
-        Answered::At(3),
-    ];
-    assert_eq!(rt; answers, wanted);
-    // a watch and a search by tag 0, and one step by tag 1
-    assert_eq!(rt; ended.words.as_slice(), [786_439, 3, 65_793].as_slice());
+    let (placed, answers, ended) = step_behind_no_commands(&rt, rt.alloc()).ok_or("not played")?;
+    assert_eq!(rt; placed, [true, true]);
+    assert_eq!(rt; answers, [Answered::At(1), Answered::At(2)]);
+    // the first has seen all but the other's step
+    assert_eq!(rt; ended.seen, (3, 4));
+    assert_eq!(rt; ended.met, (Ordering::Less, Ordering::Less));
+    assert_eq!(rt;
+        ended.words.as_slice(),
+        [328_195, 65_537, 327_683, 65_793].as_slice()
+    );
     Ok(())
 }

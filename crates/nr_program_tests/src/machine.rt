@@ -1,8 +1,9 @@
 //! The programs over recordings of each kind of step.
 use crate::playing::{
-    HEADER, assert_accepted, assert_all_refused, assert_all_replies, assert_refused, run,
+    assert_accepted, assert_all_refused, assert_all_replies, assert_refused, run,
 };
 use nr_programs::ExitStatus;
+use nr_replay_tests::HEADER;
 use std::alloc::AllocError;
 
 const SMALL: &str = "{\"buf\":16,\"desc\":1,\"gor\":2,\"netrev\":1,\"sock\":1}\n";

@@ -1,7 +1,8 @@
 //! Marks, checkpoints and both directions, over stored recordings.
 use crate::playing::{assert_replies, run, ticks};
-use crate::programs::{EARLY, READ};
+use crate::programs::EARLY;
 use nr_programs::ExitStatus;
+use nr_replay_tests::WAITS;
 use std::alloc::AllocError;
 
 #[test]
@@ -9,7 +10,7 @@ fn a_watch_stops_behind_each_change(rt: HostRuntime) -> Result<(), AllocError> {
     assert_replies(
         &rt,
         rt.alloc(),
-        READ,
+        WAITS,
         "watch rg 0\nc\nc\nc\nc\nc\nc\nrc\nrc\nrc\nrc\nrc\nrc\n",
         "mark 1\nat 2 by 1\nat 5 by 1\nat 7 by 1\nat 9 by 1\nat 10 by 1\nat 12 end\nat 10 by 1\nat 9 by 1\nat 7 by 1\nat 5 by 1\nat 2 by 1\nat 0 start\n",
     )
@@ -20,7 +21,7 @@ fn a_break_hits_before_its_step(rt: HostRuntime) -> Result<(), AllocError> {
     assert_replies(
         &rt,
         rt.alloc(),
-        READ,
+        WAITS,
         "si\nbreak sockopen\nreverse-continue\nreverse-continue\nb @12\nb @13\nc\nc\n",
         "at 1\nmark 1\nat 0 by 1\nat 0 start\nmark 2\nmark 3\nat 11 by 2\nat 12 end\n",
     )?;
@@ -34,7 +35,7 @@ fn a_break_hits_before_its_step(rt: HostRuntime) -> Result<(), AllocError> {
     assert_replies(
         &rt,
         rt.alloc(),
-        READ,
+        WAITS,
         "stepi 4294967295\nreverse-stepi 12\nstepi 12\nstepi 0\n",
         "at 12 end\nat 0\nat 12\nfault 202 bad argument\n",
     )
@@ -45,14 +46,14 @@ fn a_tbreak_is_gone_after_the_stop_where_it_hits(rt: HostRuntime) -> Result<(), 
     assert_replies(
         &rt,
         rt.alloc(),
-        READ,
+        WAITS,
         "tbreak rwlock\ncontinue\ninfo breakpoints\nreverse-continue\n",
         "mark 1\nat 2 by 1\nmarks 0\nat 0 start\n",
     )?;
     assert_replies(
         &rt,
         rt.alloc(),
-        READ,
+        WAITS,
         "si 12\ntbreak arrive\nwatch rg 0\nrc\nrc\nrc\nrc\n",
         "at 12\nmark 1\nmark 2\nat 10 by 2\nat 9 by 2\nat 7 by 1 2\nat 5 by 2\n",
     )
@@ -63,14 +64,14 @@ fn a_tbreak_stays_where_it_does_not_hit(rt: HostRuntime) -> Result<(), AllocErro
     assert_replies(
         &rt,
         rt.alloc(),
-        READ,
+        WAITS,
         "tb @8\nb rwlock\nc\nsi 5\nc\nrestart 0\nrc\ninfo breakpoints\n",
         "mark 1\nmark 2\nat 2 by 2\nat 7\nat 12 end\nat 0\nat 0 start\nmarks 2\n1 tbreak @8\n2 break rwlock\n",
     )?;
     assert_replies(
         &rt,
         rt.alloc(),
-        READ,
+        WAITS,
         "tb @8\nc\nrc\ndelete 1\ntb @8\n",
         "mark 1\nat 7 by 1\nat 0 start\nfault 401 no such mark\nmark 2\n",
     )
@@ -81,7 +82,7 @@ fn all_marks_that_hit_are_told(rt: HostRuntime) -> Result<(), AllocError> {
     assert_replies(
         &rt,
         rt.alloc(),
-        READ,
+        WAITS,
         "b arrive\nwatch rg 0\nb @8\ndelete 2\ndelete 2\ndelete 0\nwatch rg 0\nsi 5\nc\ninfo breakpoints\n",
         "mark 1\nmark 2\nmark 3\ndeleted mark 2\nfault 401 no such mark\nfault 401 no such mark\nmark 4\nat 5\nat 7 by 1 3 4\nmarks 3\n1 break arrive\n3 break @8\n4 watch rg 0\n",
     )
@@ -103,7 +104,7 @@ fn a_checkpoint_is_gone_back_to(rt: HostRuntime) -> Result<(), AllocError> {
     assert_replies(
         &rt,
         rt.alloc(),
-        READ,
+        WAITS,
         "si 5\ncheckpoint\nstepi 2\nrestart 1\ninfo checkpoints\ndelete checkpoint 1\nrestart 1\nrestart 0\ndelete checkpoint 0\ncheckpoint\ninfo checkpoints\nprint lock 0\nrestart 2\n",
         "at 5\ncheckpoint 1 at 5\nat 7\nat 5\ncheckpoints 1\n1 at 5\ndeleted checkpoint 1\nfault 403 no such checkpoint\nat 0\nfault 403 no such checkpoint\ncheckpoint 2 at 0\ncheckpoints 1\n2 at 0\nlock 0 = absent\nat 0\n",
     )

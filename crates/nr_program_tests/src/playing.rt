@@ -1,6 +1,7 @@
 //! Plays the programs on recordings: what came of it is a plain value, which tests compare.
 use nr_machine::World;
 use nr_programs::{ExitStatus, check_bytes, run_bytes, upgrade_bytes};
+use nr_replay_tests::HEADER;
 use nr_text::{Sink, Source};
 use std::alloc::{AllocError, Global};
 use std::io::{Read, Write};
@@ -8,8 +9,6 @@ use std::process::Abort;
 use std::sync::Wait;
 use std::test::*;
 use std::thread::Threads;
-
-pub(crate) const HEADER: &str = "{\"netrev\":1,\"gor\":4,\"sock\":2,\"desc\":2,\"buf\":16}\n";
 
 /// Looks at locks while it goes both ways.
 pub(crate) const SCRIPT: &str = "stepi 6

@@ -1,11 +1,11 @@
 //! Programs over stored recordings, and over streams that stop.
 use crate::playing::{
-    HEADER, Played, SCRIPT, assert_accepted, assert_all_refused, assert_all_replies,
-    assert_refused, run, run_on,
+    Played, SCRIPT, assert_accepted, assert_all_refused, assert_all_replies, assert_refused, run,
+    run_on,
 };
 use nr_machine::World;
 use nr_programs::{ExitStatus, check_bytes};
-use nr_replay_tests::{Cup, Drip};
+use nr_replay_tests::{AtBrim, Cup, Drip, HEADER, WAITS};
 use nr_text::Sink;
 use std::alloc::{AllocError, Global};
 use std::process::Abort;
@@ -40,21 +40,6 @@ lock 0 = 8
 at 0 start
 lock 0 = absent
 ";
-
-/// A reader waits for bytes that arrive while it is parked.
-pub(crate) const READ: &str = r#"["sockopen",16,16]
-["pollopen",0,0]
-["rwlock",0,0,"r"]
-["waitbegin",0,0,"r"]
-["blockarm",0]
-["blockcheck",0]
-["parkcommit",0]
-["arrive",0,"6869"]
-["pollevent",0,1,"r",0]
-["blockswap",0]
-["sysread",0,0,8]
-["rwunlock",0,0,"r"]
-"#;
 
 /// An event comes between a reader's check and its parking.
 pub(crate) const EARLY: &str = r#"["sockopen",16,16]
@@ -92,7 +77,7 @@ static REFUSED: [(&str, &str); 7] = [
 /// Steps, a script and its replies.
 static LOOKS: [(&str, &str, &str); 3] = [
     (
-        READ,
+        WAITS,
         "stepi 3\nprint lock 0\nsi 5\ndump in 0\nsi 3\ndump in 0\nrsi\ndump in 0\nfrob\nquit",
         "at 3\nlock 0 = 10\nat 8\nin 0 = 6869\nat 11\nin 0 = -\nat 10\nin 0 = 6869\nfault 201 unknown command\nbye\n",
     ),
@@ -113,7 +98,7 @@ static ACCEPTED: [(&str, &str); 4] = [
     ("", "ok 0 steps\n"),
     (r#"["spawn"]"#, "ok 1 steps\n"),
     (EARLY, "ok 9 steps\n"),
-    (READ, "ok 12 steps\n"),
+    (WAITS, "ok 12 steps\n"),
 ];
 
 #[test]
@@ -160,6 +145,7 @@ fn one_byte_a_call_makes_no_difference(rt: HostRuntime) {
     let writer = Cup {
         held: Vec::new(rt.alloc()),
         room: REPLIES.len(),
+        then: AtBrim::Fails,
     };
     let ended = run_on(&rt, rt.alloc(), LOCKS, reader, writer);
     let played = Played {
@@ -206,6 +192,7 @@ fn run_cut<R: Wait + Threads + Sync + Abort>(
     let writer = Cup {
         held: Vec::new(alloc),
         room,
+        then: AtBrim::Fails,
     };
     let ended = run_on(rt, alloc, recording, SCRIPT.as_bytes(), writer);
     assert!(rt; ended.write_failed);
@@ -234,6 +221,7 @@ fn check_cut(rt: &impl Abort, alloc: Global, recording: &str, room: usize) -> Pl
     let mut output = Sink::new(Cup {
         held: Vec::new(alloc),
         room,
+        then: AtBrim::Fails,
     });
     let status = check_bytes::<World, _>(alloc, recording.as_bytes(), &mut output);
     assert!(rt; output.has_failed());

@@ -1,8 +1,8 @@
 //! The program `serve` over callers in memory.
-use crate::playing::{HEADER, Played, record};
-use crate::programs::READ;
+use crate::playing::{Played, record};
 use nr_machine::World;
 use nr_programs::{ExitStatus, Sharing, serve_bytes};
+use nr_replay_tests::{HEADER, WAITS};
 use nr_serving::{Connection, Connections, Next, Ports};
 use nr_text::Sink;
 use std::alloc::{AllocError, Global};
@@ -163,7 +163,7 @@ fn serve<R: Wait + Threads + Sync>(
     parts: &[Part],
     seen: &[Seen],
 ) -> Result<Played, AllocError> {
-    let recording = record(alloc, HEADER, READ)?;
+    let recording = record(alloc, HEADER, WAITS)?;
     let sharing = Sharing {
         port: 1,
         fronts: (parts.len() / each.max(1)).clamp(1, 64) as u32,

@@ -1,6 +1,7 @@
 //! The programs over recordings, dumps and texts that are larger than any that a body could have in mind.
-use crate::playing::{HEADER, check, run, ticks};
+use crate::playing::{check, run, ticks};
 use nr_programs::ExitStatus;
+use nr_replay_tests::HEADER;
 use std::alloc::{AllocError, Global};
 use std::test::*;
 

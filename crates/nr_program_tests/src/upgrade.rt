@@ -1,28 +1,13 @@
 //! Recordings of both versions through the programs: recorded answers, upgrades, and a write side that is shut.
-use crate::playing::{HEADER, Played, check, record, run, upgrade};
+use crate::playing::{Played, check, record, run, upgrade};
 use nr_machine::World;
 use nr_programs::{ExitStatus, upgrade_bytes};
-use nr_replay_tests::Cup;
+use nr_replay_tests::{AtBrim, Cup, HEADER, WAITS};
 use nr_text::Sink;
 use std::alloc::{AllocError, Global};
 use std::test::*;
 
-/// A goroutine waits for bytes at a socket, is woken by an event, and reads them.
-const WAITS: &str = "[\"sockopen\",16,16]
-[\"pollopen\",0,0]
-[\"rwlock\",0,0,\"r\"]
-[\"waitbegin\",0,0,\"r\"]
-[\"blockarm\",0]
-[\"blockcheck\",0]
-[\"parkcommit\",0]
-[\"arrive\",0,\"6869\"]
-[\"pollevent\",0,1,\"r\",0]
-[\"blockswap\",0]
-[\"sysread\",0,0,8]
-[\"rwunlock\",0,0,\"r\"]
-";
-
-/// The first ten steps of it with the answer of each.
+/// The first ten steps of `WAITS` with the answer of each.
 const TEN_ANSWERED: &str = "{\"buf\":16,\"desc\":2,\"gor\":4,\"netrev\":2,\"sock\":2}
 [\"sockopen\",16,16,[\"number\",0]]
 [\"pollopen\",0,0,[\"number\",0]]
@@ -56,6 +41,7 @@ fn upgrade_cut(alloc: Global, recording: &str, room: usize) -> Played {
     let mut output = Sink::new(Cup {
         held: Vec::new(alloc),
         room,
+        then: AtBrim::Fails,
     });
     let status = upgrade_bytes::<World, _>(alloc, recording.as_bytes(), &mut output);
     Played {

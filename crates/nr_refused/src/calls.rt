@@ -1,5 +1,7 @@
 //! The calls that can be asked for.
 
+use crate::films::Recorded;
+use crate::fronts::Play;
 use crate::twice::Twice;
 use crate::walks::Leg;
 use crate::{films, fronts, journals, parts, searches, serving, texts, walks, worlds};
@@ -35,6 +37,7 @@ pub(crate) enum Call {
     ManySearchForward,
     ManySearchBackward,
     JournalNew,
+    JournalAlone,
     JournalSplit,
     JournalFinish,
     FrontNew,
@@ -50,7 +53,7 @@ pub(crate) enum Call {
 }
 
 /// Their names.
-pub(crate) static CALLS: [(&str, Call); 35] = [
+pub(crate) static CALLS: [(&str, Call); 36] = [
     ("read", Call::Read),
     ("write", Call::Write),
     ("load", Call::Load),
@@ -74,6 +77,7 @@ pub(crate) static CALLS: [(&str, Call); 35] = [
     ("search-forward-by-three", Call::ManySearchForward),
     ("search-backward-by-three", Call::ManySearchBackward),
     ("journal-new", Call::JournalNew),
+    ("journal-alone", Call::JournalAlone),
     ("journal-split", Call::JournalSplit),
     ("journal-finish", Call::JournalFinish),
     ("front-new", Call::FrontNew),
@@ -109,8 +113,8 @@ impl Call {
         match self {
             Call::Read => Some(texts::read_twice(rt)),
             Call::Write => texts::write_twice(rt),
-            Call::Load => films::load_twice(rt),
-            Call::LoadRefused => films::load_refused_twice(rt),
+            Call::Load => films::load_twice(rt, Recorded::Long),
+            Call::LoadRefused => films::load_twice(rt, Recorded::Late),
             Call::WithAnswers => films::answer_film_twice(rt),
             Call::Check => Some(texts::check_twice(rt)),
             Call::Upgrade => Some(texts::upgrade_twice(rt)),
@@ -156,14 +160,15 @@ impl Call {
                 Direction::Backward,
             ),
             Call::JournalNew => Some(journals::make_twice(rt)),
+            Call::JournalAlone => Some(journals::make_alone_twice(rt)),
             Call::JournalSplit => journals::split_twice(rt),
             Call::JournalFinish => journals::finish_twice(rt),
             Call::FrontNew => fronts::make_twice(rt, handles),
-            Call::Exec => fronts::exec_twice(rt, handles),
-            Call::ExecBehindAnother => fronts::exec_behind_another_twice(rt, handles),
-            Call::Look => fronts::look_twice(rt, handles),
-            Call::Resume => fronts::resume_twice(rt, handles),
-            Call::Session => fronts::play_twice(rt, handles),
+            Call::Exec => fronts::play_twice(rt, handles, Play::Exec),
+            Call::ExecBehindAnother => fronts::play_twice(rt, handles, Play::ExecBehindAnother),
+            Call::Look => fronts::play_twice(rt, handles, Play::Look),
+            Call::Resume => fronts::play_twice(rt, handles, Play::Resume),
+            Call::Session => fronts::play_twice(rt, handles, Play::SixLines),
             _ => None,
         }
     }

@@ -64,58 +64,53 @@ fn is_whole(film: &Film<World>) -> bool {
     is_whole
 }
 
-fn came_of_loading(loaded: Result<Film<World>, LoadFault>) -> Came {
-    match loaded {
-        Ok(film) => Came::of(is_whole(&film)),
-        Err(LoadFault::Memory) => Came::Refused,
-        Err(_) => Came::Wrong,
-    }
-}
-
-/// Loads the long recording twice.
-pub(crate) fn load_twice(rt: &HostRuntime) -> Option<Twice> {
-    let alloc = rt.alloc();
-    let first = long_recording(alloc)?;
-    let again = long_recording(alloc)?;
-    refuse(rt);
-    let first = Snaps::load(alloc, first, EVERY);
-    grant(rt);
-    Some(Twice {
-        first: came_of_loading(first),
-        again: came_of_loading(Snaps::load(alloc, again, EVERY)),
-    })
-}
-
 // The text, and behind it a step that sets the clock back.
 fn late_recording(alloc: Global) -> Option<Recording> {
     let text = format!(in alloc; "{TEXT}[\"tick\",5]\n[\"tick\",4]\n").ok()?;
     read(alloc, text.as_bytes()).ok()
 }
 
-fn came_of_refusing(loaded: Result<Film<World>, LoadFault>) -> Came {
+/// A recording that is loaded.
+#[derive(Clone, Copy, PartialEq, Eq)]
+pub(crate) enum Recorded {
+    Long,
+    /// One whose last step doesn't apply.
+    Late,
+}
+
+fn recording_of(alloc: Global, recorded: Recorded) -> Option<Recording> {
+    match recorded {
+        Recorded::Long => long_recording(alloc),
+        Recorded::Late => late_recording(alloc),
+    }
+}
+
+fn came_of_loading(recorded: Recorded, loaded: Result<Film<World>, LoadFault>) -> Came {
     match loaded {
+        Ok(film) => Came::of(recorded == Recorded::Long && is_whole(&film)),
+        Err(LoadFault::Memory) => Came::Refused,
         Err(
             LoadFault::Refused {
                 step: 14,
                 reason: Refusal::ClockGoesBack,
             },
-        ) => Came::Right,
-        Err(LoadFault::Memory) => Came::Refused,
-        _ => Came::Wrong,
+        ) => Came::of(recorded == Recorded::Late),
+        Err(_) => Came::Wrong,
     }
 }
 
-/// Loads a recording twice whose last step doesn't apply.
-pub(crate) fn load_refused_twice(rt: &HostRuntime) -> Option<Twice> {
+/// Loads a recording twice.
+pub(crate) fn load_twice(rt: &HostRuntime, recorded: Recorded) -> Option<Twice> {
     let alloc = rt.alloc();
-    let first = late_recording(alloc)?;
-    let again = late_recording(alloc)?;
+    let recording = recording_of(alloc, recorded)?;
     refuse(rt);
-    let first = Snaps::load(alloc, first, EVERY);
+    let first = Snaps::load(alloc, recording, EVERY);
     grant(rt);
+    let first = came_of_loading(recorded, first);
+    let recording = recording_of(alloc, recorded)?;
     Some(Twice {
-        first: came_of_refusing(first),
-        again: came_of_refusing(Snaps::load(alloc, again, EVERY)),
+        first,
+        again: came_of_loading(recorded, Snaps::load(alloc, recording, EVERY)),
     })
 }
 

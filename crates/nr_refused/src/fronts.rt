@@ -6,7 +6,7 @@ use crate::films::{film, short_film};
 use crate::twice::{Came, Twice, grant, refuse, refuse_next};
 use nr_command::{Command, Line, Reply};
 use nr_front::{Front, FrontFault};
-use nr_journal::{Journal, Pass};
+use nr_journal::{Journal, Pass, Seat};
 use nr_machine::World;
 use nr_search::OneWorker;
 use nr_snaps::Film;
@@ -24,46 +24,51 @@ const DEPTH: usize = 32;
 const WORDS: usize = 16;
 
 /// What a line is answered.
-#[derive(Drop)]
+#[derive(Clone, Copy, PartialEq, Eq)]
 enum Answer {
-    Reply(Reply),
+    /// The reply that it has to get.
+    Right,
     Memory,
     /// The command of this number ran out of memory, and its reply is owed.
     Owed(usize),
+    NothingOwed,
     /// None of these.
     Other,
 }
 
 impl Answer {
-    fn of(reply: Result<Reply, FrontFault>) -> Answer {
+    // What it is where the reply has to print as this.
+    fn of(reply: Result<Reply, FrontFault>, text: &str) -> Answer {
         match reply {
-            Ok(reply) => Answer::Reply(reply),
+            Ok(reply) => {
+                if prints_as(&reply, text) {
+                    Answer::Right
+                } else {
+                    Answer::Other
+                }
+            }
             Err(FrontFault::Memory) => Answer::Memory,
             Err(FrontFault::Placed(number)) => Answer::Owed(number),
             Err(FrontFault::Full) => Answer::Other,
         }
     }
 
-    // Whether it is a reply, and prints as this.
-    fn says(&self, text: &str) -> bool {
-        match self {
-            Answer::Reply(reply) => prints_as(reply, text),
-            _ => false,
+    fn of_owed(reply: Result<Option<Reply>, FrontFault>, text: &str) -> Answer {
+        match reply {
+            Ok(Some(reply)) => Answer::of(Ok(reply), text),
+            Ok(None) => Answer::NothingOwed,
+            Err(fault) => Answer::of(Err(fault), text),
         }
     }
 
-    // Whether the reply of this command is owed.
-    fn owes(&self, number: usize) -> bool {
-        match self {
-            Answer::Owed(owed) => *owed == number,
-            _ => false,
-        }
+    fn is_right(self) -> bool {
+        self == Answer::Right
     }
 
-    fn came(&self, text: &str) -> Came {
+    fn came(self) -> Came {
         match self {
             Answer::Memory => Came::Refused,
-            _ => Came::of(self.says(text)),
+            _ => Came::of(self.is_right()),
         }
     }
 }
@@ -77,8 +82,13 @@ fn prints_as(reply: &Reply, text: &str) -> bool {
     is_out && room.get(..all.saturating_sub(left)) == Some(text.as_bytes())
 }
 
-/// Sends a front a line.
-fn ask<H: Threads + Sync>(front: &mut Lone<'_, H>, journal: &Journal, line: &str) -> Answer
+/// Sends a front a line, whose reply has to print as this.
+fn ask<H: Threads + Sync>(
+    front: &mut Lone<'_, H>,
+    journal: &Journal,
+    line: &str,
+    text: &str,
+) -> Answer
     requires { front.old.table ≡ journal.now }
     ensures { front.new.table ≡ front.old.table }
 {
@@ -86,20 +96,10 @@ fn ask<H: Threads + Sync>(front: &mut Lone<'_, H>, journal: &Journal, line: &str
         return Answer::Other;
     };
     match asked {
-        Line::Run(command) => Answer::of(front.exec(journal, command)),
-        Line::Look(query) => Answer::of(front.look(journal, query)),
+        Line::Run(command) => Answer::of(front.exec(journal, command), text),
+        Line::Look(query) => Answer::of(front.look(journal, query), text),
+        Line::Resume => Answer::of_owed(front.resume(), text),
         _ => Answer::Other,
-    }
-}
-
-/// Asks for the reply that is owed.
-fn resume<H: Threads + Sync>(front: &mut Lone<'_, H>) -> Answer
-    ensures { front.new.table ≡ front.old.table }
-{
-    match front.resume() {
-        Ok(Some(reply)) => Answer::Reply(reply),
-        Ok(None) => Answer::Other,
-        Err(fault) => Answer::of(Err(fault)),
     }
 }
 
@@ -114,9 +114,20 @@ fn ask_all<H: Threads + Sync>(
 {
     let mut are_right = true;
     for (line, text) in lines {
-        are_right &= ask(front, journal, line).says(text);
+        are_right &= ask(front, journal, line, text).is_right();
     }
     are_right
+}
+
+// A pass that a seat of the journal gives.
+fn enter(journal: &Journal, seat: Seat) -> Option<Pass>
+    requires { seat.table ≡ journal.now }
+    ensures { IfSome result (λ pass. (pass.table ≡ journal.now) × (pass.pass_state.seen ≡ [])) }
+{
+    match journal.enter(seat) {
+        Ok(pass) => Some(pass),
+        Err(_) => None,
+    }
 }
 
 /// A front at the film's first position.
@@ -135,6 +146,21 @@ fn front<'f, H: Threads + Sync>(
     }
 }
 
+// A front that a seat of the journal gives, at the film's first position.
+fn enter_front<'f, H: Threads + Sync>(
+    handles: &H,
+    alloc: Global,
+    journal: &Journal,
+    seat: Seat,
+    film: &'f Film<World>,
+) -> Option<Lone<'f, H>>
+    requires { seat.table ≡ journal.now }
+    ensures { IfSome result (λ front. front.table ≡ journal.now) }
+{
+    let pass = enter(journal, seat)?;
+    front(handles, alloc, pass, film)
+}
+
 /// A journal, and two fronts.
 fn share<'f, H: Threads + Sync>(
     handles: &H,
@@ -145,14 +171,8 @@ fn share<'f, H: Threads + Sync>(
 {
     let (journal, mut first) = Journal::new(alloc, WORDS).ok()?;
     let second = journal.split(&mut first);
-    let Ok(one) = journal.enter(first) else {
-        return None;
-    };
-    let Ok(other) = journal.enter(second) else {
-        return None;
-    };
-    let one = front(handles, alloc, one, film)?;
-    let other = front(handles, alloc, other, film)?;
+    let one = enter_front(handles, alloc, &journal, first, film)?;
+    let other = enter_front(handles, alloc, &journal, second, film)?;
     Some((journal, one, other))
 }
 
@@ -195,11 +215,7 @@ fn make_with<H: Threads + Sync>(
     match Front::new(rt.alloc(), pass, film, OneWorker::<H>::new(), DEPTH) {
         Ok(mut front) => {
             grant(rt);
-            let came = steps_and_looks(&mut front, journal);
-            Twice {
-                first: came,
-                again: came,
-            }
+            Twice::once(steps_and_looks(&mut front, journal))
         }
         Err((pass, AllocError)) => {
             grant(rt);
@@ -217,9 +233,7 @@ fn make_over<H: Threads + Sync>(
     film: &Film<World>,
 ) -> Option<Twice> {
     let (journal, seat) = Journal::new(rt.alloc(), WORDS).ok()?;
-    let Ok(pass) = journal.enter(seat) else {
-        return None;
-    };
+    let pass = enter(&journal, seat)?;
     refuse(rt);
     Some(make_with(rt, handles, &journal, film, pass))
 }
@@ -232,10 +246,13 @@ pub(crate) fn make_twice<H: Threads + Sync>(rt: &HostRuntime, handles: &H) -> Op
 
 /// What is done with two fronts over a film.
 #[derive(Clone, Copy)]
-enum Play {
+pub(crate) enum Play {
+    /// A search.
     Exec,
+    /// A step behind another's search.
     ExecBehindAnother,
     Look,
+    /// An owed reply is asked for.
     Resume,
     SixLines,
 }
@@ -256,25 +273,24 @@ fn play_over<H: Threads + Sync>(
     })
 }
 
+// The reply of the search in what follows.
+const FOUND: &str = "at 7 by 1\n";
+
 // A search that may run out of memory, whose reply is owed then, and before which nothing else is done.
 fn exec<H: Threads + Sync>(rt: &HostRuntime, journal: &Journal, front: &mut Lone<'_, H>) -> Twice
     requires { front.old.table ≡ journal.now }
 {
-    let begun = ask(front, journal, "break arrive").says("mark 1\n");
+    let begun = ask(front, journal, "break arrive", "mark 1\n").is_right();
     refuse(rt);
-    let answer = ask(front, journal, "continue");
+    let answer = ask(front, journal, "continue", FOUND);
     grant(rt);
-    let text = "at 7 by 1\n";
-    if !answer.owes(2) {
-        let came = Came::of(begun && answer.says(text));
-        return Twice {
-            first: came,
-            again: came,
-        };
+    if answer != Answer::Owed(2) {
+        return Twice::once(Came::of(begun && answer.is_right()));
     }
-    let is_owed = ask(front, journal, "stepi").owes(2);
-    let again = resume(front).came(text);
-    let behind = ask(front, journal, "info position").says("at 7 of 192 forward\n");
+    let is_owed = ask(front, journal, "stepi", "") == Answer::Owed(2);
+    let again = ask(front, journal, "resume", FOUND).came();
+    let there = "at 7 of 192 forward\n";
+    let behind = ask(front, journal, "info position", there).is_right();
     Twice {
         first: Came::Refused.leaving(begun && is_owed && behind),
         again,
@@ -291,30 +307,25 @@ fn exec_behind<H: Threads + Sync>(
     requires one { one.old.table ≡ journal.now }
     requires other { other.old.table ≡ journal.now }
 {
-    let lines = [("break arrive", "mark 1\n"), ("continue", "at 7 by 1\n")];
+    let lines = [("break arrive", "mark 1\n"), ("continue", FOUND)];
     let begun = ask_all(one, journal, lines.as_slice());
     refuse(rt);
-    let first = ask(other, journal, "stepi 3").came("at 10\n");
+    let first = ask(other, journal, "stepi 3", "at 10\n").came();
     grant(rt);
     // who had it placed would be at 10
-    let there = if first == Came::Refused {
-        "at 7 of 192 forward\n"
+    let (there, line, text) = if first == Came::Refused {
+        ("at 7 of 192 forward\n", "stepi 3", "at 10\n")
     } else {
-        "at 10 of 192 forward\n"
+        (
+            "at 10 of 192 forward\n",
+            "info position",
+            "at 10 of 192 forward\n",
+        )
     };
-    let is_there = ask(one, journal, "info position").says(there);
-    let again = if first == Came::Refused {
-        ask(other, journal, "stepi 3").came("at 10\n")
-    } else {
-        ask(other, journal, "info position").came(there)
-    };
+    let is_there = ask(one, journal, "info position", there).is_right();
     Twice {
-        first: if begun && is_there {
-            first
-        } else {
-            Came::Wrong
-        },
-        again,
+        first: first.behind(begun && is_there),
+        again: ask(other, journal, line, text).came(),
     }
 }
 
@@ -330,16 +341,13 @@ fn look<H: Threads + Sync>(rt: &HostRuntime, journal: &Journal, front: &mut Lone
     let begun = ask_all(front, journal, lines.as_slice());
     let text = "in 0 = 6869\n";
     refuse(rt);
-    let first = ask(front, journal, "dump in 0").came(text);
+    let first = ask(front, journal, "dump in 0", text).came();
     grant(rt);
-    let is_there = ask(front, journal, "info position").says("at 9 of 192 forward\n");
+    let there = "at 9 of 192 forward\n";
+    let is_there = ask(front, journal, "info position", there).is_right();
     Twice {
-        first: if begun && is_there {
-            first
-        } else {
-            Came::Wrong
-        },
-        again: ask(front, journal, "dump in 0").came(text),
+        first: first.behind(begun && is_there),
+        again: ask(front, journal, "dump in 0", text).came(),
     }
 }
 
@@ -351,30 +359,25 @@ fn resume_owed<H: Threads + Sync>(
 ) -> Twice
     requires { front.old.table ≡ journal.now }
 {
-    let begun = ask(front, journal, "break arrive").says("mark 1\n");
-    let text = "at 7 by 1\n";
+    let begun = ask(front, journal, "break arrive", "mark 1\n").is_right();
     refuse_next(rt);
-    let answer = ask(front, journal, "continue");
-    if !answer.owes(2) {
+    let answer = ask(front, journal, "continue", FOUND);
+    if answer != Answer::Owed(2) {
         // nothing is refused at all
-        let came = Came::of(begun && answer.says(text));
-        return Twice {
-            first: came,
-            again: came,
-        };
+        return Twice::once(Came::of(begun && answer.is_right()));
     }
     refuse(rt);
-    let answer = resume(front);
+    let answer = ask(front, journal, "resume", FOUND);
     grant(rt);
-    let again = resume(front);
+    let again = ask(front, journal, "resume", FOUND);
     match answer {
         Answer::Owed(number) => Twice {
             first: Came::Refused.leaving(begun && number == 2),
-            again: again.came(text),
+            again: again.came(),
         },
         _ => Twice {
-            first: Came::of(begun && answer.says(text)),
-            again: Came::of(matches!(again, Answer::Other)),
+            first: Came::of(begun && answer.is_right()),
+            again: Came::of(again == Answer::NothingOwed),
         },
     }
 }
@@ -401,17 +404,17 @@ fn settle<H: Threads + Sync>(
     requires { front.old.table ≡ journal.now }
     ensures { front.new.table ≡ journal.now }
 {
-    match ask(front, journal, line) {
+    match ask(front, journal, line, text) {
         Answer::Memory => {
-            let again = ask(front, journal, line).says(text);
+            let again = ask(front, journal, line, text).is_right();
             Came::Refused.leaving(again && line == "print in 0")
         }
         Answer::Owed(number) => {
-            let again = resume(front).says(text);
+            let again = ask(front, journal, "resume", text).is_right();
             let is_search = (number == 2 || number == 4) && number == placed;
             Came::Refused.leaving(again && is_search)
         }
-        answer => Came::of(answer.says(text)),
+        answer => Came::of(answer.is_right()),
     }
 }
 
@@ -447,45 +450,27 @@ fn six_lines<H: Threads + Sync>(
         ("checkpoint", "checkpoint 1 at 2\n"),
     ];
     let are_right = ask_all(other, journal, lines.as_slice());
-    let is_there = ask(one, journal, "restart 1").says("at 2\n");
+    let is_there = ask(one, journal, "restart 1", "at 2\n").is_right();
     Twice {
         first,
         again: Came::of(are_right && is_there),
     }
 }
 
-fn play_twice_over<H: Threads + Sync>(rt: &HostRuntime, handles: &H, play: Play) -> Option<Twice> {
-    let film = match play {
-        Play::SixLines => short_film(rt.alloc())?,
-        _ => film(rt.alloc())?,
-    };
-    play_over(rt, handles, &film, play)
+// The film that it is done over.
+fn film_of(alloc: Global, play: Play) -> Option<Film<World>> {
+    match play {
+        Play::SixLines => short_film(alloc),
+        _ => film(alloc),
+    }
 }
 
-/// Runs a search twice.
-pub(crate) fn exec_twice<H: Threads + Sync>(rt: &HostRuntime, handles: &H) -> Option<Twice> {
-    play_twice_over(rt, handles, Play::Exec)
-}
-
-/// Runs a step behind another's search twice.
-pub(crate) fn exec_behind_another_twice<H: Threads + Sync>(
+/// Does it twice; of six lines each may be refused, and is sent once more.
+pub(crate) fn play_twice<H: Threads + Sync>(
     rt: &HostRuntime,
     handles: &H,
+    play: Play,
 ) -> Option<Twice> {
-    play_twice_over(rt, handles, Play::ExecBehindAnother)
-}
-
-/// Looks twice.
-pub(crate) fn look_twice<H: Threads + Sync>(rt: &HostRuntime, handles: &H) -> Option<Twice> {
-    play_twice_over(rt, handles, Play::Look)
-}
-
-/// Asks for an owed reply twice.
-pub(crate) fn resume_twice<H: Threads + Sync>(rt: &HostRuntime, handles: &H) -> Option<Twice> {
-    play_twice_over(rt, handles, Play::Resume)
-}
-
-/// Plays six lines, each of which may be refused.
-pub(crate) fn play_twice<H: Threads + Sync>(rt: &HostRuntime, handles: &H) -> Option<Twice> {
-    play_twice_over(rt, handles, Play::SixLines)
+    let film = film_of(rt.alloc(), play)?;
+    play_over(rt, handles, &film, play)
 }

@@ -24,24 +24,39 @@ fn place(journal: &Journal, pass: &mut Pass) -> bool
 }
 
 // Whether just two words can be placed in a new journal.
-fn has_room_for_two(journal: &Journal, seat: Seat) -> bool
-    requires { seat.table ≡ journal.now }
+fn has_room_for_two(journal: &Journal, pass: &mut Pass) -> bool
+    requires { pass.old.table ≡ journal.now }
 {
-    let Ok(mut pass) = journal.enter(seat) else {
-        return false;
-    };
     let placed = [
-        place(journal, &mut pass),
-        place(journal, &mut pass),
-        place(journal, &mut pass),
+        place(journal, pass),
+        place(journal, pass),
+        place(journal, pass),
     ];
     placed == [true, true, false] && pass.seen() == 2
+}
+
+// The same of its first seat.
+fn seats_two(journal: &Journal, seat: Seat) -> bool
+    requires { seat.table ≡ journal.now }
+{
+    match journal.enter(seat) {
+        Ok(mut pass) => has_room_for_two(journal, &mut pass),
+        Err(_) => false,
+    }
 }
 
 // Makes a journal of two words.
 fn make(alloc: Global) -> Came {
     match Journal::new(alloc, 2) {
-        Ok((journal, seat)) => Came::of(has_room_for_two(&journal, seat)),
+        Ok((journal, seat)) => Came::of(seats_two(&journal, seat)),
+        Err(AllocError) => Came::Refused,
+    }
+}
+
+// Makes a journal of two words for one pass alone.
+fn make_alone(alloc: Global) -> Came {
+    match Journal::alone(alloc, 2) {
+        Ok((journal, mut pass)) => Came::of(has_room_for_two(&journal, &mut pass)),
         Err(AllocError) => Came::Refused,
     }
 }
@@ -54,6 +69,17 @@ pub(crate) fn make_twice(rt: &HostRuntime) -> Twice {
     Twice {
         first,
         again: make(rt.alloc()),
+    }
+}
+
+/// Makes one for one pass alone twice.
+pub(crate) fn make_alone_twice(rt: &HostRuntime) -> Twice {
+    refuse(rt);
+    let first = make_alone(rt.alloc());
+    grant(rt);
+    Twice {
+        first,
+        again: make_alone(rt.alloc()),
     }
 }
 
@@ -86,11 +112,7 @@ pub(crate) fn split_twice(rt: &HostRuntime) -> Option<Twice> {
     let first = journal.split(&mut seat);
     grant(rt);
     let again = journal.split(&mut seat);
-    let came = Came::of(have_two_tags(&journal, first, again));
-    Some(Twice {
-        first: came,
-        again: came,
-    })
+    Some(Twice::once(Came::of(have_two_tags(&journal, first, again))))
 }
 
 // Reads a journal twice in which a word was placed.

@@ -26,6 +26,11 @@ impl Came {
         }
     }
 
+    /// What came of it, where all was right before; else it is wrong.
+    pub(crate) fn behind(self, was_right: bool) -> Came {
+        if was_right { self } else { Came::Wrong }
+    }
+
     /// Where it was refused, that counts only if this holds too.
     pub(crate) fn leaving(self, as_it_was: bool) -> Came {
         match self {
@@ -43,6 +48,14 @@ pub(crate) struct Twice {
 }
 
 impl Twice {
+    /// What came of a call that had all that it asked for, or takes nothing, and need not be made again.
+    pub(crate) fn once(came: Came) -> Twice {
+        Twice {
+            first: came,
+            again: came,
+        }
+    }
+
     /// Whether the call was right in the end, and before that no worse than refused.
     pub(crate) fn is_right(self) -> bool {
         self.first != Came::Wrong && self.again == Came::Right

@@ -1,4 +1,4 @@
-//! Tests of worlds, recordings, films, walks and marks by their public calls; and films, streams and a world of their own,
+//! Tests of worlds, recordings, films, walks and marks by their public calls; and films, streams, a text and a world of their own,
 //! which the tests of sessions use too.
 #![tactic(auto)]
 
@@ -12,6 +12,7 @@ mod recording;
 #[cfg(test)]
 mod snaps;
 mod streams;
+mod texts;
 #[cfg(test)]
 mod walker;
 #[cfg(test)]
@@ -19,4 +20,5 @@ mod world;
 
 pub use films::{OPEN, add_ticks, film_of, ticking};
 pub use observed::Observed;
-pub use streams::{Counted, Cup, Drip, Stutter};
+pub use streams::{AtBrim, Counted, Cup, Drip, Stutter};
+pub use texts::{HEADER, WAITS};

@@ -1,6 +1,7 @@
 //! Texts that are read, refused and written.
 
-use crate::streams::{Cup, Stutter};
+use crate::streams::{AtBrim, Cup, Stutter};
+use crate::texts::{HEADER, WAITS};
 use nr_recording::{
     Fault, MakeFault, ReadFault, RecordedStep, Recording, Version, WriteFault, read, write,
 };
@@ -9,13 +10,7 @@ use nr_text::Sink;
 use std::alloc::Global;
 use std::test::Fail;
 
-const HEADER: &str = "{\"netrev\":1,\"gor\":4,\"sock\":2,\"desc\":2,\"buf\":16}\n";
-
 const WRITTEN_HEADER: &str = "{\"buf\":16,\"desc\":2,\"gor\":4,\"netrev\":1,\"sock\":2}\n";
-
-/// A goroutine waits for bytes at a socket and reads them.
-const WAITS: &str =
-    "[\"sockopen\",16,16]\n[\"pollopen\",0,0]\n[\"rwlock\",0,0,\"r\"]\n[\"waitbegin\",0,0,\"r\"]\n[\"blockarm\",0]\n[\"blockcheck\",0]\n[\"parkcommit\",0]\n[\"arrive\",0,\"6869\"]\n[\"pollevent\",0,1,\"r\",0]\n[\"blockswap\",0]\n[\"sysread\",0,0,8]\n[\"rwunlock\",0,0,\"r\"]\n";
 
 /// Two goroutines take a lock in turn.
 const TAKES_TURNS: &str =
@@ -340,6 +335,7 @@ fn tells_a_failed_write(rt: HostRuntime) -> Result<(), Fail> {
         let mut out = Sink::new(Stutter::new(Cup {
             held: Vec::new(rt.alloc()),
             room,
+            then: AtBrim::Fails,
         }));
         let reported = if room < text.len() {
             Err(WriteFault::Device)

@@ -30,11 +30,19 @@ impl Read for Drip<'_> {
     }
 }
 
-/// Takes one byte a call, and fails once it holds `room` bytes.
+/// What a writer does that has no room any more.
+#[derive(Clone, Copy, Debug, PartialEq, Eq)]
+pub enum AtBrim {
+    Fails,
+    TakesNothing,
+}
+
+/// Takes one byte a call, until it holds `room` bytes.
 #[derive(Drop)]
 pub struct Cup {
     pub held: Vec<u8>,
     pub room: usize,
+    pub then: AtBrim,
 }
 
 impl Write for Cup {
@@ -42,7 +50,10 @@ impl Write for Cup {
 
     fn write(&mut self, buf: &[u8]) -> io::Result<usize> {
         if self.held.len() >= self.room {
-            return Err(ErrorKind::Other.into());
+            match self.then {
+                AtBrim::Fails => return Err(ErrorKind::Other.into()),
+                AtBrim::TakesNothing => return Ok(0),
+            }
         }
         match buf.split_first() {
             Some((first, _)) => {

@@ -16,7 +16,7 @@ fn word_of(pass: &Pass, argument: u32) -> u64
 }
 
 /// Offers a word until it is placed; false where the journal is full.
-pub(crate) fn place(journal: &Journal, pass: &mut Pass, argument: u32) -> bool
+fn place(journal: &Journal, pass: &mut Pass, argument: u32) -> bool
     requires { pass.old.table ≡ journal.now }
     ensures { pass.new.table ≡ journal.now }
 {

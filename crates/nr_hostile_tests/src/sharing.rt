@@ -1,43 +1,28 @@
-//! The recording, and fronts that share a journal over it.
+//! Fronts that share a journal, and a film of theirs.
 
 ghost use Rattle.std.specs.Prelude.{◌≡◌, ◌≤◌, [], IfSome};
 
 use nr_front::Front;
 use nr_journal::{Journal, Pass, Seat};
 use nr_recording::read;
-use nr_replay_tests::Observed;
+use nr_replay_tests::{HEADER, Observed, WAITS};
 use nr_search::OneWorker;
 use nr_snaps::{Film, Snaps};
 use std::alloc::Global;
 use std::thread::Threads;
 
-/// A goroutine waits for bytes at a socket, is woken by an event and reads them.
-const WOKEN: &str = r#"{"netrev":1,"gor":4,"sock":2,"desc":2,"buf":16}
-["sockopen",16,16]
-["pollopen",0,0]
-["rwlock",0,0,"r"]
-["waitbegin",0,0,"r"]
-["blockarm",0]
-["blockcheck",0]
-["parkcommit",0]
-["arrive",0,"6869"]
-["pollevent",0,1,"r",0]
-["blockswap",0]
-["sysread",0,0,8]
-["rwunlock",0,0,"r"]
-"#;
-
 /// A front that searches alone.
 pub(crate) type Lone<'f, R> = Front<'f, Observed, OneWorker<R>>;
 
-/// Its film.
-pub(crate) fn film(alloc: Global) -> Option<Film<Observed>> {
-    let recording = read(alloc, WOKEN.as_bytes()).ok()?;
+/// The film of a goroutine that waits for bytes at a socket, is woken by an event and reads them.
+pub(crate) fn woken(alloc: Global) -> Option<Film<Observed>> {
+    let text = format!(in alloc; "{HEADER}{WAITS}").ok()?;
+    let recording = read(alloc, text.as_bytes()).ok()?;
     Snaps::load(alloc, recording, 64).ok()
 }
 
 /// A front at the film's first position.
-pub(crate) fn front<'f, R: Threads + Sync>(
+fn front<'f, R: Threads + Sync>(
     _rt: &R,
     alloc: Global,
     pass: Pass,
@@ -53,7 +38,7 @@ pub(crate) fn front<'f, R: Threads + Sync>(
 }
 
 /// A pass that a seat of the journal gives.
-fn enter(journal: &Journal, seat: Seat) -> Option<Pass>
+pub(crate) fn enter(journal: &Journal, seat: Seat) -> Option<Pass>
     requires { seat.table ≡ journal.now }
     ensures { IfSome result (λ pass. (pass.table ≡ journal.now) × (pass.pass_state.seen ≡ [])) }
 {
@@ -64,7 +49,7 @@ fn enter(journal: &Journal, seat: Seat) -> Option<Pass>
 }
 
 /// A front that a seat of the journal gives, at the film's first position.
-fn enter_front<'f, R: Threads + Sync>(
+pub(crate) fn enter_front<'f, R: Threads + Sync>(
     rt: &R,
     alloc: Global,
     journal: &Journal,
