@@ -92,10 +92,13 @@ share: netrev
 	@echo "Join from two terminals:  nc 127.0.0.1 47200  and  nc 127.0.0.1 47201"
 	@$(NETREV) serve examples/first.jsonl --port 47200 --fronts 2
 
-# Loads and walks recordings of up to 1,000,000 steps: `make bench STEPS="10000 100000"` for fewer. Then shares sessions,
-# searches with several workers, and asks nrdb.
+# Loads, walks and searches recordings of up to 1,000,000 steps, beside plain Rust without proofs: `make bench
+# STEPS="10000 100000"` for fewer. Then records a C program with GDB, shares sessions, searches with several workers, and asks
+# nrdb.
 bench: netrev
-	@sh bench/run.sh $(STEPS)
+	@python3 bench/run.py $(STEPS)
+	@echo
+	@python3 bench/gdb_record.py
 	@echo
 	@python3 bench/serving.py
 	@echo

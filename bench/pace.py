@@ -16,26 +16,12 @@ import sys
 import tempfile
 from pathlib import Path
 
-ROOT = Path(__file__).resolve().parent.parent
+from programs import ROOT, built_baseline, write_recording
+
 PACE = Path(os.environ.get("NETREV_PACE", ROOT / "crates/nr_pace/out/nr_pace"))
-BASELINE = os.environ.get("NETREV_BASELINE")
 SHAPES = os.environ.get("SHAPES", "locks queues bytes waits timers armed mix").split()
 STEPS = 1_000_000
 MEASURES = ("advance", "apply", "undo", "search")
-
-
-def built_baseline():
-    """The baseline's program; None where it can't be built."""
-    if BASELINE:
-        return Path(BASELINE)
-    target = ROOT / "out/baseline"
-    words = ["cargo", "build", "--quiet", "--release", "--offline", "--target-dir", target]
-    try:
-        subprocess.run(words, cwd=ROOT / "bench/baseline", check=True)
-    except (OSError, subprocess.CalledProcessError) as error:
-        print(f"pace.py: no baseline: {error}", file=sys.stderr)
-        return None
-    return target / "release/netrev-baseline"
 
 
 def figures(program, recording):
@@ -75,9 +61,7 @@ def main(steps):
         recording = Path(folder) / "recording.jsonl"
         print(head())
         for shape in SHAPES:
-            words = ["awk", "-v", f"shape={shape}", "-v", f"n={steps}", "-f", ROOT / "bench/shapes.awk"]
-            with open(recording, "wb") as out:
-                subprocess.run(words, stdout=out, check=True)
+            write_recording(shape, steps, recording)
             worlds = figures(PACE, recording)
             plain_rust = figures(baseline, recording)["baseline"] if baseline else []
             print(row(shape, worlds["PlainWorld"], worlds["World"], plain_rust), flush=True)

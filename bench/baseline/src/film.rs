@@ -1,4 +1,4 @@
-//! Replay once, copies each `every` steps, and a walk there and back.
+//! Replay once, copies each `every` steps, and the walker.
 
 use crate::recording::Recording;
 use crate::world::*;
@@ -6,6 +6,7 @@ use crate::world::*;
 pub struct Film {
     pub rec: Recording,
     pub snaps: Vec<Snap>,
+    pub every: usize,
 }
 
 /// A step (from 1) that doesn't apply, and why.
@@ -13,6 +14,15 @@ pub struct Film {
 pub struct StepFault {
     pub step: usize,
     pub reason: u8,
+}
+
+/// Replays without copies.
+pub fn replay(rec: &Recording) -> Result<World, StepFault> {
+    let mut world = World::fresh(rec.lim);
+    match world.replay(&rec.steps, &rec.data, &mut NoLog) {
+        Ok(()) => Ok(world),
+        Err((i, reason)) => Err(StepFault { step: i + 1, reason }),
+    }
 }
 
 impl Film {
@@ -28,7 +38,7 @@ impl Film {
         if rec.steps.len() % every == 0 {
             snaps.push(w.snap());
         }
-        Ok(Film { rec, snaps })
+        Ok(Film { rec, snaps, every })
     }
 
     #[inline(always)]
@@ -50,6 +60,11 @@ impl<'a> Walker<'a> {
         Walker { film, world: World::fresh(film.rec.lim), pos: 0, log: UndoLog::new(depth) }
     }
 
+    #[inline]
+    pub fn world(&self) -> &World {
+        &self.world
+    }
+
     pub fn forward(&mut self, to: usize) {
         let rec = &self.film.rec;
         let _ = self.world.replay(&rec.steps[self.pos..to], &rec.data, &mut self.log);
@@ -61,5 +76,20 @@ impl<'a> Walker<'a> {
             self.world.undo(&mut self.log);
         }
         self.pos = to;
+    }
+
+    /// Goes to a position: by records or steps where it is near, else from the copy before it.
+    pub fn go_to(&mut self, to: usize) {
+        if to <= self.pos && self.pos - to <= self.log.kept() {
+            self.backward(to);
+        } else if to > self.pos && to - self.pos < self.film.every {
+            self.forward(to);
+        } else {
+            let copy = to / self.film.every;
+            self.world.restore(&self.film.snaps[copy]);
+            self.log.clear();
+            self.pos = copy * self.film.every;
+            self.forward(to);
+        }
     }
 }

@@ -3,64 +3,94 @@
 mod film;
 mod heap;
 mod lock;
+mod pace;
 mod recording;
 mod search;
+mod session;
 mod step;
 mod world;
 
-use film::{Film, Walker};
-use search::first_change;
-use std::hint::black_box;
+use film::Film;
+use recording::{Recording, PADDING};
+use session::Session;
+use std::ffi::OsStr;
+use std::fs::File;
+use std::io::{Read, Write};
 use std::process::exit;
-use std::time::Instant;
-use step::Cell;
-use world::{NoLog, World};
 
-/// Steps between two copies, and how often each is measured.
+/// Steps between two copies.
 const EVERY: usize = 1_024;
-const RUNS: usize = 3;
-
-/// Thousand steps a second of the fastest run.
-fn rate(steps: usize, runs: impl IntoIterator<Item = f64>) -> u64 {
-    let least = runs.into_iter().fold(f64::MAX, f64::min);
-    (steps as f64 / least.max(1e-9) / 1e3) as u64
-}
-
-/// Seconds of one run.
-fn seconds<T>(run: impl FnOnce() -> T) -> f64 {
-    let began = Instant::now();
-    black_box(run());
-    began.elapsed().as_secs_f64()
-}
+const USAGE: &str = "usage: netrev-baseline check FILE, netrev-baseline run FILE, or netrev-baseline FILE";
 
 fn fail(status: i32, text: &str) -> ! {
     eprintln!("netrev-baseline: {text}");
     exit(status)
 }
 
-fn main() {
-    let files: Vec<_> = std::env::args_os().skip(1).collect();
-    let [file] = files.as_slice() else { fail(2, "usage: netrev-baseline FILE") };
-    let Ok(bytes) = std::fs::read(file) else { fail(1, "the file can't be read") };
-    let Ok(recording) = recording::read(&bytes) else { fail(1, "no recording") };
-    let Ok(film) = Film::load(recording, EVERY) else { fail(1, "no good recording") };
-    let len = film.len();
+/// The recording in a file, whose text is let go.
+fn recording_of(file: &OsStr) -> Recording {
+    let text = File::open(file).and_then(|mut opened| {
+        let mut text = Vec::with_capacity(opened.metadata()?.len() as usize + PADDING);
+        opened.read_to_end(&mut text)?;
+        text.resize(text.len() + PADDING, b' ');
+        Ok(text)
+    });
+    let Ok(text) = text else { fail(3, "the file can't be read") };
+    recording::read(&text).unwrap_or_else(|line| fail(1, &format!("line {line} is no line of a recording")))
+}
 
-    let advance = rate(len, (0..RUNS).map(|_| {
-        let mut world = World::fresh(film.rec.lim);
-        seconds(|| world.replay(&film.rec.steps, &film.rec.data, &mut NoLog).is_ok())
-    }));
+fn film_of(file: &OsStr) -> Film {
+    Film::load(recording_of(file), EVERY).unwrap_or_else(|fault| refuse(fault))
+}
 
-    let mut walker = Walker::new(&film, len.max(1));
-    let (mut there, mut back) = (Vec::new(), Vec::new());
-    for _ in 0..RUNS {
-        there.push(seconds(|| walker.forward(len)));
-        back.push(seconds(|| walker.backward(0)));
+fn refuse(fault: film::StepFault) -> ! {
+    fail(1, &format!("step {}: fault 107 reason {}", fault.step, fault.reason))
+}
+
+fn check(file: &OsStr) -> String {
+    let recording = recording_of(file);
+    match film::replay(&recording) {
+        Ok(_) => format!("ok {} steps", recording.steps.len()),
+        Err(fault) => refuse(fault),
     }
+}
 
-    // a goroutine that isn't there
-    let nobody = Cell { kind: 6, num: u32::MAX };
-    let mut world = World::fresh(film.rec.lim);
-    let search = rate(len, (0..RUNS).map(|_| seconds(|| first_change(&mut world, &film, nobody))));
-    println!("baseline advance {advance} apply {} undo {} search {search}", rate(len, there), rate(len, back));
+/// Answers lines from standard input until `quit` or its end; all that came at once, before it reads again.
+fn run(film: &Film) -> std::io::Result<()> {
+    let mut session = Session::new(film);
+    let (mut input, mut output) = (std::io::stdin().lock(), std::io::stdout().lock());
+    let mut chunk = vec![0u8; 65_536];
+    let mut rest = Vec::new();
+    let mut replies = Vec::new();
+    loop {
+        let came = input.read(&mut chunk)?;
+        rest.extend_from_slice(&chunk[..came]);
+        let mut begun = 0;
+        let mut ended = came == 0;
+        while let Some(length) = rest[begun..].iter().position(|&c| c == b'\n').filter(|_| !ended) {
+            ended = session.line(&rest[begun..begun + length], &mut replies);
+            begun += length + 1;
+        }
+        rest.drain(..begun);
+        output.write_all(&replies)?;
+        output.flush()?;
+        replies.clear();
+        if ended {
+            return Ok(());
+        }
+    }
+}
+
+fn main() {
+    let words: Vec<_> = std::env::args_os().skip(1).collect();
+    match words.as_slice() {
+        [word, file] if word == "check" => println!("{}", check(file)),
+        [word, file] if word == "run" => {
+            if run(&film_of(file)).is_err() {
+                fail(3, "a stream failed")
+            }
+        }
+        [file] => println!("{}", pace::measured(&film_of(file))),
+        _ => fail(2, USAGE),
+    }
 }

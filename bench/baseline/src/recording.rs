@@ -343,16 +343,18 @@ fn header(line: &[u8]) -> Option<Limits> {
     })
 }
 
-/// Reads the header's line and the steps' behind it; else the first line that is none of these.
-pub fn read(text: &[u8]) -> Result<Recording, usize> {
+/// Spaces behind the text: a kind is looked up in sixteen bytes.
+pub const PADDING: usize = 16;
+
+/// Reads the header's line and the steps' behind it, with the padding last; else the first line that is none of these.
+pub fn read(padded: &[u8]) -> Result<Recording, usize> {
+    let text = &padded[..padded.len() - PADDING];
     let end = text.iter().position(|&c| c == b'\n').unwrap_or(text.len());
     let lim = header(&text[..end]).ok_or(1usize)?;
     // a step's line has at least eight bytes; most have more than twenty
     let mut steps = Vec::with_capacity((text.len() / 18).min(MAX_STEPS));
     let mut data = Vec::new();
-    // a kind is looked up in sixteen bytes
-    let padded = [text, &[b' '; 16]].concat();
-    let mut s = Scan { b: &padded, p: end + 1 };
+    let mut s = Scan { b: padded, p: end + 1 };
     while s.p < text.len() {
         let line = steps.len() + 2;
         steps.push(s.step(&mut data).filter(|_| steps.len() < MAX_STEPS).ok_or(line)?);

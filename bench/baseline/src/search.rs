@@ -1,4 +1,4 @@
-//! The search for a change of a cell.
+//! The search for a break and for a change of a cell.
 
 use crate::film::Film;
 use crate::step::Cell;
@@ -15,4 +15,87 @@ pub fn first_change(world: &mut World, film: &Film, cell: Cell) -> Option<usize>
         }
     }
     None
+}
+
+/// A mark's number, and what has it: the bench places one break and one watch.
+#[derive(Default)]
+pub struct Marks {
+    /// the position before the step with the break
+    pub place: Option<(u32, usize)>,
+    pub cell: Option<(u32, Cell)>,
+}
+
+pub struct Hit {
+    pub pos: usize,
+    pub marks: Vec<u32>,
+}
+
+/// Searches with a world of its own.
+pub struct Finder<'a> {
+    film: &'a Film,
+    world: World,
+}
+
+impl<'a> Finder<'a> {
+    pub fn new(film: &'a Film) -> Finder<'a> {
+        Finder { film, world: World::fresh(film.rec.lim) }
+    }
+
+    /// From copy `copy`, the first (else the last) position behind a step of [from, to) that changes the cell.
+    fn changed<const FIRST: bool>(&mut self, copy: usize, from: usize, to: usize, cell: Cell) -> Option<usize> {
+        let rec = &self.film.rec;
+        let base = copy * self.film.every;
+        self.world.restore(&self.film.snaps[copy]);
+        let _ = self.world.replay(&rec.steps[base..from], &rec.data, &mut NoLog);
+        let mut old = self.world.cell(cell);
+        let mut found = None;
+        for (i, step) in rec.steps[from..to].iter().enumerate() {
+            let _ = self.world.apply(step, &rec.data, &mut NoLog);
+            let new = self.world.cell(cell);
+            if new != old {
+                old = new;
+                found = Some(from + i + 1);
+                if FIRST {
+                    break;
+                }
+            }
+        }
+        found
+    }
+
+    /// The least hit above `pos`.
+    pub fn first_after(&mut self, marks: &Marks, pos: usize) -> Option<Hit> {
+        let len = self.film.len();
+        let place = marks.place.map(|(_, place)| place).filter(|&place| place > pos && place < len);
+        let to = place.unwrap_or(len);
+        let change = marks.cell.filter(|_| pos < to).and_then(|(_, cell)| {
+            self.changed::<true>(pos / self.film.every, pos, to, cell)
+        });
+        self.hit(marks, change, place)
+    }
+
+    /// The greatest hit below `pos`; the copies are taken from the last on.
+    pub fn last_before(&mut self, marks: &Marks, pos: usize) -> Option<Hit> {
+        let place = marks.place.map(|(_, place)| place).filter(|&place| place < pos && place < self.film.len());
+        // hits at positions from the break's, or 1, to the last before come from steps one before
+        let (from, to) = (place.unwrap_or(0).max(1) - 1, pos.max(1) - 1);
+        let every = self.film.every;
+        let change = marks.cell.filter(|_| from < to).and_then(|(_, cell)| {
+            (from / every..=(to - 1) / every).rev().find_map(|copy| {
+                let (least, most) = (from.max(copy * every), to.min((copy + 1) * every));
+                self.changed::<false>(copy, least, most, cell)
+            })
+        });
+        self.hit(marks, change, place)
+    }
+
+    /// A change, where there is one, is at least as near as the break.
+    fn hit(&self, marks: &Marks, change: Option<usize>, place: Option<usize>) -> Option<Hit> {
+        let pos = change.or(place)?;
+        let by_place = marks.place.filter(|&(_, place)| place == pos && place < self.film.len());
+        let by_change = marks.cell.filter(|_| change.is_some());
+        let mut hits: Vec<u32> = by_place.map(|m| m.0).into_iter().chain(by_change.map(|m| m.0)).collect();
+        hits.sort_unstable();
+        Some(Hit { pos, marks: hits })
+    }
 }

@@ -261,6 +261,10 @@ impl<T: Copy> Stack<T> {
         self.v.drain(..self.start);
         self.start = 0;
     }
+    fn clear(&mut self) {
+        self.v.clear();
+        self.start = 0;
+    }
 }
 
 /// The last `depth` undo records.
@@ -287,6 +291,17 @@ impl UndoLog {
             words: Stack { v: Vec::new(), start: 0 },
             bytes: Stack { v: Vec::new(), start: 0 },
         }
+    }
+    /// How many records lead back.
+    #[inline(always)]
+    pub fn kept(&self) -> usize {
+        self.tail - self.head
+    }
+    pub fn clear(&mut self) {
+        self.head = 0;
+        self.tail = 0;
+        self.words.clear();
+        self.bytes.clear();
     }
     #[inline(always)]
     fn take(&mut self) -> Option<Rec> {
