@@ -123,9 +123,6 @@ lines_behind ended text front line back split =
     let more = more_lines ended text in
     (back ++ more.0, more.1 ∙ ap (λ (l : List (List ℕ)). l ++ more.0) split ∙ append_assoc front (line ∷ back) more.0)
 
-with_last : (met : List Met) (last : Met) → All MeetsNoOther met → MeetsNoOther last → All MeetsNoOther (met ++ last ∷ [])
-with_last met last all one = All-push MeetsNoOther met last all one
-
 -- what was written, and where the front stands then
 pub record Replied (r : Recording) (s : Standing) (d d' : FrontState) (says : List Met → Type 0) : Type 0 where
   pub met : List Met
@@ -164,7 +161,7 @@ module _ (r : Recording) (s : Standing) (d d' : FrontState) (here : Stands r s d
       ∙ sym by.given_is in
       record {
         met = met;
-        no_others = λ alone. with_last on.met last.met (on.no_others alone) (last.no_others (on.company ∙ alone));
+        no_others = λ alone. All-push MeetsNoOther on.met last.met (on.no_others alone) (last.no_others (on.company ∙ alone));
         after = last.after;
         there = last.there;
         says_it = h.written ∙ ap concat (sym whole);
@@ -185,7 +182,7 @@ module _ (r : Recording) (s : Standing) (d d' : FrontState) (here : Stands r s d
       ap (λ (t : List ℕ). t ++ concat beyond) (sym (take-append-drop h.n h.text)) ∙ append_assoc (take h.n h.text) (drop h.n h.text) (concat beyond) in
       record {
         met = met;
-        no_others = λ alone. with_last on.met last.met (on.no_others alone) (last.no_others (on.company ∙ alone));
+        no_others = λ alone. All-push MeetsNoOther on.met last.met (on.no_others alone) (last.no_others (on.company ∙ alone));
         after = last.after;
         there = last.there;
         says_it = (

@@ -1,19 +1,24 @@
 //! What the theorem rests on, as calls of two lines: undoing a step restores the state, and a position is the replay of the
 //! steps before it.
 
-ghost use Rattle.std.specs.Prelude.{◌≡◌, ◌≤◌, length, IfOk, OnOk};
+ghost use Rattle.std.specs.Prelude.{◌≡◌, ◌≤◌, length, IfErr, IfOk, OnErr, OnOk};
 ghost use Rattle.nr_rev.specs.Cell.{cell};
+ghost use Rattle.nr_rev.specs.Reversible.{Refuses};
 ghost use Rattle.nr_rev.specs.Run.{world_at};
+ghost use Rattle.nr_walker.specs.Walk.{IsRefusedBy, route};
 
 use nr_rev::{Cell, CellValue, Refusal, Reversible, Worlds};
 use nr_walker::Walker;
 use std::alloc::AllocError;
 
 /// Applies an operation to a machine whose operations can be undone, in any well-formed state, and undoes it. The state is
-/// what it was, in every part; so it is where the operation doesn't apply.
+/// what it was, in every part; so it is where the operation doesn't apply. Returns the operation's answer, or why it
+/// doesn't apply.
 pub fn there_and_back<M: Reversible>(machine: &mut M, op: &M::Op) -> Result<M::Answer, Refusal>
     requires { M.is_well_formed machine.old }
-    ensures { machine.new ≡ machine.old }
+    ensures same { machine.new ≡ machine.old }
+    ensures answer { IfOk result (λ answer. (after : M) × M.steps machine.old op.now answer after) }
+    ensures refusal { IfErr result (Refuses M.reason M.takes_memory machine.old op.now) }
 {
     let (answer, delta) = machine.apply(op)?;
     machine.undo(delta);
@@ -21,7 +26,7 @@ pub fn there_and_back<M: Reversible>(machine: &mut M, op: &M::Op) -> Result<M::A
 }
 
 /// Leads a walker to position n, from wherever it stands, and returns the value of a cell there: that of the world which
-/// replaying the first n steps of its recording leads to.
+/// replaying the first n steps of its recording leads to. Out of memory, the walker is where `Walker::goto` leaves it then.
 pub fn value_at<W: Worlds + Drop>(
     walker: &mut Walker<'_, W>,
     n: usize,
@@ -33,6 +38,7 @@ where
     ensures value { IfOk result (λ value. value ≡ cell (world_at walker.old.film.recording n) what) }
     ensures there { OnOk result (walker.new.position ≡ n) }
     ensures film { OnOk result (walker.new.film ≡ walker.old.film) }
+    ensures refused { OnErr result (IsRefusedBy (route walker.old n) walker.old n walker.new) }
 {
     walker.goto(n)?;
     Ok(walker.world().cell(what))
