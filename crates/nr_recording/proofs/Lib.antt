@@ -1,4 +1,6 @@
 pub mod AnswerLemmas
+pub mod PartLemmas
+pub mod Elements
 pub mod Lines
 pub mod Members
 pub mod Loop

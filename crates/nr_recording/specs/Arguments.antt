@@ -3,12 +3,8 @@ use Rattle.std.specs.Prelude.{ℕ, ◌*◌, ◌%◌, ◌==◌, List, length, Boo
 use Rattle.std.specs.Option.{option_map_or}
 use Rattle.std.specs.Str.{bytes_eq}
 use Rattle.std.specs.Result.{result_ok}
-use Rattle.std.specs.Slice.Iter.{iter_rest}
-use Rattle.std.specs.declared.slice.Iter.{Iter}
 use Rattle.hex.specs.Hex.{decode_of}
 use Rattle.serde_json.specs.Data.{Data, Items, no_items, item}
-use Rattle.serde_json.specs.View.{items_view}
-use Rattle.serde_json.specs.declared.value.Value.{Value}
 use Rattle.serde_json.specs.Find.{as_number, as_u64, as_i64, as_str}
 use Rattle.nr_recording.specs.declared.fault.Fault.{Fault}
 use Rattle.nr_recording.specs.declared.fault.Fault.TheVariants as fault
@@ -88,10 +84,6 @@ abbrev pub argument_takes_memory : Data → Bool
 argument_takes_memory d = option_map_or digits_take_memory (as_str d) false
 
 -- ---- the arguments at the front of a list, each read with what is left behind it
-
--- the arguments of a line that are still to be read
-abbrev pub rest_of : Iter Value → Items
-rest_of arguments = items_view (iter_rest arguments)
 
 -- the first argument; where there is none, or it is none of these, the arguments are faulty
 abbrev pub first_by : {A : Type 0} → (Data → Option A) → Items → Result (A × Items) Fault

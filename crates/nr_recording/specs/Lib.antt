@@ -8,6 +8,7 @@ pub mod Writing
 pub mod Version
 pub mod Numbers
 pub mod Answer
+pub mod Part
 pub mod Arguments
 pub mod Spelling
 pub mod Shapes

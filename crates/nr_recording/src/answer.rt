@@ -4,12 +4,11 @@ ghost use Rattle.std.specs.Prelude.{◌≡◌, IfOk};
 ghost use Rattle.serde_json.specs.View.{view, items_view};
 ghost use Rattle.nr_recording.specs.Answer.{worded, counted, counted_of, answer_of, counted_data, IsAnswer};
 
-use crate::arguments::u32_of;
 use nr_rev::Answer;
 use serde_json::{Value, json};
 use std::alloc::{AllocError, Global};
 
-fn worded(word: &str) -> Option<Answer>
+pub(crate) fn worded(word: &str) -> Option<Answer>
     ensures { result ≡ worded word.now }
 {
     match word {
@@ -27,7 +26,7 @@ fn worded(word: &str) -> Option<Answer>
     }
 }
 
-fn counted(word: &str, count: u32) -> Option<Answer>
+pub(crate) fn counted(word: &str, count: u32) -> Option<Answer>
     ensures { result ≡ counted word.now count }
 {
     match word {
@@ -43,7 +42,7 @@ fn counted_of(parts: &[Value]) -> Option<Answer>
     ensures { result ≡ counted_of (items_view parts.now) }
 {
     match parts {
-        [word, count] => counted(word.as_str()?, u32_of(count)?),
+        [word, count] => counted(word.as_str()?, u32::try_from(count.as_u64()?).ok()?),
         _ => None,
     }
 }

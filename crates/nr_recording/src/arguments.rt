@@ -1,26 +1,24 @@
 //! The arguments of a step, each read from the front of what is left of its line.
 
 ghost use Rattle.std.specs.Prelude.{◌≡◌, true};
-ghost use Rattle.serde_json.specs.View.{view};
 ghost use Rattle.nr_recording.specs.Numbers.{u32_of};
-ghost use Rattle.nr_recording.specs.Arguments.{side_named, side_of, mode_named, mode_of, bit_named, bit_of, time_of, rest_of, with_rest, first_takes_memory, number as number_in, side as side_in, mode as mode_in, answer as answer_in, tag as tag_in, bit as bit_in, moment as moment_in, time as time_in, bytes as bytes_in};
+ghost use Rattle.nr_recording.specs.Part.{part_data, rest_of};
+ghost use Rattle.nr_recording.specs.Arguments.{side_named, side_of, mode_named, mode_of, bit_named, bit_of, time_of, with_rest, first_takes_memory, number as number_in, side as side_in, mode as mode_in, answer as answer_in, tag as tag_in, bit as bit_in, moment as moment_in, time as time_in, bytes as bytes_in};
 ghost use Rattle.nr_recording.specs.Faults.{ReadsBy};
 
-use crate::answer::answer_of;
 use crate::fault::{Fault, LineError};
+use crate::part::{Part, Parts};
 use crate::recording::MOST_BYTES;
 use nr_rev::{Answer, Bytes, Mode, Side};
-use serde_json::Value;
 use std::alloc::Global;
-use std::slice::Iter;
 
 const MOST_DIGITS: usize = 2 * MOST_BYTES;
 
 /// A number of 32 bits.
-pub(crate) fn u32_of(value: &Value) -> Option<u32>
-    ensures { result ≡ u32_of (view value.now) }
+fn u32_of(part: Part<'_>) -> Option<u32>
+    ensures { result ≡ u32_of (part_data part.entry) }
 {
-    u32::try_from(value.as_u64()?).ok()
+    u32::try_from(part.as_u64()?).ok()
 }
 
 fn bit_named(number: u64) -> Option<bool>
@@ -33,16 +31,16 @@ fn bit_named(number: u64) -> Option<bool>
     }
 }
 
-fn bit_of(value: &Value) -> Option<bool>
-    ensures { result ≡ bit_of (view value.now) }
+fn bit_of(part: Part<'_>) -> Option<bool>
+    ensures { result ≡ bit_of (part_data part.entry) }
 {
-    bit_named(value.as_u64()?)
+    bit_named(part.as_u64()?)
 }
 
-fn time_of(value: &Value) -> Option<i64>
-    ensures { result ≡ time_of (view value.now) }
+fn time_of(part: Part<'_>) -> Option<i64>
+    ensures { result ≡ time_of (part_data part.entry) }
 {
-    value.as_i64().filter(|time| *time >= 0)
+    part.as_i64().filter(|time| *time >= 0)
 }
 
 fn side_named(name: &str) -> Option<Side>
@@ -55,10 +53,10 @@ fn side_named(name: &str) -> Option<Side>
     }
 }
 
-fn side_of(value: &Value) -> Option<Side>
-    ensures { result ≡ side_of (view value.now) }
+fn side_of(part: Part<'_>) -> Option<Side>
+    ensures { result ≡ side_of (part_data part.entry) }
 {
-    side_named(value.as_str()?)
+    side_named(part.as_str()?)
 }
 
 fn mode_named(name: &str) -> Option<Mode>
@@ -72,76 +70,79 @@ fn mode_named(name: &str) -> Option<Mode>
     }
 }
 
-fn mode_of(value: &Value) -> Option<Mode>
-    ensures { result ≡ mode_of (view value.now) }
+fn mode_of(part: Part<'_>) -> Option<Mode>
+    ensures { result ≡ mode_of (part_data part.entry) }
 {
-    mode_named(value.as_str()?)
+    mode_named(part.as_str()?)
 }
 
 /// A number of 32 bits.
-pub(crate) fn number(arguments: &mut Iter<'_, Value>) -> Result<u32, Fault>
+pub(crate) fn number(arguments: &mut Parts<'_>) -> Result<u32, Fault>
     ensures { number_in (rest_of arguments.old) ≡ with_rest (rest_of arguments.new) result }
 {
     arguments.next().and_then(u32_of).ok_or(Fault::Arguments)
 }
 
 /// A number of 64 bits.
-pub(crate) fn tag(arguments: &mut Iter<'_, Value>) -> Result<u64, Fault>
+pub(crate) fn tag(arguments: &mut Parts<'_>) -> Result<u64, Fault>
     ensures { tag_in (rest_of arguments.old) ≡ with_rest (rest_of arguments.new) result }
 {
     arguments
         .next()
-        .and_then(Value::as_u64)
+        .and_then(Part::as_u64)
         .ok_or(Fault::Arguments)
 }
 
 /// Whether it is 1, and not 0.
-pub(crate) fn bit(arguments: &mut Iter<'_, Value>) -> Result<bool, Fault>
+pub(crate) fn bit(arguments: &mut Parts<'_>) -> Result<bool, Fault>
     ensures { bit_in (rest_of arguments.old) ≡ with_rest (rest_of arguments.new) result }
 {
     arguments.next().and_then(bit_of).ok_or(Fault::Arguments)
 }
 
 /// A time, in nanoseconds, that may be below 0.
-pub(crate) fn moment(arguments: &mut Iter<'_, Value>) -> Result<i64, Fault>
+pub(crate) fn moment(arguments: &mut Parts<'_>) -> Result<i64, Fault>
     ensures { moment_in (rest_of arguments.old) ≡ with_rest (rest_of arguments.new) result }
 {
     arguments
         .next()
-        .and_then(Value::as_i64)
+        .and_then(Part::as_i64)
         .ok_or(Fault::Arguments)
 }
 
 /// A time, in nanoseconds, that is not below 0.
-pub(crate) fn time(arguments: &mut Iter<'_, Value>) -> Result<i64, Fault>
+pub(crate) fn time(arguments: &mut Parts<'_>) -> Result<i64, Fault>
     ensures { time_in (rest_of arguments.old) ≡ with_rest (rest_of arguments.new) result }
 {
     arguments.next().and_then(time_of).ok_or(Fault::Arguments)
 }
 
 /// One side.
-pub(crate) fn side(arguments: &mut Iter<'_, Value>) -> Result<Side, Fault>
+pub(crate) fn side(arguments: &mut Parts<'_>) -> Result<Side, Fault>
     ensures { side_in (rest_of arguments.old) ≡ with_rest (rest_of arguments.new) result }
 {
     arguments.next().and_then(side_of).ok_or(Fault::Arguments)
 }
 
 /// One side or both.
-pub(crate) fn mode(arguments: &mut Iter<'_, Value>) -> Result<Mode, Fault>
+pub(crate) fn mode(arguments: &mut Parts<'_>) -> Result<Mode, Fault>
     ensures { mode_in (rest_of arguments.old) ≡ with_rest (rest_of arguments.new) result }
 {
     arguments.next().and_then(mode_of).ok_or(Fault::Arguments)
 }
 
 /// A recorded answer.
-pub(crate) fn answer(arguments: &mut Iter<'_, Value>) -> Result<Answer, Fault>
+pub(crate) fn answer(arguments: &mut Parts<'_>) -> Result<Answer, Fault>
     ensures { answer_in (rest_of arguments.old) ≡ with_rest (rest_of arguments.new) result }
 {
-    arguments.next().and_then(answer_of).ok_or(Fault::Arguments)
+    arguments
+        .next()
+        .and_then(Part::answer)
+        .ok_or(Fault::Arguments)
 }
 
 /// Bytes, as hexadecimal digits.
-pub(crate) fn bytes(alloc: Global, arguments: &mut Iter<'_, Value>) -> Result<Bytes, LineError>
+pub(crate) fn bytes(alloc: Global, arguments: &mut Parts<'_>) -> Result<Bytes, LineError>
     ensures found { ReadsBy (λ bytes. (bytes, rest_of arguments.new)) result
         (bytes_in (rest_of arguments.old)) }
     ensures memory { result ≡ Err LineError.Memory
@@ -149,7 +150,7 @@ pub(crate) fn bytes(alloc: Global, arguments: &mut Iter<'_, Value>) -> Result<By
 {
     let text = arguments
         .next()
-        .and_then(Value::as_str)
+        .and_then(Part::as_str)
         .ok_or(Fault::Arguments)?;
     if text.len() > MOST_DIGITS {
         return Err(LineError::Fault(Fault::Arguments));

@@ -7,6 +7,8 @@ mod copying;
 mod fault;
 mod header;
 pub mod laws;
+mod part;
+mod plain;
 mod reading;
 mod recording;
 mod spelling;

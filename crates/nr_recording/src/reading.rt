@@ -1,7 +1,9 @@
 //! Reading a recording, line after line.
 
-ghost use Rattle.std.specs.Prelude.{◌≡◌, true, IfOk};
+ghost use Rattle.std.specs.Prelude.{◌≡◌, true, IfOk, Some};
+ghost use Rattle.serde_json.specs.Data.{array};
 ghost use Rattle.serde_json.specs.View.{view};
+ghost use Rattle.nr_recording.specs.Part.{rest_of};
 ghost use Rattle.nr_recording.specs.Recording.{Recorded};
 ghost use Rattle.nr_recording.specs.Faults.{ReadsBy};
 ghost use Rattle.nr_recording.specs.Reading.{value_of, is_space, is_blank, nothing, with_value, value_takes_memory, with_line, line_takes_memory, recording_at_end, reading, IsUnlessMemory, text_takes_memory};
@@ -9,9 +11,13 @@ ghost use Rattle.nr_recording.specs.Text.{IsTextOf};
 
 use crate::fault::{Fault, LineError, ReadFault};
 use crate::header::{header, version};
+use crate::part::{Parts, elements};
+use crate::plain::gather_plain;
 use crate::recording::{MOST_STEPS, RecordedStep, Recording};
 use crate::steps::step;
 use crate::version::Version;
+use arrayvec::ArrayVec;
+use json::Scratch;
 use nr_rev::Limits;
 use serde_json::Value;
 use std::alloc::Global;
@@ -72,6 +78,22 @@ impl RecordingReader {
         }
     }
 
+    // One more step, which the parts of its line are.
+    fn step(&mut self, begun: Header, alloc: Global, parts: Parts<'_>) -> Result<(), LineError>
+        requires { self.old.header ≡ Some begun }
+        ensures seen { ReadsBy (λ _. self.new) result
+            (with_value self.old self.old.header (array (rest_of parts.entry))) }
+        ensures memory { result ≡ Err LineError.Memory
+            → value_takes_memory self.old self.old.header (array (rest_of parts.entry)) ≡ true }
+    {
+        if self.steps.len() == MOST_STEPS {
+            return Err(LineError::Fault(Fault::TooManySteps));
+        }
+        let step = step(begun.version, alloc, parts)?;
+        self.steps.push(step)?;
+        Ok(())
+    }
+
     fn value(&mut self, alloc: Global, value: &Value) -> Result<(), LineError>
         ensures seen { ReadsBy (λ _. self.new) result
             (with_value self.old self.old.header (view value.now)) }
@@ -84,16 +106,11 @@ impl RecordingReader {
             self.header = Some(Header { version, limits });
             return Ok(());
         };
-        if self.steps.len() == MOST_STEPS {
-            return Err(LineError::Fault(Fault::TooManySteps));
-        }
-        let step = step(begun.version, alloc, value)?;
-        self.steps.push(step)?;
-        Ok(())
+        self.step(begun, alloc, Parts::Values(elements(value).iter()))
     }
 
     #[tactic(auto, unfolding(crate::specs::Reading::with_line))]
-    fn line(&mut self, alloc: Global, line: &[u8]) -> Result<(), LineError>
+    fn line(&mut self, alloc: Global, scratch: &mut Scratch, line: &[u8]) -> Result<(), LineError>
         ensures seen { ReadsBy (λ _. self.new) result (with_line self.old line.now) }
         ensures memory { result ≡ Err LineError.Memory → line_takes_memory line.now ≡ true }
     {
@@ -102,6 +119,12 @@ impl RecordingReader {
         }
         if is_blank(line) {
             return Ok(());
+        }
+        if let Some(begun) = self.header {
+            let mut parts = ArrayVec::new();
+            if gather_plain(line, scratch, &mut parts).is_some() {
+                return self.step(begun, alloc, Parts::Plain(parts.into_iter()));
+            }
         }
         let value = value(alloc, line)?;
         self.value(alloc, &value)
@@ -125,10 +148,11 @@ fn read_lines(alloc: Global, bytes: &[u8]) -> Result<Recording, ReadFault>
     ensures memory { result ≡ Err ReadFault.Memory → text_takes_memory bytes.now ≡ true }
 {
     let mut reader = RecordingReader::new(alloc);
+    let mut scratch = Scratch::new(alloc);
     let mut number = 0;
     for line in bytes.split(|byte| *byte == b'\n') {
         number += 1;
-        if let Err(e) = reader.line(alloc, line) {
+        if let Err(e) = reader.line(alloc, &mut scratch, line) {
             return Err(e.at(number));
         }
     }

@@ -1,26 +1,28 @@
 //! The step that the value of a line says, and the value of a step's line: two rows a kind.
 
 ghost use Rattle.std.specs.Prelude.{◌≡◌, true, IfOk, ℕ, List, [], ◌∷◌, ◌++◌};
+ghost use Rattle.serde_json.specs.Data.{array};
 ghost use Rattle.serde_json.specs.View.{view};
-ghost use Rattle.nr_recording.specs.Arguments.{rest_of, with_rest};
+ghost use Rattle.nr_recording.specs.Arguments.{with_rest};
 ghost use Rattle.nr_recording.specs.Faults.{Reads, ReadsBy};
+ghost use Rattle.nr_recording.specs.Part.{rest_of};
 ghost use Rattle.nr_recording.specs.Spelling.{Argument, IsSpelling, answer as answer_argument};
 ghost use Rattle.nr_recording.specs.Steps.{step_in, answer_in, kind_takes_memory, step_spelling, spelling_of, step_of, step_takes_memory};
 
 use crate::answer::answer_value;
 use crate::arguments::{answer, bit, bytes, mode, moment, number, side, tag, time};
 use crate::fault::{Fault, LineError};
+use crate::part::{Part, Parts};
 use crate::recording::RecordedStep;
 use crate::spelling::{arrival, bare, deadline, event, one, pair, sided, timed, transfer, triple};
 use crate::version::Version;
 use nr_rev::{Answer, Kind, Step};
 use serde_json::Value;
 use std::alloc::{AllocError, Global};
-use std::slice::Iter;
 
 /// The step of this kind; what is behind its arguments is left.
 #[tactic(auto, unfolding(crate::specs::Arguments::none))]
-fn step_in(alloc: Global, kind: Kind, arguments: &mut Iter<'_, Value>) -> Result<Step, LineError>
+fn step_in(alloc: Global, kind: Kind, arguments: &mut Parts<'_>) -> Result<Step, LineError>
     ensures found { ReadsBy (λ step. (step, rest_of arguments.new)) result
         (step_in kind (rest_of arguments.old)) }
     ensures memory { result ≡ Err LineError.Memory
@@ -231,7 +233,7 @@ fn step_value(alloc: Global, step: &Step) -> Result<Value, AllocError>
 }
 
 /// The answer that follows a step's arguments, where the version has answers.
-fn answer_in(version: Version, arguments: &mut Iter<'_, Value>) -> Result<Option<Answer>, Fault>
+fn answer_in(version: Version, arguments: &mut Parts<'_>) -> Result<Option<Answer>, Fault>
     ensures { answer_in version (rest_of arguments.old) ≡ with_rest (rest_of arguments.new) result }
 {
     match version {
@@ -265,21 +267,21 @@ pub(crate) fn line_value(alloc: Global, recorded: &RecordedStep) -> Result<Value
     }
 }
 
-/// The step that the value of a line is, with the answer that was recorded of it.
+/// The step that the parts of a line are, with the answer that was recorded of it.
 #[tactic(auto, unfolding(crate::specs::Steps::step_of, crate::specs::Steps::step_takes_memory))]
 pub(crate) fn step(
     version: Version,
     alloc: Global,
-    value: &Value,
+    parts: Parts<'_>,
 ) -> Result<RecordedStep, LineError>
-    ensures found { Reads result (step_of version (view value.now)) }
+    ensures found { Reads result (step_of version (array (rest_of parts.entry))) }
     ensures memory { result ≡ Err LineError.Memory
-        → step_takes_memory version (view value.now) ≡ true }
+        → step_takes_memory version (array (rest_of parts.entry)) ≡ true }
 {
-    let mut parts = value.as_array().ok_or(Fault::UnknownStep)?.iter();
+    let mut parts = parts;
     let name = parts
         .next()
-        .and_then(Value::as_str)
+        .and_then(Part::as_str)
         .ok_or(Fault::UnknownStep)?;
     let kind = version.kind(name).ok_or(Fault::UnknownStep)?;
     let step = step_in(alloc, kind, &mut parts)?;

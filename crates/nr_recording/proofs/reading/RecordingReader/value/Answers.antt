@@ -1,7 +1,12 @@
-use Rattle.std.proofs.Common.{◌≡◌, true, [], ◌∷◌, sym, refl, ◌∙◌, arith}
-use Rattle.std.proofs.lemmas.List.{length-append}
-use Rattle.nr_recording.specs.Recording.{is_writable}
-use Rattle.nr_recording.proofs.Ranges.{header_fits, step_writable, none_before, one_more_of}
+use Rattle.std.proofs.Common.{◌≡◌, Some, sym, refl, ap, subst, ◌∙◌, arith}
+use Rattle.std.specs.Slice.Iter.{iter_rest}
+use Rattle.serde_json.specs.Data.{array}
+use Rattle.serde_json.specs.View.{view, items_view}
+use Rattle.nr_recording.specs.Faults.{ReadsBy}
+use Rattle.nr_recording.specs.Part.{elements}
+use Rattle.nr_recording.specs.Reading.{with_value, value_takes_memory}
+use Rattle.nr_recording.proofs.Elements.{seen_by_elements, memory_by_elements}
+use Rattle.nr_recording.proofs.Ranges.{header_fits, none_before}
 use Rattle.nr_recording.proofs.reading.RecordingReader.value.Goals as goal
 
 pub invariant_of-self : goal.invariant_of-self
@@ -15,13 +20,22 @@ invariant_of-self c =
       writable = rw none refl;
     }
 
-pub invariant_of-self-2 : goal.invariant_of-self-2
-invariant_of-self-2 c =
-    let seen = c.self.invariant in
-    let writable : is_writable c.in-Some.begun.version c.in_ok-step.step ≡ true = step_writable _ _ _ c.in_ok-step.ensures.found in
-    record {
-      limits = seen.limits;
-      buffer = seen.buffer;
-      few = rw c.in_ok-push.ensures.items (omega (arith, length-append c.self.inside.steps.items (c.in_ok-step.step ∷ [])));
-      writable = rw c.in_ok-push.ensures.items (one_more_of c.self.inside.header c.in-Some.begun c.self.inside.steps.items c.in_ok-step.step c.in-Some.is seen.writable writable);
-    }
+pub returns-clause-seen : goal.returns-clause-seen
+returns-clause-seen c =
+    let seen = c.args.self.now in
+    let d = view c.args.value.now in
+    let begun : seen.header ≡ Some c.in-Some.begun = grind arith in
+    let parts : items_view (iter_rest c.iter.result) ≡ elements d = ap items_view c.iter.ensures.rest ∙ c.elements.ensures in
+    let same : with_value seen seen.header (array (items_view (iter_rest c.iter.result))) ≡ with_value seen seen.header d =
+    ap (λ ds. with_value seen seen.header (array ds)) parts ∙ seen_by_elements seen seen.header c.in-Some.begun d begun in
+    subst (ReadsBy _ c.step.result) same c.step.ensures.seen
+
+pub returns-clause-memory : goal.returns-clause-memory
+returns-clause-memory c =
+    let seen = c.args.self.now in
+    let d = view c.args.value.now in
+    let begun : seen.header ≡ Some c.in-Some.begun = grind arith in
+    let parts : items_view (iter_rest c.iter.result) ≡ elements d = ap items_view c.iter.ensures.rest ∙ c.elements.ensures in
+    let same : value_takes_memory seen seen.header (array (items_view (iter_rest c.iter.result))) ≡ value_takes_memory seen seen.header d =
+    ap (λ ds. value_takes_memory seen seen.header (array ds)) parts ∙ memory_by_elements seen seen.header c.in-Some.begun d begun in
+    λ none. sym same ∙ c.step.ensures.memory none

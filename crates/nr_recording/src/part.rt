@@ -1,0 +1,115 @@
+//! The parts of a line, an array's: values of JSON, or texts and numbers that stand in the line itself.
+
+ghost use Rattle.std.specs.Prelude.{◌≡◌, MatchOption, option_map};
+ghost use Rattle.serde_json.specs.Data.{no_items, item};
+ghost use Rattle.serde_json.specs.Find.{as_str};
+ghost use Rattle.serde_json.specs.View.{items_view, view};
+ghost use Rattle.nr_recording.specs.Answer.{answer_of};
+ghost use Rattle.nr_recording.specs.Arguments.{i64_of, u64_of};
+ghost use Rattle.nr_recording.specs.Part.{part_data, elements, rest_of};
+
+use crate::answer::{answer_of, counted, worded};
+use arrayvec::{ArrayVec, IntoIter};
+use nr_rev::Answer;
+use serde_json::Value;
+use std::slice::Iter;
+
+/// The most parts of a step's line: the name of its kind, four arguments and an answer.
+pub(crate) const MOST_PARTS: usize = 6;
+
+/// A part of a line.
+#[derive(Clone, Copy)]
+pub(crate) enum Part<'a> {
+    Text(&'a str),
+    Number(u64),
+    /// A text and a number, in brackets: an answer with a count.
+    Pair(&'a str, u64),
+    Value(&'a Value),
+}
+
+// What an unused place of a list holds.
+impl<'a> Default for Part<'a> {
+    fn default() -> Part<'a> {
+        Part::Number(0)
+    }
+}
+
+impl<'a> Part<'a> {
+    /// The number of 64 bits that it is.
+    pub(crate) fn as_u64(self) -> Option<u64>
+        ensures { result ≡ u64_of (part_data self.entry) }
+    {
+        match self {
+            Part::Number(number) => Some(number),
+            Part::Value(value) => value.as_u64(),
+            Part::Text(_) | Part::Pair(..) => None,
+        }
+    }
+
+    /// The number of 64 bits with a sign that it is.
+    pub(crate) fn as_i64(self) -> Option<i64>
+        ensures { result ≡ i64_of (part_data self.entry) }
+    {
+        match self {
+            Part::Number(number) => i64::try_from(number).ok(),
+            Part::Value(value) => value.as_i64(),
+            Part::Text(_) | Part::Pair(..) => None,
+        }
+    }
+
+    /// The text that it is.
+    pub(crate) fn as_str(self) -> Option<&'a str>
+        ensures { option_map (λ text. text.now) result ≡ as_str (part_data self.entry) }
+    {
+        match self {
+            Part::Text(text) => Some(text),
+            Part::Value(value) => value.as_str(),
+            Part::Number(_) | Part::Pair(..) => None,
+        }
+    }
+
+    /// The answer that it is.
+    pub(crate) fn answer(self) -> Option<Answer>
+        ensures { result ≡ answer_of (part_data self.entry) }
+    {
+        match self {
+            Part::Text(word) => worded(word),
+            Part::Pair(word, count) => counted(word, u32::try_from(count).ok()?),
+            Part::Value(value) => answer_of(value),
+            Part::Number(_) => None,
+        }
+    }
+}
+
+/// The parts of one line.
+pub(crate) type PartList<'a> = ArrayVec<Part<'a>, MOST_PARTS>;
+
+/// The values of an array; none of any other value.
+pub(crate) fn elements(value: &Value) -> &[Value]
+    ensures { items_view result.now ≡ elements (view value.now) }
+{
+    match value {
+        Value::Array(parts) => parts.as_slice(),
+        _ => &[],
+    }
+}
+
+/// The parts of a line that are still to be read.
+#[derive(Drop)]
+pub(crate) enum Parts<'a> {
+    Values(Iter<'a, Value>),
+    Plain(IntoIter<Part<'a>, MOST_PARTS>),
+}
+
+impl<'a> Parts<'a> {
+    /// The next one.
+    pub(crate) fn next(&mut self) -> Option<Part<'a>>
+        ensures { MatchOption result (rest_of self.old ≡ no_items)
+            (λ part. rest_of self.old ≡ item (part_data part) (rest_of self.new)) }
+    {
+        match self {
+            Parts::Values(values) => Some(Part::Value(values.next()?)),
+            Parts::Plain(parts) => parts.next(),
+        }
+    }
+}
