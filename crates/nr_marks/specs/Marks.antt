@@ -3,7 +3,7 @@ use Rattle.std.specs.Prelude.{ℕ, ◌+◌, ◌==◌, ◌&&◌, Bool, true, fals
 use Rattle.std.specs.List.{list_any}
 use Rattle.nr_marks.specs.Numbered.{NumberedItems, is_full, is_present, kept_by}
 use Rattle.nr_marks.specs.declared.mark.Mark.{Mark}
-use Rattle.nr_marks.specs.declared.mark.Mark.TheVariants.{TemporaryBreak}
+use Rattle.nr_marks.specs.declared.mark.Mark.TheVariants.{TemporaryBreak, Watch}
 use Rattle.nr_marks.specs.declared.marks.MarkFault.{MarkFault}
 use Rattle.nr_marks.specs.declared.marks.MarkFault.TheVariants.{NoSuchMark, MarksFull}
 use Rattle.nr_marks.specs.declared.numbered.Numbered.{Numbered}
@@ -28,6 +28,15 @@ mark_deletion number table = if is_present number table then Ok tt else Err NoSu
 abbrev pub is_temporary : Mark → Bool
 is_temporary (TemporaryBreak wanted) = true
 is_temporary _ = false
+
+-- The mark is a watchpoint. Worlds decide where it hits; of a breakpoint, the steps alone do.
+abbrev pub is_watch : Mark → Bool
+is_watch (Watch c) = true
+is_watch _ = false
+
+-- one of the marks is a watchpoint
+abbrev pub any_watch : List NumberedMark → Bool
+any_watch marks = list_any (λ m. is_watch m.item) marks
 
 -- A mark is gone after a stop where the marks with these numbers hit.
 abbrev pub goes : List ℕ → NumberedMark → Bool

@@ -3,7 +3,7 @@
 ghost use Rattle.std.specs.Prelude.{◌≡◌, ◌+◌, ◌<◌, ◌^◌};
 ghost use Rattle.std.specs.Option.{option_copied};
 ghost use Rattle.nr_marks.specs.Hit.{break_hits, hits_by, names, numbered, watched};
-ghost use Rattle.nr_marks.specs.Marks.{is_temporary};
+ghost use Rattle.nr_marks.specs.Marks.{is_temporary, is_watch};
 
 use nr_rev::{Cell, CellValue, Kind, Step, Worlds};
 use std::num::NonZeroU32;
@@ -111,5 +111,12 @@ impl Mark {
         ensures { result ≡ is_temporary self }
     {
         matches!(self, Mark::TemporaryBreak(_))
+    }
+
+    /// Whether it is a watchpoint.
+    pub fn is_watch(self) -> bool
+        ensures { result ≡ is_watch self }
+    {
+        matches!(self, Mark::Watch(_))
     }
 }

@@ -51,7 +51,7 @@ impl NumberedList<Mark> {
 impl Marks {
     ghost use Rattle.std.specs.Prelude.{◌≡◌, ◌≤◌, length, OnErr};
     ghost use Rattle.nr_marks.specs.Hit.{hits_between};
-    ghost use Rattle.nr_marks.specs.Marks.{after_stop, mark_deletion, next_number};
+    ghost use Rattle.nr_marks.specs.Marks.{after_stop, any_watch, mark_deletion, next_number};
     ghost use Rattle.nr_marks.specs.Numbered.{RisesWithin, empty, numbers_of, with_item, without_item};
     ghost use Rattle.nr_marks.specs.declared.marks.TheConstants.{MOST_MARKS};
     ghost use Rattle.nr_marks.specs.declared.mark.Mark.TheVariants as mark;
@@ -144,6 +144,13 @@ impl Marks {
         ensures few { result ≤ MOST_MARKS }
     {
         self.list.as_slice().len()
+    }
+
+    /// Whether one of them is a watchpoint.
+    pub fn any_watch(&self) -> bool
+        ensures { result ≡ any_watch self.now.present }
+    {
+        self.as_slice().iter().any(|mark| mark.item.is_watch())
     }
 
     /// The numbers of the marks that hit at a position, rising: those between a world and the one after it, where

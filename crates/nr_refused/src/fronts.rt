@@ -274,13 +274,13 @@ fn play_over<H: Threads + Sync>(
 }
 
 // The reply of the search in what follows.
-const FOUND: &str = "at 7 by 1\n";
+const FOUND: &str = "at 2 by 1\n";
 
 // A search that may run out of memory, whose reply is owed then, and before which nothing else is done.
 fn exec<H: Threads + Sync>(rt: &HostRuntime, journal: &Journal, front: &mut Lone<'_, H>) -> Twice
     requires { front.old.table ≡ journal.now }
 {
-    let begun = ask(front, journal, "break arrive", "mark 1\n").is_right();
+    let begun = ask(front, journal, "watch rg 0", "mark 1\n").is_right();
     refuse(rt);
     let answer = ask(front, journal, "continue", FOUND);
     grant(rt);
@@ -289,7 +289,7 @@ fn exec<H: Threads + Sync>(rt: &HostRuntime, journal: &Journal, front: &mut Lone
     }
     let is_owed = ask(front, journal, "stepi", "") == Answer::Owed(2);
     let again = ask(front, journal, "resume", FOUND).came();
-    let there = "at 7 of 192 forward\n";
+    let there = "at 2 of 192 forward\n";
     let behind = ask(front, journal, "info position", there).is_right();
     Twice {
         first: Came::Refused.leaving(begun && is_owed && behind),
@@ -307,19 +307,19 @@ fn exec_behind<H: Threads + Sync>(
     requires one { one.old.table ≡ journal.now }
     requires other { other.old.table ≡ journal.now }
 {
-    let lines = [("break arrive", "mark 1\n"), ("continue", FOUND)];
+    let lines = [("watch rg 0", "mark 1\n"), ("continue", FOUND)];
     let begun = ask_all(one, journal, lines.as_slice());
     refuse(rt);
-    let first = ask(other, journal, "stepi 3", "at 10\n").came();
+    let first = ask(other, journal, "stepi 3", "at 5\n").came();
     grant(rt);
-    // who had it placed would be at 10
+    // who had it placed would be at 5
     let (there, line, text) = if first == Came::Refused {
-        ("at 7 of 192 forward\n", "stepi 3", "at 10\n")
+        ("at 2 of 192 forward\n", "stepi 3", "at 5\n")
     } else {
         (
-            "at 10 of 192 forward\n",
+            "at 5 of 192 forward\n",
             "info position",
-            "at 10 of 192 forward\n",
+            "at 5 of 192 forward\n",
         )
     };
     let is_there = ask(one, journal, "info position", there).is_right();
@@ -359,7 +359,7 @@ fn resume_owed<H: Threads + Sync>(
 ) -> Twice
     requires { front.old.table ≡ journal.now }
 {
-    let begun = ask(front, journal, "break arrive", "mark 1\n").is_right();
+    let begun = ask(front, journal, "watch rg 0", "mark 1\n").is_right();
     refuse_next(rt);
     let answer = ask(front, journal, "continue", FOUND);
     if answer != Answer::Owed(2) {

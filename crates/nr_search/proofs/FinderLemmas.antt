@@ -27,7 +27,7 @@ module _ (r : Recording) (marks : List NumberedMark) (n : ℕ) where
   pub backward-is : IsFound Backward (hits_at r marks) 0 n (nearest_hit Backward r marks n)
   backward-is = last_hit_below-is (hits_at r marks) n
 
-  forward-found : n ≤ length r.steps → (found : Found) → IsFound Forward (hits_at r marks) (n + 1) (length r.steps + 1) found → found ≡ nearest_hit Forward r marks n
+  pub forward-found : n ≤ length r.steps → (found : Found) → IsFound Forward (hits_at r marks) (n + 1) (length r.steps + 1) found → found ≡ nearest_hit Forward r marks n
   forward-found within found is =
       first_hit_of-found (hits_at r marks) (length r.steps - n) (n + 1) found
       (subst (λ high. IsFound Forward (hits_at r marks) (n + 1) high found) (sym (behind n (length r.steps) within)) is)
@@ -61,7 +61,7 @@ found-rises : (direction : Direction) (r : Recording) (marks : List NumberedMark
 found-rises direction r marks made low high (Hit h) rising is = subst (λ ns. RisesWithin 0 ns made) (sym is.reported) (hits-rise r marks made h.position rising)
 found-rises direction r marks made low high Nothing rising is = tt
 
-nearest-rises : (direction : Direction) (r : Recording) (marks : List NumberedMark) (made n : ℕ) → n ≤ length r.steps → RisesWithin 0 (numbers_of marks) made
+pub nearest-rises : (direction : Direction) (r : Recording) (marks : List NumberedMark) (made n : ℕ) → n ≤ length r.steps → RisesWithin 0 (numbers_of marks) made
     → Rises made (nearest_hit direction r marks n)
 nearest-rises Forward r marks made n within rising = found-rises Forward r marks made (n + 1) (length r.steps + 1) (nearest_hit Forward r marks n) rising (forward-is r marks n within)
 nearest-rises Backward r marks made n within rising = found-rises Backward r marks made 0 n (nearest_hit Backward r marks n) rising (backward-is r marks n)

@@ -3,4 +3,5 @@ mod KnownLemmas
 mod NearestLemmas
 mod ReportLemmas
 mod SegmentLemmas
+mod StepLemmas
 mod WatchedLemmas

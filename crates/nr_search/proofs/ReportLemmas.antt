@@ -6,7 +6,7 @@ use Rattle.std.proofs.lemmas.List.Elements.{All-head, All-tail}
 use Rattle.std.proofs.lemmas.Option.{slice_get-get_or, slice_get_past}
 use Rattle.nr_search.specs.Known.{AreTrue, IsLeftOpen, IsTrue, has_hit, is_searched, or_unknown, slot_of}
 use Rattle.nr_search.specs.Reports.{AddsTo, IsReport, noted, first_known, said_by, said_in}
-use Rattle.nr_search.specs.Segments.{nth_segment}
+use Rattle.nr_search.specs.Search.{nth_on_way}
 use Rattle.nr_search.specs.declared.segments.Span.{Span}
 use Rattle.nr_search.specs.declared.slot.Report.{Report}
 use Rattle.nr_search.specs.declared.slot.Slot.{Slot}
@@ -139,7 +139,7 @@ module _ (span : Span) (hits : ℕ → List ℕ) where
 
 pub open-like : (span : Span) (known known' : ℕ → Slot) → ((s : ℕ) → s < span.first + span.count → known s ≡ known' s) → IsLeftOpen span known → IsLeftOpen span known'
 open-like span known known' same open_ =
-    let nth = nth_segment span.direction span.first span.count in
+    let nth = nth_on_way span.direction span.first span.count in
     record {
       place = open_.place;
       within = open_.within;

@@ -2,9 +2,9 @@
 use Rattle.std.proofs.Common.{◌≡◌, ◌⊎◌, inl, inr, ℕ, ◌+◌, ◌-◌, ◌*◌, ◌<◌, ◌≤◌, true, false, List, [], subst, arith}
 use Rattle.std.proofs.Math.Nat.{mul-le-mul_right}
 use Rattle.nr_search.specs.Nearest.{IsNearest, NoneHits, IsFound}
-use Rattle.nr_search.specs.Segments.{from_of, nth_segment, to_of}
+use Rattle.nr_search.specs.Segments.{from_of, to_of}
 use Rattle.nr_search.specs.Known.{IsFoundIn}
-use Rattle.nr_search.specs.Search.{is_hit}
+use Rattle.nr_search.specs.Search.{is_hit, nth_on_way}
 use Rattle.nr_search.specs.declared.direction.Direction.{Direction}
 use Rattle.nr_search.specs.declared.direction.Direction.TheVariants.{Forward, Backward}
 use Rattle.nr_search.specs.declared.found.Found.{Found}
@@ -36,7 +36,7 @@ Passed Backward hits after last copy = (q : ℕ) → after < q → q ≤ last �
 abbrev pub ArePassed : Span → (ℕ → List ℕ) → ℕ → Type 0
 ArePassed span hits k = Passed span.direction hits span.after span.last (border span.direction span.first span.count k * span.every)
 
-pub nth-within : (direction : Direction) (first count k : ℕ) → k < count → (first ≤ nth_segment direction first count k) × (nth_segment direction first count k < first + count)
+pub nth-within : (direction : Direction) (first count k : ℕ) → k < count → (first ≤ nth_on_way direction first count k) × (nth_on_way direction first count k < first + count)
 nth-within Forward first count k below = (omega arith, omega arith)
 nth-within Backward first count k below = (omega arith, omega arith)
 
@@ -81,7 +81,7 @@ module _ (hits : ℕ → List ℕ) (after last every : ℕ) where
 
 module _ (hits : ℕ → List ℕ) where
   next-passed : (direction : Direction) (after last every first count k : ℕ) → k < count → Passed direction hits after last (border direction first count k * every)
-      → NoneHits hits (from_of after every (nth_segment direction first count k) + 1) (to_of last every (nth_segment direction first count k) + 1)
+      → NoneHits hits (from_of after every (nth_on_way direction first count k) + 1) (to_of last every (nth_on_way direction first count k) + 1)
       → Passed direction hits after last (border direction first count (k + 1) * every)
   next-passed Forward after last every first count k below passed none =
       let next : first + k + 1 ≡ first + (k + 1) = omega arith in
@@ -93,7 +93,7 @@ module _ (hits : ℕ → List ℕ) where
       (past-backward hits after last every (first + (count - 1 - k)) (subst (λ b. Passed Backward hits after last (b * every)) now passed) none)
 
   next-hit : (direction : Direction) (after last every first count k p : ℕ) (ms : List ℕ) → k < count → Passed direction hits after last (border direction first count k * every)
-      → IsNearest direction hits (from_of after every (nth_segment direction first count k) + 1) (to_of last every (nth_segment direction first count k) + 1) p ms
+      → IsNearest direction hits (from_of after every (nth_on_way direction first count k) + 1) (to_of last every (nth_on_way direction first count k) + 1) p ms
       → IsNearest direction hits (after + 1) (last + 1) p ms
   next-hit Forward after last every first count k p ms below passed found = hit-forward hits after last every (first + k) p ms passed found
   next-hit Backward after last every first count k p ms below passed found =
@@ -125,12 +125,12 @@ module _ (hits : ℕ → List ℕ) where
 
   -- one segment more, where nothing is found
   pub passed-next : (span : Span) (k : ℕ) (found : Found) → k < span.count → is_hit found ≡ false → ArePassed span hits k
-      → IsFoundIn span hits (nth_segment span.direction span.first span.count k) found → ArePassed span hits (k + 1)
+      → IsFoundIn span hits (nth_on_way span.direction span.first span.count k) found → ArePassed span hits (k + 1)
   passed-next span k Nothing below miss passed found = next-passed span.direction span.after span.last span.every span.first span.count k below passed found
   passed-next span k (Hit p) below miss passed found = cc
 
   -- and where there is a hit
-  pub passed-hit : (span : Span) (k : ℕ) (found : Found) → k < span.count → is_hit found ≡ true → ArePassed span hits k → IsFoundIn span hits (nth_segment span.direction span.first span.count k) found
+  pub passed-hit : (span : Span) (k : ℕ) (found : Found) → k < span.count → is_hit found ≡ true → ArePassed span hits k → IsFoundIn span hits (nth_on_way span.direction span.first span.count k) found
       → IsFound span.direction hits (span.after + 1) (span.last + 1) found
   passed-hit span k Nothing below hit passed found = cc
   passed-hit span k (Hit h) below hit passed found = next-hit span.direction span.after span.last span.every span.first span.count k h.position h.marks.items below passed found

@@ -1,8 +1,8 @@
 -- What is known of the segments that a search goes through.
 use Rattle.std.specs.Prelude.{◌≡◌, ℕ, ◌+◌, ◌<◌, Bool, true, false, List, slice_get, Option, None, Some}
 use Rattle.nr_search.specs.Nearest.{IsFound}
-use Rattle.nr_search.specs.Search.{is_hit}
-use Rattle.nr_search.specs.Segments.{from_of, nth_segment, to_of}
+use Rattle.nr_search.specs.Search.{is_hit, nth_on_way}
+use Rattle.nr_search.specs.Segments.{from_of, to_of}
 use Rattle.nr_search.specs.declared.found.Found.{Found}
 use Rattle.nr_search.specs.declared.segments.Span.{Span}
 use Rattle.nr_search.specs.declared.slot.Slot.{Slot}
@@ -57,7 +57,7 @@ Agrees Unknown found = Unit {0}
 
 -- the segment that comes behind k others on the way
 abbrev pub nth_of : Span → ℕ → ℕ
-nth_of span k = nth_segment span.direction span.first span.count k
+nth_of span k = nth_on_way span.direction span.first span.count k
 
 -- What is known leaves the search open: a segment on the way isn't searched, and no nearer one is
 -- known to have a hit.

@@ -1,5 +1,5 @@
--- How a search goes on from one position to the next.
-use Rattle.std.specs.Prelude.{◌≡◌, ℕ, Bool, true, false, List, slice_get, Some}
+-- How a search goes on its way, from one position to the next.
+use Rattle.std.specs.Prelude.{◌≡◌, ℕ, ◌+◌, ◌-◌, Bool, true, false, List, slice_get, Some}
 use Rattle.nr_rev.specs.World.{World}
 use Rattle.nr_rev.specs.declared.cell_value.CellValue.{CellValue}
 use Rattle.nr_marks.specs.Hit.{watched}
@@ -19,6 +19,11 @@ abbrev pub is_decided : Direction → Found → Bool
 is_decided Forward (Hit h) = true
 is_decided Forward Nothing = false
 is_decided Backward found = false
+
+-- Of so many neighbours, from the first on, the one that comes behind k others on the way.
+abbrev pub nth_on_way : Direction → ℕ → ℕ → ℕ → ℕ
+nth_on_way Forward first count k = first + k
+nth_on_way Backward first count k = first + (count - 1 - k)
 
 -- The values, one by one, are those that the marks watch in the world.
 pub record Remembers (w : World) (marks : List NumberedMark) (values : List CellValue) : Type 0

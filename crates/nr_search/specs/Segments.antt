@@ -1,13 +1,6 @@
 -- The segments of a film: between neighbouring copies, and from the last one to the end, numbered
 -- from 0.
-use Rattle.std.specs.Prelude.{ℕ, ◌+◌, ◌-◌, ◌*◌, max, min}
-use Rattle.nr_search.specs.declared.direction.Direction.{Direction}
-use Rattle.nr_search.specs.declared.direction.Direction.TheVariants.{Forward, Backward}
-
--- The segment that comes behind k others on the way through so many, from the first on.
-abbrev pub nth_segment : Direction → ℕ → ℕ → ℕ → ℕ
-nth_segment Forward first count k = first + k
-nth_segment Backward first count k = first + (count - 1 - k)
+use Rattle.std.specs.Prelude.{ℕ, ◌+◌, ◌*◌, max, min}
 
 -- A segment's positions, of those behind `after` and up to `last`: behind the one number, and up to
 -- the other.

@@ -1,7 +1,8 @@
 //! The nearest hit.
 
-ghost use Rattle.std.specs.Prelude.{◌≡◌, ℕ, ◌<◌, ◌≤◌, ◌+◌, length, IfNone, IfOk, IfSome, OnErr};
+ghost use Rattle.std.specs.Prelude.{◌≡◌, ℕ, ◌<◌, ◌≤◌, ◌+◌, true, length, IfNone, IfOk, IfSome, OnErr};
 ghost use Rattle.nr_marks.specs.Hit.{hits_at};
+ghost use Rattle.nr_marks.specs.Marks.{any_watch};
 ghost use Rattle.nr_search.specs.Nearest.{NeedsCopy, IsFound, Rises, nearest_hit};
 ghost use Rattle.nr_search.specs.declared.direction.Direction.TheVariants.{Forward, Backward};
 
@@ -9,6 +10,7 @@ use crate::direction::Direction;
 use crate::found::Found;
 use crate::gate::{Gate, Open};
 use crate::search::Search;
+use crate::steps::nearest_step;
 use crate::stretch::hits_at_start;
 use crate::workers::{Claims, ManyWorkers, search_by};
 use nr_marks::Marks;
@@ -103,8 +105,9 @@ impl<F: Finder> Finder for &F {
 }
 
 /// The nearest position from n where a mark hits, with the numbers of the marks that hit there: forwards the least above n,
-/// up to the end; backwards the greatest below n. Copies of the film's worlds take memory, and what several workers report.
-/// Nothing does where there is no mark, or where no position but the start lies that way.
+/// up to the end; backwards the greatest below n. Where a mark is a watch, copies of the film's worlds take memory, and what
+/// several workers report. Breaks alone are searched by the steps, in the caller's thread, and that takes none. Nor does a
+/// search where no position but the start lies that way.
 pub fn nearest_hit<W: Worlds + Drop + Sync, F: Finder>(
     finder: &F,
     film: &Film<W>,
@@ -118,9 +121,13 @@ pub fn nearest_hit<W: Worlds + Drop + Sync, F: Finder>(
     ensures rising { IfOk result (Rises marks.now.made) }
     ensures copy { OnErr result (NeedsCopy direction film.now.recording n) }
     ensures marks { OnErr result (0 < length marks.now.present) }
+    ensures watch { OnErr result (any_watch marks.now.present ≡ true) }
 {
     if marks.as_slice().is_empty() {
         return Ok(Found::Nothing);
+    }
+    if !marks.any_watch() {
+        return Ok(nearest_step(film, marks, direction, n));
     }
     match direction {
         Direction::Forward => {

@@ -9,6 +9,7 @@ pub mod laws;
 mod search;
 mod segments;
 mod slot;
+mod steps;
 mod stretch;
 mod watched;
 mod workers;

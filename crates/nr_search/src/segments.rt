@@ -1,7 +1,8 @@
 //! The positions that a search is for, and the segments that they lie in.
 
 ghost use Rattle.std.specs.Prelude.{◌≡◌, ◌<◌, ◌≤◌, ◌+◌, ◌*◌, ◌^◌};
-ghost use Rattle.nr_search.specs.Segments.{from_of, nth_segment, to_of};
+ghost use Rattle.nr_search.specs.Search.{nth_on_way};
+ghost use Rattle.nr_search.specs.Segments.{from_of, to_of};
 
 use crate::direction::Direction;
 
@@ -49,12 +50,9 @@ impl Span {
     /// The segment that comes behind k others on the way.
     pub fn nth(&self, k: usize) -> usize
         requires { k < self.now.count }
-        ensures { result ≡ nth_segment self.now.direction self.now.first self.now.count k }
+        ensures { result ≡ nth_on_way self.now.direction self.now.first self.now.count k }
     {
-        match self.direction {
-            Direction::Forward => self.first + k,
-            Direction::Backward => self.first + (self.count - 1 - k),
-        }
+        self.direction.nth(self.first, self.count, k)
     }
 
     /// The positions of a segment: behind the first number, and up to the second.

@@ -16,9 +16,9 @@ use nr_rev::{CellValue, Worlds};
 use nr_snaps::Film;
 use std::alloc::AllocError;
 
-// The step that comes next at position n.
+/// The step that comes next at position n.
 #[inline(always)]
-fn next_step<W: Worlds + Drop>(film: &Film<W>, n: usize) -> Option<NextStep>
+pub(crate) fn next_step<W: Worlds + Drop>(film: &Film<W>, n: usize) -> Option<NextStep>
     requires { n ≤ length film.now.recording.steps }
     ensures { result ≡ numbered n (slice_get film.now.recording.steps n) }
 {

@@ -151,6 +151,49 @@ fn any_number_of_workers_finds_the_same(rt: HostRuntime) -> Result<(), Fail> {
     Ok(())
 }
 
+/// Breaks before the first step, before step 100 and before the second step.
+fn breaks() -> Marks {
+    let mut marks = Marks::new();
+    let _ = marks.add_break(Break::Kind(Kind::SockOpen));
+    let _ = marks.add_break(Break::Step(NonZeroU32::MIN.saturating_add(99)));
+    let _ = marks.add_break(Break::Kind(Kind::PollOpen));
+    marks
+}
+
+/// What breaks alone find, first backwards and then forwards.
+fn found_by_breaks<F: Finder>(finder: &F, film: &Film<World>) -> [Option<Found>; 7] {
+    let marks = breaks();
+    [
+        find(finder, film, &marks, Direction::Backward, 192),
+        find(finder, film, &marks, Direction::Backward, 99),
+        find(finder, film, &marks, Direction::Backward, 1),
+        find(finder, film, &marks, Direction::Backward, 0),
+        find(finder, film, &marks, Direction::Forward, 0),
+        find(finder, film, &marks, Direction::Forward, 1),
+        find(finder, film, &marks, Direction::Forward, 99),
+    ]
+}
+
+#[test]
+fn breaks_alone_are_found_both_ways(rt: HostRuntime) -> Result<(), Fail> {
+    let film = ticking(rt.alloc()).ok_or("no film")?;
+    let hits = [
+        Some(hit(99, 2)),
+        Some(hit(1, 3)),
+        Some(hit(0, 1)),
+        Some(Found::Nothing),
+        Some(hit(1, 3)),
+        Some(hit(99, 2)),
+        Some(Found::Nothing),
+    ];
+    assert_eq!(rt;
+        found_by_breaks(&OneWorker::<&HostRuntime>::new(), &film),
+        hits
+    );
+    assert_eq!(rt; found_by_breaks(&crew(&rt, rt.alloc(), 3), &film), hits);
+    Ok(())
+}
+
 /// Workers who begin each search with claims that nobody made and a hit that there need not be.
 #[derive(Drop)]
 struct Misled<R: Threads + Sync> {

@@ -1,10 +1,10 @@
-use Rattle.std.proofs.Common.{◌+◌, subst, rules}
+use Rattle.std.proofs.Common.{◌+◌, sym, subst, rules}
 use Rattle.std.specs.Prelude.{IfOk}
 use Rattle.nr_marks.specs.Hit.{hits_at}
 use Rattle.nr_marks.specs.Numbered.{RisesWithin, numbers_of}
-use Rattle.nr_search.specs.Nearest.{IsFound}
+use Rattle.nr_search.specs.Nearest.{IsFound, Rises}
 use Rattle.nr_search.specs.declared.direction.Direction.TheVariants.{Forward}
-use Rattle.nr_search.proofs.FinderLemmas.{if-found-backward, if-found-forward, if-rises, nothing-found}
+use Rattle.nr_search.proofs.FinderLemmas.{if-found-backward, if-found-forward, if-rises, nearest-rises, nothing-found}
 use Rattle.nr_search.proofs.finder.nearest_hit.Goals as goal
 
 pub returns-then-is_empty-clause-found : goal.returns-then-is_empty-clause-found
@@ -26,6 +26,13 @@ pub returns-in-Forward-clause-marks : goal.returns-in-Forward-clause-marks
 returns-in-Forward-clause-marks g c = search rules
 
 -- the numbers rise as those of the marks do
+pub returns-then-not-any_watch-clause-rising : goal.returns-then-not-any_watch-clause-rising
+returns-then-not-any_watch-clause-rising g c =
+    let made = c.args.marks.now.made in
+    subst (Rises made) (sym c.nearest_step.ensures)
+    (nearest-rises c.args.direction c.args.film.now.recording c.args.marks.now.present made c.args.n c.requires
+    (subst (λ ms. RisesWithin 0 (numbers_of ms) made) c.as_slice.ensures.marks c.as_slice.ensures.rising))
+
 pub returns-in-Forward-clause-rising : goal.returns-in-Forward-clause-rising
 returns-in-Forward-clause-rising g c =
     if-rises c.args.direction c.args.film.now.recording c.args.marks.now.present c.args.marks.now.made c.args.n c.search_between.result c.requires
