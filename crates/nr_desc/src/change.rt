@@ -68,7 +68,6 @@ impl DescChange {
 
 /// An event of the poller (Go's `netpollready`): the event error is the event's, and the sides that it names
 /// are ready.
-#[inline(always)]
 pub(crate) fn change_by_event(mode: Mode, error: bool, desc: Desc) -> DescChange
     ensures viewed { change_view result ≡ spec.change_by_event mode error desc }
     ensures woken { result.woken ≡ both_let_go desc.words result.desc.words }

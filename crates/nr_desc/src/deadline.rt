@@ -183,7 +183,6 @@ fn both_follow(old: Desc, desc: Desc) -> Result<DescChange, Refusal>
 
 /// A deadline set (Go's `poll_runtime_pollSetDeadline`): the timers follow, reading first, and the sides
 /// whose deadline is past are unblocked.
-#[inline(always)]
 pub(crate) fn change_by_deadline(
     clock: i64,
     mode: Mode,

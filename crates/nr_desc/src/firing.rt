@@ -61,7 +61,6 @@ fn is_timed(function: TimerFunction, desc: Desc) -> bool
 }
 
 /// A firing run (Go's `netpolldeadlineimpl`), or `None` where its sequence is no longer the descriptor's.
-#[inline(always)]
 pub(crate) fn change_by_firing(
     function: TimerFunction,
     sequence: u64,

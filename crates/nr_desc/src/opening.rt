@@ -62,7 +62,6 @@ impl Desc {
 
 /// A descriptor evicted (Go's `poll_runtime_pollUnblock`): it is closing, its timers are stopped, and both sides are
 /// unblocked.
-#[inline(always)]
 pub(crate) fn change_by_evict(desc: Desc) -> Result<DescChange, Refusal>
     ensures viewed { Gives change_view result (spec.change_by_evict desc) }
     ensures woken { IfOk result (λ change. change.woken ≡ both_let_go desc.words change.desc.words) }

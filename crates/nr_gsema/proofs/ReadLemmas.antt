@@ -1,5 +1,5 @@
 -- What is read of nodes and heads is the table's.
-use Rattle.std.proofs.Common.{◌≡◌, ℕ, ◌<◌, false, List, map, Option, Some, None, refl, sym, ap, subst, ◌∙◌, arith}
+use Rattle.std.proofs.Common.{◌≡◌, ℕ, ◌<◌, false, ◌||◌, List, [], ◌∷◌, map, Option, Some, None, refl, sym, ap, subst, ◌∙◌, arith}
 use Rattle.std.proofs.lemmas.List.{length-map}
 use Rattle.std.proofs.lemmas.Option.{same_Some, slice_get_within}
 use Rattle.std.specs.Prelude.{slice_get}
@@ -10,7 +10,9 @@ use Rattle.nr_rev.specs.Semaphore.{Semaphore}
 use Rattle.nr_rev.specs.Sides.{of_side}
 use Rattle.nr_gsema.specs.declared.node.GoroutineNode.{GoroutineNode}
 use Rattle.nr_gsema.specs.declared.node.SemaphoreHead.{SemaphoreHead}
-use Rattle.nr_gsema.specs.Links.{IsLinked, is_waiting, queues_from, semaphores_from}
+use Rattle.nr_rev.specs.World.{is_wait_at, is_waited, wait_of}
+use Rattle.std.specs.List.{list_any}
+use Rattle.nr_gsema.specs.Links.{IsLinked, is_waiting, queues_from, semaphores_from, statuses}
 use Rattle.nr_gsema.specs.Table.{GoroutineTable, before, behind, in_queue, back_of, next_in_queue, previous_of, queue_at, queue_found}
 use Rattle.nr_rev.specs.WellFormed.{is_queued}
 use Rattle.nr_rev.specs.Lock.{bit}
@@ -22,6 +24,11 @@ use Rattle.nr_gsema.proofs.PlaceLemmas.{queued_here}
 use Rattle.nr_gsema.proofs.ListLemmas.{there_is}
 use Rattle.nr_gsema.proofs.QueueLemmas.{status_at, queue_is}
 use Rattle.nr_gsema.proofs.TableLemmas.{AreTable, of_side-from, semaphores_at}
+
+-- a node whose status is inside a wait is a goroutine that waits
+pub any_waits : (d : ℕ) (side : Side) (nodes : List GoroutineNode) → list_any (λ node. is_wait_at d side (wait_of node.status)) nodes ≡ is_waited d side (statuses nodes)
+any_waits d side [] = refl
+any_waits d side (node ∷ nodes) = ap (λ b. is_wait_at d side (wait_of node.status) || b) (any_waits d side nodes)
 
 module _ {nodes : List GoroutineNode} {semaphores : List (Sides SemaphoreHead)} {limit : ℕ} {t : GoroutineTable} (is : AreTable nodes semaphores limit t) where
   queue_read : (s : ℕ) (side : Side) (x : Sides SemaphoreHead) → slice_get semaphores s ≡ Some x → queue_at s side t ≡ queues_from nodes semaphores s side

@@ -194,7 +194,6 @@ impl GTable {
     }
 
     /// A goroutine lowers a count, or queues.
-    #[inline(always)]
     pub(crate) fn acquire(&mut self, goroutine: u32) -> Result<(Answer, GUndo), Refusal>
         ensures { Applies (operation.Acquire goroutine) self.old result self.new }
     {
@@ -223,7 +222,6 @@ impl GTable {
     }
 
     /// A goroutine makes a release that it owes.
-    #[inline(always)]
     pub(crate) fn release(&mut self, goroutine: u32) -> Result<(Answer, GUndo), Refusal>
         ensures { Applies (operation.Release goroutine) self.old result self.new }
     {

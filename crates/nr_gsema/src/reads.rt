@@ -1,6 +1,7 @@
 //! What is read of a table.
 
 ghost use Rattle.std.specs.Prelude.{◌≡◌, ◌≤◌, length, slice_get};
+ghost use Rattle.nr_rev.specs.World.{is_waited};
 ghost use Rattle.nr_gsema.specs.Table.{count_at, back_of, next_in_queue, previous_of, queue_at};
 
 use crate::table::GTable;
@@ -25,6 +26,16 @@ impl GTable {
             return None;
         }
         Some(self.nodes[goroutine as usize].status)
+    }
+
+    /// Whether a goroutine is inside a wait of the descriptor and side.
+    pub fn is_waited(&self, descriptor: u32, side: Side) -> bool
+        ensures { result ≡ is_waited descriptor side self.now.goroutines }
+    {
+        self.nodes
+            .as_slice()
+            .iter()
+            .any(|node| node.status.is_inside(descriptor, side))
     }
 
     /// The count of a semaphore; `None` where the socket is not below the limit.

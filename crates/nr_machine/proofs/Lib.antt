@@ -11,7 +11,6 @@ pub mod OpeningLemmas
 pub mod QueueLemmas
 pub mod CellLemmas
 pub mod GoroutinesLemmas
-pub mod ReadsLemmas
 pub mod TimersLemmas
 pub mod DescriptorLemmas
 pub mod FreshLemmas

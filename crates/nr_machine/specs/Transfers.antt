@@ -54,3 +54,9 @@ abbrev pub Advances : Step → WorldParts → Result Answer Refusal → WorldPar
 Advances step old (Ok answer) new =
     Advanced (outcome (meant old) step) (asked_of old step) old answer new
 Advances step old (Err e) new = (outcome (meant old) step ≡ Err e) × (new ≡ old)
+
+-- A step takes no bytes out of a buffer.
+abbrev pub TakesNoBytes : Step → Type 0
+TakesNoBytes (SysRead g s n) = ⊥
+TakesNoBytes (Drain s n) = ⊥
+TakesNoBytes _ = Unit {0}

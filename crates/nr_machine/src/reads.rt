@@ -1,8 +1,8 @@
 //! What steps read of a world, with the reasons where it isn't there.
 
-ghost use Rattle.std.specs.Prelude.{◌≡◌, option_and_then, slice_get};
+ghost use Rattle.std.specs.Prelude.{◌≡◌};
 ghost use Rattle.nr_rev.specs.Step as step;
-ghost use Rattle.nr_rev.specs.World.{is_free_number, is_wait_at, is_waited, wait_of};
+ghost use Rattle.nr_rev.specs.World.{is_free_number, is_waited};
 ghost use Rattle.nr_rev.specs.Refusing.{Gives};
 ghost use Rattle.nr_machine.specs.Rows.{row_of};
 ghost use Rattle.nr_machine.specs.World.{meant};
@@ -73,28 +73,10 @@ impl World {
     }
 
     /// Whether a goroutine is inside a wait of the descriptor and side.
-    #[tactic(auto, using(crate::proofs::ReadsLemmas::waits_at, crate::proofs::ReadsLemmas::waits_more))]
+    #[inline(always)]
     pub(crate) fn is_waited(&self, descriptor: u32, side: Side) -> bool
         ensures { result ≡ is_waited descriptor side (meant self.now).goroutines }
     {
-        let made = self.core.goroutines.made();
-        for goroutine in 0..made {
-            if self.is_at(goroutine, descriptor, side) {
-                return true;
-            }
-        }
-        false
-    }
-
-    /// Whether this goroutine is.
-    #[inline(always)]
-    fn is_at(&self, goroutine: u32, descriptor: u32, side: Side) -> bool
-        ensures { result ≡ is_wait_at descriptor side
-            (option_and_then wait_of (slice_get (meant self.now).goroutines goroutine)) }
-    {
-        match self.core.goroutines.status(goroutine) {
-            None => false,
-            Some(status) => status.is_inside(descriptor, side),
-        }
+        self.core.goroutines.is_waited(descriptor, side)
     }
 }
