@@ -1,15 +1,15 @@
 #!/bin/sh
 # The gate:  scripts/gate.sh [--anew]
 #
-# First `rt ci`, whose log is kept in out/gate.log. What an earlier run on this machine passed, and has not changed since,
-# it neither proves nor tries again, unless it is told --anew. Where it passes, each edit that must fail has to have been
-# refused for what it means: not one that can't be tried, or that the prover gave up on, or that is refused only because a
-# proof file names what the edit takes away. And the program that was built has to stand scripts/refused.sh,
-# scripts/refused_serving.py, scripts/loopback.py, scripts/hostile.py, scripts/upgrades.py and scripts/system.py, play
-# examples/shared.sh and each example, and pass the tests of nrdb, the companion, which play the hunts of examples/hunts, and
-# those of tools/go and tools/fuzz. Each call that takes memory has to stand scripts/each_call.py. Both worlds have to agree on
-# the recordings of examples/ (scripts/agree.sh). What docs/THEOREM.md quotes has to stand in the source (scripts/theorem.py).
-# The last line is that of `rt ci`, with one more failed for each of these that fails.
+# First `rt ci`, whose log is kept in out/gate.log. What an earlier run on this machine passed, and has not changed since, a
+# kit that keeps it neither proves nor tries again, unless it is told --anew, a word that no other kit knows. Where it passes,
+# each edit that must fail has to have been refused for what it means: not one that can't be tried, or that the prover gave up
+# on, or that is refused only because a proof file names what the edit takes away. And the program that was built has to stand
+# scripts/refused.sh, scripts/refused_serving.py, scripts/loopback.py, scripts/hostile.py, scripts/upgrades.py and
+# scripts/system.py, play examples/shared.sh and each example, and pass the tests of nrdb, the companion, which play the hunts
+# of examples/hunts, and those of tools/go and tools/fuzz. Each call that takes memory has to stand scripts/each_call.py. Both
+# worlds have to agree on the recordings of examples/ (scripts/agree.sh). What docs/THEOREM.md quotes has to stand in the
+# source (scripts/theorem.py). The last line is that of `rt ci`, with one more failed for each of these that fails.
 set -eu
 cd "$(dirname "$0")/.."
 mkdir -p out
