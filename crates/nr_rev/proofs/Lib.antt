@@ -15,6 +15,10 @@ pub mod LookupLemmas
 pub mod NameLookupLemmas
 pub mod NumberLemmas
 pub mod OutcomeLemmas
+pub mod PartDescriptorStepLemmas
+pub mod PartLemmas
+pub mod PartSocketStepLemmas
+pub mod PartStepLemmas
 pub mod PositionLemmas
 pub mod ReferenceLemmas
 pub mod RowSetLemmas

@@ -1,7 +1,7 @@
 -- What is found by its name or its number has it: kinds and cells.
-use Rattle.std.proofs.Common.{◌≡◌, ◌-◌, slice_get, slice_index_or, ℕ, Bool, true, false, cond, List, [], ◌∷◌, Option, Some, None, find, bytes_eq, nat_eq, sym, subst, refl}
-use Rattle.std.specs.Prelude.{map}
-use Rattle.std.proofs.lemmas.Bool.{eqb-true}
+use Rattle.std.proofs.Common.{◌≡◌, ◌-◌, slice_get, slice_index_or, ℕ, Bool, true, false, cond, List, [], ◌∷◌, Option, Some, None, find, bytes_eq, nat_eq, ap, sym, subst, refl}
+use Rattle.std.specs.Prelude.{filter, length, map}
+use Rattle.std.proofs.lemmas.Bool.{eqb-true, eq-eqb}
 use Rattle.std.proofs.lemmas.Slice.Eq.{bytes_eq-Decides}
 use Rattle.std.specs.List.{AllByRecursion}
 use Rattle.nr_rev.specs.declared.cell.Cell.{Cell}
@@ -35,6 +35,22 @@ found_at test index cell e = found_such (λ c. index ≡ cell_index c) test (cel
     indexed : (i : Option ℕ) → AllByRecursion (λ c. i ≡ cell_index c) (cells_at i)
     indexed None = (refl, (refl, (refl, (refl, (refl, tt)))))
     indexed (Some i) = (refl, (refl, (refl, (refl, (refl, (refl, (refl, (refl, (refl, (refl, (refl, (refl, (refl, (refl, (refl, tt)))))))))))))))
+
+-- what is found by a name is found among those whose names have its length
+pub found_by_length : {X : Type 0} (name : X → List ℕ) (text : List ℕ) (xs : List X) → find (λ x. bytes_eq (name x) text) (filter (λ x. nat_eq (length (name x)) (length text)) xs) ≡ find (λ x. bytes_eq (name x) text) xs
+found_by_length name text [] = refl
+found_by_length {X} name text (x ∷ xs) =
+    elim (bytes_eq (name x) text) as (λ b. bytes_eq (name x) text ≡ b → find test (filter fits (x ∷ xs)) ≡ cond b (Some x) (find test xs)) [
+      | true ↦ λ same. (let e : name x ≡ text = (bytes_eq-Decides (name x) text).0 same in let l : fits x ≡ true = eq-eqb _ _ (ap length e) in cc)
+      | false ↦ λ differs. elim (fits x) as (λ b. fits x ≡ b → find test (filter fits (x ∷ xs)) ≡ find test xs)
+          [ true ↦ λ l. (let h = found_by_length name text xs in cc) | false ↦ λ l. (let h = found_by_length name text xs in cc) ] refl
+    ] refl
+  where
+    test : X → Bool
+    test y = bytes_eq (name y) text
+
+    fits : X → Bool
+    fits y = nat_eq (length (name y)) (length text)
 
 -- a kind's name is read as that kind
 pub kind_again : (kind : Kind) → kind_named (kind_name kind) ≡ Some kind

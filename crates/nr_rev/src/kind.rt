@@ -1,7 +1,7 @@
 //! The kinds of recorded steps: their names and numbers.
 
 ghost use Rattle.std.specs.Prelude.{◌≡◌, ◌<◌, ◌≤◌};
-ghost use Rattle.nr_rev.specs.Kind.{kind_name, kind_named, kind_number, kind_numbered, kind_of};
+ghost use Rattle.nr_rev.specs.Kind.{kind_name, kind_named, kind_number, kind_numbered, kind_of, kinds_of_length};
 
 use crate::step::Step;
 
@@ -96,9 +96,9 @@ impl Kind {
     pub fn named(name: &[u8]) -> Option<Kind>
         ensures { result ≡ kind_named name.now }
     {
-        KINDS
+        kinds_of_length(name.len())
             .iter()
-            .map(|row| row.0)
+            .copied()
             .find(|kind| kind.name().as_bytes() == name)
     }
 
@@ -110,6 +110,38 @@ impl Kind {
             .iter()
             .map(|row| row.0)
             .find(|kind| kind.number() == number)
+    }
+}
+
+// The kinds whose names have this length.
+fn kinds_of_length(length: usize) -> &'static [Kind]
+    ensures { result.now ≡ kinds_of_length length }
+{
+    match length {
+        3 => &[Kind::Pop],
+        4 => &[Kind::Exit, Kind::Tick, Kind::Fire],
+        5 => &[Kind::Spawn, Kind::Drain, Kind::Evict],
+        6 => &[Kind::Arrive, Kind::Incref, Kind::Decref, Kind::RwLock],
+        7 => &[Kind::SysRead, Kind::Acquire, Kind::Release],
+        8 => &[
+            Kind::SockOpen,
+            Kind::SysWrite,
+            Kind::RwUnlock,
+            Kind::PollOpen,
+            Kind::BlockArm,
+        ],
+        9 => &[
+            Kind::PeerClose,
+            Kind::PollClose,
+            Kind::PollReset,
+            Kind::WaitBegin,
+            Kind::BlockSwap,
+            Kind::WaitCheck,
+            Kind::PollEvent,
+        ],
+        10 => &[Kind::BlockCheck, Kind::ParkCommit, Kind::CloseWrite],
+        11 => &[Kind::IncrefClose, Kind::SetDeadline],
+        _ => &[],
     }
 }
 

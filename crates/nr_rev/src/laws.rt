@@ -1,7 +1,7 @@
 //! Laws over the definitions: well-formed worlds and what keeps them so, the names and numbers of kinds and cells, what the
 //! weights count, and the greatest limits.
 
-ghost use Rattle.std.specs.Prelude.{All, ◌≡◌, ◌≢◌, ◌⊎◌, ℕ, Ok, Err, slice_get, Option, Some, ◌<◌, ◌-◌, List};
+ghost use Rattle.std.specs.Prelude.{All, false, ◌≡◌, ◌≢◌, ◌⊎◌, ℕ, Ok, Err, slice_get, Option, Some, ◌<◌, ◌-◌, List};
 ghost use Rattle.nr_rev.specs.declared.answer.Answer.{Answer};
 ghost use Rattle.nr_rev.specs.declared.limits.Limits.{Limits};
 ghost use Rattle.nr_rev.specs.declared.sides.Side.{Side};
@@ -21,10 +21,12 @@ ghost use Rattle.nr_rev.specs.declared.descriptor.WaitWord.TheVariants.{Nil, Rea
 ghost use Rattle.nr_rev.specs.declared.status.Status.TheVariants.{Entering, Swapping};
 ghost use Rattle.nr_rev.specs.Run.{Recording, world_at};
 ghost use Rattle.nr_rev.specs.Step.{IsTimely, outcome};
+ghost use Rattle.nr_rev.specs.Cell.{cell};
+ghost use Rattle.nr_rev.specs.Part.{can_change};
 ghost use Rattle.nr_rev.specs.declared.cell.Cell.{Cell};
 ghost use Rattle.nr_rev.specs.CellName.{cell_index, cell_name, cell_named, cell_number, cell_numbered};
 ghost use Rattle.nr_rev.specs.declared.kind.Kind.{Kind};
-ghost use Rattle.nr_rev.specs.Kind.{kind_name, kind_named, kind_number, kind_numbered, kinds};
+ghost use Rattle.nr_rev.specs.Kind.{kind_name, kind_named, kind_number, kind_numbered, kind_of, kinds};
 ghost use Rattle.nr_rev.specs.WellFormed.{WellFormed, HasWaitWord, IsInside, HasView, socket_named, TimerPlace, timer_at};
 ghost use Rattle.nr_rev.specs.declared.limits.TheConstants.{MOST_GOROUTINES, MOST_SOCKETS, MOST_DESCRIPTORS, MOST_BUFFER};
 
@@ -37,6 +39,13 @@ pub fn empty_world_fits()
 pub fn steps_keep_well_formedness()
     ensures { (w : World) (step : Step) (answer : Answer) (next : World)
         → IsTimely step → WellFormed w → outcome w step ≡ Ok (answer, next) → WellFormed next }
+{}
+
+/// A step changes no cell that its kind cannot change, in any world.
+pub fn steps_change_their_parts_alone()
+    ensures { (w : World) (step : Step) (answer : Answer) (next : World) (c : Cell)
+        → outcome w step ≡ Ok (answer, next) → can_change (kind_of step) c ≡ false
+        → cell next c ≡ cell w c }
 {}
 
 /// Words at the places where a goroutine takes them up: nil or ready at blockarm, and none that holds a goroutine at blockswap.

@@ -1,9 +1,10 @@
 //! Worked facts: what the definitions say of recordings and lock words that were worked out by hand.
 //! The bodies are empty; the prover computes each clause.
 
-ghost use Rattle.std.specs.Prelude.{◌≡◌, pos, negsuc, ◌∷◌, [], Some, None, Ok, Err};
+ghost use Rattle.std.specs.Prelude.{◌≡◌, true, false, pos, negsuc, ◌∷◌, [], Some, None, Ok, Err};
 ghost use Rattle.nr_rev.specs.Lock.{lock_number, incref, incref_close, rw_unlock};
 ghost use Rattle.nr_rev.specs.Cell.{bytes_of, queue_of};
+ghost use Rattle.nr_rev.specs.Part.{can_change};
 ghost use Rattle.nr_rev.specs.Refusing.{raised_sequence};
 ghost use Rattle.nr_rev.specs.Run.{next_of, world_at};
 ghost use Rattle.nr_rev.specs.Step.{outcome};
@@ -15,6 +16,7 @@ ghost use Rattle.nr_rev.specs.declared.refusal.Refusal.{Refusal};
 ghost use Rattle.nr_rev.specs.declared.answer.Answer.{Answer};
 ghost use Rattle.nr_rev.specs.declared.cell.Cell.{Cell};
 ghost use Rattle.nr_rev.specs.declared.cell_value.CellValue.{CellValue};
+ghost use Rattle.nr_rev.specs.declared.kind.Kind.{Kind};
 ghost use Rattle.nr_rev.specs.declared.step.Step.{Step};
 
 /// The operations of `internal/poll/fd_mutex.go` on single lock words. `increfAndClose` wakes every waiter, of both
@@ -239,4 +241,15 @@ pub fn reasons_are_met()
         ≡ Some (1, Refusal.SizeOutOfRange) }
     ensures peer_closed { reason_of (Step.SockOpen 1 1 ∷ Step.PeerClose 0 ∷ Step.PeerClose 0 ∷ [])
         ≡ Some (3, Refusal.PeerClosed) }
+{}
+
+/// What kinds of steps can change: an rwlock a lock word and where a goroutine is, a tick the clock and no lock word, and
+/// an event a word and no deadline.
+pub fn kinds_change_what_they_touch()
+    ensures lock_by_rwlock { can_change Kind.RwLock (Cell.Lock 0) ≡ true }
+    ensures goroutine_by_rwlock { can_change Kind.RwLock (Cell.Goroutine 0) ≡ true }
+    ensures clock_by_tick { can_change Kind.Tick Cell.Clock ≡ true }
+    ensures lock_by_tick { can_change Kind.Tick (Cell.Lock 0) ≡ false }
+    ensures word_by_event { can_change Kind.PollEvent (Cell.ReadWord 0) ≡ true }
+    ensures deadline_by_event { can_change Kind.PollEvent (Cell.ReadDeadline 0) ≡ false }
 {}

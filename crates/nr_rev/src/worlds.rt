@@ -25,8 +25,14 @@ use std::alloc::Global;
 
 /// A machine of goroutines, sockets, descriptors and timers that replays recorded steps and undoes them.
 pub trait Worlds: Reversible<Op = Step, Answer = Answer> + Sized {
+    /// A world at rest, as a film keeps it: it holds what is there, and no room beside it.
+    type Snapshot;
+
     /// The world that it means.
     ghost world: { Self → World };
+
+    /// The world that a snapshot keeps, whole.
+    ghost kept: { Self.Snapshot → Self };
 
     /// The world before the first step: goroutine 0 is idle, and there is nothing else. All the room that
     /// its limits allow is made here, so that only a dump and a step which keeps bytes take memory later.
@@ -39,6 +45,16 @@ pub trait Worlds: Reversible<Op = Step, Answer = Answer> + Sized {
     /// An equal one, with room of its own.
     fn try_copy(&self) -> Result<Self, Refusal>
         ensures ok { IfOk result (λ w. w ≡ self.now) }
+        ensures err { IfErr result (λ e. e ≡ Memory) };
+
+    /// The world at rest. It takes memory for what is there, and none for the room that the limits allow beside it.
+    fn snapshot(&self) -> Result<Self::Snapshot, Refusal>
+        ensures ok { IfOk result (λ snapshot. kept snapshot ≡ self.now) }
+        ensures err { IfErr result (λ e. e ≡ Memory) };
+
+    /// The world that the snapshot keeps, with all the room that its limits allow.
+    fn restored(snapshot: &Self::Snapshot) -> Result<Self, Refusal>
+        ensures ok { IfOk result (λ w. w ≡ kept snapshot.now) }
         ensures err { IfErr result (λ e. e ≡ Memory) };
 
     /// Applies the step as `apply` does, and keeps no way back. Takes no memory.
