@@ -98,7 +98,12 @@ fn copy_of<T: Copy + Drop>(alloc: Global, items: &[T]) -> Result<Vec<T>, AllocEr
 impl Worlds for PlainWorld {
     ghost use Rattle.nr_plain.specs.Worlds.{meant, steps_are, reasons_are, memory_is_for_bytes, bytes_out_are, means_well_formed};
 
+    /// This world is for tests alone: it keeps its room.
+    type Snapshot = PlainWorld;
+
     ghost world = { meant };
+
+    ghost kept = { λ snapshot. snapshot };
 
     #[tactic(auto, using(crate::proofs::FreshLemmas::fresh_fits))]
     fn fresh(alloc: Global, limits: Limits) -> Result<Self, Refusal> {
@@ -107,6 +112,14 @@ impl Worlds for PlainWorld {
 
     fn try_copy(&self) -> Result<Self, Refusal> {
         self.copy().map_err(|_| Refusal::Memory)
+    }
+
+    fn snapshot(&self) -> Result<PlainWorld, Refusal> {
+        self.copy().map_err(|_| Refusal::Memory)
+    }
+
+    fn restored(snapshot: &PlainWorld) -> Result<Self, Refusal> {
+        snapshot.copy().map_err(|_| Refusal::Memory)
     }
 
     #[tactic(auto, using(crate::proofs::PlanLemmas::advances_keeps))]

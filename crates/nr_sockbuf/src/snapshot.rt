@@ -1,0 +1,68 @@
+//! The buffers of a socket at rest.
+
+ghost use Rattle.std.specs.Prelude.{◌≡◌, IfOk};
+
+use crate::pipe::PipeSnapshot;
+use crate::sock::Sock;
+use std::alloc::{AllocError, Global};
+use std::marker::Model;
+
+/// The buffers of a socket at rest, seen in contracts as the buffers are: the marks, and the bytes in just the room that
+/// they need.
+#[derive(Drop)]
+pub struct SockSnapshot {
+    limit: u32,
+    made: bool,
+    peer_closed: bool,
+    shut: bool,
+    input: PipeSnapshot,
+    output: PipeSnapshot,
+}
+
+impl Model for SockSnapshot {
+    ghost use Rattle.std.specs.Prelude.{◌≡◌};
+    ghost use Rattle.nr_sockbuf.specs.Sock.{SockParts, open_of, opened_when};
+
+    ghost Value = { SockParts };
+
+    ghost view = { λ s. record { limit = s.limit; opened = opened_when s.made (open_of s.input s.output s.peer_closed s.shut) } };
+
+    ghost invariant = { λ s. (s.input.most ≡ s.limit) × (s.output.most ≡ s.limit) };
+}
+
+impl Sock {
+    /// The buffers at rest. They take memory for their bytes alone.
+    pub fn snapshot(&self) -> Result<SockSnapshot, AllocError>
+        ensures { IfOk result (λ s. s ≡ self.now) }
+    {
+        let input = self.input.snapshot(self.alloc)?;
+        let output = self.output.snapshot(self.alloc)?;
+        Ok(SockSnapshot {
+            limit: self.limit,
+            made: self.made,
+            peer_closed: self.peer_closed,
+            shut: self.shut,
+            input,
+            output,
+        })
+    }
+}
+
+impl SockSnapshot {
+    /// The buffers, with room for the limit each.
+    pub fn restored(&self, alloc: Global) -> Result<Sock, AllocError>
+        ensures { IfOk result (λ s. s ≡ self.now) }
+    {
+        let input = self.input.restored(alloc)?;
+        let output = self.output.restored(alloc)?;
+        Ok(Sock {
+            alloc,
+            limit: self.limit,
+            made: self.made,
+            peer_closed: self.peer_closed,
+            shut: self.shut,
+            input,
+            output,
+        })
+    }
+}
