@@ -15,6 +15,7 @@ mod parts;
 mod polling;
 mod reads;
 mod semaphores;
+mod snapshot;
 mod timers;
 mod transfers;
 mod undoing;
@@ -23,4 +24,5 @@ mod world;
 mod worlds;
 
 pub use delta::WorldDelta;
+pub use snapshot::WorldSnapshot;
 pub use world::World;

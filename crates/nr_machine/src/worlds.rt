@@ -14,6 +14,7 @@ ghost use Rattle.nr_machine.specs.Transfers.{Advances, IsTransfer};
 ghost use Rattle.nr_machine.specs.World.{meant};
 
 use crate::parts::Core;
+use crate::snapshot::WorldSnapshot;
 use crate::world::World;
 use nr_gsema::{GOperation, GTable};
 use nr_rev::{
@@ -61,7 +62,7 @@ impl Core {
     }
 
     /// An equal one, in room of its own.
-    fn try_copy(&self, alloc: Global) -> Result<Core, Refusal>
+    pub(crate) fn try_copy(&self, alloc: Global) -> Result<Core, Refusal>
         ensures equal { IfOk result (λ core. core ≡ self.now) }
         ensures err { IfErr result (λ e. e ≡ Memory) }
     {
@@ -210,7 +211,11 @@ impl Worlds for World {
     ghost use Rattle.nr_machine.specs.World.{meant};
     ghost use Rattle.nr_machine.specs.Worlds.{steps_are, reasons_are, memory_is_for_bytes, bytes_out_are, means_well_formed};
 
+    type Snapshot = WorldSnapshot;
+
     ghost world = { meant };
+
+    ghost kept = { λ snapshot. snapshot };
 
     fn fresh(alloc: Global, limits: Limits) -> Result<Self, Refusal> {
         World::with_room(alloc, limits)
@@ -218,6 +223,14 @@ impl Worlds for World {
 
     fn try_copy(&self) -> Result<Self, Refusal> {
         self.copy()
+    }
+
+    fn snapshot(&self) -> Result<WorldSnapshot, Refusal> {
+        self.to_rest()
+    }
+
+    fn restored(snapshot: &WorldSnapshot) -> Result<Self, Refusal> {
+        snapshot.to_world()
     }
 
     #[inline(always)]

@@ -1,0 +1,125 @@
+//! A packed world at rest.
+
+ghost use Rattle.std.specs.Prelude.{◌≡◌, ◌-◌, ◌≤◌, ◌++◌, length, take, replicate, IfErr, IfOk};
+ghost use Rattle.nr_rev.specs.declared.refusal.Refusal.TheVariants.{Memory};
+ghost use Rattle.nr_sockbuf.specs.Sock.{never_opened};
+
+use crate::parts::Core;
+use crate::world::World;
+use nr_rev::Refusal;
+use nr_sockbuf::{Sock, SockSnapshot};
+use std::alloc::{AllocError, Global};
+use std::marker::Model;
+
+/// A packed world at rest, seen in contracts as the world is: the core, and the bytes in the buffers. Of the sockets behind
+/// the last one that was opened it has the number alone.
+#[derive(Drop)]
+pub struct WorldSnapshot {
+    alloc: Global,
+    core: Core,
+    // how many sockets there are
+    sockets: usize,
+    // the first of them, up to the last one that was opened
+    opened: Vec<SockSnapshot>,
+}
+
+impl Model for WorldSnapshot {
+    ghost use Rattle.std.specs.Prelude.{◌-◌, ◌++◌, length, replicate};
+    ghost use Rattle.nr_sockbuf.specs.Sock.{never_opened};
+    ghost use Rattle.nr_machine.specs.World.{WorldParts};
+
+    ghost Value = { WorldParts };
+
+    ghost view = { λ s. record {
+      core = s.core;
+      socks = s.opened.items ++ replicate (s.sockets - length s.opened.items) (never_opened s.core.limits.buffer);
+    } };
+}
+
+// How many sockets there are up to the last one that was opened.
+fn count_opened(socks: &[Sock], buffer: u32) -> usize
+    ensures within { result ≤ length socks.now }
+    ensures behind { socks.now ≡ take result socks.now
+        ++ replicate (length socks.now - result) (never_opened buffer) }
+{
+    let mut count = socks.len();
+    while count > 0 && socks[count - 1].is_never_opened(buffer) {
+        count -= 1;
+    }
+    count
+}
+
+// The buffers of these sockets at rest.
+fn snapshots(alloc: Global, socks: &[Sock]) -> Result<Vec<SockSnapshot>, AllocError>
+    ensures { IfOk result (λ snapshots. snapshots.items ≡ socks.now) }
+{
+    let mut snapshots = Vec::with_capacity(alloc, socks.len())?;
+    for sock in socks {
+        snapshots.push(sock.snapshot()?)?;
+    }
+    Ok(snapshots)
+}
+
+// So many sockets: first these, and behind them some that were never opened.
+fn restored_socks(
+    alloc: Global,
+    opened: &[SockSnapshot],
+    sockets: usize,
+    buffer: u32,
+) -> Result<Vec<Sock>, AllocError>
+    ensures { IfOk result (λ socks. socks.items ≡ opened.now
+        ++ replicate (sockets - length opened.now) (never_opened buffer)) }
+{
+    let mut socks = Vec::with_capacity(alloc, sockets)?;
+    for snapshot in opened {
+        socks.push(snapshot.restored(alloc)?)?;
+    }
+    let closed = sockets.saturating_sub(opened.len());
+    for _socket in 0..closed {
+        socks.push(Sock::with_limits(alloc, buffer)?)?;
+    }
+    Ok(socks)
+}
+
+impl World {
+    /// The world at rest.
+    pub(crate) fn to_rest(&self) -> Result<WorldSnapshot, Refusal>
+        ensures ok { IfOk result (λ snapshot. snapshot ≡ self.now) }
+        ensures err { IfErr result (λ e. e ≡ Memory) }
+    {
+        let core = self.core.try_copy(self.alloc)?;
+        let count = count_opened(&self.socks, self.core.limits.buffer);
+        let Ok(opened) = snapshots(self.alloc, &self.socks[..count]) else {
+            return Err(Refusal::Memory);
+        };
+        Ok(WorldSnapshot {
+            alloc: self.alloc,
+            core,
+            sockets: self.socks.len(),
+            opened,
+        })
+    }
+}
+
+impl WorldSnapshot {
+    /// The world, with all the room that its limits allow.
+    pub(crate) fn to_world(&self) -> Result<World, Refusal>
+        ensures ok { IfOk result (λ w. w ≡ self.now) }
+        ensures err { IfErr result (λ e. e ≡ Memory) }
+    {
+        let core = self.core.try_copy(self.alloc)?;
+        let Ok(socks) = restored_socks(
+            self.alloc,
+            &self.opened,
+            self.sockets,
+            self.core.limits.buffer,
+        ) else {
+            return Err(Refusal::Memory);
+        };
+        Ok(World {
+            alloc: self.alloc,
+            core,
+            socks,
+        })
+    }
+}
