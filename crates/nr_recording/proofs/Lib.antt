@@ -1,5 +1,5 @@
 pub mod AnswerLemmas
-pub mod PartLemmas
+pub mod PlainLemmas
 pub mod Elements
 pub mod Lines
 pub mod Members

@@ -1,5 +1,5 @@
 -- JSON reads the text of a written line as the value that was written.
-use Rattle.std.proofs.Common.{◌≡◌, ◌≤◌, ◌<◌, ◌^◌, ◌++◌, ℕ, pos, negsuc, true, false, List, [], ◌∷◌, codes, Some, refl, sym, ap, ◌∙◌, append-nil, arith, lit≤, lit<}
+use Rattle.std.proofs.Common.{◌≡◌, ◌≤◌, ◌<◌, ◌^◌, ℕ, pos, negsuc, true, false, List, [], ◌∷◌, codes, Some, refl, sym, ap, ◌∙◌, append-nil, arith, lit≤, lit<}
 use Rattle.std.specs.Prelude.{option_map, option_and_then}
 use Rattle.json.specs.Lex.{tokens}
 use Rattle.json.specs.Json as json
@@ -24,13 +24,16 @@ use Rattle.nr_rev.specs.declared.answer.Answer.{Answer}
 use Rattle.nr_rev.specs.declared.answer.Answer.TheVariants as answers
 use Rattle.nr_rev.specs.Limits.{AreInRange}
 
+-- tokens that are a value's are read as it
+pub tokens_read : (text : List ℕ) (d : Data) → tokens text ≡ tree.json_tokens (outline d) → tree.depth (outline d) ≤ 127 → of_json (outline d) ≡ Some d → read text ≡ Some d
+tokens_read text d is shallow same =
+    ap (λ ts. option_and_then of_json (option_and_then (λ p. json.if_last p.0 p.1) (json.value max_depth ts))) (is ∙ sym (append-nil _))
+    ∙ ap (λ o. option_and_then of_json (option_and_then (λ p. json.if_last p.0 p.1) o)) (value-json_tokens (outline d) 127 [] shallow)
+    ∙ same
+
 text_read : (d : Data) → tree.HasNumbers (outline d) → tree.depth (outline d) ≤ 127 → of_json (outline d) ≡ Some d → read (compact_text d) ≡ Some d
 text_read d numbers shallow same =
-    let lexed : tokens (compact_text d) ≡ tree.json_tokens (outline d) ++ [] = ap tokens (sym (print-outline d)) ∙ tokens-print _ (ArePrintable-json_tokens (outline d) numbers) ∙ sym (append-nil _) in
-    let parsed = value-json_tokens (outline d) 127 [] shallow in
-    ap (λ ts. option_and_then of_json (option_and_then (λ p. json.if_last p.0 p.1) (json.value max_depth ts))) lexed
-    ∙ ap (λ o. option_and_then of_json (option_and_then (λ p. json.if_last p.0 p.1) o)) parsed
-    ∙ same
+    tokens_read (compact_text d) d (ap tokens (sym (print-outline d)) ∙ tokens-print _ (ArePrintable-json_tokens (outline d) numbers)) shallow same
 
 -- ---- answers
 

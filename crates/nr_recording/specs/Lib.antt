@@ -9,6 +9,7 @@ pub mod Version
 pub mod Numbers
 pub mod Answer
 pub mod Part
+pub mod Plain
 pub mod Arguments
 pub mod Spelling
 pub mod Shapes

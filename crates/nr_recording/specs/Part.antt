@@ -22,7 +22,7 @@ parts_data parts = items_of (map part_data parts)
 -- the parts of a line that are still to be read
 abbrev pub rest_of : Parts → Items
 rest_of (Values values) = items_view (iter_rest values)
-rest_of (Plain parts) = parts_data parts
+rest_of (Plain parts) = parts_data (iter_rest parts)
 
 -- the values of an array; none of any other value
 abbrev pub elements : Data → Items

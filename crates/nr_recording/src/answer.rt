@@ -8,32 +8,32 @@ use nr_rev::Answer;
 use serde_json::{Value, json};
 use std::alloc::{AllocError, Global};
 
-pub(crate) fn worded(word: &str) -> Option<Answer>
+pub(crate) fn worded(word: &[u8]) -> Option<Answer>
     ensures { result ≡ worded word.now }
 {
     match word {
-        "done" => Some(Answer::Done),
-        "yes" => Some(Answer::Yes),
-        "no" => Some(Answer::No),
-        "wait" => Some(Answer::Wait),
-        "last" => Some(Answer::Last),
-        "notlast" => Some(Answer::NotLast),
-        "eof" => Some(Answer::Eof),
-        "again" => Some(Answer::Again),
-        "stale" => Some(Answer::Stale),
-        "pipe" => Some(Answer::Pipe),
+        b"done" => Some(Answer::Done),
+        b"yes" => Some(Answer::Yes),
+        b"no" => Some(Answer::No),
+        b"wait" => Some(Answer::Wait),
+        b"last" => Some(Answer::Last),
+        b"notlast" => Some(Answer::NotLast),
+        b"eof" => Some(Answer::Eof),
+        b"again" => Some(Answer::Again),
+        b"stale" => Some(Answer::Stale),
+        b"pipe" => Some(Answer::Pipe),
         _ => None,
     }
 }
 
-pub(crate) fn counted(word: &str, count: u32) -> Option<Answer>
+pub(crate) fn counted(word: &[u8], count: u32) -> Option<Answer>
     ensures { result ≡ counted word.now count }
 {
     match word {
-        "number" => Some(Answer::Number(count)),
-        "code" => Some(Answer::Code(count)),
-        "got" => Some(Answer::Got(count)),
-        "put" => Some(Answer::Put(count)),
+        b"number" => Some(Answer::Number(count)),
+        b"code" => Some(Answer::Code(count)),
+        b"got" => Some(Answer::Got(count)),
+        b"put" => Some(Answer::Put(count)),
         _ => None,
     }
 }
@@ -42,7 +42,10 @@ fn counted_of(parts: &[Value]) -> Option<Answer>
     ensures { result ≡ counted_of (items_view parts.now) }
 {
     match parts {
-        [word, count] => counted(word.as_str()?, u32::try_from(count.as_u64()?).ok()?),
+        [word, count] => counted(
+            word.as_str()?.as_bytes(),
+            u32::try_from(count.as_u64()?).ok()?,
+        ),
         _ => None,
     }
 }
@@ -52,7 +55,7 @@ pub(crate) fn answer_of(value: &Value) -> Option<Answer>
     ensures { result ≡ answer_of (view value.now) }
 {
     match value {
-        Value::String(word) => worded(word.as_str()),
+        Value::String(word) => worded(word.as_bytes()),
         Value::Array(parts) => counted_of(parts.as_slice()),
         _ => None,
     }

@@ -43,12 +43,12 @@ fn time_of(part: Part<'_>) -> Option<i64>
     part.as_i64().filter(|time| *time >= 0)
 }
 
-fn side_named(name: &str) -> Option<Side>
+fn side_named(name: &[u8]) -> Option<Side>
     ensures { result ≡ side_named name.now }
 {
     match name {
-        "r" => Some(Side::Read),
-        "w" => Some(Side::Write),
+        b"r" => Some(Side::Read),
+        b"w" => Some(Side::Write),
         _ => None,
     }
 }
@@ -56,16 +56,16 @@ fn side_named(name: &str) -> Option<Side>
 fn side_of(part: Part<'_>) -> Option<Side>
     ensures { result ≡ side_of (part_data part.entry) }
 {
-    side_named(part.as_str()?)
+    side_named(part.as_bytes()?)
 }
 
-fn mode_named(name: &str) -> Option<Mode>
+fn mode_named(name: &[u8]) -> Option<Mode>
     ensures { result ≡ mode_named name.now }
 {
     match name {
-        "r" => Some(Mode::Read),
-        "w" => Some(Mode::Write),
-        "rw" => Some(Mode::Both),
+        b"r" => Some(Mode::Read),
+        b"w" => Some(Mode::Write),
+        b"rw" => Some(Mode::Both),
         _ => None,
     }
 }
@@ -73,7 +73,7 @@ fn mode_named(name: &str) -> Option<Mode>
 fn mode_of(part: Part<'_>) -> Option<Mode>
     ensures { result ≡ mode_of (part_data part.entry) }
 {
-    mode_named(part.as_str()?)
+    mode_named(part.as_bytes()?)
 }
 
 /// A number of 32 bits.
@@ -150,7 +150,7 @@ pub(crate) fn bytes(alloc: Global, arguments: &mut Parts<'_>) -> Result<Bytes, L
 {
     let text = arguments
         .next()
-        .and_then(Part::as_str)
+        .and_then(Part::as_bytes)
         .ok_or(Fault::Arguments)?;
     if text.len() > MOST_DIGITS {
         return Err(LineError::Fault(Fault::Arguments));

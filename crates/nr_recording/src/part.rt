@@ -9,7 +9,7 @@ ghost use Rattle.nr_recording.specs.Arguments.{i64_of, u64_of};
 ghost use Rattle.nr_recording.specs.Part.{part_data, elements, rest_of};
 
 use crate::answer::{answer_of, counted, worded};
-use arrayvec::{ArrayVec, IntoIter};
+use arrayvec::ArrayVec;
 use nr_rev::Answer;
 use serde_json::Value;
 use std::slice::Iter;
@@ -20,10 +20,10 @@ pub(crate) const MOST_PARTS: usize = 6;
 /// A part of a line.
 #[derive(Clone, Copy)]
 pub(crate) enum Part<'a> {
-    Text(&'a str),
+    Text(&'a [u8]),
     Number(u64),
     /// A text and a number, in brackets: an answer with a count.
-    Pair(&'a str, u64),
+    Pair(&'a [u8], u64),
     Value(&'a Value),
 }
 
@@ -57,13 +57,13 @@ impl<'a> Part<'a> {
         }
     }
 
-    /// The text that it is.
-    pub(crate) fn as_str(self) -> Option<&'a str>
+    /// The bytes of the text that it is.
+    pub(crate) fn as_bytes(self) -> Option<&'a [u8]>
         ensures { option_map (λ text. text.now) result ≡ as_str (part_data self.entry) }
     {
         match self {
             Part::Text(text) => Some(text),
-            Part::Value(value) => value.as_str(),
+            Part::Value(value) => Some(value.as_str()?.as_bytes()),
             Part::Number(_) | Part::Pair(..) => None,
         }
     }
@@ -98,7 +98,7 @@ pub(crate) fn elements(value: &Value) -> &[Value]
 #[derive(Drop)]
 pub(crate) enum Parts<'a> {
     Values(Iter<'a, Value>),
-    Plain(IntoIter<Part<'a>, MOST_PARTS>),
+    Plain(Iter<'a, Part<'a>>),
 }
 
 impl<'a> Parts<'a> {
@@ -109,7 +109,7 @@ impl<'a> Parts<'a> {
     {
         match self {
             Parts::Values(values) => Some(Part::Value(values.next()?)),
-            Parts::Plain(parts) => parts.next(),
+            Parts::Plain(parts) => parts.next().copied(),
         }
     }
 }

@@ -1,104 +1,202 @@
-//! Reading a line's parts from its tokens, where it is an array of texts and unsigned numbers.
+//! Reading a line's parts, where it is an array of texts and unsigned numbers in the usual spelling.
 
-ghost use Rattle.std.specs.Prelude.{◌≡◌, ◌==◌, ◌<◌, [], ◌∷◌, length, slice_index, Some, Ok, IfSome, OnSome};
-ghost use Rattle.json.specs.Token.{begin_array};
-ghost use Rattle.json.specs.Json.{value};
-ghost use Rattle.serde_json.specs.Data.{array, unsigned};
-ghost use Rattle.serde_json.specs.Read.{converted, number_of, of_json, read};
-ghost use Rattle.nr_recording.specs.Part.{part_data, parts_data};
+ghost use Rattle.std.specs.Prelude.{◌≡◌, ◌<◌, ◌≤◌, ◌+◌, ◌++◌, ◌∷◌, [], ℕ, true, false, decimal, length, slice_index, Ok, Some, IfSome, OnSome};
+ghost use Rattle.json.specs.Token.{string, number};
+ghost use Rattle.serde_json.specs.Data.{array};
+ghost use Rattle.nr_recording.specs.Part.{parts_data};
+ghost use Rattle.nr_recording.specs.Plain.{Begins, ReadsBack, ends_item, items_after_comma, items_behind, part_tokens};
 ghost use Rattle.nr_recording.specs.Reading.{value_of};
+ghost use Rattle.serde_json.specs.Read.{read};
 
 use crate::part::{Part, PartList};
-use fast_float::Numeral;
-use json::{Reader, Scratch, Token};
+use memchr::memchr2;
 
-fn has_minus(digits: &[u8]) -> bool
-    ensures { result ≡ (slice_index digits.now 0 == 45) }
-{
-    digits.first() == Some(&b'-')
-}
-
-// The number that a token of JSON writes, where it is a whole one of 64 bits with neither a point nor an exponent.
+// The digit that a byte of ASCII writes.
 #[inline(always)]
-fn number(text: &str) -> Option<u64>
-    ensures { IfSome result (λ n. number_of text.now ≡ Some (unsigned n)) }
+fn digit(byte: u8) -> Option<u64>
+    ensures { IfSome result (λ d. (d < 10) × (byte ≡ 48 + d)) }
 {
-    let digits = text.as_bytes();
-    if has_minus(digits) {
-        return None;
-    }
-    Numeral::scan(digits).to_u64()
-}
-
-// A text and a number, behind the bracket that opens them.
-#[inline(always)]
-fn pair<'a>(reader: &mut Reader<'a>) -> Option<Part<'a>>
-    ensures read { IfSome result (λ part.
-        converted of_json (value 126 (begin_array ∷ reader.old)) ≡ Some (part_data part, reader.new)) }
-    ensures shorter { OnSome result (length reader.new < length reader.old) }
-{
-    let Token::String(text) = reader.next()? else {
-        return None;
-    };
-    let Token::Number(digits) = reader.next()? else {
-        return None;
-    };
-    let count = number(digits)?;
-    if reader.take_end_array() {
-        Some(Part::Pair(text, count))
+    if byte.is_ascii_digit() {
+        Some(u64::from(byte - b'0'))
     } else {
         None
     }
 }
 
-// The next part of an array: a text, an unsigned number, or both in brackets.
+// A number and a digit behind it. `None` beyond 64 bits.
 #[inline(always)]
-fn part<'a>(reader: &mut Reader<'a>) -> Option<Part<'a>>
-    ensures read { IfSome result (λ part.
-        converted of_json (value 126 reader.old) ≡ Some (part_data part, reader.new)) }
-    ensures shorter { OnSome result (length reader.new < length reader.old) }
+fn with_digit(number: u64, digit: u64) -> Option<u64>
+    requires some { 0 < number }
+    requires digit { digit < 10 }
+    ensures number { IfSome result (λ n. decimal n ≡ decimal number ++ (48 + digit) ∷ []) }
+    ensures some { IfSome result (λ n. 0 < n) }
 {
-    match reader.next()? {
-        Token::String(text) => Some(Part::Text(text)),
-        Token::Number(digits) => Some(Part::Number(number(digits)?)),
-        Token::BeginArray => pair(reader),
+    number.checked_mul(10)?.checked_add(digit)
+}
+
+// The number that the digits at the front of a text write, and what is left behind them.
+fn digits(text: &[u8]) -> Option<(u64, &[u8])>
+    ensures number { IfSome result (λ r. text.now ≡ decimal r.0 ++ r.1.now) }
+    ensures shorter { IfSome result (λ r. length r.1.now < length text.now) }
+{
+    let [first, rest @ ..] = text else {
+        return None;
+    };
+    let mut number = digit(*first)?;
+    if number == 0 {
+        return Some((0, rest));
+    }
+    let mut left = rest;
+    while let [byte, rest @ ..] = left {
+        let Some(digit) = digit(*byte) else {
+            return Some((number, left));
+        };
+        number = with_digit(number, digit)?;
+        left = rest;
+    }
+    Some((number, left))
+}
+
+// Whether a comma or the bracket that closes an array comes next.
+#[inline(always)]
+fn ends_item(text: &[u8]) -> bool
+    ensures { result ≡ ends_item text.now }
+{
+    matches!(text.first(), Some(b',' | b']'))
+}
+
+// An unsigned number that is an item of an array, and what is left behind it.
+#[inline(always)]
+fn number(text: &[u8]) -> Option<(u64, &[u8])>
+    ensures begins { IfSome result (λ r. Begins text.now (number (decimal r.0) ∷ []) r.1.now) }
+    ensures shorter { IfSome result (λ r. length r.1.now < length text.now) }
+{
+    let (number, left) = digits(text)?;
+    if ends_item(left) {
+        Some((number, left))
+    } else {
+        None
+    }
+}
+
+// Whether a control of ASCII is among the bytes, which JSON has to escape.
+#[inline(always)]
+fn has_control(bytes: &[u8]) -> bool
+    ensures { result ≡ false → (k : ℕ) → k < length bytes.now → 32 ≤ slice_index bytes.now k }
+{
+    let mut found = false;
+    for byte in bytes {
+        found |= *byte < b' ';
+    }
+    found
+}
+
+// A text without escapes that is an item of an array, and what is left behind it.
+#[inline(always)]
+fn text(text: &[u8]) -> Option<(&[u8], &[u8])>
+    ensures begins { IfSome result (λ r. Begins text.now (string r.0.now ∷ []) r.1.now) }
+    ensures shorter { IfSome result (λ r. length r.1.now < length text.now) }
+{
+    let [b'"', inside @ ..] = text else {
+        return None;
+    };
+    let len = memchr2(b'"', b'\\', inside)?;
+    let (word, behind) = inside.split_at(len);
+    let [b'"', left @ ..] = behind else {
+        return None;
+    };
+    if has_control(word) {
+        return None;
+    }
+    if ends_item(left) {
+        Some((word, left))
+    } else {
+        None
+    }
+}
+
+// The next item, behind a comma and at most one space.
+#[inline(always)]
+fn next_item(behind: &[u8]) -> Option<&[u8]>
+    ensures begins { IfSome result (λ r. items_behind behind.now ≡ items_after_comma r.now) }
+    ensures shorter { IfSome result (λ r. length r.now < length behind.now) }
+{
+    match behind {
+        [b',', b' ', rest @ ..] => Some(rest),
+        [b',', rest @ ..] => Some(rest),
         _ => None,
     }
 }
 
-// Gathers the parts of an array, behind the bracket that opens it.
+// A text and a number, behind the bracket that opens them, and what is left behind the one that closes them.
 #[inline(always)]
-fn gather<'a>(reader: &mut Reader<'a>, parts: &mut PartList<'a>) -> Option<()>
-    requires { parts.old.items ≡ [] }
-    ensures { OnSome result (converted of_json (value 127 (begin_array ∷ reader.old))
-        ≡ Some (array (parts_data parts.new.items), reader.new)) }
+fn pair(inside: &[u8]) -> Option<(Part<'_>, &[u8])>
+    ensures begins { IfSome result (λ r. Begins (91 ∷ inside.now) (part_tokens r.0) r.1.now) }
+    ensures reads_back { IfSome result (λ r. ReadsBack r.0) }
+    ensures shorter { IfSome result (λ r. length r.1.now < length inside.now) }
 {
-    while !reader.take_end_array() {
-        let part = part(reader)?;
-        parts.try_push(part).ok()?;
-    }
-    Some(())
+    let (word, behind) = text(inside)?;
+    let (count, behind) = number(next_item(behind)?)?;
+    let [b']', left @ ..] = behind else {
+        return None;
+    };
+    Some((Part::Pair(word, count), left))
 }
 
-/// Gathers the parts of a line that is an array of at most six texts, unsigned numbers, and pairs of both. `None` of any
-/// other line, and where there is no memory.
-pub(crate) fn gather_plain<'a>(
-    line: &'a [u8],
-    scratch: &'a mut Scratch,
-    parts: &mut PartList<'a>,
-) -> Option<()>
+// A part of an array, and what is left behind it.
+#[inline(always)]
+fn part(line: &[u8]) -> Option<(Part<'_>, &[u8])>
+    ensures begins { IfSome result (λ r. Begins line.now (part_tokens r.0) r.1.now) }
+    ensures reads_back { IfSome result (λ r. ReadsBack r.0) }
+    ensures shorter { IfSome result (λ r. length r.1.now < length line.now) }
+{
+    match line {
+        [b'"', ..] => {
+            let (word, left) = text(line)?;
+            Some((Part::Text(word), left))
+        }
+        [b'[', inside @ ..] => pair(inside),
+        _ => {
+            let (count, left) = number(line)?;
+            Some((Part::Number(count), left))
+        }
+    }
+}
+
+// Whether the bracket that closes an array is all that is left.
+#[inline(always)]
+fn closes_line(behind: &[u8]) -> bool
+    ensures { result ≡ true → behind.now ≡ 93 ∷ [] }
+{
+    behind == b"]".as_slice()
+}
+
+// Gathers the parts of an array, behind the bracket that opens it, where the one that closes it ends the line.
+fn gather<'a>(inside: &'a [u8], parts: &mut PartList<'a>) -> Option<()>
+    requires { parts.old.items ≡ [] }
+    ensures { OnSome result (read (91 ∷ inside.now) ≡ Some (array (parts_data parts.new.items))) }
+{
+    let mut left = inside;
+    loop {
+        let (part, behind) = part(left)?;
+        parts.try_push(part).ok()?;
+        if closes_line(behind) {
+            return Some(());
+        }
+        left = next_item(behind)?;
+    }
+}
+
+/// Gathers the parts of a line that is an array of one to six texts, unsigned numbers, and pairs of both, with no space but
+/// behind commas and no escape. `None` of any other line.
+pub(crate) fn gather_plain<'a>(line: &'a [u8], parts: &mut PartList<'a>) -> Option<()>
     requires { parts.old.items ≡ [] }
     ensures { OnSome result (value_of line.now ≡ Ok (array (parts_data parts.new.items))) }
 {
     let text = str::from_utf8(line).ok()?;
-    let mut reader = Reader::new(text, scratch).ok()?;
-    let Token::BeginArray = reader.next()? else {
+    let [b'[', inside @ ..] = text.as_bytes() else {
         return None;
     };
-    gather(&mut reader, parts)?;
-    if reader.next().is_none() {
-        Some(())
-    } else {
-        None
-    }
+    gather(inside, parts)?;
+    Some(())
 }

@@ -17,7 +17,6 @@ use crate::recording::{MOST_STEPS, RecordedStep, Recording};
 use crate::steps::step;
 use crate::version::Version;
 use arrayvec::ArrayVec;
-use json::Scratch;
 use nr_rev::Limits;
 use serde_json::Value;
 use std::alloc::Global;
@@ -110,7 +109,7 @@ impl RecordingReader {
     }
 
     #[tactic(auto, unfolding(crate::specs::Reading::with_line))]
-    fn line(&mut self, alloc: Global, scratch: &mut Scratch, line: &[u8]) -> Result<(), LineError>
+    fn line(&mut self, alloc: Global, line: &[u8]) -> Result<(), LineError>
         ensures seen { ReadsBy (λ _. self.new) result (with_line self.old line.now) }
         ensures memory { result ≡ Err LineError.Memory → line_takes_memory line.now ≡ true }
     {
@@ -122,8 +121,8 @@ impl RecordingReader {
         }
         if let Some(begun) = self.header {
             let mut parts = ArrayVec::new();
-            if gather_plain(line, scratch, &mut parts).is_some() {
-                return self.step(begun, alloc, Parts::Plain(parts.into_iter()));
+            if gather_plain(line, &mut parts).is_some() {
+                return self.step(begun, alloc, Parts::Plain(parts.as_slice().iter()));
             }
         }
         let value = value(alloc, line)?;
@@ -148,11 +147,10 @@ fn read_lines(alloc: Global, bytes: &[u8]) -> Result<Recording, ReadFault>
     ensures memory { result ≡ Err ReadFault.Memory → text_takes_memory bytes.now ≡ true }
 {
     let mut reader = RecordingReader::new(alloc);
-    let mut scratch = Scratch::new(alloc);
     let mut number = 0;
     for line in bytes.split(|byte| *byte == b'\n') {
         number += 1;
-        if let Err(e) = reader.line(alloc, &mut scratch, line) {
+        if let Err(e) = reader.line(alloc, line) {
             return Err(e.at(number));
         }
     }

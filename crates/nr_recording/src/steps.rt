@@ -281,7 +281,7 @@ pub(crate) fn step(
     let mut parts = parts;
     let name = parts
         .next()
-        .and_then(Part::as_str)
+        .and_then(Part::as_bytes)
         .ok_or(Fault::UnknownStep)?;
     let kind = version.kind(name).ok_or(Fault::UnknownStep)?;
     let step = step_in(alloc, kind, &mut parts)?;

@@ -62,10 +62,10 @@ impl Version {
 
     /// The kind of this name.
     #[tactic(auto, unfolding(crate::specs::Version::kind_in))]
-    pub(crate) fn kind(self, name: &str) -> Option<Kind>
+    pub(crate) fn kind(self, name: &[u8]) -> Option<Kind>
         ensures { result ≡ kind_in self name.now }
     {
-        let kind = Kind::named(name.as_bytes())?;
+        let kind = Kind::named(name)?;
         if self.has(kind) { Some(kind) } else { None }
     }
 

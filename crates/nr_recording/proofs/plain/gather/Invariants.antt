@@ -1,14 +1,14 @@
-use Rattle.std.proofs.Common.{◌≡◌, ℕ, ◌≤◌, length}
-use Rattle.json.specs.Json.{items, parse_map, value}
-use Rattle.serde_json.specs.Read.{converted, of_items}
-use Rattle.nr_recording.proofs.PartLemmas.{parts_before}
+use Rattle.std.proofs.Common.{◌≡◌, ◌∷◌, ◌++◌, true, length}
+use Rattle.json.specs.Token.{Token}
+use Rattle.json.specs.Lex.{Place, between, lex, may_begin, punctuate, tokens}
+use Rattle.nr_recording.proofs.PlainLemmas.{AllReadBack, parts_tokens}
 use Rattle.nr_recording.proofs.plain.gather.Given as goal
 
--- some of the items are the parts, and the tokens that are left are the others
-abbrev pub invariant-loop-reader : goal.invariant-loop-reader
-invariant-loop-reader l =
-    (n : ℕ) × (length l.reader ≤ n)
-    × (converted of_items (items (value 126) (length l.initial.reader) l.initial.reader) ≡ parse_map (parts_before l.parts.items) (converted of_items (items (value 126) n l.reader)))
+-- the tokens of the line are those of the parts, and then those of what is left, where an item may begin
+abbrev pub invariant-loop-part : goal.invariant-loop-part
+invariant-loop-part l =
+    (place : Place) × (may_begin place ≡ true) × AllReadBack l.parts.items
+    × (tokens (91 ∷ l.inside) ≡ Token.begin_array ∷ (parts_tokens l.parts.items ++ punctuate place (lex between l.left)))
 
-abbrev pub decreases-loop-reader : goal.decreases-loop-reader
-decreases-loop-reader l = length l.reader
+abbrev pub decreases-loop-part : goal.decreases-loop-part
+decreases-loop-part l = length l.left

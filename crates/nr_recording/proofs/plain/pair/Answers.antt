@@ -1,15 +1,20 @@
-use Rattle.std.proofs.Common.{◌≡◌, ◌∷◌, Some, ap, ◌∙◌, arith}
+use Rattle.std.proofs.Common.{◌≡◌, ◌<◌, ◌^◌, ◌∷◌, [], get_or, subst, List, ℕ, arith, rules}
 use Rattle.json.specs.Token.{Token}
-use Rattle.json.specs.Json.{after_end_array, value}
-use Rattle.serde_json.specs.Read.{converted, of_json}
-use Rattle.nr_recording.proofs.PartLemmas.{pair_read}
+use Rattle.nr_recording.specs.Plain.{Begins}
+use Rattle.std.proofs.Common.{decimal}
+use Rattle.nr_recording.proofs.PlainLemmas.{pair_back, pair_begins, split_front}
 use Rattle.nr_recording.proofs.plain.pair.Goals as goal
 
-pub returns-then-take_end_array-clause-read : goal.returns-then-take_end_array-clause-read
-returns-then-take_end_array-clause-read c =
-    let s = c.in-String.text.now in
-    let digits = c.in-Number.digits.now in
-    let behind = c.next-2.new.self in
-    let is : c.args.reader.now ≡ Token.string s ∷ Token.number digits ∷ behind = grind arith in
-    let ends : after_end_array behind ≡ Some c.take_end_array.new.self = grind arith in
-    ap (λ ts. converted of_json (value 126 (Token.begin_array ∷ ts))) is ∙ pair_read s digits c.in_ok-count.count behind c.take_end_array.new.self c.in_ok-count.ensures ends
+pub returns-clause-begins : goal.returns-clause-begins
+returns-clause-begins c =
+    let n = c.in_ok-count.count in
+    let last = c.in_ok-count.behind.now in
+    let closing : get_or last 0 0 ≡ 93 = grind arith in
+    let second = subst (λ (text : List ℕ). Begins c.in_ok-next_item.field-0.now (Token.number (decimal n) ∷ []) text) (split_front 93 last c.in-93.len_at_least closing) c.in_ok-count.ensures.begins in
+    pair_begins c.in_ok-word.word.now n c.args.inside.now c.in_ok-word.behind.now c.in_ok-next_item.field-0.now _ c.in_ok-word.ensures.begins c.in_ok-next_item.ensures.begins second
+
+pub returns-clause-reads_back : goal.returns-clause-reads_back
+returns-clause-reads_back c =
+    let n = c.in_ok-count.count in
+    let small : n < 2 ^ 64 = search rules in
+    pair_back c.in_ok-word.word n small
