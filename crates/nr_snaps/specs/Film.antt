@@ -22,16 +22,19 @@ module _ {State : Type 0} (is_well_formed : State → Type 0) (world : State →
     pub is_at : IsWorldAt is_well_formed world film.recording n state
     pub replays : Replays steps film.recording film.origin n state
 
-  -- the copies after position 0: one at each multiple of `every` up to the end
-  pub record HasCopies (film : Reel State) (later : List State) : Type 0 where
+  -- the copies after position 0: one at each multiple of `every` up to the end, and each keeps the
+  -- state there
+  pub record HasCopies {Snapshot : Type 0} (kept : Snapshot → State) (film : Reel State)
+      (later : List Snapshot) : Type 0 where
     pub count : length later ≡ length film.recording.steps / film.every
-    pub each : (i : ℕ) (copy : State) → slice_get later i ≡ Some copy
-        → IsFrame film ((i + 1) * film.every) copy
+    pub each : (i : ℕ) (copy : Snapshot) → slice_get later i ≡ Some copy
+        → IsFrame film ((i + 1) * film.every) (kept copy)
 
   -- what holds of each film
-  pub record IsFilm (film : Reel State) (later : List State) : Type 0 where
+  pub record IsFilm {Snapshot : Type 0} (kept : Snapshot → State) (film : Reel State)
+      (later : List Snapshot) : Type 0 where
     pub least : LEAST_EVERY ≤ film.every
     pub most : film.every ≤ MOST_EVERY
     pub good : IsGood film.recording
     pub origin : IsWorldAt is_well_formed world film.recording 0 film.origin
-    pub copies : HasCopies film later
+    pub copies : HasCopies kept film later

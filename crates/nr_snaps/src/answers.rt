@@ -8,7 +8,10 @@ use nr_recording::{RecordedStep, Recording, Version, step_copy};
 use nr_rev::{Answer, Step, Worlds};
 use std::alloc::{AllocError, Global};
 
-impl<W: Worlds + Drop> Film<W> {
+impl<W: Worlds + Drop> Film<W>
+where
+    W::Snapshot: Drop,
+{
     /// The recording of the film's steps in version 2, each with the answer that it gives, whichever version was loaded.
     /// It takes memory for a world, for the list of the steps and for the bytes that they carry.
     pub fn with_answers(&self, alloc: Global) -> Result<Recording, AllocError>

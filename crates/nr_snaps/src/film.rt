@@ -1,4 +1,4 @@
-//! A film: a recording whose steps all apply, with copies (snapshots) of its world.
+//! A film: a recording whose steps all apply, with copies of its world.
 
 ghost use Rattle.std.specs.Prelude.{◌≡◌, ◌<◌, ◌≤◌, ◌+◌, ◌*◌, ◌/◌, length, slice_get, IfOk, OnOk, OnErr, Some};
 ghost use Rattle.std.specs.Option.{option_copied};
@@ -20,18 +20,24 @@ pub const LEAST_EVERY: usize = 64;
 pub const MOST_EVERY: usize = 65_536;
 
 /// A recording whose steps all apply, with a copy of its world at position 0 and at each `every`
-/// steps after it, up to the end. No call changes it.
+/// steps after it, up to the end. Those after position 0 are at rest: they hold what is there. No call changes a film.
 #[derive(Drop)]
-pub struct Film<W: Worlds + Drop> {
+pub struct Film<W: Worlds + Drop>
+where
+    W::Snapshot: Drop,
+{
     pub(crate) recording: Recording,
     pub(crate) every: usize,
     // the world at position 0
     pub(crate) start: W,
-    // those at `every`, twice `every` and so on
-    pub(crate) later: Vec<W>,
+    // those at `every`, twice `every` and so on, each at rest
+    pub(crate) later: Vec<W::Snapshot>,
 }
 
-impl<W: Worlds + Drop> Model for Film<W> {
+impl<W: Worlds + Drop> Model for Film<W>
+where
+    W::Snapshot: Drop,
+{
     ghost use Rattle.nr_recording.specs.Recording.{run_of};
     ghost use Rattle.nr_snaps.specs.Film.{Reel, IsFilm};
 
@@ -39,11 +45,14 @@ impl<W: Worlds + Drop> Model for Film<W> {
 
     ghost view = { λ f. record { recording = run_of f.recording; every = f.every; origin = f.start } };
 
-    ghost invariant = { λ f. IsFilm W.is_well_formed W.world W.steps
+    ghost invariant = { λ f. IsFilm W.is_well_formed W.world W.steps W.kept
         (record { recording = run_of f.recording; every = f.every; origin = f.start }) f.later.items };
 }
 
-impl<W: Worlds + Drop> Film<W> {
+impl<W: Worlds + Drop> Film<W>
+where
+    W::Snapshot: Drop,
+{
     /// How many steps there are.
     pub fn len(&self) -> usize
         ensures is { result ≡ length self.now.recording.steps }
@@ -69,17 +78,30 @@ impl<W: Worlds + Drop> Film<W> {
         self.recording.step(n)
     }
 
-    /// The copy at position n, or the nearest one below it.
-    pub fn snap_below(&self, n: usize) -> &W
+    /// The world at position 0.
+    pub fn start(&self) -> &W
+        ensures { IsFrame W.is_well_formed W.world W.steps self.now 0 result.now }
+    {
+        &self.start
+    }
+
+    /// The world at the copy at position n, or at the nearest one below it, in room of its own.
+    pub fn world_below(&self, n: usize) -> Result<W, AllocError>
         requires { n ≤ length self.now.recording.steps }
-        ensures { IsFrame W.is_well_formed W.world W.steps self.now
-            (n / self.now.every * self.now.every) result.now }
+        ensures { IfOk result (λ world. IsFrame W.is_well_formed W.world W.steps self.now
+            (n / self.now.every * self.now.every) world) }
     {
         let copy = n / self.every;
         if copy == 0 {
-            return &self.start;
+            let Ok(world) = self.start.try_copy() else {
+                return Err(AllocError);
+            };
+            return Ok(world);
         }
-        &self.later[copy - 1]
+        let Ok(world) = W::restored(&self.later[copy - 1]) else {
+            return Err(AllocError);
+        };
+        Ok(world)
     }
 
     /// Leads a world from position n to the next one, and returns the way back. Only a step that

@@ -31,6 +31,8 @@ impl Snaps {
         recording: Recording,
         every: usize,
     ) -> Result<Film<W>, LoadFault>
+    where
+        W::Snapshot: Drop,
         requires least { LEAST_EVERY ≤ every }
         requires most { every ≤ MOST_EVERY }
         ensures film { IfOk result (λ film. film
@@ -54,19 +56,21 @@ impl Snaps {
     }
 }
 
-// Replays all steps, and returns the copies after position 0.
+// Replays all steps, and returns the copies after position 0, each at rest.
 fn replay<W: Worlds + Drop>(
     alloc: Global,
     start: &W,
     recording: &Recording,
     every: usize,
-) -> Result<Vec<W>, LoadFault>
+) -> Result<Vec<W::Snapshot>, LoadFault>
+where
+    W::Snapshot: Drop,
     ghost film: { Reel W }
     requires is { film ≡ record { recording = run_of recording.now; every = every; origin = start.now } }
     requires origin { IsWorldAt W.is_well_formed W.world (run_of recording.now) 0 start.now }
     requires some { 0 < every }
     ensures copies { IfOk result (λ later.
-        HasCopies W.is_well_formed W.world W.steps film later.items) }
+        HasCopies W.is_well_formed W.world W.steps W.kept film later.items) }
     ensures good { OnOk result (IsGood (run_of recording.now)) }
     ensures answers { OnOk result (AnswersAgree recording.now) }
     ensures fault { IfErr result (IsLoadFault recording.now) }
@@ -76,7 +80,7 @@ fn replay<W: Worlds + Drop>(
     let mut later = Vec::with_capacity(alloc, count)?;
     for i in 0..count {
         play(&mut world, recording, i * every, (i + 1) * every)?;
-        later.push_reserved(copy_of(&world)?);
+        later.push_reserved(snapshot_of(&world)?);
     }
     play(&mut world, recording, count * every, recording.len())?;
     Ok(later)
@@ -90,6 +94,16 @@ fn copy_of<W: Worlds>(world: &W) -> Result<W, LoadFault>
         return Err(LoadFault::Memory);
     };
     Ok(copy)
+}
+
+fn snapshot_of<W: Worlds>(world: &W) -> Result<W::Snapshot, LoadFault>
+    ensures kept { IfOk result (λ snapshot. W.kept snapshot ≡ world.now) }
+    ensures memory { IfErr result (λ fault. fault ≡ faults.Memory) }
+{
+    let Ok(snapshot) = world.snapshot() else {
+        return Err(LoadFault::Memory);
+    };
+    Ok(snapshot)
 }
 
 // Leads the world from one position to another. It takes no memory: the fault is a step's.

@@ -25,6 +25,7 @@ pub const MOST_DEPTH: usize = 65_536;
 pub struct Walker<'f, W: Worlds + Drop>
 where
     W::Delta: Drop,
+    W::Snapshot: Drop,
 {
     film: &'f Film<W>,
     world: W,
@@ -35,6 +36,7 @@ where
 impl<'f, W: Worlds + Drop> Model for Walker<'f, W>
 where
     W::Delta: Drop,
+    W::Snapshot: Drop,
 {
     ghost use Rattle.std.specs.Prelude.{length};
     ghost use Rattle.nr_walker.specs.Walk.{Walk};
@@ -56,6 +58,7 @@ where
 impl<'f, W: Worlds + Drop> Walker<'f, W>
 where
     W::Delta: Drop,
+    W::Snapshot: Drop,
 {
     /// At position 0; it will keep the deltas of the last `depth` steps. Takes memory for a
     /// copy of the world and for the room of the deltas.
@@ -65,7 +68,7 @@ where
         ensures { IfOk result (λ walker. walker
             ≡ record { film = film.now; position = 0; kept = 0; depth = depth }) }
     {
-        let Ok(world) = film.snap_below(0).try_copy() else {
+        let Ok(world) = film.start().try_copy() else {
             return Err(AllocError);
         };
         Ok(Walker {
@@ -212,9 +215,7 @@ where
         ensures ok { OnOk result (self.new ≡ at_copy self.old n) }
         ensures err { OnErr result (self.new ≡ self.old) }
     {
-        let Ok(copy) = self.film.snap_below(n).try_copy() else {
-            return Err(AllocError);
-        };
+        let copy = self.film.world_below(n)?;
         self.deltas.clear();
         self.world = copy;
         let every = self.film.every();

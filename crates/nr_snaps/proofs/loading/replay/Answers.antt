@@ -18,7 +18,8 @@ loop-i-preserved g c =
     let world = g.W.Worlds.world in
     let steps = g.W.Reversible.steps in
     let items = c.loop-i.later.items in
-    let copy = c.in_ok-copy_of.field-0 in
+    let copy = c.in_ok-snapshot_of.field-0 in
+    let kept = g.W.Worlds.kept in
     let frame = c.in_ok-play.ensures.frame in
     let pushed = c.push_reserved.ensures.items in
     record {
@@ -26,9 +27,9 @@ loop-i-preserved g c =
       agree = c.in_ok-play.ensures.agree;
       room = omega (arith, c.loop-i.invariant.room, c.push_reserved.ensures.capacity);
       count = ap length pushed ∙ length_push items copy ∙ ap (λ n. n + 1) c.loop-i.invariant.count;
-      each = λ i s read. each-push (λ j t. IsFrame wf world steps g.film ((j + 1) * c.args.every) t) items copy c.loop-i.invariant.each
-          (subst (λ j. IsFrame wf world steps g.film ((j + 1) * c.args.every) copy) (sym c.loop-i.invariant.count)
-          (subst (λ t. IsFrame wf world steps g.film ((c.loop-i.i + 1) * c.args.every) t) (sym c.in_ok-copy_of.ensures.copy) frame))
+      each = λ i s read. each-push (λ j t. IsFrame wf world steps g.film ((j + 1) * c.args.every) (kept t)) items copy c.loop-i.invariant.each
+          (subst (λ j. IsFrame wf world steps g.film ((j + 1) * c.args.every) (kept copy)) (sym c.loop-i.invariant.count)
+          (subst (λ t. IsFrame wf world steps g.film ((c.loop-i.i + 1) * c.args.every) t) (sym c.in_ok-snapshot_of.ensures.kept) frame))
           i s (subst (λ xs. slice_get xs i ≡ Some s) pushed read);
     }
 
@@ -40,7 +41,7 @@ returns-clause-copies g c =
     let reached : c.loop-i.i ≡ c.len.result / c.args.every = omega (arith, c.loop-i.auto.i-end, c.loop-i-test.false) in
     record {
       count = c.loop-i.invariant.count ∙ reached ∙ ap (λ n. n / c.args.every) (c.len.ensures.value ∙ sym (steps_of_run c.args.recording.now)) ∙ sym whole;
-      each = λ i copy read. subst (λ e. IsFrame g.W.Reversible.is_well_formed g.W.Worlds.world g.W.Reversible.steps g.film ((i + 1) * e) copy) (sym every) (c.loop-i.invariant.each i copy read);
+      each = λ i copy read. subst (λ e. IsFrame g.W.Reversible.is_well_formed g.W.Worlds.world g.W.Reversible.steps g.film ((i + 1) * e) (g.W.Worlds.kept copy)) (sym every) (c.loop-i.invariant.each i copy read);
     }
 
 -- all steps were replayed

@@ -9,7 +9,7 @@ use Rattle.nr_snaps.proofs.loading.replay.Given as goal
 abbrev pub ghost-play : goal.ghost-play
 ghost-play g a = g.film
 
--- the world is the frame of the last copy's position, and each copy is that of its own
+-- the world is the frame of the last copy's position, and each copy keeps that of its own
 abbrev pub invariant-loop-i : goal.invariant-loop-i
 invariant-loop-i g l =
     record {
@@ -17,5 +17,5 @@ invariant-loop-i g l =
       agree : AnswersAgreeTo l.recording (l.i * l.every);
       room : l.count ≤ vec_capacity l.later;
       count : length l.later.items ≡ l.i;
-      each : (i : ℕ) (copy : g.row.W.Denot) → slice_get l.later.items i ≡ Some copy → IsFrame g.W.Reversible.is_well_formed g.W.Worlds.world g.W.Reversible.steps g.film ((i + 1) * l.every) copy;
+      each : (i : ℕ) (copy : _) → slice_get l.later.items i ≡ Some copy → IsFrame g.W.Reversible.is_well_formed g.W.Worlds.world g.W.Reversible.steps g.film ((i + 1) * l.every) (g.W.Worlds.kept copy);
     }

@@ -1,5 +1,4 @@
-use Rattle.std.proofs.Common.{◌≡◌, ◌*◌, ◌/◌, sym, subst, arith}
-use Rattle.std.proofs.Math.Nat.{div-mul-le_self}
+use Rattle.std.proofs.Common.{sym, subst, arith}
 use Rattle.nr_snaps.specs.Film.{IsFrame}
 use Rattle.nr_walker.proofs.Ways.{IsWay-none}
 use Rattle.nr_walker.proofs.walker.Walker.new.Goals as goal
@@ -8,9 +7,6 @@ use Rattle.nr_walker.proofs.walker.Walker.new.Goals as goal
 pub invariant_of-result : goal.invariant_of-result
 invariant_of-result g c =
     let film = c.args.film.now in
-    let low = div-mul-le_self 0 film.every in
-    let place : 0 / film.every * film.every ≡ 0 = omega (arith, low) in
-    let copy = subst (λ n. IsFrame g.W.Reversible.is_well_formed g.W.Worlds.world g.W.Reversible.steps film n c.snap_below.result.now) place c.snap_below.ensures in
-    let frame = subst (λ s. IsFrame g.W.Reversible.is_well_formed g.W.Worlds.world g.W.Reversible.steps film 0 s) (sym c.in-Ok.ensures.ok) copy in
+    let frame = subst (λ s. IsFrame g.W.Reversible.is_well_formed g.W.Worlds.world g.W.Reversible.steps film 0 s) (sym c.in-Ok.ensures.ok) c.start.ensures in
     rw c.in_ok-with_capacity.ensures (IsWay-none g.W.Reversible.is_well_formed g.W.Worlds.world g.W.Reversible.steps g.W.Reversible.back film 0 c.args.depth c.in-Ok.world (omega arith) frame
     c.requires.least c.requires.most)

@@ -1,6 +1,5 @@
 use Rattle.std.proofs.Common.{◌*◌, ◌/◌, ◌≤◌, length, sym, subst, arith, rules}
 use Rattle.std.proofs.Math.Nat.{div-mul-le_self}
-use Rattle.nr_snaps.specs.Film.{IsFrame}
 use Rattle.nr_walker.proofs.Ways.{IsWay-none}
 use Rattle.nr_walker.proofs.walker.Walker.to_copy_below.Goals as goal
 
@@ -11,12 +10,11 @@ invariant_of-self g c =
     let position = c.args.n / film.every * film.every in
     let below : c.args.n ≤ length film.recording.steps = subst (λ v. c.args.n ≤ length v.film.recording.steps) (sym c.self.view_is) c.requires in
     let low = div-mul-le_self c.args.n film.every in
-    let frame = subst (λ s. IsFrame g.W.Reversible.is_well_formed g.W.Worlds.world g.W.Reversible.steps film position s) (sym c.in-Ok.ensures.ok) c.snap_below.ensures in
     rw (c.clear.ensures, c.every-every.ensures.is) (IsWay-none g.W.Reversible.is_well_formed g.W.Worlds.world g.W.Reversible.steps g.W.Reversible.back film position c.self.inside.deltas.capacity
-    c.in-Ok.copy (omega (arith, low, below)) frame c.self.invariant.least c.self.invariant.most)
+    c.in_ok-copy.copy (omega (arith, low, below)) c.in_ok-copy.ensures c.self.invariant.least c.self.invariant.most)
 
-pub returns-in_default-clause-err : goal.returns-in_default-clause-err
-returns-in_default-clause-err g c = search rules
+pub returns-in_err-copy-clause-err : goal.returns-in_err-copy-clause-err
+returns-in_err-copy-clause-err g c = search rules
 
 pub returns-clause-ok : goal.returns-clause-ok
 returns-clause-ok g c = search rules

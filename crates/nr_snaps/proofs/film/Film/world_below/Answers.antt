@@ -3,7 +3,7 @@ use Rattle.std.proofs.lemmas.Option.{slice_get_read}
 use Rattle.nr_recording.specs.Recording.{run_of}
 use Rattle.nr_snaps.specs.Film.{IsFrame, Reel}
 use Rattle.nr_snaps.proofs.Copies.{div-mono}
-use Rattle.nr_snaps.proofs.film.Film.snap_below.Goals as goal
+use Rattle.nr_snaps.proofs.film.Film.world_below.Goals as goal
 
 -- the copy that is read is the one of its position
 pub returns : goal.returns
@@ -21,5 +21,6 @@ returns g c =
     let there : k - 1 < length inside.later.items = omega (arith, most, some, count) in
     let place : k - 1 + 1 ≡ k = omega (arith, some) in
     let copy = has.copies.each (k - 1) c.index.result.now (slice_get_read inside.later.items (length inside.later.items) (k - 1) c.index.result.now refl there c.index.ensures) in
-    subst (λ v. IsFrame g.W.Reversible.is_well_formed g.W.Worlds.world g.W.Reversible.steps v (c.args.n / v.every * v.every) c.index.result.now) c.self.view_is
-    (subst (λ j. IsFrame g.W.Reversible.is_well_formed g.W.Worlds.world g.W.Reversible.steps film (j * inside.every) c.index.result.now) place copy)
+    let keeps = subst (λ j. IsFrame g.W.Reversible.is_well_formed g.W.Worlds.world g.W.Reversible.steps film (j * inside.every) (g.W.Worlds.kept c.index.result.now)) place copy in
+    let made = subst (λ w. IsFrame g.W.Reversible.is_well_formed g.W.Worlds.world g.W.Reversible.steps film (k * inside.every) w) (sym c.in-Ok-restored.ensures.ok) keeps in
+    subst (λ v. IsFrame g.W.Reversible.is_well_formed g.W.Worlds.world g.W.Reversible.steps v (c.args.n / v.every * v.every) c.in-Ok-restored.world) c.self.view_is made
