@@ -1,6 +1,7 @@
 pub mod FinderLemmas
 mod KnownLemmas
 mod NearestLemmas
+mod QuietLemmas
 mod ReportLemmas
 mod SegmentLemmas
 mod StepLemmas

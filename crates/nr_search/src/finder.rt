@@ -115,6 +115,8 @@ pub fn nearest_hit<W: Worlds + Drop + Sync, F: Finder>(
     direction: Direction,
     n: usize,
 ) -> Result<Found, AllocError>
+where
+    W::Snapshot: Drop + Sync,
     requires { n ≤ length film.now.recording.steps }
     ensures found { IfOk result (λ found. found
         ≡ nearest_hit direction film.now.recording marks.now.present n) }
@@ -144,6 +146,8 @@ fn last_hit_below<W: Worlds + Drop + Sync, F: Finder>(
     marks: &Marks,
     n: usize,
 ) -> Result<Found, AllocError>
+where
+    W::Snapshot: Drop + Sync,
     requires { n ≤ length film.now.recording.steps }
     ensures found { IfOk result
         (IsFound Backward (hits_at film.now.recording marks.now.present) 0 n) }
@@ -168,6 +172,8 @@ fn search_between<W: Worlds + Drop + Sync, F: Finder>(
     after: usize,
     last: usize,
 ) -> Result<Found, AllocError>
+where
+    W::Snapshot: Drop + Sync,
     requires order { after ≤ last }
     requires within { last ≤ length film.now.recording.steps }
     ensures found { IfOk result

@@ -6,6 +6,7 @@ mod finder;
 mod found;
 mod gate;
 pub mod laws;
+mod quiet;
 mod search;
 mod segments;
 mod slot;

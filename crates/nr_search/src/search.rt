@@ -20,7 +20,10 @@ use std::alloc::AllocError;
 
 /// A search through a film for where marks hit.
 #[derive(Drop)]
-pub(crate) struct Search<'a, W: Worlds + Drop> {
+pub(crate) struct Search<'a, W: Worlds + Drop>
+where
+    W::Snapshot: Drop,
+{
     pub film: &'a Film<W>,
     pub marks: &'a Marks,
     /// The positions that are searched.
@@ -29,7 +32,10 @@ pub(crate) struct Search<'a, W: Worlds + Drop> {
     ghost within: { span.last ≤ length film.now.recording.steps },
 }
 
-impl<'a, W: Worlds + Drop> Search<'a, W> {
+impl<'a, W: Worlds + Drop> Search<'a, W>
+where
+    W::Snapshot: Drop,
+{
     /// A search of the positions behind `after` and up to `last`.
     pub fn new(
         film: &'a Film<W>,

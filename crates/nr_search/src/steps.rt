@@ -22,6 +22,8 @@ fn look_at_step<W: Worlds + Drop>(
     hits: &mut Numbers,
     p: usize,
 )
+where
+    W::Snapshot: Drop,
     requires within { p ≤ length film.now.recording.steps }
     requires few { length marks.now ≤ MOST_MARKS }
     requires breaks { any_watch marks.now ≡ false }
@@ -45,6 +47,8 @@ fn search_steps<W: Worlds + Drop>(
     low: usize,
     high: usize,
 ) -> Found
+where
+    W::Snapshot: Drop,
     requires order { low ≤ high }
     requires within { high ≤ length film.now.recording.steps + 1 }
     requires breaks { any_watch marks.now.present ≡ false }
@@ -75,6 +79,8 @@ pub(crate) fn nearest_step<W: Worlds + Drop>(
     direction: Direction,
     n: usize,
 ) -> Found
+where
+    W::Snapshot: Drop,
     requires within { n ≤ length film.now.recording.steps }
     requires breaks { any_watch marks.now.present ≡ false }
     ensures { result ≡ nearest_hit direction film.now.recording marks.now.present n }

@@ -3,12 +3,14 @@
 ghost use Rattle.std.specs.Prelude.{◌≡◌, ◌<◌, ◌≤◌, ◌+◌, length, slice_get, false, IfOk, IfSome};
 ghost use Rattle.nr_marks.specs.Hit.{hits_at, numbered};
 ghost use Rattle.nr_search.specs.Nearest.{IsFound};
+ghost use Rattle.nr_search.specs.Quiet.{IsOutlook};
 ghost use Rattle.nr_search.specs.Search.{Remembers, is_decided};
 ghost use Rattle.nr_marks.specs.declared.marks.TheConstants.{MOST_MARKS};
 ghost use Rattle.nr_snaps.specs.Film.{IsFrame};
 
 use crate::direction::Direction;
 use crate::found::{Found, Numbers};
+use crate::quiet::{Outlook, is_quiet, outlook_of};
 use crate::watched::look;
 use arrayvec::ArrayVec;
 use nr_marks::{MOST_MARKS, Marks, NextStep, NumberedMark};
@@ -19,6 +21,8 @@ use std::alloc::AllocError;
 /// The step that comes next at position n.
 #[inline(always)]
 pub(crate) fn next_step<W: Worlds + Drop>(film: &Film<W>, n: usize) -> Option<NextStep>
+where
+    W::Snapshot: Drop,
     requires { n ≤ length film.now.recording.steps }
     ensures { result ≡ numbered n (slice_get film.now.recording.steps n) }
 {
@@ -28,19 +32,24 @@ pub(crate) fn next_step<W: Worlds + Drop>(film: &Film<W>, n: usize) -> Option<Ne
 }
 
 // Leads the world from position n to the next one, and returns the numbers of the marks that hit there. The values are those
-// that the marks watch at position n, and then at the next one.
+// that the marks watch at position n, and then at the next one. Where the kinds of the steps around it show that no mark can
+// hit, no cell is read.
 #[inline(always)]
 fn go_on<W: Worlds + Drop>(
     film: &Film<W>,
     marks: &[NumberedMark],
+    outlook: &Outlook,
     values: &mut [CellValue; MOST_MARKS],
     hits: &mut Numbers,
     world: &mut W,
     n: usize,
 )
+where
+    W::Snapshot: Drop,
     requires frame { IsFrame W.is_well_formed W.world W.steps film.now n world.old }
     requires below { n < length film.now.recording.steps }
     requires few { length marks.now ≤ MOST_MARKS }
+    requires outlook { IsOutlook marks.now outlook.now }
     requires values { Remembers (W.world world.old) marks.now values.old }
     ensures hits { hits.new.items ≡ hits_at film.now.recording marks.now (n + 1) }
     ensures frame { IsFrame W.is_well_formed W.world W.steps film.now (n + 1) world.new }
@@ -48,8 +57,14 @@ fn go_on<W: Worlds + Drop>(
 {
     // A film's length is bounded, so n + 1 is a position.
     let _ = film.len();
+    let made = next_step(film, n);
+    let next = next_step(film, n + 1);
     film.advance(world, n);
-    look(marks, values, hits, world, next_step(film, n + 1));
+    if is_quiet(marks, outlook, made, next) {
+        hits.clear();
+        return;
+    }
+    look(marks, values, hits, world, next);
 }
 
 /// The nearest hit of those behind position `at` and up to position `to`. The world is at `at` and is led on: to `to`,
@@ -62,6 +77,8 @@ pub(crate) fn search_stretch<W: Worlds + Drop>(
     at: usize,
     to: usize,
 ) -> Found
+where
+    W::Snapshot: Drop,
     requires frame { IsFrame W.is_well_formed W.world W.steps film.now at world.old }
     requires order { at ≤ to }
     requires within { to ≤ length film.now.recording.steps }
@@ -73,10 +90,11 @@ pub(crate) fn search_stretch<W: Worlds + Drop>(
     let marks = marks.as_slice();
     let mut values = [CellValue::Absent; MOST_MARKS];
     let mut hits = ArrayVec::new();
+    let outlook = outlook_of(marks);
     look(marks, &mut values, &mut hits, world, None);
     let mut found = Found::Nothing;
     for n in at..to {
-        go_on(film, marks, &mut values, &mut hits, world, n);
+        go_on(film, marks, &outlook, &mut values, &mut hits, world, n);
         found.look_at(n + 1, &hits);
         if found.is_decided(direction) {
             return found;
@@ -92,7 +110,10 @@ pub(crate) struct WorldAt<W: Worlds + Drop> {
     pub world: W,
 }
 
-impl<W: Worlds + Drop> WorldAt<W> {
+impl<W: Worlds + Drop> WorldAt<W>
+where
+    W::Snapshot: Drop,
+{
     // Leads the world on to position n.
     fn lead_to(self, film: &Film<W>, n: usize) -> W
         requires frame { IsFrame W.is_well_formed W.world W.steps film.now self.position self.world }
@@ -114,6 +135,8 @@ pub(crate) fn world_at<W: Worlds + Drop>(
     held: Option<WorldAt<W>>,
     n: usize,
 ) -> Result<W, AllocError>
+where
+    W::Snapshot: Drop,
     requires held { IfSome held (λ h. IsFrame W.is_well_formed W.world W.steps film.now h.position h.world) }
     requires within { n ≤ length film.now.recording.steps }
     ensures { IfOk result (λ world. IsFrame W.is_well_formed W.world W.steps film.now n world) }
@@ -126,12 +149,12 @@ pub(crate) fn world_at<W: Worlds + Drop>(
 
 // A copy of the world at position n, led on from the film's copy below.
 fn copy_at<W: Worlds + Drop>(film: &Film<W>, n: usize) -> Result<W, AllocError>
+where
+    W::Snapshot: Drop,
     requires { n ≤ length film.now.recording.steps }
     ensures { IfOk result (λ world. IsFrame W.is_well_formed W.world W.steps film.now n world) }
 {
-    let Ok(world) = film.snap_below(n).try_copy() else {
-        return Err(AllocError);
-    };
+    let world = film.world_below(n)?;
     let every = film.every();
     let below = WorldAt {
         position: n / every * every,
@@ -142,8 +165,10 @@ fn copy_at<W: Worlds + Drop>(film: &Film<W>, n: usize) -> Result<W, AllocError>
 
 /// The numbers of the marks that hit at position 0, rising.
 pub(crate) fn hits_at_start<W: Worlds + Drop>(film: &Film<W>, marks: &Marks) -> Numbers
+where
+    W::Snapshot: Drop,
     ensures { result.items ≡ hits_at film.now.recording marks.now.present 0 }
 {
-    let start = film.snap_below(0);
+    let start = film.start();
     marks.hits(start, start, next_step(film, 0))
 }

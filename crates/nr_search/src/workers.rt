@@ -26,6 +26,9 @@ pub const LEAST_WORKERS: usize = 1;
 /// The most workers of a search.
 pub const MOST_WORKERS: usize = 16;
 
+/// The most segments that a worker claims at once.
+const MOST_AT_ONCE: usize = 8;
+
 /// Searches by several workers, each in a thread of its own where one can be started. They claim the segments between the
 /// film's copies, in their order on the way. Contracts see how many workers there are.
 #[derive(Debug, Drop)]
@@ -96,15 +99,18 @@ impl Claims {
         }
     }
 
-    // The number on the way of the next segment, unless a hit is known before it.
-    fn claim(&self, count: usize) -> Option<usize>
-        ensures { IfSome result (λ k. k < count) }
-    {
-        let k = self.next.fetch_add(1, Ordering::SeqCst);
-        if k >= count || k > self.hint.load(Ordering::SeqCst) {
-            return None;
+    // Claims some neighbouring segments.
+    fn claim(&self, at_once: usize) -> Turn {
+        let next = self.next.fetch_add(at_once, Ordering::SeqCst);
+        Turn {
+            next,
+            end: next.saturating_add(at_once),
         }
-        Some(k)
+    }
+
+    // Whether a hit is known before the segment of this number on the way.
+    fn is_behind_hit(&self, k: usize) -> bool {
+        k > self.hint.load(Ordering::SeqCst)
     }
 
     // Leaves the others a hit's number on the way.
@@ -115,12 +121,44 @@ impl Claims {
     }
 }
 
+/// Segments that a worker has claimed and not begun, by their numbers on the way.
+#[derive(Clone, Copy)]
+struct Turn {
+    next: usize,
+    end: usize,
+}
+
+impl Turn {
+    // None.
+    fn over() -> Turn {
+        Turn { next: 0, end: 0 }
+    }
+
+    // The number on the way of the next segment, unless a hit is known before it. Where there are many segments, a few are
+    // claimed at once: forwards a world leads on from one to its neighbour, and only the first takes a copy.
+    fn next(&mut self, claims: &Claims, count: usize) -> Option<usize>
+        ensures { IfSome result (λ k. k < count) }
+    {
+        if self.next >= self.end {
+            *self = claims.claim((count / 64).clamp(1, MOST_AT_ONCE));
+        }
+        let k = self.next;
+        if k >= count || claims.is_behind_hit(k) {
+            return None;
+        }
+        self.next = k + 1;
+        Some(k)
+    }
+}
+
 // What a worker's search of a segment comes to: it was searched, or ran out of memory.
 fn searched<W: Worlds + Drop>(
     search: &Search<'_, W>,
     s: usize,
     held: &mut Option<WorldAt<W>>,
 ) -> Slot
+where
+    W::Snapshot: Drop,
     requires first { search.now.span.first ≤ s }
     requires last { s < search.now.span.first + search.now.span.count }
     requires held { IfSome held.old (λ h.
@@ -142,13 +180,16 @@ fn work<W: Worlds + Drop, G: Gate>(
     gate: &G,
     worker: usize,
 ) -> Vec<Report>
+where
+    W::Snapshot: Drop,
     ensures { All (IsReport search.now.span
         (hits_at search.now.film.now.recording search.now.marks.now.present)) result.items }
 {
     let mut reports = Vec::new(alloc);
     let mut held = None;
+    let mut turn = Turn::over();
     for _ in 0..search.span.count {
-        let Some(k) = claims.claim(search.span.count) else {
+        let Some(k) = turn.next(claims, search.span.count) else {
             return reports;
         };
         let segment = search.span.nth(k);
@@ -168,6 +209,8 @@ fn gather<W: Worlds + Drop + Sync, R: Threads + Sync, G: Gate + Sync>(
     search: &Search<'_, W>,
     claims: &Claims,
 ) -> Result<Vec<Vec<Report>>, AllocError>
+where
+    W::Snapshot: Drop + Sync,
     ensures { IfOk result (λ by_worker. All (λ one_worker. All (IsReport search.now.span
         (hits_at search.now.film.now.recording search.now.marks.now.present))
         one_worker.items) by_worker.items) }
@@ -175,7 +218,7 @@ fn gather<W: Worlds + Drop + Sync, R: Threads + Sync, G: Gate + Sync>(
     let alloc = many.alloc;
     let gate = &many.gate;
     let worker = |i: usize| -> Vec<Report>
-        requires { IsSync W.row × IsSync G.row × (i < MOST_WORKERS) }
+        requires { IsSync W.row × IsSync W.Snapshot.row × IsSync G.row × (i < MOST_WORKERS) }
         ensures { All (IsReport search.entry.now.span
             (hits_at search.entry.now.film.now.recording search.entry.now.marks.now.present))
             result.items }
@@ -189,6 +232,8 @@ pub(crate) fn search_by<W: Worlds + Drop + Sync, R: Threads + Sync, G: Gate + Sy
     search: &Search<'_, W>,
     claims: &Claims,
 ) -> Result<Found, AllocError>
+where
+    W::Snapshot: Drop + Sync,
     ensures { IfOk result (IsFound search.now.span.direction
         (hits_at search.now.film.now.recording search.now.marks.now.present)
         (search.now.span.after + 1) (search.now.span.last + 1)) }

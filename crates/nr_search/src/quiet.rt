@@ -1,0 +1,118 @@
+//! Positions where no mark can hit, as the kinds of the steps around them show.
+
+ghost use Rattle.std.specs.Prelude.{◌≡◌, true};
+ghost use Rattle.nr_rev.specs.Kind.{kind_number};
+ghost use Rattle.nr_rev.specs.declared.kind.Kind.{Kind};
+ghost use Rattle.nr_search.specs.Quiet.{AreChanging, IsOutlook, IsQuiet, any_break, any_changed, any_stopped, is_changed_by, is_stopped_by};
+
+use nr_marks::{Mark, NextStep, NumberedMark};
+use nr_rev::Kind;
+
+/// How many numbers of kinds there are, and 0, which no kind has.
+pub(crate) const NUMBERS: usize = 32;
+
+/// For each kind, at its number: whether a mark watches a cell that such a step can change.
+pub(crate) type Changing = [bool; NUMBERS];
+
+/// What of the marks is known at the begin of a stretch.
+#[derive(Drop)]
+pub(crate) struct Outlook {
+    pub(crate) changing: Changing,
+    /// Whether one of them is a break.
+    pub(crate) any_break: bool,
+}
+
+// Whether a mark watches a cell that a step of this kind can change.
+fn is_changed_by(mark: Mark, kind: Kind) -> bool
+    ensures { result ≡ is_changed_by kind mark }
+{
+    match mark {
+        Mark::Break(_) | Mark::TemporaryBreak(_) => false,
+        Mark::Watch(cell) => kind.can_change(cell),
+    }
+}
+
+// Whether a mark is a break that names the step that comes next.
+fn is_stopped_by(mark: Mark, next: Option<NextStep>) -> bool
+    ensures { result ≡ is_stopped_by next mark }
+{
+    match mark {
+        Mark::Break(wanted) | Mark::TemporaryBreak(wanted) => wanted.hits(next),
+        Mark::Watch(_) => false,
+    }
+}
+
+// Whether one of the marks watches a cell that a step of this kind can change.
+fn any_changed(marks: &[NumberedMark], kind: Kind) -> bool
+    ensures { result ≡ any_changed kind marks.now }
+{
+    marks.iter().any(|mark| is_changed_by(mark.item, kind))
+}
+
+// Whether one of the marks is a break that names the step that comes next.
+fn any_stopped(marks: &[NumberedMark], next: Option<NextStep>) -> bool
+    ensures { result ≡ any_stopped next marks.now }
+{
+    marks.iter().any(|mark| is_stopped_by(mark.item, next))
+}
+
+// Whether one of the marks watches a cell that a step of the kind of this number can change.
+fn is_changing(marks: &[NumberedMark], number: u8) -> bool
+    ensures { (kind : Kind) → number ≡ kind_number kind → result ≡ any_changed kind marks.now }
+{
+    match Kind::numbered(number) {
+        Some(kind) => any_changed(marks, kind),
+        None => false,
+    }
+}
+
+// For each kind whether a mark watches a cell that such a step can change.
+fn changing_kinds(marks: &[NumberedMark]) -> Changing
+    ensures { AreChanging marks.now result }
+{
+    let mut changing = [false; NUMBERS];
+    for number in 0..NUMBERS {
+        changing[number] = is_changing(marks, number as u8);
+    }
+    changing
+}
+
+// Whether one of the marks is a break.
+fn any_break(marks: &[NumberedMark]) -> bool
+    ensures { result ≡ any_break marks.now }
+{
+    marks.iter().any(|mark| !mark.item.is_watch())
+}
+
+/// What is known of the marks.
+pub(crate) fn outlook_of(marks: &[NumberedMark]) -> Outlook
+    ensures { IsOutlook marks.now result }
+{
+    Outlook {
+        changing: changing_kinds(marks),
+        any_break: any_break(marks),
+    }
+}
+
+/// Whether no mark can hit behind the step that was made and before the one that comes next.
+#[inline(always)]
+pub(crate) fn is_quiet(
+    marks: &[NumberedMark],
+    outlook: &Outlook,
+    made: Option<NextStep>,
+    next: Option<NextStep>,
+) -> bool
+    requires { IsOutlook marks.now outlook.now }
+    ensures { result ≡ true → IsQuiet marks.now made next }
+{
+    let Some(step) = made else {
+        return false;
+    };
+    if outlook.changing[step.kind.number() as usize] {
+        return false;
+    }
+    if outlook.any_break {
+        return !any_stopped(marks, next);
+    }
+    true
+}
