@@ -93,6 +93,7 @@ pub fn start<W, R, P, I, O>(
 where
     W: Worlds + Drop + Send + Sync,
     W::Delta: Drop + Send,
+    W::Snapshot: Drop + Sync,
     R: Threads + Wait + Sync,
     P: Ports,
     I: Read,
@@ -127,6 +128,7 @@ fn play<W, R, P, I, O>(
 where
     W: Worlds + Drop + Send + Sync,
     W::Delta: Drop + Send,
+    W::Snapshot: Drop + Sync,
     R: Threads + Wait + Sync,
     P: Ports,
     I: Read,

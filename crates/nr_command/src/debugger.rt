@@ -53,6 +53,8 @@ impl Debugger {
         finder: &F,
         command: Command,
     ) -> Result<Reply, AllocError>
+    where
+        W::Snapshot: Drop + Sync,
         requires { IsWithin (length film.now.recording.steps) self.old }
         ensures ok { IfOk result (λ reply. (reply, self.new)
             ≡ run film.now.recording command self.old) }
@@ -69,6 +71,8 @@ impl Debugger {
         finder: &F,
         command: Command,
     ) -> Result<Reply, AllocError>
+    where
+        W::Snapshot: Drop + Sync,
         requires { self.old.position ≤ length film.now.recording.steps }
         ensures ok { IfOk result (λ reply. (reply, self.new)
             ≡ run film.now.recording command self.old) }
@@ -140,6 +144,8 @@ impl Debugger {
         finder: &F,
         direction: Direction,
     ) -> Result<Reply, AllocError>
+    where
+        W::Snapshot: Drop + Sync,
         requires { self.old.position ≤ length film.now.recording.steps }
         ensures ok { IfOk result (λ reply. (reply, self.new)
             ≡ continue direction film.now.recording self.old) }

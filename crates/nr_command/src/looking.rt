@@ -24,6 +24,8 @@ impl Debugger {
         world: &W,
         query: Query,
     ) -> Result<Reply, AllocError>
+    where
+        W::Snapshot: Drop,
         requires { IsWorldAt W.is_well_formed W.world film.now.recording self.now.position world.now }
         ensures ok { IfOk result (λ reply. reply ≡ query_reply film.now.recording self.now query) }
         ensures err { OnErr result (Copies film.now.recording self.now query) }
@@ -59,6 +61,8 @@ impl Debugger {
     /// What a look shows that is at the debugger alone: it needs no world, and takes no memory. `None`: the look is at the
     /// world, as a value and the dumps are.
     pub fn look_within<W: Worlds + Drop>(&self, film: &Film<W>, query: Query) -> Option<Reply>
+    where
+        W::Snapshot: Drop,
         ensures some { IfSome result (λ reply. reply ≡ query_reply film.now.recording self.now query) }
         ensures within { OnSome result (is_at_world query ≡ false) }
         ensures at_world { IfNone result (is_at_world query ≡ true) }

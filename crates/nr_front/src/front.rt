@@ -24,6 +24,7 @@ use std::marker::Model;
 pub struct Front<'f, W: Worlds + Drop + Sync, F: Finder>
 where
     W::Delta: Drop,
+    W::Snapshot: Drop + Sync,
 {
     pub(crate) pass: Pass,
     pub(crate) replica: Replica<'f, W, F>,
@@ -33,6 +34,7 @@ where
 impl<'f, W: Worlds + Drop + Sync, F: Finder> Model for Front<'f, W, F>
 where
     W::Delta: Drop,
+    W::Snapshot: Drop + Sync,
 {
     ghost use Rattle.nr_front.specs.FrontState.{FrontState, IsAt, pending_command};
 
@@ -54,6 +56,7 @@ where
 impl<'f, W: Worlds + Drop + Sync, F: Finder> Front<'f, W, F>
 where
     W::Delta: Drop,
+    W::Snapshot: Drop + Sync,
 {
     /// Runs what others placed, places the command, and returns what it does at its index. The reply is that of a
     /// debugger that runs the words of the journal up to there.
@@ -124,6 +127,7 @@ where
 impl<'f, W: Worlds + Drop + Sync, F: Finder + Drop> Front<'f, W, F>
 where
     W::Delta: Drop,
+    W::Snapshot: Drop + Sync,
 {
     /// A front over a film, at its first position, with a walker that keeps the way back over its last `depth` steps.
     /// The pass has seen no word. Where memory runs out, the pass comes back.

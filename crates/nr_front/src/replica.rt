@@ -19,6 +19,7 @@ use std::marker::Model;
 pub struct Replica<'f, W: Worlds + Drop + Sync, F: Finder>
 where
     W::Delta: Drop,
+    W::Snapshot: Drop + Sync,
 {
     debugger: Debugger,
     walker: Walker<'f, W>,
@@ -28,6 +29,7 @@ where
 impl<'f, W: Worlds + Drop + Sync, F: Finder> Model for Replica<'f, W, F>
 where
     W::Delta: Drop,
+    W::Snapshot: Drop + Sync,
 {
     ghost use Rattle.std.specs.Prelude.{length};
     ghost use Rattle.nr_command.specs.Debugger.{IsWithin};
@@ -48,6 +50,7 @@ where
 impl<'f, W: Worlds + Drop + Sync, F: Finder + Drop> Replica<'f, W, F>
 where
     W::Delta: Drop,
+    W::Snapshot: Drop + Sync,
 {
     /// At position 0; it keeps the way back over the last `depth` steps that it walked. Takes memory for a copy
     /// of the film's first world, and for that way.
@@ -78,6 +81,7 @@ where
 impl<'f, W: Worlds + Drop + Sync, F: Finder> Replica<'f, W, F>
 where
     W::Delta: Drop,
+    W::Snapshot: Drop + Sync,
 {
     /// Runs a command, and leaves the walker where it is. Only a command that searches can run out of memory, and then
     /// nothing has changed.

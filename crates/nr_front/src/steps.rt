@@ -20,6 +20,7 @@ use std::alloc::AllocError;
 impl<'f, W: Worlds + Drop + Sync, F: Finder> Front<'f, W, F>
 where
     W::Delta: Drop,
+    W::Snapshot: Drop + Sync,
 {
     /// The command whose reply is owed.
     pub(crate) fn owed_command(&self) -> Option<Command>

@@ -37,6 +37,7 @@ pub fn serve<R: Read, W: Write, S: Worlds + Drop + Sync, F: Finder>(
 ) -> Result<End, LineEnd>
 where
     S::Delta: Drop,
+    S::Snapshot: Drop + Sync,
     requires table { front.old.table ≡ journal.now }
     requires reader { r.old.failed ≡ false }
     requires writer { w.old.failed ≡ false }
@@ -79,6 +80,7 @@ fn answer_lines<W: Write, S: Worlds + Drop + Sync, F: Finder>(
 ) -> Result<bool, LineEnd>
 where
     S::Delta: Drop,
+    S::Snapshot: Drop + Sync,
     requires { front.old.table ≡ journal.now }
     ensures table { front.new.table ≡ front.old.table }
     ensures answers { (from left old : Option (List ℕ)) (d : FrontState) (before : List ℕ)

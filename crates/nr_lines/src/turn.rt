@@ -24,6 +24,7 @@ pub(crate) fn turn<W: Write, S: Worlds + Drop + Sync, F: Finder>(
 ) -> Result<bool, LineEnd>
 where
     S::Delta: Drop,
+    S::Snapshot: Drop + Sync,
     requires { front.old.table ≡ journal.now }
     ensures table { front.new.table ≡ front.old.table }
     ensures quits { IfOk result (λ quits. quits ≡ is_quit (meaning_of line.now)) }
@@ -72,6 +73,7 @@ fn reply_to_line<S: Worlds + Drop + Sync, F: Finder>(
 ) -> Option<Reply>
 where
     S::Delta: Drop,
+    S::Snapshot: Drop + Sync,
     requires { front.old.table ≡ journal.now }
     ensures table { front.new.table ≡ front.old.table }
     ensures reply { MayReply asked front.old result front.new }

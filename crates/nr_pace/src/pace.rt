@@ -81,7 +81,10 @@ fn time_there_and_back<W: Worlds + Drop, C: Clock>(
 fn time_search<W: Worlds + Drop + Sync, H: Threads + Sync, C: Clock>(
     clock: &C,
     film: &Film<W>,
-) -> Result<u64, Fault> {
+) -> Result<u64, Fault>
+where
+    W::Snapshot: Drop + Sync,
+{
     let marks = vain_watch();
     let then = now(clock)?;
     search::<W, H>(film, &marks)?;
@@ -112,7 +115,10 @@ fn measure_search<W: Worlds + Drop + Sync, H: Threads + Sync, C: Clock>(
     clock: &C,
     film: &Film<W>,
     least: &mut Pace,
-) -> Result<(), Fault> {
+) -> Result<(), Fault>
+where
+    W::Snapshot: Drop + Sync,
+{
     for _ in 0..RUNS {
         let searched = time_search::<W, H, C>(clock, film)?;
         least.search = least.search.min(searched);
@@ -128,6 +134,7 @@ fn least_of<W: Worlds + Drop + Sync, H: Threads + Sync, C: Clock>(
 ) -> Result<Pace, Fault>
 where
     W::Delta: Drop,
+    W::Snapshot: Drop + Sync,
 {
     let mut least = Pace {
         advance: u64::MAX,
@@ -161,6 +168,7 @@ pub(crate) fn pace_of<W: Worlds + Drop + Sync, H: Threads + Sync, C: Clock>(
 ) -> Result<Pace, Fault>
 where
     W::Delta: Drop,
+    W::Snapshot: Drop + Sync,
 {
     let Ok(recording) = read(alloc, bytes) else {
         return Err(Fault::Recording);

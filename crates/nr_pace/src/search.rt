@@ -19,7 +19,10 @@ const NOBODY: Cell = Cell::Goroutine(4_294_967_295);
 pub(crate) fn film_of<W: Worlds + Drop>(
     alloc: Global,
     recording: Recording,
-) -> Result<Film<W>, Fault> {
+) -> Result<Film<W>, Fault>
+where
+    W::Snapshot: Drop,
+{
     Snaps::load(alloc, recording, COPY_EVERY).map_err(|_fault| Fault::Recording)
 }
 
@@ -35,7 +38,10 @@ pub(crate) fn vain_watch() -> Marks {
 pub(crate) fn search<W: Worlds + Drop + Sync, R: Threads + Sync>(
     film: &Film<W>,
     marks: &Marks,
-) -> Result<(), Fault> {
+) -> Result<(), Fault>
+where
+    W::Snapshot: Drop + Sync,
+{
     let finder = OneWorker::<R>::new();
     nearest_hit(&finder, film, marks, Direction::Forward, 0)?;
     Ok(())

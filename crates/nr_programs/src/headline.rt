@@ -34,6 +34,7 @@ pub fn value_at<W: Worlds + Drop>(
 ) -> Result<CellValue, AllocError>
 where
     W::Delta: Drop,
+    W::Snapshot: Drop,
     requires { n ≤ length walker.old.film.recording.steps }
     ensures value { IfOk result (λ value. value ≡ cell (world_at walker.old.film.recording n) what) }
     ensures there { OnOk result (walker.new.position ≡ n) }

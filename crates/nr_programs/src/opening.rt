@@ -56,6 +56,8 @@ const COPY_EVERY: usize = 1_024;
 /// Reads the recording that the bytes are a text of, and replays it once. Else returns the first
 /// fault: of the lines, or, where they are all right, of the steps; or that there was no memory.
 pub(crate) fn open<W: Worlds + Drop>(alloc: Global, bytes: &[u8]) -> Result<Film<W>, OpenFault>
+where
+    W::Snapshot: Drop,
     ensures film { IfOk result (λ film. IsGoodText bytes.now film.recording) }
     ensures every { IfOk result (λ film. film.every ≡ 1024) }
     ensures fault { IfErr result (IsFirstFault bytes.now) }

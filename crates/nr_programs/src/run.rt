@@ -83,6 +83,7 @@ pub fn run_bytes<W, R, I, O>(
 where
     W: Worlds + Drop + Sync,
     W::Delta: Drop,
+    W::Snapshot: Drop + Sync,
     R: Threads + Wait + Sync,
     I: Read,
     O: Write,
@@ -117,6 +118,7 @@ fn walk<W, R, I, O>(
 where
     W: Worlds + Drop + Sync,
     W::Delta: Drop,
+    W::Snapshot: Drop + Sync,
     R: Threads + Wait + Sync,
     I: Read,
     O: Write,
@@ -168,6 +170,8 @@ pub fn check_bytes<W: Worlds + Drop, O: Write>(
     bytes: &[u8],
     output: &mut Sink<O>,
 ) -> ExitStatus
+where
+    W::Snapshot: Drop,
     // What was written, whatever the bytes are.
     ensures checks { Checks bytes.now output.old output.new result }
 
@@ -186,6 +190,8 @@ pub fn check_bytes<W: Worlds + Drop, O: Write>(
 
 // Prints that the film has so many steps.
 fn accept<W: Worlds + Drop, O: Write>(film: &Film<W>, output: &mut Sink<O>) -> ExitStatus
+where
+    W::Snapshot: Drop,
     ensures { EndsPrinting (ok_line film.now.recording) statuses.Done
         output.old output.new result }
 {

@@ -41,6 +41,7 @@ pub fn serve_bytes<W, R, P, O>(
 where
     W: Worlds + Drop + Send + Sync,
     W::Delta: Drop + Send,
+    W::Snapshot: Drop + Sync,
     R: Threads + Wait + Sync,
     P: Ports,
     O: Write,
@@ -71,6 +72,7 @@ fn share_film<W, R, P, O>(
 where
     W: Worlds + Drop + Send + Sync,
     W::Delta: Drop + Send,
+    W::Snapshot: Drop + Sync,
     R: Threads + Wait + Sync,
     P: Ports,
     O: Write,
@@ -92,6 +94,7 @@ fn share_among<W, R, P>(
 where
     W: Worlds + Drop + Send + Sync,
     W::Delta: Drop + Send,
+    W::Snapshot: Drop + Sync,
     R: Threads + Wait + Sync,
     P: Ports,
     requires { is_in_range sharing ≡ true }

@@ -27,6 +27,8 @@ pub fn upgrade_bytes<W: Worlds + Drop, O: Write>(
     bytes: &[u8],
     output: &mut Sink<O>,
 ) -> ExitStatus
+where
+    W::Snapshot: Drop,
     // What was written, whatever the bytes are.
     ensures upgrades { Upgrades bytes.now output.old output.new result }
 
@@ -47,6 +49,8 @@ fn write_answered<W: Worlds + Drop, O: Write>(
     film: &Film<W>,
     output: &mut Sink<O>,
 ) -> ExitStatus
+where
+    W::Snapshot: Drop,
     ensures { WritesAnswered film.now.recording output.old output.new result }
 {
     let Ok(recording) = film.with_answers(alloc) else {

@@ -50,10 +50,10 @@ adds_one starts all old mid new start done whole (more, behind, are) is put = (
 pub adds_none : (starts : List FrontState) (old : List Done) → starts ≡ [] → Adds starts old old
 adds_none starts old none = ([], sym (append-nil old), subst (λ (l : List FrontState). AreServed l []) (sym none) tt)
 
--- what is behind the first eight of some facts
-pub behind_eight : {A B C D E F G H R : Type 0} → A × (B × (C × (D × (E × (F × (G × (H × R))))))) → R
-behind_eight (a, (b, (c, (d, (e, (f, (g, (h, rest)))))))) = rest
+-- what is behind the first nine of some facts
+pub behind_nine : {A B C D E F G H I R : Type 0} → A × (B × (C × (D × (E × (F × (G × (H × (I × R)))))))) → R
+behind_nine (a, (b, (c, (d, (e, (f, (g, (h, (i, rest))))))))) = rest
 
--- eight facts, and others behind them
-pub eight_before : {A B C D E F G H R : Type 0} → A × (B × (C × (D × (E × (F × (G × H)))))) → R → A × (B × (C × (D × (E × (F × (G × (H × R)))))))
-eight_before (a, (b, (c, (d, (e, (f, (g, h))))))) rest = (a, (b, (c, (d, (e, (f, (g, (h, rest))))))))
+-- nine facts, and others behind them
+pub nine_before : {A B C D E F G H I R : Type 0} → A × (B × (C × (D × (E × (F × (G × (H × I))))))) → R → A × (B × (C × (D × (E × (F × (G × (H × (I × R))))))))
+nine_before (a, (b, (c, (d, (e, (f, (g, (h, i)))))))) rest = (a, (b, (c, (d, (e, (f, (g, (h, (i, rest)))))))))

@@ -51,6 +51,7 @@ where
     O: Write + Drop,
     W: Worlds + Drop + Sync,
     W::Delta: Drop,
+    W::Snapshot: Drop + Sync,
     F: Finder,
     requires { front.old.table ≡ journal.now }
     ensures table { front.new.table ≡ front.old.table }
@@ -80,6 +81,7 @@ where
     R: Wait,
     W: Worlds + Drop + Sync,
     W::Delta: Drop,
+    W::Snapshot: Drop + Sync,
     F: Finder,
     C: Connection,
     requires { front.old.table ≡ journal.now }
@@ -110,6 +112,7 @@ where
     R: Wait,
     W: Worlds + Drop + Sync,
     W::Delta: Drop,
+    W::Snapshot: Drop + Sync,
     F: Finder + Drop,
     C: Connections + Drop,
     requires { front.table ≡ journal.now }
@@ -151,6 +154,7 @@ where
     R: Threads + Wait + Sync,
     W: Worlds + Drop + Send + Sync,
     W::Delta: Drop + Send,
+    W::Snapshot: Drop + Sync,
     F: Finder + Drop + Send,
     C: Connections + Drop + Send,
     requires tables { All (λ f. f.0.table ≡ journal.now) fronts.items }
@@ -165,13 +169,14 @@ where
     let (one, mut done) = join(
         rt,
         move || -> Done
-            requires { IsSync R.row × IsSync W.row × IsSync F.Runtime.row × IsSync F.Gate.row
-                × (front.table ≡ journal.now) }
+            requires { IsSync R.row × IsSync W.row × IsSync W.Snapshot.row × IsSync F.Runtime.row
+                × IsSync F.Gate.row × (front.table ≡ journal.now) }
             ensures { IsServed front.entry result }
         { serve_one(rt, journal, front, connections) },
         move || -> Vec<Done>
-            requires { IsSync R.row × IsSend W.row × IsSync W.row × IsSend W.Delta.row × IsSend F.row
-                × IsSync F.Runtime.row × IsSync F.Gate.row × IsSend C.row × IsSend C.Connection.row
+            requires { IsSync R.row × IsSend W.row × IsSync W.row × IsSend W.Delta.row
+                × IsSync W.Snapshot.row × IsSend F.row × IsSync F.Runtime.row × IsSync F.Gate.row
+                × IsSend C.row × IsSend C.Connection.row
                 × All (λ f. f.0.table ≡ journal.now) fronts.items
                 × (vec_len done + vec_len fronts ≤ vec_capacity done) }
             ensures served { Adds (map (λ f. f.0) fronts.entry.items) done.items result.items }
@@ -190,6 +195,7 @@ fn pop_front<'f, W: Worlds + Drop + Sync, F: Finder, C>(
 ) -> Option<(Front<'f, W, F>, C)>
 where
     W::Delta: Drop,
+    W::Snapshot: Drop + Sync,
     requires { All (λ f. f.0.table ≡ journal.now) fronts.old.items }
     ensures some { IfSome result (λ f. (f.0.table ≡ journal.now)
         × (vec_len fronts.new + 1 ≡ vec_len fronts.old)) }

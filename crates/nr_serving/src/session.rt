@@ -87,6 +87,7 @@ fn open_front<'f, W: Worlds + Drop + Sync, F: Finder + Drop>(
 ) -> Result<Front<'f, W, F>, Unshared>
 where
     W::Delta: Drop,
+    W::Snapshot: Drop + Sync,
     requires table { seat.old.table ≡ journal.now }
     requires depth { (LEAST_DEPTH ≤ depth) × (depth ≤ MOST_DEPTH) }
     ensures table { seat.new.table ≡ journal.now }
@@ -112,6 +113,7 @@ fn open_fronts<'f, W: Worlds + Drop + Sync, F: Finder + Copy + Drop, P: Ports>(
 ) -> Result<Vec<(Front<'f, W, F>, P::Callers)>, Unshared>
 where
     W::Delta: Drop,
+    W::Snapshot: Drop + Sync,
     requires table { seat.table ≡ journal.now }
     requires depth { (LEAST_DEPTH ≤ shape.depth) × (shape.depth ≤ MOST_DEPTH) }
     ensures fresh { IfOk result (λ fronts.
@@ -206,6 +208,7 @@ pub fn share<W, F, R, P>(
 where
     W: Worlds + Drop + Send + Sync,
     W::Delta: Drop + Send,
+    W::Snapshot: Drop + Sync,
     F: Finder + Copy + Drop + Send,
     R: Threads + Wait + Sync,
     P: Ports,
