@@ -118,9 +118,9 @@ fn serve_both<R: Wait + Threads + Sync>(
     requires one { one.old.table ≡ journal.now }
     requires other { other.old.table ≡ journal.now }
 {
-    film.snap_below(0).refuse(scripts.first.refused);
+    film.start().refuse(scripts.first.refused);
     let before = serve_script(rt, alloc, scripts.first, one, journal);
-    film.snap_below(0).refuse(scripts.second.refused);
+    film.start().refuse(scripts.second.refused);
     let behind = match scripts.by {
         Second::Same => serve_script(rt, alloc, scripts.second, one, journal),
         Second::Other => serve_script(rt, alloc, scripts.second, other, journal),

@@ -149,7 +149,7 @@ fn take_turns_over<R: Threads + Sync>(
 ) -> Option<(Vec<Answered>, Ended)> {
     let words = turns.room.clamp(1, 8);
     let (journal, mut one, mut other, third) = share(rt, alloc, words, film)?;
-    film.snap_below(0).refuse(turns.refused);
+    film.start().refuse(turns.refused);
     let answers = ask_all(alloc, &journal, &mut one, &mut other, turns.lines);
     let ended = end(alloc, &journal, one.end(), other.end(), third);
     Some((answers.ok()?, ended?))

@@ -4,6 +4,7 @@ use crate::films::Recorded;
 use crate::fronts::Play;
 use crate::twice::Twice;
 use crate::walks::Leg;
+use crate::worlds::Made;
 use crate::{films, fronts, journals, parts, searches, serving, texts, walks, worlds};
 use nr_machine::World;
 use nr_plain::PlainWorld;
@@ -22,11 +23,17 @@ pub(crate) enum Call {
     FreshPlain,
     Copy,
     CopyPlain,
+    Snapshot,
+    SnapshotPlain,
+    Restored,
+    RestoredPlain,
     TableWithLimits,
     SockWithLimits,
     TimersWithLimits,
     TableCopy,
     SockCopy,
+    SockSnapshot,
+    SockRestored,
     TimersCopy,
     WalkerNew,
     GoForward,
@@ -53,7 +60,7 @@ pub(crate) enum Call {
 }
 
 /// Their names.
-pub(crate) static CALLS: [(&str, Call); 36] = [
+pub(crate) static CALLS: [(&str, Call); 42] = [
     ("read", Call::Read),
     ("write", Call::Write),
     ("load", Call::Load),
@@ -62,11 +69,17 @@ pub(crate) static CALLS: [(&str, Call); 36] = [
     ("fresh-plain", Call::FreshPlain),
     ("copy", Call::Copy),
     ("copy-plain", Call::CopyPlain),
+    ("snapshot", Call::Snapshot),
+    ("snapshot-plain", Call::SnapshotPlain),
+    ("restored", Call::Restored),
+    ("restored-plain", Call::RestoredPlain),
     ("goroutines-with-limits", Call::TableWithLimits),
     ("buffers-with-limits", Call::SockWithLimits),
     ("timers-with-limits", Call::TimersWithLimits),
     ("goroutines-copy", Call::TableCopy),
     ("buffers-copy", Call::SockCopy),
+    ("buffers-snapshot", Call::SockSnapshot),
+    ("buffers-restored", Call::SockRestored),
     ("timers-copy", Call::TimersCopy),
     ("walker-new", Call::WalkerNew),
     ("goto-forward", Call::GoForward),
@@ -120,9 +133,24 @@ impl Call {
             Call::Upgrade => Some(texts::upgrade_twice(rt)),
             Call::Fresh => Some(worlds::make_twice::<World>(rt)),
             Call::FreshPlain => Some(worlds::make_twice::<PlainWorld>(rt)),
-            Call::Copy => worlds::copy_twice::<World>(rt),
-            Call::CopyPlain => worlds::copy_twice::<PlainWorld>(rt),
             Call::Serve => Some(serving::serve_twice(rt, handles)),
+            _ => self.make_of_world_twice(rt, handles),
+        }
+    }
+
+    // The calls that copy a world, put it to rest or restore it.
+    fn make_of_world_twice<H: Threads + Sync>(
+        self,
+        rt: &HostRuntime,
+        handles: &H,
+    ) -> Option<Twice> {
+        match self {
+            Call::Copy => worlds::make_of_world_twice::<World>(rt, Made::Copy),
+            Call::CopyPlain => worlds::make_of_world_twice::<PlainWorld>(rt, Made::Copy),
+            Call::Snapshot => worlds::make_of_world_twice::<World>(rt, Made::Snapshot),
+            Call::SnapshotPlain => worlds::make_of_world_twice::<PlainWorld>(rt, Made::Snapshot),
+            Call::Restored => worlds::make_of_world_twice::<World>(rt, Made::Restored),
+            Call::RestoredPlain => worlds::make_of_world_twice::<PlainWorld>(rt, Made::Restored),
             _ => self.make_part_twice(rt, handles),
         }
     }
@@ -135,6 +163,8 @@ impl Call {
             Call::TimersWithLimits => Some(parts::make_timers_twice(rt)),
             Call::TableCopy => parts::copy_table_twice(rt),
             Call::SockCopy => parts::copy_sock_twice(rt),
+            Call::SockSnapshot => parts::rest_sock_twice(rt),
+            Call::SockRestored => parts::restore_sock_twice(rt),
             Call::TimersCopy => parts::copy_timers_twice(rt),
             Call::WalkerNew => walks::make_twice(rt),
             Call::GoForward => walks::go_twice(rt, &Leg::FORWARD),

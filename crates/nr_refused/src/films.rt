@@ -58,7 +58,10 @@ fn is_whole(film: &Film<World>) -> bool {
     let mut is_whole = film.len() == STEPS && film.every() == EVERY;
     for n in 0..=STEPS {
         if n <= film.len() {
-            is_whole &= is_at(film.snap_below(n), n / EVERY * EVERY);
+            is_whole &= match film.world_below(n) {
+                Ok(world) => is_at(&world, n / EVERY * EVERY),
+                Err(AllocError) => false,
+            };
         }
     }
     is_whole

@@ -4,7 +4,7 @@
 use crate::twice::{Came, Twice, grant, refuse};
 use nr_gsema::{GOperation, GTable};
 use nr_rev::{Bytes, Refusal, Reversible, Side, Status, Step, TimerFunction};
-use nr_sockbuf::Sock;
+use nr_sockbuf::{Sock, SockSnapshot};
 use nr_timers::{Timers, TimersOp};
 use std::alloc::{AllocError, Global};
 
@@ -113,6 +113,45 @@ pub(crate) fn copy_sock_twice(rt: &HostRuntime) -> Option<Twice> {
     Some(Twice {
         first: came_of_sock(first, b"hi").leaving(has_bytes(&sock, b"hi")),
         again: came_of_sock(sock.try_copy(), b"hi"),
+    })
+}
+
+// Whether the buffers that are restored from a snapshot have just the two bytes.
+fn keeps_two(alloc: Global, snapshot: &SockSnapshot) -> bool {
+    match snapshot.restored(alloc) {
+        Ok(sock) => has_bytes(&sock, b"hi"),
+        Err(AllocError) => false,
+    }
+}
+
+fn came_of_rest(made: Result<SockSnapshot, AllocError>, alloc: Global) -> Came {
+    match made {
+        Ok(snapshot) => Came::of(keeps_two(alloc, &snapshot)),
+        Err(AllocError) => Came::Refused,
+    }
+}
+
+/// Puts a socket's buffers to rest twice.
+pub(crate) fn rest_sock_twice(rt: &HostRuntime) -> Option<Twice> {
+    let sock = sock_of_two(rt.alloc())?;
+    refuse(rt);
+    let first = sock.snapshot();
+    grant(rt);
+    Some(Twice {
+        first: came_of_rest(first, rt.alloc()).leaving(has_bytes(&sock, b"hi")),
+        again: came_of_rest(sock.snapshot(), rt.alloc()),
+    })
+}
+
+/// Restores a socket's buffers twice.
+pub(crate) fn restore_sock_twice(rt: &HostRuntime) -> Option<Twice> {
+    let snapshot = sock_of_two(rt.alloc())?.snapshot().ok()?;
+    refuse(rt);
+    let first = snapshot.restored(rt.alloc());
+    grant(rt);
+    Some(Twice {
+        first: came_of_sock(first, b"hi").leaving(keeps_two(rt.alloc(), &snapshot)),
+        again: came_of_sock(snapshot.restored(rt.alloc()), b"hi"),
     })
 }
 

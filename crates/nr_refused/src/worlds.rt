@@ -1,4 +1,6 @@
-//! Worlds of either representation: they are made and copied.
+//! Worlds of either representation: they are made, copied, put to rest and restored.
+
+ghost use Rattle.std.specs.Prelude.{◌≡◌};
 
 use crate::films::is_at;
 use crate::texts::TEXT;
@@ -125,16 +127,122 @@ fn copy_both<W: Worlds + Drop>(rt: &HostRuntime, world: &W) -> Twice
     }
 }
 
-// Copies a world that the recording leads to that position.
-fn copy_recorded<W: Worlds + Drop>(rt: &HostRuntime, recording: &Recording) -> Option<Twice> {
-    let mut world = W::fresh(rt.alloc(), LIMITS).ok()?;
-    let has_applied = lead(&mut world, recording);
-    let twice = copy_both(rt, &world);
-    if has_applied { Some(twice) } else { None }
+// Whether the world that is restored from a snapshot is like this one.
+fn keeps<W: Worlds + Drop>(world: &W, snapshot: &W::Snapshot) -> bool
+    requires well_formed { W.is_well_formed world.now }
+    requires kept { W.kept snapshot.now ≡ world.now }
+{
+    match W::restored(snapshot) {
+        Ok(restored) => are_alike(world, &restored),
+        Err(_) => false,
+    }
 }
 
-/// Copies a world at that position twice.
-pub(crate) fn copy_twice<W: Worlds + Drop>(rt: &HostRuntime) -> Option<Twice> {
+// Puts a world to rest. From then on there is memory.
+fn rest<W: Worlds + Drop>(rt: &HostRuntime, world: &W) -> Came
+where
+    W::Snapshot: Drop,
+    requires { W.is_well_formed world.now }
+{
+    match world.snapshot() {
+        Ok(snapshot) => {
+            grant(rt);
+            Came::of(keeps(world, &snapshot))
+        }
+        Err(Refusal::Memory) => {
+            grant(rt);
+            Came::Refused.leaving(is_at(world, ARRIVED))
+        }
+        Err(_) => Came::Wrong,
+    }
+}
+
+fn rest_both<W: Worlds + Drop>(rt: &HostRuntime, world: &W) -> Twice
+where
+    W::Snapshot: Drop,
+    requires { W.is_well_formed world.now }
+{
+    refuse(rt);
+    let first = rest(rt, world);
+    Twice {
+        first,
+        again: rest(rt, world),
+    }
+}
+
+// Restores a world from its snapshot. From then on there is memory.
+fn restore<W: Worlds + Drop>(rt: &HostRuntime, world: &W, snapshot: &W::Snapshot) -> Came
+    requires well_formed { W.is_well_formed world.now }
+    requires kept { W.kept snapshot.now ≡ world.now }
+{
+    match W::restored(snapshot) {
+        Ok(restored) => {
+            grant(rt);
+            Came::of(are_alike(world, &restored))
+        }
+        Err(Refusal::Memory) => {
+            grant(rt);
+            Came::Refused.leaving(keeps(world, snapshot))
+        }
+        Err(_) => Came::Wrong,
+    }
+}
+
+fn restore_both<W: Worlds + Drop>(rt: &HostRuntime, world: &W) -> Option<Twice>
+where
+    W::Snapshot: Drop,
+    requires { W.is_well_formed world.now }
+{
+    let snapshot = world.snapshot().ok()?;
+    refuse(rt);
+    let first = restore(rt, world, &snapshot);
+    Some(Twice {
+        first,
+        again: restore(rt, world, &snapshot),
+    })
+}
+
+/// What is made of a world.
+#[derive(Clone, Copy)]
+pub(crate) enum Made {
+    Copy,
+    Snapshot,
+    /// The world, from its snapshot.
+    Restored,
+}
+
+fn make_of<W: Worlds + Drop>(rt: &HostRuntime, world: &W, made: Made) -> Option<Twice>
+where
+    W::Snapshot: Drop,
+    requires { W.is_well_formed world.now }
+{
+    match made {
+        Made::Copy => Some(copy_both(rt, world)),
+        Made::Snapshot => Some(rest_both(rt, world)),
+        Made::Restored => restore_both(rt, world),
+    }
+}
+
+// Makes it of a world that the recording leads to that position.
+fn make_of_recorded<W: Worlds + Drop>(
+    rt: &HostRuntime,
+    recording: &Recording,
+    made: Made,
+) -> Option<Twice>
+where
+    W::Snapshot: Drop,
+{
+    let mut world = W::fresh(rt.alloc(), LIMITS).ok()?;
+    let has_applied = lead(&mut world, recording);
+    let twice = make_of(rt, &world, made);
+    if has_applied { twice } else { None }
+}
+
+/// Makes it of a world at that position twice.
+pub(crate) fn make_of_world_twice<W: Worlds + Drop>(rt: &HostRuntime, made: Made) -> Option<Twice>
+where
+    W::Snapshot: Drop,
+{
     let recording = read(rt.alloc(), TEXT.as_bytes()).ok()?;
-    copy_recorded::<W>(rt, &recording)
+    make_of_recorded::<W>(rt, &recording, made)
 }

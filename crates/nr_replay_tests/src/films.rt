@@ -29,7 +29,10 @@ pub(crate) fn recording_of(alloc: Global, steps: Vec<Step>) -> Option<Recording>
 }
 
 /// The film of these steps, with a copy each 64 of them, where they all apply.
-pub fn film_of<W: Worlds + Drop>(alloc: Global, steps: Vec<Step>) -> Option<Film<W>> {
+pub fn film_of<W: Worlds + Drop>(alloc: Global, steps: Vec<Step>) -> Option<Film<W>>
+where
+    W::Snapshot: Drop,
+{
     let recording = recording_of(alloc, steps)?;
     Snaps::load(alloc, recording, 64).ok()
 }
@@ -43,7 +46,10 @@ pub fn add_ticks(steps: &mut Vec<Step>, count: u32) -> Result<(), AllocError> {
 }
 
 /// A film of so many steps that set the clock to 1, 2 and so on, with a copy each 64 steps.
-pub fn ticking<W: Worlds + Drop>(alloc: Global, count: u32) -> Option<Film<W>> {
+pub fn ticking<W: Worlds + Drop>(alloc: Global, count: u32) -> Option<Film<W>>
+where
+    W::Snapshot: Drop,
+{
     let mut steps = Vec::new(alloc);
     add_ticks(&mut steps, count).ok()?;
     film_of(alloc, steps)

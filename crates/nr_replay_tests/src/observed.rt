@@ -18,8 +18,8 @@ pub struct Observed {
     // calls of `apply` and of `undo` since it was made
     applies: u32,
     undos: u32,
-    // how often it was copied
-    copies: AtomicU32,
+    // how often `was_seen` was asked of it
+    seen: AtomicU32,
     // bit by bit from the lowest: whether the next copy is refused, and the one behind it, and so on
     refusals: AtomicU32,
 }
@@ -40,7 +40,7 @@ impl Observed {
             world,
             applies: 0,
             undos: 0,
-            copies: AtomicU32::new(0),
+            seen: AtomicU32::new(0),
             refusals: AtomicU32::new(0),
         }
     }
@@ -50,9 +50,9 @@ impl Observed {
         (self.applies, self.undos)
     }
 
-    /// How often it was copied.
-    pub fn copies(&self) -> u32 {
-        self.copies.load(Ordering::SeqCst)
+    /// Whether this was asked before of this very world: it wasn't of a copy that was made since.
+    pub fn was_seen(&self) -> bool {
+        self.seen.fetch_add(1, Ordering::SeqCst) > 0
     }
 
     /// Of the copies to come those are refused whose bits are set, from the lowest on.
@@ -119,7 +119,11 @@ impl Reversible for Observed {
 impl Worlds for Observed {
     ghost use Rattle.nr_plain.specs.Worlds.{meant, steps_are, reasons_are, memory_is_for_bytes, bytes_out_are, means_well_formed};
 
+    type Snapshot = <PlainWorld as Worlds>::Snapshot;
+
     ghost world = { meant };
+
+    ghost kept = { λ snapshot. snapshot };
 
     fn fresh(alloc: Global, limits: Limits) -> Result<Self, Refusal> {
         Ok(Observed::around(PlainWorld::fresh(alloc, limits)?))
@@ -131,8 +135,15 @@ impl Worlds for Observed {
         if refusals % 2 == 1 {
             return Err(Refusal::Memory);
         }
-        self.copies.fetch_add(1, Ordering::SeqCst);
         Ok(Observed::around(self.world.try_copy()?))
+    }
+
+    fn snapshot(&self) -> Result<Self::Snapshot, Refusal> {
+        self.world.snapshot()
+    }
+
+    fn restored(snapshot: &Self::Snapshot) -> Result<Self, Refusal> {
+        Ok(Observed::around(PlainWorld::restored(snapshot)?))
     }
 
     fn advance(&mut self, step: &Step) -> Result<Answer, Refusal> {

@@ -23,7 +23,8 @@ fn clock_below(film: &Film<World>, n: usize) -> Option<CellValue> {
     if n > film.len() {
         return None;
     }
-    Some(film.snap_below(n).cell(Cell::Clock))
+    let world = film.world_below(n).ok()?;
+    Some(world.cell(Cell::Clock))
 }
 
 #[test]

@@ -3,20 +3,8 @@
 use crate::films::ticking;
 use crate::observed::Observed;
 use nr_rev::{Cell, CellValue, Worlds};
-use nr_snaps::Film;
 use nr_walker::{Moved, Walker};
 use std::test::Fail;
-
-/// How many copies were made of the film's worlds.
-fn copies(film: &Film<Observed>) -> u32 {
-    let mut copies: u32 = 0;
-    for position in [0, 64, 128, 192] {
-        if position <= film.len() {
-            copies = copies.wrapping_add(film.snap_below(position).copies());
-        }
-    }
-    copies
-}
 
 /// Goes to a position that the film has: what it took, as it returns it and as the worlds counted it, and how many deltas
 /// are kept.
@@ -24,16 +12,17 @@ fn go(walker: &mut Walker<Observed>, n: usize) -> Option<(Moved, Moved, usize)> 
     if n > walker.film().len() {
         return None;
     }
-    let (before, copied) = (walker.world().moves(), copies(walker.film()));
+    let before = walker.world().moves();
+    let _ = walker.world().was_seen();
     let reported = walker.goto(n).ok()?;
-    let made = copies(walker.film()).wrapping_sub(copied);
+    let is_copy = !walker.world().was_seen();
     let (applies, undos) = walker.world().moves();
     // a copy begins to count anew
-    let since = if made == 0 { before } else { (0, 0) };
+    let since = if is_copy { (0, 0) } else { before };
     let counted = Moved {
         applies: applies.wrapping_sub(since.0) as usize,
         undos: undos.wrapping_sub(since.1) as usize,
-        copies: made as usize,
+        copies: usize::from(is_copy),
     };
     Some((reported, counted, walker.kept()))
 }
