@@ -1,8 +1,8 @@
 #!/usr/bin/env python3
 """Measures how fast a session is shared:  bench/serving.py
 
-Prints commands a second through one front, over a pipe (`netrev run`) and over the loopback, with all lines sent at
-once; commands a second in all through several fronts that place 1,000 each at the same time, each by a connection over
+Prints commands and looks a second through one front, over a pipe (`netrev run`) and over the loopback, with all lines sent
+at once; commands a second in all through several fronts that place 1,000 each at the same time, each by a connection over
 the loopback, and how long the slowest front then takes until a look shows them all; and round trips a second of one
 caller who waits for each reply. Each is the best of three. There are no limits; a reply that isn't right ends it.
 """
@@ -24,17 +24,32 @@ EACH = 1_000
 RUNS = 3
 
 
-def run_piped(recording):
-    """Seconds of `netrev run` for many commands, loading left out."""
+def run_piped(recording, lines, replies):
+    """Seconds of `netrev run` for these lines again and again, MANY in all, loading left out."""
     seconds = []
-    for count in (0, MANY):
-        lines = "stepi\n" * count + "info position\n"
+    for count in (0, MANY // len(lines)):
+        asked = "".join(f"{line}\n" for line in lines) * count
         began = time.perf_counter()
         words = [NETREV, "run", recording]
-        ended = subprocess.run(words, input=lines.encode(), capture_output=True, timeout=60, check=True)
+        ended = subprocess.run(words, input=asked.encode(), capture_output=True, timeout=60, check=True)
         seconds.append(time.perf_counter() - began)
-        expect("the last reply", f"at {count} of {STEPS} forward", ended.stdout.decode().splitlines()[-1])
+        expect("the last replies", replies(count), ended.stdout.decode().splitlines()[-len(lines):])
     return seconds[1] - seconds[0]
+
+
+def stepped(count):
+    """The last reply to so many steps."""
+    return [f"at {count}"] if count else []
+
+
+def clocks(count):
+    """The last of so many looks at the clock."""
+    return ["clock = 0"] if count else []
+
+
+def stepped_with_clocks(count):
+    """The last replies to so many steps with a look behind each."""
+    return stepped(count) + clocks(count)
 
 
 def place(caller, count):
@@ -104,12 +119,16 @@ def main():
         with open(recording, "wb") as out:
             subprocess.run(words, stdout=out, timeout=60, check=True)
 
-        piped = min(run_piped(recording) for _ in range(RUNS))
+        piped = min(run_piped(recording, ["stepi"], stepped) for _ in range(RUNS))
+        looked = min(run_piped(recording, ["print clock"], clocks) for _ in range(RUNS))
+        both = min(run_piped(recording, ["stepi", "print clock"], stepped_with_clocks) for _ in range(RUNS))
         alone, _ = min(share(recording, 1, MANY) for _ in range(RUNS))
         trips = min(wait_for_each(recording, MANY // 5) for _ in range(RUNS))
         print("| One front | a second |")
         print("|---|--:|")
         print(f"| commands over a pipe, sent at once | {MANY / piped:,.0f} |")
+        print(f"| looks over a pipe, sent at once | {MANY / looked:,.0f} |")
+        print(f"| steps and looks by turns over a pipe, sent at once | {MANY / both:,.0f} |")
         print(f"| commands over the loopback, sent at once | {MANY / alone:,.0f} |")
         print(f"| round trips over the loopback | {MANY // 5 / trips:,.0f} |")
         print()
