@@ -2,14 +2,19 @@
 """Measures how fast a shared session searches with several workers:  bench/searching.py [WORKERS ..]
 
 Prints, for 1, 2 and 4 workers or those that are given, positions a second of a `continue` and of a `reverse-continue` over
-a recording of 1,000,000 steps in which no mark hits, the best of three, and the `continue` as a multiple of one worker's.
-There are no limits; a reply that isn't right ends it.
+a recording of 1,000,000 steps in which no mark hits. Beside it is what the machine gives: as many sessions of their own,
+with one worker each, which search the same at once, and the positions of all together. Each is the best of RUNS. The last
+column is the `continue` of the workers, divided by that of the sessions. There are no limits; a reply that isn't right ends
+it.
 """
 
+import os
 import subprocess
 import sys
 import tempfile
+import threading
 import time
+from concurrent.futures import ThreadPoolExecutor
 from pathlib import Path
 
 sys.path.insert(0, str(Path(__file__).resolve().parent.parent / "scripts"))
@@ -17,7 +22,7 @@ sys.path.insert(0, str(Path(__file__).resolve().parent.parent / "scripts"))
 from sharing import ROOT, Server, Wrong, expect  # noqa: E402
 
 STEPS = 1_000_000
-RUNS = 3
+RUNS = int(os.environ.get("RUNS", "5"))
 MARKS = {"break @4294967295": "mark 1", "watch lock 4294967295": "mark 2"}
 SEARCHES = {"continue": f"at {STEPS} end", "reverse-continue": "at 0 start"}
 
@@ -31,16 +36,30 @@ def ask(stream, line, right):
     return time.perf_counter() - began
 
 
-def search(recording, workers):
-    """The least seconds of each search."""
+def session(recording, workers, start):
+    """The seconds of each search, run by run. Each begins when all sessions have come so far."""
     with Server(recording, workers=workers) as server:
         with server.call(0) as caller, caller.makefile("rw", encoding="ascii", newline="\n") as stream:
             for line, right in MARKS.items():
                 ask(stream, line, right)
-            runs = [[ask(stream, line, right) for line, right in SEARCHES.items()] for _ in range(RUNS)]
+            runs = []
+            for _ in range(RUNS):
+                for line, right in SEARCHES.items():
+                    start.wait()
+                    runs.append(ask(stream, line, right))
             ask(stream, "quit", "bye")
         server.expect_end(0, f"placed {len(MARKS) + RUNS * len(SEARCHES)}\n")
-    return [min(seconds) for seconds in zip(*runs)]
+    return runs
+
+
+def search(recording, workers, sessions):
+    """Positions a second of each search, of all sessions together, the best of all runs."""
+    start = threading.Barrier(sessions)
+    with ThreadPoolExecutor(sessions) as pool:
+        begun = [pool.submit(session, recording, workers, start) for _ in range(sessions)]
+        seconds = [it.result() for it in begun]
+    rates = [sum(STEPS / one for one in run) for run in zip(*seconds)]
+    return [max(rates[number :: len(SEARCHES)]) for number in range(len(SEARCHES))]
 
 
 def main(counts):
@@ -50,14 +69,13 @@ def main(counts):
         with open(recording, "wb") as out:
             subprocess.run(words, stdout=out, timeout=60, check=True)
 
-        print("| Workers | continue, k positions/s | reverse-continue, k positions/s | continue, times one worker's |")
-        print("|--:|--:|--:|--:|")
-        alone = None
-        for workers in counts:
-            forwards, backwards = search(recording, workers)
-            alone = alone or forwards
-            rates = [f"{STEPS / seconds / 1000:,.0f}" for seconds in (forwards, backwards)]
-            print(f"| {workers} | {rates[0]} | {rates[1]} | {alone / forwards:.2f} |")
+        columns = ("Workers", "continue, k positions/s", "reverse-continue", "sessions apart: continue", "reverse-continue", "ratio")
+        print(f"| {' | '.join(columns)} |")
+        print("|" + "--:|" * len(columns))
+        for count in counts:
+            together, apart = search(recording, count, 1), search(recording, 1, count)
+            rates = [f"{rate / 1000:,.0f}" for rate in (*together, *apart)]
+            print(f"| {count} | {' | '.join(rates)} | {together[0] / apart[0]:.2f} |")
 
 
 if __name__ == "__main__":
