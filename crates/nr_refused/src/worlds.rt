@@ -116,17 +116,6 @@ fn copy<W: Worlds + Drop>(rt: &HostRuntime, world: &W) -> Came
     }
 }
 
-fn copy_both<W: Worlds + Drop>(rt: &HostRuntime, world: &W) -> Twice
-    requires { W.is_well_formed world.now }
-{
-    refuse(rt);
-    let first = copy(rt, world);
-    Twice {
-        first,
-        again: copy(rt, world),
-    }
-}
-
 // Whether the world that is restored from a snapshot is like this one.
 fn keeps<W: Worlds + Drop>(world: &W, snapshot: &W::Snapshot) -> bool
     requires well_formed { W.is_well_formed world.now }
@@ -157,19 +146,6 @@ where
     }
 }
 
-fn rest_both<W: Worlds + Drop>(rt: &HostRuntime, world: &W) -> Twice
-where
-    W::Snapshot: Drop,
-    requires { W.is_well_formed world.now }
-{
-    refuse(rt);
-    let first = rest(rt, world);
-    Twice {
-        first,
-        again: rest(rt, world),
-    }
-}
-
 // Restores a world from its snapshot. From then on there is memory.
 fn restore<W: Worlds + Drop>(rt: &HostRuntime, world: &W, snapshot: &W::Snapshot) -> Came
     requires well_formed { W.is_well_formed world.now }
@@ -188,20 +164,6 @@ fn restore<W: Worlds + Drop>(rt: &HostRuntime, world: &W, snapshot: &W::Snapshot
     }
 }
 
-fn restore_both<W: Worlds + Drop>(rt: &HostRuntime, world: &W) -> Option<Twice>
-where
-    W::Snapshot: Drop,
-    requires { W.is_well_formed world.now }
-{
-    let snapshot = world.snapshot().ok()?;
-    refuse(rt);
-    let first = restore(rt, world, &snapshot);
-    Some(Twice {
-        first,
-        again: restore(rt, world, &snapshot),
-    })
-}
-
 /// What is made of a world.
 #[derive(Clone, Copy)]
 pub(crate) enum Made {
@@ -211,16 +173,36 @@ pub(crate) enum Made {
     Restored,
 }
 
-fn make_of<W: Worlds + Drop>(rt: &HostRuntime, world: &W, made: Made) -> Option<Twice>
+fn make_of<W: Worlds + Drop>(
+    rt: &HostRuntime,
+    world: &W,
+    snapshot: &W::Snapshot,
+    made: Made,
+) -> Came
+where
+    W::Snapshot: Drop,
+    requires well_formed { W.is_well_formed world.now }
+    requires kept { W.kept snapshot.now ≡ world.now }
+{
+    match made {
+        Made::Copy => copy(rt, world),
+        Made::Snapshot => rest(rt, world),
+        Made::Restored => restore(rt, world, snapshot),
+    }
+}
+
+fn make_both<W: Worlds + Drop>(rt: &HostRuntime, world: &W, made: Made) -> Option<Twice>
 where
     W::Snapshot: Drop,
     requires { W.is_well_formed world.now }
 {
-    match made {
-        Made::Copy => Some(copy_both(rt, world)),
-        Made::Snapshot => Some(rest_both(rt, world)),
-        Made::Restored => restore_both(rt, world),
-    }
+    let snapshot = world.snapshot().ok()?;
+    refuse(rt);
+    let first = make_of(rt, world, &snapshot, made);
+    Some(Twice {
+        first,
+        again: make_of(rt, world, &snapshot, made),
+    })
 }
 
 // Makes it of a world that the recording leads to that position.
@@ -234,7 +216,7 @@ where
 {
     let mut world = W::fresh(rt.alloc(), LIMITS).ok()?;
     let has_applied = lead(&mut world, recording);
-    let twice = make_of(rt, &world, made);
+    let twice = make_both(rt, &world, made);
     if has_applied { twice } else { None }
 }
 
