@@ -1,14 +1,27 @@
 # netrev: see README.md. All that is needed is the toolchain (`rt`), make and the usual tools of a shell, and for the gate
-# a C compiler and Python (3.10 or later).
+# a C compiler and Python (3.10 or later). What is written in Python is run by `python3 python NAME`.
 
-NETREV = crates/netrev/out/netrev
+BUILT = crates/netrev/out/netrev
+VERSION = 0-$(shell git rev-parse --short HEAD 2>/dev/null || echo unknown)
 FILE = examples/first.jsonl
-SCRIPT = examples/first.script
 PREFIX = /usr/local
 MINUTES = 5
 COUNT = 10000
+LIB = $(DESTDIR)$(PREFIX)/lib/netrev
+INSTALLED = $(notdir $(wildcard python/nrdb python/netrev_model python/netrev_go))
 
-.PHONY: help look run hunt test refused loopback hostile upgrades system fuzz agree companion netrev examples share bench pace install clean
+.PHONY: ready help look run hunt test lint refused loopback hostile upgrades system fuzz agree companion sizes netrev examples share bench pace real \
+	install install-files package clean
+
+# The program that NETREV names is taken as it is; else the one that is built here, once it is proved.
+ifdef NETREV
+ready:
+	@test -x "$(NETREV)" || { echo "NETREV=$(NETREV) is no program" >&2; exit 1; }
+else
+NETREV = $(BUILT)
+ready: netrev
+endif
+export NETREV := $(abspath $(NETREV))
 
 # Tells what there is to make.
 help:
@@ -16,18 +29,23 @@ help:
 		/^[a-z]+:/ && text { sub(/:.*/, ""); sub(/[.:;]( .*)?$$/, "", text); printf "make %-10s %s\n", $$0, text } \
 		{ text = "" }' Makefile
 
-# Runs the first example without waiting for proofs: `make look FILE=my.jsonl SCRIPT=my.script` for yours. Nothing is proved by it.
+# A prompt on a recording without waiting for proofs: `make look FILE=my.jsonl`. With SCRIPT=my.script it plays those commands.
+# Nothing is proved by it.
 look:
+ifdef SCRIPT
 	@cd crates/netrev && rt try -- run "$(abspath $(FILE))" < "$(abspath $(SCRIPT))"
 	@echo "So it runs; nothing of this was proved. \`make run\` proves netrev first."
+else
+	@python3 scripts/look.py "$(FILE)"
+endif
 
 # Builds netrev with its proofs, and replays the first example with its commands.
-run: netrev
+run: ready
 	@echo
 	@sh examples/play.sh first
 
 # A session at a prompt with history, completion and further views: `make hunt FILE=my.jsonl` (docs/NRDB.md).
-hunt: netrev
+hunt: ready
 	@./nrdb $(FILE)
 
 # The gate: every proof, the edits that must fail, the tests, the program, the program refused memory,
@@ -35,38 +53,47 @@ hunt: netrev
 test:
 	@sh scripts/gate.sh
 
+# Looks over what is written in Python: black and mypy, which are Debian packages (pyproject.toml says how).
+lint:
+	@sh scripts/lint.sh
+
 # The built program with each of its allocations refused in turn, a missing file and bad usage; each call of the libraries
 # that takes memory, alone; and a shared session too.
-refused: netrev
+refused: ready
 	cd crates/nr_refused && rt run -- all
-	@python3 scripts/each_call.py
+	@python3 python tests.program.each_call
 	@sh scripts/refused.sh
-	@python3 scripts/refused_serving.py
+	@python3 python tests.program.refused_serving
 
 # Sessions of the built program over the loopback: up to 64 fronts at a time, and callers who misbehave.
-loopback: netrev
-	@python3 scripts/loopback.py
+loopback: ready
+	@python3 python tests.program.loopback
 
 # Bad recordings and bad command lines: each reason, faulty lines, headers and answers, every beginning of the short recordings.
-hostile: netrev
-	@python3 scripts/hostile.py
+hostile: ready
+	@python3 python tests.program.hostile
 
 # `netrev upgrade` over the recordings that are here, compared with what is stored and with the fuzzer's model.
-upgrades: netrev
-	@python3 scripts/upgrades.py
+upgrades: ready
+	@python3 python tests.program.upgrades
 
 # The built program against the system: streams that are closed or full, odd files, signals, and little memory.
-system: netrev
-	@python3 scripts/system.py
+system: ready
+	@python3 python tests.program.system
+	@python3 python tests.program.lengths
 
-# The tests of nrdb, the companion, with the built program; among them the hunts of examples/hunts.
-companion: netrev
-	@python3 -m unittest discover -s tests/nrdb
+# The built program at the greatest sizes that a recording and a session may have: none may say that memory ran out.
+sizes: ready
+	@python3 python tests.program.sizes
+
+# The tests of nrdb, the companion, and of the fuzzer, with the built program; among them the hunts of examples/hunts.
+companion: ready
+	@python3 python unittest discover -s python/tests/program -t python
 
 # Random recordings and command lines, held against a model of the machine in Python: `make fuzz MINUTES=30 SEED=7`. What
 # differs is kept in out/fuzz (CONTRIBUTING.md). Not in the gate.
-fuzz: netrev
-	@PYTHONPATH=tools python3 -m fuzz --minutes $(MINUTES) --seed "$(SEED)"
+fuzz: ready
+	@python3 python netrev_fuzz --minutes $(MINUTES) --seed "$(SEED)"
 
 # Both worlds side by side, over the recordings of examples/ and over random ones: `make agree COUNT=100000 SEED=1`.
 agree:
@@ -74,56 +101,65 @@ agree:
 	@sh scripts/agree.sh
 	@crates/nr_agree/out/nr_agree generated $(COUNT) $(or $(SEED),1)
 
-# Leaves the proved program at $(NETREV). With no change since, nothing is proved again.
+# Leaves the proved program at crates/netrev/out/netrev. With no change since, nothing is proved again.
 netrev:
-	cd crates/netrev && rt run -- check ../../examples/first.jsonl
+	@sh scripts/prove.sh
 
 # All examples, compared with their replies, and last a session that two share.
-examples: netrev
-	@for name in first lost-wakeup stale-deadline past-deadline reused-descriptor leaked-reference \
-		temporary-break answers shut-write-side other-answer \
-		real/past real/lost real/leak real/half; do \
-		echo; echo "== $$name"; sh examples/play.sh $$name || exit 1; \
-	done
-	@echo; echo "== shared"; sh examples/shared.sh
+examples: ready
+	@sh examples/play_all.sh
 
 # Shares a session on the first example between two people, until it is interrupted.
-share: netrev
+share: ready
 	@echo "Join from two terminals:  nc 127.0.0.1 47200  and  nc 127.0.0.1 47201"
 	@$(NETREV) serve examples/first.jsonl --port 47200 --fronts 2
 
 # Loads, walks and searches recordings of up to 1,000,000 steps, beside plain Rust without proofs: `make bench
 # STEPS="10000 100000"` for fewer. Then records a C program with GDB, shares sessions, searches with several workers, and asks
 # nrdb.
-bench: netrev
-	@python3 bench/run.py $(STEPS)
+bench: ready
+	@python3 python netrev_bench.run $(STEPS)
 	@echo
-	@python3 bench/gdb_record.py
+	@python3 python netrev_bench.gdb_record
 	@echo
-	@python3 bench/serving.py
+	@python3 python netrev_bench.serving
 	@echo
-	@python3 bench/searching.py
+	@python3 python netrev_bench.searching
 	@echo
-	@python3 bench/companion.py
+	@python3 python netrev_bench.companion
 	@echo
 	@$(MAKE) --no-print-directory pace
 
 # Measures the machine itself, replayed, undone and searched, beside the same in plain Rust without proofs:
-# `make pace STEPS=100000` for fewer steps than 1,000,000. It proves crates/nr_pace first.
+# `make pace STEPS=100000` for fewer steps than 1,000,000. It proves bench/pace/crate first, which is no part of the gate.
 pace:
-	cd crates/nr_pace && rt run -- ../../examples/first.jsonl
-	@python3 bench/pace.py $(lastword $(STEPS))
+	@sh bench/pace/prove.sh
+	@python3 python netrev_bench.pace $(lastword $(STEPS))
 
-# Installs netrev, nrdb and the man page below PREFIX: `make install PREFIX=~/.local`.
-install: netrev
-	install -d $(DESTDIR)$(PREFIX)/bin $(DESTDIR)$(PREFIX)/lib/netrev/nrdb/page $(DESTDIR)$(PREFIX)/share/man/man1
-	install $(NETREV) $(DESTDIR)$(PREFIX)/bin/netrev
+# Installs netrev, nrdb, netrev-go and the man page below PREFIX: `make install PREFIX=~/.local`.
+install: netrev install-files
+
+install-files:
+	install -d $(DESTDIR)$(PREFIX)/bin $(LIB) $(DESTDIR)$(PREFIX)/share/man/man1
+	install $(or $(PROGRAM),$(BUILT)) $(DESTDIR)$(PREFIX)/bin/netrev
 	install nrdb $(DESTDIR)$(PREFIX)/bin/nrdb
-	install -m 644 tools/nrdb/*.py $(DESTDIR)$(PREFIX)/lib/netrev/nrdb
-	install -m 644 tools/nrdb/page/* $(DESTDIR)$(PREFIX)/lib/netrev/nrdb/page
-	python3 tools/man.py > $(DESTDIR)$(PREFIX)/share/man/man1/netrev.1
+	install tools/go/netrev-go $(DESTDIR)$(PREFIX)/bin/netrev-go
+	(cd python && tar -cf - --mode=u=rwX,go=rX --exclude=__pycache__ __main__.py $(INSTALLED)) | tar -xf - --no-same-owner -C $(LIB)
+	python3 scripts/man.py > $(DESTDIR)$(PREFIX)/share/man/man1/netrev.1
+
+# Makes out/netrev-VERSION-linux-x86_64.tar.gz of the proved program, nrdb and the examples, for machines without the
+# toolchain, and tries it: `make package VERSION=1`. The gate has to have passed.
+package: netrev
+	@sh scripts/package.sh $(VERSION) $(BUILT)
+	@sh scripts/try_package.sh out/netrev-$(VERSION)-linux-x86_64.tar.gz
+
+# Records Go's own tests, those of five other projects and the samples, and compares all answers and lock words: an hour or so. It
+# wants Go and the packages that python/netrev_go/real.py names: `make real ONLY=net/rpc` for some. Not in the gate.
+real: ready
+	@python3 python unittest tests.go_tool
+	@python3 python netrev_go.real --only "$(ONLY)"
 
 # Removes all that was built and checked here. What `make test` keeps on this machine stays.
 clean:
 	rm -rf out crates/*/out
-	find tools tests scripts bench -name __pycache__ -prune -exec rm -rf {} +
+	find . -name __pycache__ -prune -exec rm -rf {} +

@@ -38,7 +38,12 @@ join_soon() {
 	done
 }
 
-port=$(cd "$here/../scripts" && python3 -c 'from sharing import PORTS; print(PORTS.take(2))')
+if [ -d "$here/../python/tests" ]; then
+	port=$(python3 "$here/../python" tests.program.sharing 2)
+else
+	# (an archive of netrev has no tests, which know whose ports are free)
+	port=$((10240 + $$ % 10000 * 2))
+fi
 "$netrev" serve "$here/first.jsonl" --port "$port" --fronts 2 --connections 1 > "$work/end" &
 server=$!
 mkfifo "$work/one" "$work/to-one" "$work/other" "$work/to-other"

@@ -1,22 +1,31 @@
 #!/bin/sh
 # The gate:  scripts/gate.sh [--anew]
 #
-# First `rt ci`, whose log is kept in out/gate.log. What an earlier run on this machine passed, and has not changed since, a
-# kit that keeps it neither proves nor tries again, unless it is told --anew, a word that no other kit knows. Where it passes,
-# each edit that must fail has to have been refused for what it means: not one that can't be tried, or that the prover gave up
-# on, or that is refused only because a proof file names what the edit takes away. And the program that was built has to stand
-# scripts/refused.sh, scripts/refused_serving.py, scripts/loopback.py, scripts/hostile.py, scripts/upgrades.py and
-# scripts/system.py, play examples/shared.sh and each example, and pass the tests of nrdb, the companion, which play the hunts
-# of examples/hunts, and those of tools/go and tools/fuzz. Each call that takes memory has to stand scripts/each_call.py. Both
-# worlds have to agree on the recordings of examples/ (scripts/agree.sh). What docs/THEOREM.md quotes has to stand in the
-# source (scripts/theorem.py). The last line is that of `rt ci`, with one more failed for each of these that fails.
+# First `rt ci`, whose log is kept in out/gate.log, and what it took, crate by crate, in out/minutes.tsv. What an earlier run on
+# this machine passed, and has not changed since, a kit that keeps it neither proves nor tries again, unless it is told
+# --anew, a word that no other kit knows. Where it passes, each edit that must fail has to have been refused for what it
+# means: not one that can't be tried, or that the prover gave up on, or that is refused only because a proof file names what
+# the edit takes away. And the program that was built has to stand scripts/refused.sh and what python/tests/program plays,
+# play examples/shared.sh and each example, and pass the tests of nrdb, the companion, which play the hunts of
+# examples/hunts, and those of the recorder and the fuzzer. Both worlds have to agree on the recordings of examples/
+# (scripts/agree.sh). What docs/THEOREM.md quotes has to stand in the source (scripts/theorem.py), and black and mypy have
+# nothing to say of what is written in Python, where they are here (scripts/lint.sh). The last line is that of `rt ci`, with
+# one more failed for each of these that fails.
 set -eu
 cd "$(dirname "$0")/.."
 mkdir -p out
 log=out/gate.log
+unset NETREV NETREV_AGREE # (what was built here is what is played)
+
+# One job a check, and as many checks as there are processors and 5 GB of memory for: a check with four jobs takes a quarter
+# more of the processors than one with one. (`rt ci` looks at no memory where it is told how many.)
+fit=$(awk '/^MemAvailable:/ { print int($2 / 5000000) }' /proc/meminfo)
+lanes=$(nproc)
+[ "$fit" -ge "$lanes" ] || lanes=$fit
+[ "$lanes" -lt 1 ] || export RT_JOBS="${RT_JOBS:-$lanes}"
 
 # (sh has no status of a pipe's first command but what that leaves behind)
-{ rt ci "$@" 2>&1 && echo 0 > out/gate.status || echo $? > out/gate.status; } | tee "$log"
+{ python3 scripts/minutes.py out/minutes.tsv rt ci "$@" 2>&1 && echo 0 > out/gate.status || echo $? > out/gate.status; } | tee "$log"
 read -r status < out/gate.status
 [ "$status" = 0 ] || exit "$status"
 
@@ -26,22 +35,19 @@ if grep -E "BAD EDIT|only by a limit of the prover|only because a proof file nam
 	more=$((more + 1))
 fi
 python3 scripts/theorem.py || more=$((more + 1))
+python3 scripts/surface.py || more=$((more + 1))
+sh scripts/lint.sh --if-there || more=$((more + 1))
+python3 -m unittest || more=$((more + 1))
 sh scripts/refused.sh || more=$((more + 1))
-python3 scripts/each_call.py || more=$((more + 1))
 sh scripts/agree.sh || more=$((more + 1))
-python3 scripts/refused_serving.py || more=$((more + 1))
-python3 scripts/loopback.py || more=$((more + 1))
-python3 scripts/hostile.py || more=$((more + 1))
-python3 scripts/upgrades.py || more=$((more + 1))
-python3 scripts/system.py || more=$((more + 1))
-sh examples/shared.sh || more=$((more + 1))
-python3 -m unittest discover -s tests/nrdb || more=$((more + 1))
-for name in first leaked-reference lost-wakeup past-deadline reused-descriptor stale-deadline \
-	temporary-break answers shut-write-side other-answer real/past real/lost real/leak real/half; do
-	sh examples/play.sh "$name" || more=$((more + 1))
+for name in each_call refused_serving loopback hostile upgrades system lengths sizes; do
+	python3 python "tests.program.$name" || more=$((more + 1))
 done
-python3 -m unittest discover -s tests/go || more=$((more + 1))
-python3 -m unittest discover -s tests/fuzz || more=$((more + 1))
+python3 python unittest discover -s python/tests/program -t python || more=$((more + 1))
+sh examples/play_all.sh || more=$((more + 1))
+
+# what it took, crate by crate: `python3 scripts/minutes.py out/minutes.tsv`
+python3 scripts/minutes.py out/minutes.tsv | tail -n 2
 
 last=$(tail -n 1 "$log")
 passed=${last%% passed*} failed=${last#*passed, }

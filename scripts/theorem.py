@@ -33,7 +33,15 @@ RUN = re.compile(
 LIMITS = {"gor": "goroutines", "sock": "sockets", "desc": "descriptors", "buf": "buffer"}
 # a word of a step, or something in parentheses
 WORD = re.compile(r"\([^()]*\)|\[\]|[^\s()]+")
-WORDS = {"sides.Read": "r", "sides.Write": "w", "modes.Read": "r", "modes.Write": "w", "modes.Both": "rw", "true": 1, "false": 0}
+WORDS = {
+    "sides.Read": "r",
+    "sides.Write": "w",
+    "modes.Read": "r",
+    "modes.Write": "w",
+    "modes.Both": "rw",
+    "true": 1,
+    "false": 0,
+}
 ESCAPES = {"n": "\n", "r": "\r", "t": "\t", '"': '"', "\\": "\\"}
 
 
@@ -58,7 +66,7 @@ def bytes_of(text):
     parts = TEXT.findall(text)
     if TEXT.sub("", text).replace("++", "").split():
         raise Wrong(f"{EXAMPLES.name}: more than texts: {text!r}")
-    return "".join(re.sub(r"\\(.)", lambda escape: ESCAPES[escape.group(1)], part) for part in parts).encode()
+    return "".join(re.sub(r"\\(.)", lambda escape: ESCAPES[str(escape.group(1))], part) for part in parts).encode()
 
 
 def texts():
@@ -117,7 +125,11 @@ def main():
     except (Wrong, OSError, KeyError) as wrong:
         print(f"theorem.py: {wrong}", file=sys.stderr)
         return 1
-    print("theorem: {} quotes of the page, {} files and {} runs of examples/, {} short runs are as they stand".format(*counts))
+    print(
+        "theorem: {} quotes of the page, {} files and {} runs of examples/, {} short runs are as they stand".format(
+            *counts
+        )
+    )
     return 0
 
 

@@ -3,8 +3,8 @@ use Rattle.std.proofs.Common.{ℕ, List, length, take, Result, Ok, Err, sym, sub
 use Rattle.std.proofs.Math.Seq.{take-length}
 use Rattle.std.specs.Io.KnownBytes.{Appends}
 use Rattle.nr_text.specs.Streams.{Outgoing, Prints}
-use Rattle.nr_text.specs.declared.sink.CutShort.{CutShort}
+use Rattle.nr_text.specs.declared.sink.Part.{Part}
 
-pub prints_prefix : (old new : Outgoing) (text : List ℕ) (printed : Result Unit CutShort) → Prints old new text printed → (n : ℕ) × Appends old.contents new.contents (take n text)
+pub prints_prefix : (old new : Outgoing) (text : List ℕ) (printed : Result Unit Part) → Prints old new text printed → (n : ℕ) × Appends old.contents new.contents (take n text)
 prints_prefix old new text (Ok _) went = (length text, subst (Appends old.contents new.contents) (sym (take-length text)) went.0)
 prints_prefix old new text (Err cut) went = (went.n, went.out)

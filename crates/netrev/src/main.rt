@@ -10,7 +10,7 @@ pub mod arguments;
 mod loopback;
 pub mod starting;
 
-use crate::arguments::read_arguments;
+use crate::arguments::read_words;
 use crate::loopback::Loopback;
 use crate::starting::{Unstarted, start};
 use nr_machine::World;
@@ -38,7 +38,7 @@ fn run_program<H: Threads + Wait + Sync>(
     let alloc = rt.alloc();
     let texts = collect_arguments(rt)?;
     let arguments: Vec<&str> = texts.iter().map(|text| text.as_str()).collect(alloc)?;
-    let program = read_arguments(alloc, arguments.as_slice())?;
+    let program = read_words(alloc, arguments.as_slice())?;
     let file = fs::read(rt, program.file());
     let mut input = Source::new(rt.stdin());
     let mut output = Sink::new(rt.stdout());

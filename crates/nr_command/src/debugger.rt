@@ -7,10 +7,9 @@ use crate::checkpoint::{CheckpointFault, Checkpoints};
 use crate::command::Command;
 use crate::reply::{Fault, Reply};
 use nr_marks::{Mark, Marks};
-use nr_rev::Worlds;
+use nr_rev::{Memory, Worlds};
 use nr_search::{Direction, Finder, Found, nearest_hit};
 use nr_snaps::Film;
-use std::alloc::AllocError;
 
 /// A position of a film, with marks and checkpoints. It has no world: commands move the position alone.
 #[derive(Debug, Drop)]
@@ -43,6 +42,27 @@ impl Debugger {
         self.position
     }
 
+    /// Which way `stepi` and `continue` go.
+    pub fn direction(&self) -> Direction
+        ensures { result ≡ self.now.direction }
+    {
+        self.direction
+    }
+
+    /// What stops `continue` and `reverse-continue`, by number.
+    pub fn marks(&self) -> &Marks
+        ensures { result.now ≡ self.now.marks }
+    {
+        &self.marks
+    }
+
+    /// The positions that are kept, by number.
+    pub fn checkpoints(&self) -> &Checkpoints
+        ensures { result.now ≡ self.now.checkpoints }
+    {
+        &self.checkpoints
+    }
+
     /// Runs a command: what it returns and leaves is what `run` of the definitions says.
     ///
     /// Only `continue` and `reverse-continue` take memory, for copies of the film's worlds, and only where there
@@ -52,7 +72,7 @@ impl Debugger {
         film: &Film<W>,
         finder: &F,
         command: Command,
-    ) -> Result<Reply, AllocError>
+    ) -> Result<Reply, Memory>
     where
         W::Snapshot: Drop + Sync,
         requires { IsWithin (length film.now.recording.steps) self.old }
@@ -70,7 +90,7 @@ impl Debugger {
         film: &Film<W>,
         finder: &F,
         command: Command,
-    ) -> Result<Reply, AllocError>
+    ) -> Result<Reply, Memory>
     where
         W::Snapshot: Drop + Sync,
         requires { self.old.position ≤ length film.now.recording.steps }
@@ -143,7 +163,7 @@ impl Debugger {
         film: &Film<W>,
         finder: &F,
         direction: Direction,
-    ) -> Result<Reply, AllocError>
+    ) -> Result<Reply, Memory>
     where
         W::Snapshot: Drop + Sync,
         requires { self.old.position ≤ length film.now.recording.steps }

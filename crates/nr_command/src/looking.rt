@@ -9,9 +9,8 @@ use crate::command::Query;
 use crate::debugger::Debugger;
 use crate::reply::Reply;
 use arrayvec::ArrayVec;
-use nr_rev::Worlds;
+use nr_rev::{Memory, Worlds};
 use nr_snaps::Film;
-use std::alloc::AllocError;
 
 impl Debugger {
     /// What a look shows: of the world, which is that of the debugger's position, or of what the debugger keeps. It
@@ -23,7 +22,7 @@ impl Debugger {
         film: &Film<W>,
         world: &W,
         query: Query,
-    ) -> Result<Reply, AllocError>
+    ) -> Result<Reply, Memory>
     where
         W::Snapshot: Drop,
         requires { IsWorldAt W.is_well_formed W.world film.now.recording self.now.position world.now }
@@ -39,7 +38,7 @@ impl Debugger {
                 Ok(Reply::Printed { cell, value })
             }
             Query::DumpBytes { side, socket } => {
-                let bytes = world.bytes(socket, side).map_err(|_| AllocError)?;
+                let bytes = world.bytes(socket, side).map_err(|_| Memory)?;
                 Ok(Reply::Bytes {
                     side,
                     socket,
@@ -47,7 +46,7 @@ impl Debugger {
                 })
             }
             Query::DumpQueue { side, socket } => {
-                let queue = world.queue(socket, side).map_err(|_| AllocError)?;
+                let queue = world.queue(socket, side).map_err(|_| Memory)?;
                 Ok(Reply::Queue {
                     side,
                     socket,

@@ -15,7 +15,7 @@ use arrayvec::ArrayVec;
 use nr_marks::{MOST_MARKS, MarkFault, NumberedMark};
 use nr_rev::{Bytes, Cell, CellValue, Queue, Side};
 use nr_search::Direction;
-use nr_text::{Buffered, Text, Token, WriteFailed, send_all};
+use nr_text::{Buffered, Part, Sink, Text, Token, WriteFailed, send_all};
 use std::io::Write;
 
 /// What a line is answered.
@@ -90,6 +90,18 @@ pub enum Fault {
     JournalFull,
     Mark(MarkFault),
     Checkpoint(CheckpointFault),
+}
+
+impl Reply {
+    ghost use Rattle.nr_text.specs.Streams.{Prints};
+
+    /// Writes the reply's text. Where a write fails or takes nothing, `Part(k)` says that exactly its first k bytes are
+    /// out, and no more are written. It takes no memory.
+    pub fn print<W: Write>(&self, out: &mut Sink<W>) -> Result<(), Part>
+        ensures { Prints out.old out.new (text_of self.now) result }
+    {
+        out.print(self)
+    }
 }
 
 /// The text: one line, or in a list one for each item behind the first.

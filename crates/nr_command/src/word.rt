@@ -15,9 +15,9 @@ use std::num::NonZeroU32;
 impl Command {
     /// The command and the tag as one number: the command's opcode, and 256 times the tag, and 65,536 times what is
     /// asked of it. The opcode is one that words of a journal have.
-    pub fn to_word(self, tag: u8) -> u64
-        ensures word { result ≡ word_of tag self }
-        ensures back { command_of result ≡ Some (tag, self) }
+    pub fn to_word(&self, tag: u8) -> u64
+        ensures word { result ≡ word_of tag self.now }
+        ensures back { command_of result ≡ Some (tag, self.now) }
         ensures opcode { HasOpcode result }
         ensures tag { result / 256 % 256 ≡ tag }
     {

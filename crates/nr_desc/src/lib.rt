@@ -11,8 +11,6 @@ mod marks;
 mod op;
 mod opening;
 mod reversible;
-#[cfg(test)]
-mod tests;
 mod waiting;
 
 pub use desc::Desc;

@@ -11,10 +11,10 @@ use crate::pending::Pending;
 use crate::replica::Replica;
 use nr_command::{Command, Query, Reply};
 use nr_journal::{Journal, Pass};
-use nr_rev::Worlds;
+use nr_rev::{Memory, Worlds};
 use nr_search::Finder;
 use nr_snaps::Film;
-use std::alloc::{AllocError, Global};
+use std::alloc::Global;
 use std::marker::Model;
 
 /// A pass of the journal, and a machine that runs the words that the pass sees: one user's replica. Contracts see the
@@ -80,7 +80,7 @@ where
         }
         match self.run(command) {
             Ok(reply) => Ok(reply),
-            Err(AllocError) => Err(FrontFault::Placed(self.place())),
+            Err(Memory) => Err(FrontFault::Placed(self.place())),
         }
     }
 
@@ -103,7 +103,7 @@ where
         };
         match self.look_here(query) {
             Ok(reply) => Ok(reply),
-            Err(AllocError) => Err(FrontFault::Memory),
+            Err(Memory) => Err(FrontFault::Memory),
         }
     }
 
@@ -119,7 +119,7 @@ where
         let place = self.place();
         match self.run(command) {
             Ok(reply) => Ok(Some(reply)),
-            Err(AllocError) => Err(FrontFault::Placed(place)),
+            Err(Memory) => Err(FrontFault::Placed(place)),
         }
     }
 }
@@ -137,7 +137,7 @@ where
         film: &'f Film<W>,
         finder: F,
         depth: usize,
-    ) -> Result<Front<'f, W, F>, (Pass, AllocError)>
+    ) -> Result<Front<'f, W, F>, (Pass, Memory)>
         requires unseen { pass.pass_state.seen ≡ [] }
         requires least { LEAST_DEPTH ≤ depth }
         requires most { depth ≤ MOST_DEPTH }

@@ -6,11 +6,11 @@ ghost use Rattle.nr_front.specs.Replica.{LookIsRefused, after_look, at_start};
 ghost use Rattle.nr_walker.specs.declared.walker.TheConstants.{LEAST_DEPTH, MOST_DEPTH};
 
 use nr_command::{Command, Debugger, Query, Reply};
-use nr_rev::Worlds;
+use nr_rev::{Memory, Worlds};
 use nr_search::Finder;
 use nr_snaps::Film;
 use nr_walker::Walker;
-use std::alloc::{AllocError, Global};
+use std::alloc::Global;
 use std::marker::Model;
 
 /// A debugger over a film, with a walker of its own. Contracts see the film's recording, how many workers search, the
@@ -59,7 +59,7 @@ where
         film: &'f Film<W>,
         finder: F,
         depth: usize,
-    ) -> Result<Replica<'f, W, F>, AllocError>
+    ) -> Result<Replica<'f, W, F>, Memory>
         requires least { LEAST_DEPTH ≤ depth }
         requires most { depth ≤ MOST_DEPTH }
         ensures { IfOk result (λ replica. replica ≡ record {
@@ -85,7 +85,7 @@ where
 {
     /// Runs a command, and leaves the walker where it is. Only a command that searches can run out of memory, and then
     /// nothing has changed.
-    pub(crate) fn exec(&mut self, command: Command) -> Result<Reply, AllocError>
+    pub(crate) fn exec(&mut self, command: Command) -> Result<Reply, Memory>
         ensures recording { self.new.recording ≡ self.old.recording }
         ensures workers { self.new.workers ≡ self.old.workers }
         ensures walker_state { self.new.walker_state ≡ self.old.walker_state }
@@ -100,7 +100,7 @@ where
 
     /// Looks at what the debugger shows at its position. A look at the world leads the walker there first; it runs out
     /// of memory on the way, or for a dump of something. Nothing else changes, also where it fails.
-    pub(crate) fn look(&mut self, query: Query) -> Result<Reply, AllocError>
+    pub(crate) fn look(&mut self, query: Query) -> Result<Reply, Memory>
         ensures recording { self.new.recording ≡ self.old.recording }
         ensures workers { self.new.workers ≡ self.old.workers }
         ensures debugger { self.new.debugger ≡ self.old.debugger }

@@ -13,9 +13,8 @@ use crate::front::Front;
 use crate::pending::Pending;
 use nr_command::{Command, Query, Reply};
 use nr_journal::{Journal, Offered};
-use nr_rev::Worlds;
+use nr_rev::{Memory, Worlds};
 use nr_search::Finder;
-use std::alloc::AllocError;
 
 impl<'f, W: Worlds + Drop + Sync, F: Finder> Front<'f, W, F>
 where
@@ -37,7 +36,7 @@ where
     }
 
     /// Runs the command that is due. Out of memory, nothing has changed.
-    pub(crate) fn run(&mut self, command: Command) -> Result<Reply, AllocError>
+    pub(crate) fn run(&mut self, command: Command) -> Result<Reply, Memory>
         requires { pending_command self.old.pending ≡ Some command }
         ensures without_pending { OnOk result (self.new ≡ without_pending self.old) }
         ensures reply { IfOk result (RepliesLast self.old command) }
@@ -50,7 +49,7 @@ where
     }
 
     /// Runs the command that is due, if one is. Out of memory, nothing has changed.
-    fn run_pending(&mut self) -> Result<(), AllocError>
+    fn run_pending(&mut self) -> Result<(), Memory>
         ensures without_pending { OnOk result (self.new ≡ without_pending self.old) }
         ensures unchanged { OnErr result (self.new ≡ self.old) }
         ensures memory { OnErr result (SearchIsPending self.old) }
@@ -62,7 +61,7 @@ where
     }
 
     /// Shows the debugger of the words seen. Only the walker moves, and only for a look at the world.
-    pub(crate) fn look_here(&mut self, query: Query) -> Result<Reply, AllocError>
+    pub(crate) fn look_here(&mut self, query: Query) -> Result<Reply, Memory>
         requires { self.old.pending ≡ Nothing }
         ensures moved { self.new ≡ with_walker_state self.new.walker_state self.old }
         ensures ok { IfOk result (λ reply. reply
@@ -89,7 +88,7 @@ where
     }
 
     /// Sees words and runs their commands, until a look finds none, or all words of the journal are seen.
-    pub(crate) fn catch_up(&mut self, journal: &Journal) -> Result<(), AllocError>
+    pub(crate) fn catch_up(&mut self, journal: &Journal) -> Result<(), Memory>
         requires table { self.old.table ≡ journal.now }
         requires unowed { owed_command self.old ≡ None }
         ensures ok { OnOk result (CatchesAll self.old self.new) }

@@ -73,7 +73,7 @@ impl GTable {
 
     /// The goroutine behind one in the queue that it is in; `None` for the last one, and outside every queue.
     #[inline(always)]
-    pub fn next_in_queue(&self, goroutine: u32) -> Option<u32>
+    pub fn next_of(&self, goroutine: u32) -> Option<u32>
         ensures { result ≡ next_in_queue goroutine self.now }
     {
         if goroutine as usize >= self.nodes.len() {

@@ -6,8 +6,8 @@ ghost use Rattle.nr_rev.specs.Sides.{twice};
 ghost use Rattle.nr_gsema.specs.Applying.{IsQueuedUp};
 
 use crate::node::{GoroutineNode, SemaphoreHead};
-use nr_rev::Sides;
-use std::alloc::{AllocError, Global};
+use nr_rev::{Memory, Sides};
+use std::alloc::Global;
 use std::marker::Model;
 
 /// The goroutines made so far and the semaphores of all sockets below the limit, in room that was made at once. Contracts
@@ -36,7 +36,7 @@ impl Model for GTable {
 impl GTable {
     /// No goroutine, with room for so many, and the semaphores of so many sockets, whose counts are 0 and whose queues are
     /// empty. An error is that there is no memory for them.
-    pub fn with_limits(alloc: Global, goroutines: u32, sockets: u32) -> Result<GTable, AllocError>
+    pub fn with_limits(alloc: Global, goroutines: u32, sockets: u32) -> Result<GTable, Memory>
         ensures well_formed { IfOk result (λ t. IsQueuedUp t) }
         ensures empty { IfOk result (λ t. t ≡ record {
           goroutines = [];
@@ -62,7 +62,7 @@ impl GTable {
     }
 
     /// An equal one, links included, in room of its own. An error is that there is no memory for it.
-    pub fn try_copy(&self) -> Result<GTable, AllocError>
+    pub fn try_copy(&self) -> Result<GTable, Memory>
         ensures well_formed { IfOk result (λ t. IsQueuedUp t) }
         ensures equal { IfOk result (λ t. t ≡ self.now) }
     {

@@ -96,11 +96,11 @@ fn end_all<R: Threads + Sync>(
 }
 
 /// The words of a journal, for who comes late.
-fn all_words(alloc: Global, journal: &Journal, seat: Seat) -> Option<Vec<u64>>
+fn all_words(journal: &Journal, seat: Seat) -> Option<Vec<u64>>
     requires { seat.table ≡ journal.now }
 {
     let mut late = enter(journal, seat)?;
-    journal.finish(alloc, &mut late).ok()
+    journal.finish(&mut late).ok()
 }
 
 /// What eight fronts were answered that each step once over a journal of seven words, with how many words each has seen;
@@ -114,7 +114,7 @@ fn crowd_over<R: Threads + Send + Sync>(
     let mut users = eight(rt, alloc, &journal, &mut seat, film)?;
     step_each(rt, users.as_mut_slice());
     let answers = end_all(alloc, users);
-    let words = all_words(alloc, &journal, seat);
+    let words = all_words(&journal, seat);
     Some((answers?, words?))
 }
 

@@ -70,7 +70,7 @@ fn step_at_once<R: Threads + Send + Sync>(
         { step_and_wait(shared, other) },
     );
     let met = journal.meet(&mut one, &mut other);
-    let words = journal.finish(alloc, &mut one).ok()?;
+    let words = journal.finish(&mut one).ok()?;
     Some((met, words))
 }
 

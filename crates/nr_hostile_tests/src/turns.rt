@@ -121,18 +121,12 @@ struct Ended {
     words: Vec<u64>,
 }
 
-fn end(
-    alloc: Global,
-    journal: &Journal,
-    mut one: Pass,
-    mut other: Pass,
-    mut third: Pass,
-) -> Option<Ended>
+fn end(journal: &Journal, mut one: Pass, mut other: Pass, mut third: Pass) -> Option<Ended>
     requires { (one.table ≡ journal.now) × (other.table ≡ journal.now) × (third.table ≡ journal.now) }
 {
     let behind = journal.meet(&mut third, &mut one);
     let met = (behind, journal.meet(&mut one, &mut other));
-    let words = journal.finish(alloc, &mut third).ok()?;
+    let words = journal.finish(&mut third).ok()?;
     Some(Ended {
         seen: (one.seen(), other.seen()),
         met,
@@ -151,7 +145,7 @@ fn take_turns_over<R: Threads + Sync>(
     let (journal, mut one, mut other, third) = share(rt, alloc, words, film)?;
     film.start().refuse(turns.refused);
     let answers = ask_all(alloc, &journal, &mut one, &mut other, turns.lines);
-    let ended = end(alloc, &journal, one.end(), other.end(), third);
+    let ended = end(&journal, one.end(), other.end(), third);
     Some((answers.ok()?, ended?))
 }
 
@@ -335,7 +329,7 @@ fn step_behind_over<R: Threads + Sync>(
     let mut pass = one.end();
     let by_first = offer_no_command(&journal, &mut pass);
     let second = ask(&mut other, &journal, "stepi");
-    let ended = end(alloc, &journal, pass, other.end(), third)?;
+    let ended = end(&journal, pass, other.end(), third)?;
     Some(([by_third, by_first], [first, second], ended))
 }
 

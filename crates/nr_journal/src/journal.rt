@@ -12,7 +12,8 @@ use crate::seat::{NoTag, Seat};
 use crate::step::{Compare, Draw, Learn, Look, Offer, Reread, Tell, Twin};
 use crate::view::View;
 use atomic_table::Table;
-use std::alloc::{AllocError, Global};
+use nr_rev::Memory;
+use std::alloc::Global;
 use std::cmp::Ordering;
 use std::marker::Model;
 
@@ -21,6 +22,7 @@ use std::marker::Model;
 /// other. No call waits.
 #[derive(Drop)]
 pub struct Journal {
+    alloc: Global,
     table: Table<(), View, Purpose, InOneOrder, Global>,
     words: usize,
 }
@@ -44,7 +46,7 @@ impl Journal {
     ///
     /// Memory is the only error; then nothing is left behind.
     #[tactic(auto, using(crate::proofs::RuleLemmas::begins))]
-    pub fn new(alloc: Global, words: usize) -> Result<(Journal, Seat), AllocError>
+    pub fn new(alloc: Global, words: usize) -> Result<(Journal, Seat), Memory>
         requires { (1 ≤ words) × (words ≤ MOST_WORDS) }
         ensures { IfOk result (λ r. (journal_room r.0 ≡ words) × (r.1.table ≡ r.0) × (r.1.tried ≡ 0)) }
     {
@@ -54,7 +56,12 @@ impl Journal {
             alone: false,
         };
         let (table, seat) = Table::of_words(alloc, zeros.as_slice(), &shared)?;
-        Ok((Journal { table, words }, Seat { seat, tried: 0 }))
+        let journal = Journal {
+            alloc,
+            table,
+            words,
+        };
+        Ok((journal, Seat { seat, tried: 0 }))
     }
 
     /// An empty journal with room for so many words, and the only pass that it ever has, whose tag is 0. So whatever the
@@ -62,7 +69,7 @@ impl Journal {
     ///
     /// Memory is the only error; then nothing is left behind.
     #[tactic(auto, using(crate::proofs::AloneLemmas::begins_alone))]
-    pub fn alone(alloc: Global, words: usize) -> Result<(Journal, Pass), AllocError>
+    pub fn alone(alloc: Global, words: usize) -> Result<(Journal, Pass), Memory>
         requires { (1 ≤ words) × (words ≤ MOST_WORDS) }
         ensures { IfOk result (λ r. (journal_room r.0 ≡ words) × (r.1.table ≡ r.0)
             × (r.1.pass_state ≡ entering_alone)) }
@@ -76,7 +83,12 @@ impl Journal {
             place: 0,
             tag: 0,
         };
-        Ok((Journal { table, words }, pass))
+        let journal = Journal {
+            alloc,
+            table,
+            words,
+        };
+        Ok((journal, pass))
     }
 
     /// A second seat of this journal, which knows as much as the first.
@@ -209,7 +221,7 @@ impl Journal {
     /// Looks until no word is found, or all words are seen, and then returns the words seen, in order, read again.
     ///
     /// Memory is the only error; it comes behind the looks, so the pass may have seen more words.
-    pub fn finish(&self, alloc: Global, pass: &mut Pass) -> Result<Vec<u64>, AllocError>
+    pub fn finish(&self, pass: &mut Pass) -> Result<Vec<u64>, Memory>
         requires { pass.old.table ≡ self.now }
         ensures table { pass.new.table ≡ pass.old.table }
         ensures sees_others { SeesOthers pass.old.pass_state pass.new.pass_state }
@@ -217,7 +229,7 @@ impl Journal {
         ensures words { IfOk result (λ words. words.items ≡ pass.new.pass_state.seen) }
     {
         self.catch_up(pass);
-        let mut words = Vec::with_capacity(alloc, pass.seen())?;
+        let mut words = Vec::with_capacity(self.alloc, pass.seen())?;
         for at in 0..pass.seen() {
             words.push(self.reread(pass, at))?;
         }

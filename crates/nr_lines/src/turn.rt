@@ -11,7 +11,7 @@ use nr_front::{Front, FrontFault};
 use nr_journal::Journal;
 use nr_rev::Worlds;
 use nr_search::Finder;
-use nr_text::{CutShort, Sink};
+use nr_text::{Part, Sink};
 use std::io::Write;
 
 /// Answers a line, and says whether it is `quit`. `whole` counts the texts that went out whole.
@@ -48,7 +48,7 @@ where
             *whole = whole.saturating_add(1);
             Ok(quits)
         }
-        Err(CutShort(part)) => Err(LineEnd::Write {
+        Err(Part(part)) => Err(LineEnd::Write {
             whole: *whole,
             part,
         }),

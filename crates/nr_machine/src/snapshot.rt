@@ -1,14 +1,14 @@
 //! A packed world at rest.
 
 ghost use Rattle.std.specs.Prelude.{◌≡◌, ◌-◌, ◌≤◌, ◌++◌, length, take, replicate, IfErr, IfOk};
-ghost use Rattle.nr_rev.specs.declared.refusal.Refusal.TheVariants.{Memory};
+ghost use Rattle.nr_rev.specs.declared.refusal.Refusal.TheVariants as refusals;
 ghost use Rattle.nr_sockbuf.specs.Sock.{never_opened};
 
 use crate::parts::Core;
 use crate::world::World;
-use nr_rev::Refusal;
+use nr_rev::{Memory, Refusal};
 use nr_sockbuf::{Sock, SockSnapshot};
-use std::alloc::{AllocError, Global};
+use std::alloc::Global;
 use std::marker::Model;
 
 /// A packed world at rest, seen in contracts as the world is: the core, and the bytes in the buffers. Of the sockets behind
@@ -50,7 +50,7 @@ fn count_opened(socks: &[Sock], buffer: u32) -> usize
 }
 
 // The buffers of these sockets at rest.
-fn snapshots(alloc: Global, socks: &[Sock]) -> Result<Vec<SockSnapshot>, AllocError>
+fn snapshots(alloc: Global, socks: &[Sock]) -> Result<Vec<SockSnapshot>, Memory>
     ensures { IfOk result (λ snapshots. snapshots.items ≡ socks.now) }
 {
     let mut snapshots = Vec::with_capacity(alloc, socks.len())?;
@@ -66,7 +66,7 @@ fn restored_socks(
     opened: &[SockSnapshot],
     sockets: usize,
     buffer: u32,
-) -> Result<Vec<Sock>, AllocError>
+) -> Result<Vec<Sock>, Memory>
     ensures { IfOk result (λ socks. socks.items ≡ opened.now
         ++ replicate (sockets - length opened.now) (never_opened buffer)) }
 {
@@ -85,7 +85,7 @@ impl World {
     /// The world at rest.
     pub(crate) fn to_rest(&self) -> Result<WorldSnapshot, Refusal>
         ensures ok { IfOk result (λ snapshot. snapshot ≡ self.now) }
-        ensures err { IfErr result (λ e. e ≡ Memory) }
+        ensures err { IfErr result (λ e. e ≡ refusals.Memory) }
     {
         let core = self.core.try_copy(self.alloc)?;
         let count = count_opened(&self.socks, self.core.limits.buffer);
@@ -105,7 +105,7 @@ impl WorldSnapshot {
     /// The world, with all the room that its limits allow.
     pub(crate) fn to_world(&self) -> Result<World, Refusal>
         ensures ok { IfOk result (λ w. w ≡ self.now) }
-        ensures err { IfErr result (λ e. e ≡ Memory) }
+        ensures err { IfErr result (λ e. e ≡ refusals.Memory) }
     {
         let core = self.core.try_copy(self.alloc)?;
         let Ok(socks) = restored_socks(

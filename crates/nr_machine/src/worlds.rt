@@ -5,7 +5,7 @@ ghost use Rattle.nr_rev.specs.Cell.{bytes_of, queue_of};
 ghost use Rattle.nr_rev.specs.Limits.{AreInRange};
 ghost use Rattle.nr_rev.specs.World.{empty_world};
 ghost use Rattle.nr_rev.specs.Worlds.{HasItems};
-ghost use Rattle.nr_rev.specs.declared.refusal.Refusal.TheVariants.{Memory};
+ghost use Rattle.nr_rev.specs.declared.refusal.Refusal.TheVariants as refusals;
 ghost use Rattle.nr_gsema.specs.Table.{queue_at};
 ghost use Rattle.nr_sockbuf.specs.Sock.{never_opened};
 ghost use Rattle.nr_machine.specs.Fits.{CoreFits, IsWorld};
@@ -18,12 +18,12 @@ use crate::snapshot::WorldSnapshot;
 use crate::world::World;
 use nr_gsema::{GOperation, GTable};
 use nr_rev::{
-    Answer, Bytes, Cell, CellValue, Limits, Queue, Refusal, Reversible, RoomedList, Side, Step,
-    Worlds,
+    Answer, Bytes, Cell, CellValue, Limits, Memory, Queue, Refusal, Reversible, RoomedList, Side,
+    Step, Worlds,
 };
 use nr_sockbuf::Sock;
 use nr_timers::Timers;
-use std::alloc::{AllocError, Global};
+use std::alloc::Global;
 
 impl Core {
     /// The core before the first step: goroutine 0 is idle, and there is nothing else.
@@ -31,7 +31,7 @@ impl Core {
         requires { AreInRange limits }
         ensures fits { IfOk result CoreFits }
         ensures empty { IfOk result (λ core. core ≡ empty_core limits) }
-        ensures err { IfErr result (λ e. e ≡ Memory) }
+        ensures err { IfErr result (λ e. e ≡ refusals.Memory) }
     {
         let Ok(mut goroutines) = GTable::with_limits(alloc, limits.goroutines, limits.sockets)
         else {
@@ -64,7 +64,7 @@ impl Core {
     /// An equal one, in room of its own.
     pub(crate) fn try_copy(&self, alloc: Global) -> Result<Core, Refusal>
         ensures equal { IfOk result (λ core. core ≡ self.now) }
-        ensures err { IfErr result (λ e. e ≡ Memory) }
+        ensures err { IfErr result (λ e. e ≡ refusals.Memory) }
     {
         let Ok(goroutines) = self.goroutines.try_copy() else {
             return Err(Refusal::Memory);
@@ -84,7 +84,7 @@ impl Core {
             locks,
             descriptors,
             free,
-            timers: self.timers.try_copy(alloc)?,
+            timers: self.timers.try_copy()?,
             clock: self.clock,
             waiters: self.waiters,
         })
@@ -92,7 +92,7 @@ impl Core {
 }
 
 /// The buffers of so many sockets, none of which is opened.
-fn closed_socks(alloc: Global, sockets: u32, buffer: u32) -> Result<Vec<Sock>, AllocError>
+fn closed_socks(alloc: Global, sockets: u32, buffer: u32) -> Result<Vec<Sock>, Memory>
     ensures { IfOk result (λ socks. socks.items ≡ replicate sockets (never_opened buffer)) }
 {
     let mut socks = Vec::with_capacity(alloc, sockets as usize)?;
@@ -103,7 +103,7 @@ fn closed_socks(alloc: Global, sockets: u32, buffer: u32) -> Result<Vec<Sock>, A
 }
 
 /// Equal buffers, in room of their own.
-fn copied_socks(alloc: Global, socks: &[Sock]) -> Result<Vec<Sock>, AllocError>
+fn copied_socks(alloc: Global, socks: &[Sock]) -> Result<Vec<Sock>, Memory>
     ensures { IfOk result (λ copies. copies.items ≡ socks.now) }
 {
     let mut copies = Vec::with_capacity(alloc, socks.len())?;
@@ -119,7 +119,7 @@ impl World {
         requires { AreInRange limits }
         ensures world { IfOk result IsWorld }
         ensures empty { IfOk result (λ w. meant w ≡ empty_world limits) }
-        ensures err { IfErr result (λ e. e ≡ Memory) }
+        ensures err { IfErr result (λ e. e ≡ refusals.Memory) }
     {
         let core = Core::with_room(alloc, limits)?;
         let Ok(socks) = closed_socks(alloc, limits.sockets, limits.buffer) else {
@@ -131,7 +131,7 @@ impl World {
     /// An equal one, with room of its own.
     fn copy(&self) -> Result<World, Refusal>
         ensures ok { IfOk result (λ w. w ≡ self.now) }
-        ensures err { IfErr result (λ e. e ≡ Memory) }
+        ensures err { IfErr result (λ e. e ≡ refusals.Memory) }
     {
         let core = self.core.try_copy(self.alloc)?;
         let Ok(socks) = copied_socks(self.alloc, &self.socks) else {
@@ -160,7 +160,7 @@ impl World {
     /// The bytes that a socket's buffer holds; `None` where there is no such socket.
     fn bytes_copy(&self, socket: u32, side: Side) -> Result<Option<Bytes>, Refusal>
         ensures ok { IfOk result (λ bytes. bytes ≡ bytes_of (meant self.now) socket side) }
-        ensures err { IfErr result (λ e. e ≡ Memory) }
+        ensures err { IfErr result (λ e. e ≡ refusals.Memory) }
         ensures some { OnErr result (HasItems (bytes_of (meant self.now) socket side)) }
     {
         if socket as usize >= self.core.locks.len() {
@@ -179,7 +179,7 @@ impl World {
     /// The goroutines queued at a socket's semaphore, front first; `None` where there is no such socket.
     fn queue_copy(&self, socket: u32, side: Side) -> Result<Option<Queue>, Refusal>
         ensures ok { IfOk result (λ queue. queue ≡ queue_of (meant self.now) socket side) }
-        ensures err { IfErr result (λ e. e ≡ Memory) }
+        ensures err { IfErr result (λ e. e ≡ refusals.Memory) }
         ensures some { OnErr result (HasItems (queue_of (meant self.now) socket side)) }
     {
         if socket as usize >= self.core.locks.len() {
@@ -192,7 +192,7 @@ impl World {
     }
 
     /// Those queued, from the front to the back. Where nobody is, no memory is taken.
-    fn queued(&self, socket: u32, side: Side) -> Result<Vec<u32>, AllocError>
+    fn queued(&self, socket: u32, side: Side) -> Result<Vec<u32>, Memory>
         ensures ok { IfOk result (λ items. items.items ≡ queue_at socket side self.now.core.goroutines) }
         ensures some { OnErr result (0 < length (queue_at socket side self.now.core.goroutines)) }
     {
@@ -201,7 +201,7 @@ impl World {
         let mut next = self.core.goroutines.front_of(socket, side);
         while let Some(goroutine) = next {
             items.push(goroutine)?;
-            next = self.core.goroutines.next_in_queue(goroutine);
+            next = self.core.goroutines.next_of(goroutine);
         }
         Ok(items)
     }

@@ -53,9 +53,13 @@ abbrev pub hits_between : World → World → Option NextStep → List NumberedM
 hits_between before after next marks =
     map (λ m. m.number) (filter (λ m. mark_hits before after next m.item) marks)
 
+-- the step of this number, counted from 1, as breaks see it
+abbrev pub step_numbered : ℕ → Step → NextStep
+step_numbered n step = record { number = n; kind = kind_of step }
+
 -- a step as the one that comes next at a position
 abbrev pub numbered : ℕ → Option Step → Option NextStep
-numbered p step = option_map (λ (s : Step). record { number = p + 1; kind = kind_of s }) step
+numbered p step = option_map (step_numbered (p + 1)) step
 
 -- Which marks hit at position p of a recording. Before position 0 nothing has changed, so no watch
 -- hits there.

@@ -2,7 +2,7 @@
 
 ghost use Rattle.std.specs.Prelude.{◌≡◌, ◌+◌, ◌<◌, ◌^◌};
 ghost use Rattle.std.specs.Option.{option_copied};
-ghost use Rattle.nr_marks.specs.Hit.{break_hits, hits_by, names, numbered, watched};
+ghost use Rattle.nr_marks.specs.Hit.{break_hits, hits_by, names, numbered, step_numbered, watched};
 ghost use Rattle.nr_marks.specs.Marks.{is_temporary, is_watch};
 
 use nr_rev::{Cell, CellValue, Kind, Step, Worlds};
@@ -46,16 +46,22 @@ pub struct NextStep {
 }
 
 impl NextStep {
+    /// The step of this number, counted from 1.
+    pub fn of(number: usize, step: &Step) -> NextStep
+        ensures { result ≡ step_numbered number step.now }
+    {
+        NextStep {
+            number,
+            kind: step.kind(),
+        }
+    }
+
     /// The step that comes next at a position, if one does.
     pub fn at(position: usize, step: Option<&Step>) -> Option<NextStep>
         requires { position + 1 < 2 ^ 64 }
         ensures { result ≡ numbered position (option_copied step.entry) }
     {
-        let kind = step?.kind();
-        Some(NextStep {
-            number: position + 1,
-            kind,
-        })
+        Some(NextStep::of(position + 1, step?))
     }
 }
 

@@ -3,7 +3,7 @@
 use crate::mark::{Break, Mark, NextStep};
 use crate::numbered::{MOST_NUMBERED, Numbered, NumberedList};
 use arrayvec::ArrayVec;
-use nr_rev::{Cell, Worlds};
+use nr_rev::{Cell, Step, Worlds};
 use std::marker::Model;
 
 /// The most marks at once.
@@ -49,8 +49,8 @@ impl NumberedList<Mark> {
 }
 
 impl Marks {
-    ghost use Rattle.std.specs.Prelude.{◌≡◌, ◌≤◌, length, OnErr};
-    ghost use Rattle.nr_marks.specs.Hit.{hits_between};
+    ghost use Rattle.std.specs.Prelude.{◌≡◌, ◌≤◌, length, option_map, OnErr};
+    ghost use Rattle.nr_marks.specs.Hit.{hits_between, step_numbered};
     ghost use Rattle.nr_marks.specs.Marks.{after_stop, any_watch, mark_deletion, next_number};
     ghost use Rattle.nr_marks.specs.Numbered.{RisesWithin, empty, numbers_of, with_item, without_item};
     ghost use Rattle.nr_marks.specs.declared.marks.TheConstants.{MOST_MARKS};
@@ -153,9 +153,32 @@ impl Marks {
         self.as_slice().iter().any(|mark| mark.item.is_watch())
     }
 
-    /// The numbers of the marks that hit at a position, rising: those between a world and the one after it, where
-    /// this step comes next. At position 0 the two worlds are the same one, and at the end nothing comes next.
+    /// The numbers of the marks that hit at a position, rising: those between a world and the one after it, where the
+    /// step that comes next has this number, counted from 1. At position 0 the two worlds are the same one, and at the end
+    /// nothing comes next.
     pub fn hits<W: Worlds>(
+        &self,
+        before: &W,
+        after: &W,
+        next: Option<(usize, &Step)>,
+    ) -> ArrayVec<u32, MOST_MARKS>
+        requires before { W.is_well_formed before.now }
+        requires after { W.is_well_formed after.now }
+        ensures hits { result.items
+            ≡ hits_between (W.world before.now) (W.world after.now)
+            (option_map (λ next. step_numbered next.0 next.1.now) next.entry) self.now.present }
+        ensures rising { RisesWithin 0 result.items self.now.made }
+    {
+        match next {
+            Some((number, step)) => {
+                self.hits_before(before, after, Some(NextStep::of(number, step)))
+            }
+            None => self.hits_before(before, after, None),
+        }
+    }
+
+    // The same, of the next step as breaks see it.
+    fn hits_before<W: Worlds>(
         &self,
         before: &W,
         after: &W,

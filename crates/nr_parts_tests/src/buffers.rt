@@ -76,8 +76,10 @@ fn play(sock: &mut Sock, steps: &[Step], deltas: &mut ArrayVec<SockDelta, 8>) ->
     }
 }
 
-/// The bytes of a side, from the front.
-fn held(sock: &Sock, side: Side) -> [Option<u8>; 4] {
+/// The first bytes of a side, from the front.
+type Held = [Option<u8>; 4];
+
+fn held(sock: &Sock, side: Side) -> Held {
     [
         sock.byte(side, 0),
         sock.byte(side, 1),
@@ -86,34 +88,55 @@ fn held(sock: &Sock, side: Side) -> [Option<u8>; 4] {
     ]
 }
 
-/// Plays two rounds in new buffers and undoes the second: the input before it, after it and then, and that of a copy.
+/// Plays a round, and lets its way back go.
+fn go(sock: &mut Sock, steps: &[Step]) -> Result<(), Refusal>
+    requires { length steps.now ≤ 8 }
+{
+    let mut deltas = ArrayVec::new();
+    play(sock, steps, &mut deltas)
+}
+
+/// Plays a round and undoes it: the input before it, after it and then.
+fn round(sock: &mut Sock, steps: &[Step]) -> Result<[Held; 3], Refusal>
+    requires { length steps.now ≤ 8 }
+{
+    let before = held(sock, Side::Read);
+    let mut deltas = ArrayVec::new();
+    play(sock, steps, &mut deltas)?;
+    let after = held(sock, Side::Read);
+    undo_all(sock, &mut deltas);
+    Ok([before, after, held(sock, Side::Read)])
+}
+
+/// Plays two rounds and undoes the second.
+fn rounds(sock: &mut Sock, first: &[Step], second: &[Step]) -> Result<[Held; 3], Refusal>
+    requires first { length first.now ≤ 8 }
+    requires second { length second.now ≤ 8 }
+{
+    go(sock, first)?;
+    round(sock, second)
+}
+
+/// The input of a copy, where there is memory for one.
+fn held_by_a_copy(sock: &Sock) -> Option<Held> {
+    match copied(sock) {
+        Ok(copy) => Some(held(&copy, Side::Read)),
+        Err(AllocError) => None,
+    }
+}
+
+/// Plays two rounds in new buffers and undoes the second, and copies what is left.
 fn there_and_back(
     alloc: Global,
     first: &[Step],
     second: &[Step],
-) -> Result<[[Option<u8>; 4]; 4], Refusal>
+) -> Result<(Result<[Held; 3], Refusal>, Option<Held>), AllocError>
     requires first { length first.now ≤ 8 }
     requires second { length second.now ≤ 8 }
 {
-    let Ok(mut sock) = made(alloc) else {
-        return Err(Refusal::Memory);
-    };
-    let mut deltas = ArrayVec::new();
-    play(&mut sock, first, &mut deltas)?;
-    let before = held(&sock, Side::Read);
-    let mut deltas = ArrayVec::new();
-    play(&mut sock, second, &mut deltas)?;
-    let after = held(&sock, Side::Read);
-    undo_all(&mut sock, &mut deltas);
-    let Ok(copy) = copied(&sock) else {
-        return Err(Refusal::Memory);
-    };
-    Ok([
-        before,
-        after,
-        held(&sock, Side::Read),
-        held(&copy, Side::Read),
-    ])
+    let mut sock = made(alloc)?;
+    let played = rounds(&mut sock, first, second);
+    Ok((played, held_by_a_copy(&sock)))
 }
 
 /// A round that leaves bytes round the end.
@@ -143,7 +166,7 @@ fn what_wraps_round_the_end_is_read_and_put_back(rt: HostRuntime) -> Result<(), 
     let after = [Some(b'f'), Some(b'x'), Some(b'y'), Some(b'z')];
     assert_eq!(rt;
         there_and_back(rt.alloc(), &first, &second),
-        Ok([before, after, before, before])
+        Ok((Ok([before, after, before]), Some(before)))
     );
     Ok(())
 }
@@ -267,33 +290,45 @@ fn what_was_written_goes_out_once_the_write_side_is_shut(rt: HostRuntime) -> Res
     Ok(())
 }
 
-/// Plays the steps in new buffers, shuts the write side, and undoes that: whether it was shut before, after and then.
-fn shut_and_back(alloc: Global, steps: &[Step]) -> Result<[bool; 3], Refusal>
-    requires { length steps.now ≤ 8 }
-{
-    let Ok(mut sock) = made(alloc) else {
-        return Err(Refusal::Memory);
-    };
-    let mut deltas = ArrayVec::new();
-    play(&mut sock, steps, &mut deltas)?;
+/// Shuts the write side and undoes that: whether it was shut before, after and then.
+fn shut(sock: &mut Sock) -> Result<[bool; 3], Refusal> {
     let before = sock.shut();
     let mut deltas = ArrayVec::new();
-    play(&mut sock, &[SHUT], &mut deltas)?;
+    play(sock, &[SHUT], &mut deltas)?;
     let after = sock.shut();
-    undo_all(&mut sock, &mut deltas);
+    undo_all(sock, &mut deltas);
     Ok([before, after, sock.shut()])
+}
+
+/// Plays the steps, and then that.
+fn lead_and_shut(sock: &mut Sock, steps: &[Step]) -> Result<[bool; 3], Refusal>
+    requires { length steps.now ≤ 8 }
+{
+    go(sock, steps)?;
+    shut(sock)
+}
+
+/// That, in new buffers.
+fn shut_and_back(alloc: Global, steps: &[Step]) -> Result<Result<[bool; 3], Refusal>, AllocError>
+    requires { length steps.now ≤ 8 }
+{
+    let mut sock = made(alloc)?;
+    Ok(lead_and_shut(&mut sock, steps))
 }
 
 #[test]
 fn the_write_side_is_as_it_was_once_its_shutting_is_undone(rt: HostRuntime) -> Result<(), Fail> {
     assert_eq!(rt;
         shut_and_back(rt.alloc(), &[OPEN]),
-        Ok([false, true, false])
+        Ok(Ok([false, true, false]))
     );
     assert_eq!(rt;
         shut_and_back(rt.alloc(), &[OPEN, SHUT]),
-        Ok([true, true, true])
+        Ok(Ok([true, true, true]))
     );
-    assert_eq!(rt; shut_and_back(rt.alloc(), &[]), Err(Refusal::NoSuchSocket));
+    assert_eq!(rt;
+        shut_and_back(rt.alloc(), &[]),
+        Ok(Err(Refusal::NoSuchSocket))
+    );
     Ok(())
 }

@@ -1,4 +1,4 @@
-//! Tests of the packed machine's parts by their public calls, and of their places in a whole world.
+//! Tests of the packed machine's parts by their public calls.
 #![tactic(auto)]
 
 #[cfg(test)]
@@ -7,8 +7,6 @@ mod buffers;
 mod descriptors;
 #[cfg(test)]
 mod locks;
-#[cfg(test)]
-mod places;
 #[cfg(test)]
 mod queues;
 #[cfg(test)]

@@ -14,22 +14,31 @@ use std::test::Fail;
 type Pair = (Option<u32>, Option<u32>);
 
 /// The ends of the queue of reading at socket 0, and the neighbours of the goroutines 1, 2 and 3.
-fn links(table: &GTable) -> (Pair, [Pair; 3]) {
-    let neighbours = |goroutine| (table.previous_of(goroutine), table.next_in_queue(goroutine));
+type Links = (Pair, [Pair; 3]);
+
+fn neighbours(table: &GTable, goroutine: u32) -> Pair {
+    (table.previous_of(goroutine), table.next_of(goroutine))
+}
+
+fn links(table: &GTable) -> Links {
     (
         (table.front_of(0, Side::Read), table.back_of(0, Side::Read)),
-        [neighbours(1), neighbours(2), neighbours(3)],
+        [
+            neighbours(table, 1),
+            neighbours(table, 2),
+            neighbours(table, 3),
+        ],
     )
 }
 
 /// The links where 1, 2 and 3 are queued in this order.
-const OF_THREE: (Pair, [Pair; 3]) = (
+const OF_THREE: Links = (
     (Some(1), Some(3)),
     [(None, Some(2)), (Some(1), Some(3)), (Some(2), None)],
 );
 
 /// The links where 1 has left that queue.
-const OF_TWO: (Pair, [Pair; 3]) = (
+const OF_TWO: Links = (
     (Some(2), Some(3)),
     [(None, None), (None, Some(3)), (Some(2), None)],
 );
@@ -91,32 +100,32 @@ fn queue_up(table: &mut GTable) -> Result<(), Refusal>
 }
 
 /// What is left of a release by goroutine 0, and when it is undone: the count, the links and the status of goroutine 1.
-type Left = (Option<u32>, (Pair, [Pair; 3]), Option<Status>);
+type Left = (Option<u32>, Links, Option<Status>);
 
 fn left(table: &GTable) -> Left {
     (table.count(0, Side::Read), links(table), table.status(1))
 }
 
-/// What a release by goroutine 0 leaves, and what undoing it leaves.
-fn released_and_undone(table: &mut GTable) -> Result<(Left, Left), Refusal>
+/// Queues them up: the links, and what a release by goroutine 0 leaves, and what undoing it leaves.
+fn released_and_undone(table: &mut GTable) -> Result<(Links, Left, Left), Refusal>
     requires { IsQueuedUp table.old }
-    ensures { IsQueuedUp table.new }
 {
+    queue_up(table)?;
+    let before = links(table);
     let (_, delta) = table.apply(&GOperation::Release { goroutine: 0 })?;
     let after = left(table);
     table.undo(delta);
-    Ok((after, left(table)))
+    Ok((before, after, left(table)))
 }
 
 #[test]
 fn a_release_is_undone_with_the_links(rt: HostRuntime) -> Result<(), Fail> {
     let mut table = made(rt.alloc())?;
     let (socket, side) = (0, Side::Read);
-    assert_eq!(rt; queue_up(&mut table), Ok(()));
-    assert_eq!(rt; (table.made(), links(&table)), (4, OF_THREE));
     assert_eq!(rt;
         released_and_undone(&mut table),
         Ok((
+            OF_THREE,
             (Some(1), OF_TWO, Some(Status::Acquiring { socket, side })),
             (Some(0), OF_THREE, Some(Status::Queued { socket, side })),
         ))
@@ -124,23 +133,39 @@ fn a_release_is_undone_with_the_links(rt: HostRuntime) -> Result<(), Fail> {
     Ok(())
 }
 
+/// Whether the operations apply, with the count and the links then.
+type Played = (Result<(), Refusal>, Option<u32>, Links);
+
+fn played(table: &mut GTable, operations: &[GOperation]) -> Played
+    requires queued { IsQueuedUp table.old }
+    requires few { length operations.now ≤ 8 }
+    ensures { IsQueuedUp table.new }
+{
+    let applied = play(table, operations);
+    (applied, table.count(0, Side::Read), links(table))
+}
+
+/// Queues them up, and plays operations of which the last is refused, and others that apply.
+fn refused_and_applied(table: &mut GTable) -> Result<[Played; 2], Refusal>
+    requires { IsQueuedUp table.old }
+{
+    queue_up(table)?;
+    let release = GOperation::Release { goroutine: 0 };
+    Ok([
+        played(table, &[release, acquire(1), release]),
+        played(table, &[release, acquire(1)]),
+    ])
+}
+
 #[test]
 fn what_is_refused_last_leaves_the_links(rt: HostRuntime) -> Result<(), Fail> {
     let mut table = made(rt.alloc())?;
-    let release = GOperation::Release { goroutine: 0 };
-    assert_eq!(rt; queue_up(&mut table), Ok(()));
     assert_eq!(rt;
-        play(&mut table, &[release, acquire(1), release]),
-        Err(Refusal::NotThere)
-    );
-    assert_eq!(rt;
-        (table.count(0, Side::Read), links(&table)),
-        (Some(0), OF_THREE)
-    );
-    assert_eq!(rt; play(&mut table, &[release, acquire(1)]), Ok(()));
-    assert_eq!(rt;
-        (table.count(0, Side::Read), links(&table)),
-        (Some(0), OF_TWO)
+        refused_and_applied(&mut table),
+        Ok([
+            (Err(Refusal::NotThere), Some(0), OF_THREE),
+            (Ok(()), Some(0), OF_TWO),
+        ])
     );
     Ok(())
 }
@@ -153,11 +178,22 @@ fn copied(table: &GTable) -> Result<GTable, AllocError> {
     }
 }
 
+/// Queues them up: the links of a copy.
+fn links_of_a_copy(table: &mut GTable) -> Option<Links>
+    requires { IsQueuedUp table.old }
+{
+    if queue_up(table).is_err() {
+        return None;
+    }
+    match copied(table) {
+        Ok(copy) => Some(links(&copy)),
+        Err(AllocError) => None,
+    }
+}
+
 #[test]
 fn a_copy_has_the_links(rt: HostRuntime) -> Result<(), Fail> {
     let mut table = made(rt.alloc())?;
-    assert_eq!(rt; queue_up(&mut table), Ok(()));
-    let copy = copied(&table)?;
-    assert_eq!(rt; (links(&table), links(&copy)), (OF_THREE, OF_THREE));
+    assert_eq!(rt; links_of_a_copy(&mut table), Some(OF_THREE));
     Ok(())
 }

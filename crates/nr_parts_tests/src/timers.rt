@@ -8,7 +8,6 @@ use arrayvec::ArrayVec;
 use nr_rev::{Entry, Refusal, Reversible, Side, Timer, TimerFunction, transact, undo_all};
 use nr_timers::{Timers, TimersOp};
 use std::alloc::Global;
-use std::process::Abort;
 use std::test::Fail;
 
 fn arm(descriptor: u32, due: i64) -> TimersOp {
@@ -26,6 +25,14 @@ fn stop(descriptor: u32) -> TimersOp {
         descriptor,
         side: Side::Read,
     }
+}
+
+fn pop(now: i64) -> TimersOp {
+    TimersOp::Pop { now }
+}
+
+fn take(place: u32) -> TimersOp {
+    TimersOp::TakeFiring { place }
 }
 
 /// The entry that `arm` makes.
@@ -55,16 +62,25 @@ fn armed(alloc: Global, times: &[i64]) -> Result<Timers, Refusal>
     Ok(timers)
 }
 
-/// Whether the heap has just these times and arming numbers, by place, and finds each entry's place.
+/// Whether an entry with this time and arming number is at this place, and is found there.
+fn has_place(timers: &Timers, place: usize, (due, number): (i64, u64)) -> bool {
+    match timers.at_place(place) {
+        Some(entry) => {
+            entry.timer.due == due
+                && entry.timer.number == number
+                && timers.place_of(entry.descriptor, entry.side) == Some(place)
+        }
+        None => false,
+    }
+}
+
+/// Whether the heap has just these times and arming numbers, by place.
 fn has_places(timers: &Timers, places: &[(i64, u64)]) -> bool {
     timers.len() == places.len()
-        && places.iter().enumerate().all(|(place, (due, number))| {
-            timers.at_place(place).is_some_and(|entry| {
-                entry.timer.due == *due
-                    && entry.timer.number == *number
-                    && timers.place_of(entry.descriptor, entry.side) == Some(place)
-            })
-        })
+        && places
+            .iter()
+            .enumerate()
+            .all(|(place, entry)| has_place(timers, place, *entry))
 }
 
 /// Whether the operation changes the heap so, and is undone whole.
@@ -110,7 +126,7 @@ fn each_entry_has_its_place_back(rt: HostRuntime) -> Result<(), Fail> {
         changes(
             rt.alloc(),
             &[10, 10],
-            &TimersOp::Pop { now: 10 },
+            &pop(10),
             &[(10, 1), (10, 2)],
             &[(10, 2)],
             (1, 3),
@@ -159,49 +175,59 @@ fn refusal_of(timers: &mut Timers, op: &TimersOp) -> Option<Refusal>
     timers.apply(op).err()
 }
 
-/// Asks for one operation after another, and says what each is refused for.
-fn expect(rt: &impl Abort, timers: &mut Timers, refusals: &[(TimersOp, Option<Refusal>)])
+/// Asks for one operation after another: the number of the first that isn't refused as it is said, or isn't taken.
+fn first_otherwise(timers: &mut Timers, refusals: &[(TimersOp, Option<Refusal>)]) -> Option<usize>
     requires { IsTimers timers.old }
     ensures { IsTimers timers.new }
 {
-    for (op, refusal) in refusals {
-        assert_eq!(rt; refusal_of(timers, op), *refusal, "at {op:?}");
+    for (number, (op, refusal)) in refusals.iter().enumerate() {
+        if refusal_of(timers, op) != *refusal {
+            return Some(number);
+        }
     }
+    None
+}
+
+/// What is seen of timers then.
+type Seen = (Option<usize>, Option<Entry>, Option<Entry>, Option<Entry>);
+
+/// That, and both firings and the least entry then.
+fn asked(timers: &mut Timers, refusals: &[(TimersOp, Option<Refusal>)]) -> Seen
+    requires { IsTimers timers.old }
+{
+    let otherwise = first_otherwise(timers, refusals);
+    (
+        otherwise,
+        timers.firing(0),
+        timers.firing(1),
+        timers.least(),
+    )
 }
 
 #[test]
 fn refuses_for_the_first_reason(rt: HostRuntime) -> Result<(), Fail> {
     let mut timers = Timers::with_limits(rt.alloc(), 1)?;
-    expect(
-        &rt,
-        &mut timers,
-        &[
-            (arm(1, 10), Some(Refusal::NoSuchDescriptor)),
-            (stop(1), Some(Refusal::NoSuchDescriptor)),
-            (stop(0), None),
-            (TimersOp::Pop { now: 10 }, Some(Refusal::NoTimerDue)),
-            (
-                TimersOp::TakeFiring { place: 0 },
-                Some(Refusal::NoSuchFiring),
-            ),
-            (arm(0, 10), None),
-            (TimersOp::Pop { now: 9 }, Some(Refusal::NoTimerDue)),
-            (TimersOp::Pop { now: 10 }, None),
-            (arm(0, 11), None),
-            (TimersOp::Pop { now: 11 }, None),
-            (arm(0, 12), None),
-            (TimersOp::Pop { now: 12 }, Some(Refusal::FiringsFull)),
-            (
-                TimersOp::TakeFiring { place: 2 },
-                Some(Refusal::NoSuchFiring),
-            ),
-            (TimersOp::TakeFiring { place: 0 }, None),
-            (TimersOp::Pop { now: 12 }, None),
-        ],
+    let refusals = [
+        (arm(1, 10), Some(Refusal::NoSuchDescriptor)),
+        (stop(1), Some(Refusal::NoSuchDescriptor)),
+        (stop(0), None),
+        (pop(10), Some(Refusal::NoTimerDue)),
+        (take(0), Some(Refusal::NoSuchFiring)),
+        (arm(0, 10), None),
+        (pop(9), Some(Refusal::NoTimerDue)),
+        (pop(10), None),
+        (arm(0, 11), None),
+        (pop(11), None),
+        (arm(0, 12), None),
+        (pop(12), Some(Refusal::FiringsFull)),
+        (take(2), Some(Refusal::NoSuchFiring)),
+        (take(0), None),
+        (pop(12), None),
+    ];
+    assert_eq!(rt;
+        asked(&mut timers, &refusals),
+        (None, Some(entry(0, 11, 2)), Some(entry(0, 12, 3)), None)
     );
-    assert_eq!(rt; timers.firing(0), Some(entry(0, 11, 2)));
-    assert_eq!(rt; timers.firing(1), Some(entry(0, 12, 3)));
-    assert_eq!(rt; timers.least(), None);
     Ok(())
 }
 
@@ -222,25 +248,35 @@ fn transacted(
     (applied, made, least, timers.least())
 }
 
+/// Operations that apply, and others of which the last doesn't.
+fn transactions(
+    timers: &mut Timers,
+) -> [(Result<(), Refusal>, usize, Option<Entry>, Option<Entry>); 2]
+    requires { IsTimers timers.old }
+{
+    [
+        transacted(timers, &[arm(1, 20), arm(2, 10), pop(20), stop(0)]),
+        transacted(timers, &[arm(1, 20), pop(20), pop(20)]),
+    ]
+}
+
 #[test]
 fn transactions_are_undone_whole(rt: HostRuntime) -> Result<(), Fail> {
     let mut timers = armed(rt.alloc(), &[30])?;
     let first = Some(entry(0, 30, 1));
-    let pop = TimersOp::Pop { now: 20 };
     assert_eq!(rt;
-        transacted(&mut timers, &[arm(1, 20), arm(2, 10), pop, stop(0)]),
-        (Ok(()), 4, Some(entry(1, 20, 2)), first)
-    );
-    assert_eq!(rt;
-        transacted(&mut timers, &[arm(1, 20), pop, pop]),
-        (Err(Refusal::NoTimerDue), 0, first, first)
+        transactions(&mut timers),
+        [
+            (Ok(()), 4, Some(entry(1, 20, 2)), first),
+            (Err(Refusal::NoTimerDue), 0, first, first),
+        ]
     );
     Ok(())
 }
 
 /// Whether a copy has the same places, firings and next number.
-fn copies(timers: &Timers, alloc: Global, places: &[(i64, u64)]) -> Result<bool, Refusal> {
-    let copy = timers.try_copy(alloc)?;
+fn copies(timers: &Timers, places: &[(i64, u64)]) -> Result<bool, Refusal> {
+    let copy = timers.try_copy()?;
     Ok(
         has_places(&copy, places)
             && copy.firing(0) == timers.firing(0)
@@ -249,29 +285,39 @@ fn copies(timers: &Timers, alloc: Global, places: &[(i64, u64)]) -> Result<bool,
     )
 }
 
+/// Timers at once or, where memory was refused, the next time.
+fn made(alloc: Global) -> Result<Timers, Refusal>
+    ensures { IfOk result IsTimers }
+{
+    match Timers::with_limits(alloc, 2) {
+        Err(Refusal::Memory) => Timers::with_limits(alloc, 2),
+        made => made,
+    }
+}
+
+/// Arms and pops: the first operation that isn't taken, and whether a copy, at once or the next time, has the same.
+fn asked_and_copied(timers: &mut Timers) -> (Option<usize>, Result<bool, Refusal>)
+    requires { IsTimers timers.old }
+{
+    let taken = [
+        (arm(1, 20), None),
+        (arm(0, 10), None),
+        (pop(10), None),
+        (arm(0, 30), None),
+    ];
+    let otherwise = first_otherwise(timers, &taken);
+    let places = [(20, 1), (30, 3)];
+    let copied = match copies(timers, &places) {
+        Err(Refusal::Memory) => copies(timers, &places),
+        copied => copied,
+    };
+    (otherwise, copied)
+}
+
 /// Says something of a refusal only with an allocation refused: `rt try --test --fail-alloc N`.
 #[test]
 fn goes_on_where_memory_was_refused(rt: HostRuntime) -> Result<(), Fail> {
-    let mut timers = match Timers::with_limits(rt.alloc(), 2) {
-        Err(Refusal::Memory) => Timers::with_limits(rt.alloc(), 2)?,
-        made => made?,
-    };
-    let pop = TimersOp::Pop { now: 10 };
-    expect(
-        &rt,
-        &mut timers,
-        &[
-            (arm(1, 20), None),
-            (arm(0, 10), None),
-            (pop, None),
-            (arm(0, 30), None),
-        ],
-    );
-    let places = [(20, 1), (30, 3)];
-    let copied = match copies(&timers, rt.alloc(), &places) {
-        Err(Refusal::Memory) => copies(&timers, rt.alloc(), &places),
-        copied => copied,
-    };
-    assert_eq!(rt; copied, Ok(true));
+    let mut timers = made(rt.alloc())?;
+    assert_eq!(rt; asked_and_copied(&mut timers), (None, Ok(true)));
     Ok(())
 }

@@ -6,7 +6,8 @@ ghost use Rattle.nr_plain.specs.RowEdit.{CanEditRow, after_row_edit};
 ghost use Rattle.nr_plain.specs.Rows.{row_in};
 
 use crate::row_edit::RowEdit;
-use std::alloc::{AllocError, Global};
+use nr_rev::Memory;
+use std::alloc::Global;
 use std::marker::Model;
 
 /// At most `most` rows of at most `room` items each. What is behind a row moves when it grows or shrinks.
@@ -36,10 +37,10 @@ impl<T> Model for Rows<T> {
 
 impl<T: Copy + Drop> Rows<T> {
     /// No rows, with room for so many of so many items each.
-    pub(crate) fn with_room(alloc: Global, most: usize, room: usize) -> Result<Rows<T>, AllocError>
+    pub(crate) fn with_room(alloc: Global, most: usize, room: usize) -> Result<Rows<T>, Memory>
         ensures { IfOk result (λ r. r ≡ record { rows = []; most = most; room = room }) }
     {
-        let all = most.checked_mul(room).ok_or(AllocError)?;
+        let all = most.checked_mul(room).ok_or(Memory)?;
         Ok(Rows {
             items: Vec::with_capacity(alloc, all)?,
             lens: Vec::with_capacity(alloc, most)?,
@@ -64,10 +65,10 @@ impl<T: Copy + Drop> Rows<T> {
 
     /// An equal one, in room of its own.
     #[tactic(auto, using(crate::proofs::RowsLemmas::rows_fit))]
-    pub(crate) fn try_copy(&self, alloc: Global) -> Result<Rows<T>, AllocError>
+    pub(crate) fn try_copy(&self, alloc: Global) -> Result<Rows<T>, Memory>
         ensures { IfOk result (λ r. r ≡ self.now) }
     {
-        let all = self.most.checked_mul(self.room).ok_or(AllocError)?;
+        let all = self.most.checked_mul(self.room).ok_or(Memory)?;
         Ok(Rows {
             items: copy_of(alloc, &self.items, all)?,
             lens: copy_of(alloc, &self.lens, self.most)?,
@@ -199,7 +200,7 @@ impl<T: Copy + Drop> Rows<T> {
 }
 
 /// A copy of the items, with room for so many.
-fn copy_of<T: Copy>(alloc: Global, items: &[T], room: usize) -> Result<Vec<T>, AllocError>
+fn copy_of<T: Copy>(alloc: Global, items: &[T], room: usize) -> Result<Vec<T>, Memory>
     requires { length items.now ≤ room }
     ensures items { IfOk result (λ copy. copy.items ≡ items.now) }
     ensures room { IfOk result (λ copy. room ≤ vec_capacity copy) }

@@ -11,8 +11,8 @@ ghost use Rattle.nr_plain.specs.SocketEdit.{on_bytes, on_queue};
 use crate::row_edit::RowEdit;
 use crate::rows::Rows;
 use crate::socket::{PlainSocket, SocketState, place};
-use nr_rev::{RoomedList, Side};
-use std::alloc::{AllocError, Global};
+use nr_rev::{Memory, RoomedList, Side};
+use std::alloc::Global;
 use std::marker::Model;
 
 /// The sockets opened so far: what each has of one size, and the queues and the bytes of them all in two blocks. When
@@ -43,7 +43,7 @@ impl Sockets {
         room: u32,
         queue_room: usize,
         byte_room: usize,
-    ) -> Result<Sockets, AllocError>
+    ) -> Result<Sockets, Memory>
         ensures { IfOk result (λ s. s ≡ record {
           sockets = [];
           room = room;
@@ -60,7 +60,7 @@ impl Sockets {
     }
 
     /// An equal one, in room of its own.
-    pub(crate) fn try_copy(&self, alloc: Global) -> Result<Sockets, AllocError>
+    pub(crate) fn try_copy(&self, alloc: Global) -> Result<Sockets, Memory>
         ensures { IfOk result (λ s. s ≡ self.now) }
     {
         Ok(Sockets {

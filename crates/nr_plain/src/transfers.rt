@@ -13,8 +13,8 @@ use crate::edit::Edit;
 use crate::plan::Plan;
 use crate::socket_edit::SocketEdit;
 use crate::world::PlainWorld;
-use nr_rev::{Answer, Bytes, KeptBytes, Refusal, Side};
-use std::alloc::{AllocError, Global};
+use nr_rev::{Answer, Bytes, KeptBytes, Memory, Refusal, Side};
+use std::alloc::Global;
 
 impl PlainWorld {
     /// The plan of `sockopen`.
@@ -191,7 +191,7 @@ impl PlainWorld {
 }
 
 /// A copy of so many bytes at the front, or of all where there are fewer.
-fn front(alloc: Global, buffer: PlainBuffer, count: u32) -> Result<KeptBytes, AllocError>
+fn front(alloc: Global, buffer: PlainBuffer, count: u32) -> Result<KeptBytes, Memory>
     ensures bytes { IfOk result (λ bytes. bytes ≡ take count buffer.entry.bytes.now) }
     ensures len { IfOk result (λ bytes. length bytes ≡ min count (length buffer.entry.bytes.now)) }
     ensures err { OnErr result (0 < min count (length buffer.entry.bytes.now)) }

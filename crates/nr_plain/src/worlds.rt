@@ -8,14 +8,14 @@ ghost use Rattle.nr_rev.specs.Worlds.{HasItems};
 use crate::sockets::Sockets;
 use crate::world::PlainWorld;
 use nr_rev::{
-    Answer, Bytes, Cell, CellValue, Limits, Queue, Refusal, Reversible, RoomedList, Side, Status,
-    Step, Worlds,
+    Answer, Bytes, Cell, CellValue, Limits, Memory, Queue, Refusal, Reversible, RoomedList, Side,
+    Status, Step, Worlds,
 };
-use std::alloc::{AllocError, Global};
+use std::alloc::Global;
 
 impl PlainWorld {
     /// The world before the first step.
-    fn with_room(alloc: Global, limits: Limits) -> Result<PlainWorld, AllocError>
+    fn with_room(alloc: Global, limits: Limits) -> Result<PlainWorld, Memory>
         requires { 0 < limits.goroutines }
         ensures { IfOk result (λ w. w ≡ empty_world limits) }
     {
@@ -42,7 +42,7 @@ impl PlainWorld {
     }
 
     /// An equal one, with room of its own.
-    fn copy(&self) -> Result<PlainWorld, AllocError>
+    fn copy(&self) -> Result<PlainWorld, Memory>
         ensures { IfOk result (λ w. w ≡ self.now) }
     {
         Ok(PlainWorld {
@@ -60,7 +60,7 @@ impl PlainWorld {
     }
 
     /// A copy of the bytes that a buffer holds.
-    fn bytes_copy(&self, socket: u32, side: Side) -> Result<Option<Bytes>, AllocError>
+    fn bytes_copy(&self, socket: u32, side: Side) -> Result<Option<Bytes>, Memory>
         ensures ok { IfOk result (λ bytes. bytes ≡ bytes_of self.now socket side) }
         ensures some { OnErr result (HasItems (bytes_of self.now socket side)) }
     {
@@ -72,7 +72,7 @@ impl PlainWorld {
     }
 
     /// A copy of a semaphore's queue.
-    fn queue_copy(&self, socket: u32, side: Side) -> Result<Option<Queue>, AllocError>
+    fn queue_copy(&self, socket: u32, side: Side) -> Result<Option<Queue>, Memory>
         ensures ok { IfOk result (λ queue. queue ≡ queue_of self.now socket side) }
         ensures some { OnErr result (HasItems (queue_of self.now socket side)) }
     {
@@ -85,7 +85,7 @@ impl PlainWorld {
 }
 
 /// A copy of the items. Of none it takes no memory.
-fn copy_of<T: Copy + Drop>(alloc: Global, items: &[T]) -> Result<Vec<T>, AllocError>
+fn copy_of<T: Copy + Drop>(alloc: Global, items: &[T]) -> Result<Vec<T>, Memory>
     ensures ok { IfOk result (λ copy. copy.items ≡ items.now) }
     ensures some { OnErr result (0 < length items.now) }
 {

@@ -2,16 +2,16 @@
 #![tactic(auto)]
 
 #[cfg(test)]
-mod machine;
-#[cfg(test)]
-mod marks;
-#[cfg(test)]
 mod playing;
 #[cfg(test)]
-mod programs;
+mod recordings;
 #[cfg(test)]
 mod serving;
 #[cfg(test)]
-mod sizes;
+mod sessions;
+#[cfg(test)]
+mod streams;
+#[cfg(test)]
+mod texts;
 #[cfg(test)]
 mod upgrade;

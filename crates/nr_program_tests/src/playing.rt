@@ -1,29 +1,12 @@
 //! Plays the programs on recordings: what came of it is a plain value, which tests compare.
+use crate::texts::SCRIPT;
 use nr_machine::World;
 use nr_programs::{ExitStatus, check_bytes, run_bytes, upgrade_bytes};
-use nr_replay_tests::HEADER;
 use nr_text::{Sink, Source};
 use std::alloc::{AllocError, Global};
 use std::io::{Read, Write};
-use std::process::Abort;
 use std::sync::Wait;
-use std::test::*;
 use std::thread::Threads;
-
-/// Looks at locks while it goes both ways.
-pub(crate) const SCRIPT: &str = "stepi 6
-print lock 0
-print gor 1
-stepi 4
-print lock 0
-print gor 2
-reverse-stepi 2
-print lock 0
-reverse-stepi 4
-print lock 0
-reverse-stepi 9
-print lock 0
-";
 
 /// How a program ended, and what it wrote.
 #[derive(Drop)]
@@ -33,10 +16,9 @@ pub(crate) struct Played {
 }
 
 impl Played {
-    /// It ended with this status, and wrote this text.
-    pub(crate) fn assert(&self, rt: &impl Abort, status: ExitStatus, text: &str) {
-        assert_eq!(rt; self.status, status, "{text}");
-        assert_eq!(rt; self.text.as_slice(), text.as_bytes(), "{text}");
+    /// Whether it ended with this status, and wrote this text.
+    pub(crate) fn is(&self, status: ExitStatus, text: &str) -> bool {
+        self.status == status && self.text.as_slice() == text.as_bytes()
     }
 }
 
@@ -71,38 +53,55 @@ pub(crate) fn run_on<R: Wait + Threads + Sync, I: Read, O: Write>(
     }
 }
 
-/// Runs a script on a recording.
+/// Runs a script on a header and steps.
 pub(crate) fn run<R: Wait + Threads + Sync>(
     rt: &R,
     alloc: Global,
-    recording: &str,
+    header: &str,
+    steps: &str,
     script: &str,
-) -> Played {
-    let ended = run_on(rt, alloc, recording, script.as_bytes(), Vec::new(alloc));
-    Played {
+) -> Result<Played, AllocError> {
+    let recording = record(alloc, header, steps)?;
+    let reader = script.as_bytes();
+    let ended = run_on(rt, alloc, recording.as_str(), reader, Vec::new(alloc));
+    Ok(Played {
         status: ended.status,
         text: ended.writer,
-    }
+    })
 }
 
-/// Checks a recording.
-pub(crate) fn check(alloc: Global, recording: &str) -> Played {
+/// Runs the script that looks at locks, and says what is left of its bytes.
+pub(crate) fn run_over<R: Wait + Threads + Sync>(
+    rt: &R,
+    alloc: Global,
+    header: &str,
+    steps: &str,
+) -> Result<Ended<&'static [u8], Vec<u8>>, AllocError> {
+    let recording = record(alloc, header, steps)?;
+    let reader = SCRIPT.as_bytes();
+    Ok(run_on(rt, alloc, recording.as_str(), reader, Vec::new(alloc)))
+}
+
+/// Checks a header and steps.
+pub(crate) fn check(alloc: Global, header: &str, steps: &str) -> Result<Played, AllocError> {
+    let recording = record(alloc, header, steps)?;
     let mut output = Sink::new(Vec::new(alloc));
     let status = check_bytes::<World, _>(alloc, recording.as_bytes(), &mut output);
-    Played {
+    Ok(Played {
         status,
         text: output.into_inner(),
-    }
+    })
 }
 
-/// Writes a recording with its answers.
-pub(crate) fn upgrade(alloc: Global, recording: &str) -> Played {
+/// Writes a header and steps with their answers.
+pub(crate) fn upgrade(alloc: Global, header: &str, steps: &str) -> Result<Played, AllocError> {
+    let recording = record(alloc, header, steps)?;
     let mut output = Sink::new(Vec::new(alloc));
     let status = upgrade_bytes::<World, _>(alloc, recording.as_bytes(), &mut output);
-    Played {
+    Ok(Played {
         status,
         text: output.into_inner(),
-    }
+    })
 }
 
 /// A header and steps.
@@ -110,93 +109,4 @@ pub(crate) fn record(alloc: Global, header: &str, steps: &str) -> Result<String,
     let mut recording = String::from_str(alloc, header)?;
     recording.push_str(steps)?;
     Ok(recording)
-}
-
-/// Steps that set the clock to each of these times, one after the other.
-pub(crate) fn ticks(alloc: Global, first: u32, end: u32) -> Result<String, AllocError> {
-    let mut recording = String::from_str(alloc, HEADER)?;
-    for time in first..end {
-        let tick = format!(in alloc; "[\"tick\",{time}]\n")?;
-        recording.push_str(tick.as_str())?;
-    }
-    Ok(recording)
-}
-
-/// Runs a script on these steps, and compares the replies.
-pub(crate) fn assert_replies<R: Wait + Threads + Sync + Abort>(
-    rt: &R,
-    alloc: Global,
-    steps: &str,
-    script: &str,
-    replies: &str,
-) -> Result<(), AllocError> {
-    let recording = record(alloc, HEADER, steps)?;
-    let played = run(rt, alloc, recording.as_str(), script);
-    played.assert(rt, ExitStatus::Done, replies);
-    Ok(())
-}
-
-/// Runs each script on its steps, and compares its replies.
-pub(crate) fn assert_all_replies<R: Wait + Threads + Sync + Abort>(
-    rt: &R,
-    alloc: Global,
-    walks: &[(&str, &str, &str)],
-) -> Result<(), AllocError> {
-    for (steps, script, replies) in walks {
-        assert_replies(rt, alloc, steps, script, replies)?;
-    }
-    Ok(())
-}
-
-/// Checks a recording that is accepted with this line.
-pub(crate) fn assert_accepted(
-    rt: &impl Abort,
-    alloc: Global,
-    header: &str,
-    steps: &str,
-    line: &str,
-) -> Result<(), AllocError> {
-    let recording = record(alloc, header, steps)?;
-    let played = check(alloc, recording.as_str());
-    played.assert(rt, ExitStatus::Done, line);
-    Ok(())
-}
-
-/// Runs a recording that is refused: no input is read for it.
-fn run_refused<R: Wait + Threads + Sync + Abort>(rt: &R, alloc: Global, recording: &str) -> Played {
-    let ended = run_on(rt, alloc, recording, SCRIPT.as_bytes(), Vec::new(alloc));
-    assert!(rt; ended.reader == SCRIPT.as_bytes());
-    Played {
-        status: ended.status,
-        text: ended.writer,
-    }
-}
-
-/// Runs and checks a recording that is refused with this line.
-pub(crate) fn assert_refused<R: Wait + Threads + Sync + Abort>(
-    rt: &R,
-    alloc: Global,
-    header: &str,
-    steps: &str,
-    line: &str,
-) -> Result<(), AllocError> {
-    let recording = record(alloc, header, steps)?;
-    let played = run_refused(rt, alloc, recording.as_str());
-    played.assert(rt, ExitStatus::Refused, line);
-    let played = check(alloc, recording.as_str());
-    played.assert(rt, ExitStatus::Refused, line);
-    Ok(())
-}
-
-/// Runs and checks recordings of one header, each of which is refused with its line.
-pub(crate) fn assert_all_refused<R: Wait + Threads + Sync + Abort>(
-    rt: &R,
-    alloc: Global,
-    header: &str,
-    refused: &[(&str, &str)],
-) -> Result<(), AllocError> {
-    for (steps, line) in refused {
-        assert_refused(rt, alloc, header, steps, line)?;
-    }
-    Ok(())
 }

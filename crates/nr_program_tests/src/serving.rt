@@ -198,7 +198,7 @@ static FAILING: [Part; 2] = [
 fn a_caller_who_fails_is_reported_by_the_status(rt: HostRuntime) -> Result<(), AllocError> {
     let seen = [Seen::new(), Seen::new()];
     let played = serve(&rt, rt.alloc(), 1, FAILING.as_slice(), seen.as_slice())?;
-    played.assert(&rt, ExitStatus::StreamFailed, "placed 1\n");
+    assert!(rt; played.is(ExitStatus::StreamFailed, "placed 1\n"));
     for (part, seen) in FAILING.iter().zip(seen.iter()) {
         seen.assert(&rt, part, 2);
     }
@@ -249,7 +249,7 @@ fn callers_who_leave_hold_up_nobody(rt: HostRuntime) -> Result<(), AllocError> {
         Seen::new(),
     ];
     let played = serve(&rt, rt.alloc(), 3, LEAVING.as_slice(), seen.as_slice())?;
-    played.assert(&rt, ExitStatus::Done, "placed 4\n");
+    assert!(rt; played.is(ExitStatus::Done, "placed 4\n"));
     for (number, (part, seen)) in LEAVING.iter().zip(seen.iter()).enumerate() {
         seen.assert(&rt, part, if number == 0 { 1 } else { 2 });
     }
@@ -297,7 +297,7 @@ fn what_comes_behind_quit_is_read_away(rt: HostRuntime) -> Result<(), AllocError
         let seen = [Seen::new()];
         let parts = std::slice::from_ref(part);
         let played = serve(&rt, rt.alloc(), 1, parts, seen.as_slice())?;
-        played.assert(&rt, ExitStatus::Done, "placed 0\n");
+        assert!(rt; played.is(ExitStatus::Done, "placed 0\n"));
         seen[0].assert(&rt, part, *reads);
     }
     Ok(())

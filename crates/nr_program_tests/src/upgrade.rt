@@ -1,11 +1,14 @@
-//! Recordings of both versions through the programs: recorded answers, upgrades, and a write side that is shut.
-use crate::playing::{Played, check, record, run, upgrade};
+//! Recordings of both versions through the programs: recorded answers, and upgrades.
+use crate::playing::{check, run, upgrade};
+use crate::texts::{SHUTS, SHUTS_HEADER};
 use nr_machine::World;
 use nr_programs::{ExitStatus, upgrade_bytes};
 use nr_replay_tests::{AtBrim, Cup, HEADER, WAITS};
 use nr_text::Sink;
 use std::alloc::{AllocError, Global};
+use std::sync::Wait;
 use std::test::*;
+use std::thread::Threads;
 
 /// The first ten steps of `WAITS` with the answer of each.
 const TEN_ANSWERED: &str = "{\"buf\":16,\"desc\":2,\"gor\":4,\"netrev\":2,\"sock\":2}
@@ -21,14 +24,7 @@ const TEN_ANSWERED: &str = "{\"buf\":16,\"desc\":2,\"gor\":4,\"netrev\":2,\"sock
 [\"blockswap\",0,\"yes\"]
 ";
 
-/// A write side is shut between two writes, and what the first left is drained.
-const SHUTS: &str = "{\"buf\":1048576,\"desc\":1,\"gor\":1,\"netrev\":2,\"sock\":1}
-[\"sockopen\",1048576,4,[\"number\",0]]
-[\"syswrite\",0,0,\"6869\",[\"put\",2]]
-[\"closewrite\",0,0,\"done\"]
-[\"syswrite\",0,0,\"6869\",\"pipe\"]
-[\"drain\",0,2,\"done\"]
-";
+const OTHER_ANSWER: &str = "step 11: fault 109 answer\n";
 
 /// All twelve steps, of which the read got so many bytes.
 fn waits_and_gets(alloc: Global, count: u32) -> Result<String, AllocError> {
@@ -36,110 +32,82 @@ fn waits_and_gets(alloc: Global, count: u32) -> Result<String, AllocError> {
     format!(in alloc; "{TEN_ANSWERED}[\"sysread\",0,0,8,[\"got\",{count}]]\n{last}")
 }
 
-/// Upgrades a recording on a writer that fails after so many bytes.
-fn upgrade_cut(alloc: Global, recording: &str, room: usize) -> Played {
+/// Whether the upgrade of a header and steps is this text.
+fn is_upgraded(alloc: Global, header: &str, steps: &str, text: &str) -> Result<bool, AllocError> {
+    let played = upgrade(alloc, header, steps)?;
+    Ok(played.is(ExitStatus::Done, text))
+}
+
+#[test]
+fn an_upgrade_has_each_answer(rt: HostRuntime) -> Result<(), AllocError> {
+    let alloc = rt.alloc();
+    let answered = waits_and_gets(alloc, 2)?;
+    let text = answered.as_str();
+    assert!(rt; is_upgraded(alloc, HEADER, WAITS, text)?);
+    assert!(rt; is_upgraded(alloc, "", text, text)?);
+    assert!(rt; check(alloc, "", text)?.is(ExitStatus::Done, "ok 12 steps\n"));
+    Ok(())
+}
+
+#[test]
+fn an_upgrade_has_an_answer_that_nothing_was_written(rt: HostRuntime) -> Result<(), AllocError> {
+    let alloc = rt.alloc();
+    let text = format!(in alloc; "{SHUTS_HEADER}{SHUTS}")?;
+    assert!(rt; is_upgraded(alloc, SHUTS_HEADER, SHUTS, text.as_str())?);
+    Ok(())
+}
+
+/// Whether each program refuses a recording for this.
+fn all_refuse<R: Wait + Threads + Sync>(
+    rt: &R,
+    alloc: Global,
+    recording: &str,
+    fault: &str,
+) -> Result<[bool; 3], AllocError> {
+    let checked = check(alloc, "", recording)?.is(ExitStatus::Refused, fault);
+    let upgraded = upgrade(alloc, "", recording)?.is(ExitStatus::Refused, fault);
+    let ran = run(rt, alloc, "", recording, "stepi\n")?.is(ExitStatus::Refused, fault);
+    Ok([checked, upgraded, ran])
+}
+
+#[test]
+fn another_answer_is_the_fault_of_its_step(rt: HostRuntime) -> Result<(), AllocError> {
+    let other = waits_and_gets(rt.alloc(), 3)?;
+    assert_eq!(rt;
+        all_refuse(&rt, rt.alloc(), other.as_str(), OTHER_ANSWER)?,
+        [true; 3]
+    );
+    Ok(())
+}
+
+/// Whether an upgrade on a writer that fails behind so many bytes leaves just those.
+fn is_cut(alloc: Global, recording: &str, room: usize, text: &str) -> bool {
     let mut output = Sink::new(Cup {
         held: Vec::new(alloc),
         room,
         then: AtBrim::Fails,
     });
     let status = upgrade_bytes::<World, _>(alloc, recording.as_bytes(), &mut output);
-    Played {
-        status,
-        text: output.into_inner().held,
+    status == ExitStatus::StreamFailed
+        && Some(output.into_inner().held.as_slice()) == text.as_bytes().get(..room)
+}
+
+/// Whether that is so for each number of bytes of the text.
+fn is_cut_anywhere(alloc: Global, recording: &str, text: &str) -> bool {
+    for room in 0..text.len() {
+        if !is_cut(alloc, recording, room, text) {
+            return false;
+        }
     }
-}
-
-#[test]
-fn an_upgrade_has_each_answer(rt: HostRuntime) -> Result<(), AllocError> {
-    let alloc = rt.alloc();
-    let waits = record(alloc, HEADER, WAITS)?;
-    let answered = waits_and_gets(alloc, 2)?;
-    upgrade(alloc, waits.as_str()).assert(&rt, ExitStatus::Done, answered.as_str());
-    upgrade(alloc, answered.as_str()).assert(&rt, ExitStatus::Done, answered.as_str());
-    check(alloc, answered.as_str()).assert(&rt, ExitStatus::Done, "ok 12 steps\n");
-    upgrade(alloc, SHUTS).assert(&rt, ExitStatus::Done, SHUTS);
-    Ok(())
-}
-
-#[test]
-fn another_answer_is_the_fault_of_its_step(rt: HostRuntime) -> Result<(), AllocError> {
-    let alloc = rt.alloc();
-    let other = waits_and_gets(alloc, 3)?;
-    let fault = "step 11: fault 109 answer\n";
-    check(alloc, other.as_str()).assert(&rt, ExitStatus::Refused, fault);
-    upgrade(alloc, other.as_str()).assert(&rt, ExitStatus::Refused, fault);
-    run(&rt, alloc, other.as_str(), "stepi\n").assert(&rt, ExitStatus::Refused, fault);
-    Ok(())
-}
-
-#[test]
-fn the_first_fault_is_reported_of_answers_too(rt: HostRuntime) -> Result<(), AllocError> {
-    let alloc = rt.alloc();
-    let header = "{\"buf\":16,\"desc\":2,\"gor\":4,\"netrev\":2,\"sock\":2}\n";
-    for (steps, fault) in [
-        ("[\"exit\",1,\"yes\"]\n", "step 1: fault 107 reason 1\n"),
-        (
-            "[\"spawn\",[\"number\",1]]\n[\"spawn\",\"done\"]\n[\"exit\",7,\"done\"]\n",
-            "step 2: fault 109 answer\n",
-        ),
-        (
-            "[\"spawn\",[\"number\",1]]\n[\"exit\",7,\"done\"]\n[\"spawn\",\"done\"]\n",
-            "step 2: fault 107 reason 1\n",
-        ),
-        ("[\"spawn\",[\"code\",1]]\n", "step 1: fault 109 answer\n"),
-        (
-            "[\"spawn\",\"done\"]\n[\"spawn\"]\n",
-            "line 3: fault 104 arguments\n",
-        ),
-    ] {
-        let recording = record(alloc, header, steps)?;
-        check(alloc, recording.as_str()).assert(&rt, ExitStatus::Refused, fault);
-    }
-    Ok(())
-}
-
-#[test]
-fn a_shut_write_side_is_watched(rt: HostRuntime) {
-    let script = "watch shut 0
-continue
-continue
-continue
-reverse-continue
-reverse-continue
-reverse-continue
-stepi 4
-dump out 0
-print shut 0
-";
-    let replies = "mark 1
-at 1 by 1
-at 3 by 1
-at 5 end
-at 3 by 1
-at 1 by 1
-at 0 start
-at 4
-out 0 = 6869
-shut 0 = 1
-";
-    run(&rt, rt.alloc(), SHUTS, script).assert(&rt, ExitStatus::Done, replies);
+    true
 }
 
 #[test]
 fn a_failed_write_leaves_the_first_bytes_of_an_upgrade(rt: HostRuntime) -> Result<(), AllocError> {
     let alloc = rt.alloc();
     let answered = waits_and_gets(alloc, 2)?;
+    assert!(rt; is_cut_anywhere(alloc, answered.as_str(), answered.as_str()));
     let other = waits_and_gets(alloc, 3)?;
-    for (recording, text) in [
-        (answered.as_str(), answered.as_str()),
-        (other.as_str(), "step 11: fault 109 answer\n"),
-    ] {
-        for room in 0..text.len() {
-            let played = upgrade_cut(alloc, recording, room);
-            assert_eq!(rt; played.status, ExitStatus::StreamFailed);
-            assert_eq!(rt; Some(played.text.as_slice()), text.as_bytes().get(..room));
-        }
-    }
+    assert!(rt; is_cut_anywhere(alloc, other.as_str(), OTHER_ANSWER));
     Ok(())
 }

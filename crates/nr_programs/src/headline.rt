@@ -7,9 +7,8 @@ ghost use Rattle.nr_rev.specs.Reversible.{Refuses};
 ghost use Rattle.nr_rev.specs.Run.{world_at};
 ghost use Rattle.nr_walker.specs.Walk.{IsRefusedBy, route};
 
-use nr_rev::{Cell, CellValue, Refusal, Reversible, Worlds};
+use nr_rev::{Cell, CellValue, Memory, Refusal, Reversible, Worlds};
 use nr_walker::Walker;
-use std::alloc::AllocError;
 
 /// Applies an operation to a machine whose operations can be undone, in any well-formed state, and undoes it. The state is
 /// what it was, in every part; so it is where the operation doesn't apply. Returns the operation's answer, or why it
@@ -31,7 +30,7 @@ pub fn value_at<W: Worlds + Drop>(
     walker: &mut Walker<'_, W>,
     n: usize,
     what: Cell,
-) -> Result<CellValue, AllocError>
+) -> Result<CellValue, Memory>
 where
     W::Delta: Drop,
     W::Snapshot: Drop,

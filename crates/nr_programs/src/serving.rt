@@ -14,12 +14,12 @@ use crate::opening::open;
 use crate::run::{DELTAS_KEPT, ExitStatus, print, refuse};
 use crate::sharing::Sharing;
 use nr_recording::OutOfMemory;
-use nr_rev::Worlds;
+use nr_rev::{Memory, Worlds};
 use nr_search::{ManyWorkers, OneWorker, Open};
 use nr_serving::{Ended, Ports, Shape, Unshared, share};
 use nr_snaps::Film;
 use nr_text::{Parts, Sink, Token};
-use std::alloc::{AllocError, Global};
+use std::alloc::Global;
 use std::io::Write;
 use std::sync::Wait;
 use std::thread::Threads;
@@ -125,7 +125,7 @@ fn tell<O: Write>(shared: &Result<Ended, Unshared>, output: &mut Sink<O>) -> Exi
     };
     match &ended.history {
         Ok(history) => tell_placed(history.as_slice(), ended.failed, output),
-        Err(AllocError) => refuse(&OutOfMemory, output),
+        Err(Memory) => refuse(&OutOfMemory, output),
     }
 }
 

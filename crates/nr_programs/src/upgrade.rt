@@ -53,7 +53,7 @@ where
     W::Snapshot: Drop,
     ensures { WritesAnswered film.now.recording output.old output.new result }
 {
-    let Ok(recording) = film.with_answers(alloc) else {
+    let Ok(recording) = film.with_answers() else {
         return refuse(&OutOfMemory, output);
     };
     match write(alloc, &recording, output) {

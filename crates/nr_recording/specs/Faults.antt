@@ -12,10 +12,6 @@ use Rattle.nr_recording.specs.declared.fault.LineError.{LineError}
 use Rattle.nr_recording.specs.declared.fault.LineError.TheVariants as errors
 use Rattle.nr_recording.specs.declared.fault.ReadFault.{ReadFault}
 use Rattle.nr_recording.specs.declared.fault.ReadFault.TheVariants as reads
-use Rattle.nr_recording.specs.declared.fault.MakeFault.{MakeFault}
-use Rattle.nr_recording.specs.declared.fault.MakeFault.TheVariants as makes
-use Rattle.nr_recording.specs.declared.fault.WriteFault.{WriteFault}
-use Rattle.nr_recording.specs.declared.fault.WriteFault.TheVariants as writes
 
 -- ---- texts
 
@@ -44,18 +40,6 @@ read_fault_text reads.Memory = memory_text
 -- the same, as a line
 abbrev pub read_fault_line : ReadFault → List ℕ
 read_fault_line f = read_fault_text f ++ codes "\n"
-
--- why limits and steps make no recording
-abbrev pub make_fault_text : MakeFault → List ℕ
-make_fault_text makes.Limit = codes "a limit is out of its range"
-make_fault_text makes.TooManySteps = codes "more than 1,000,000 steps"
-make_fault_text makes.Step =
-    codes "a step carries too many bytes, sets the clock below 0 or is not of the version"
-
--- why a recording was not written
-abbrev pub write_fault_text : WriteFault → List ℕ
-write_fault_text writes.Memory = codes "memory"
-write_fault_text writes.Device = codes "device"
 
 -- ---- errors of the libraries
 

@@ -2,17 +2,17 @@
 
 ghost use Rattle.std.specs.Prelude.{◌≡◌, IfOk};
 
-use nr_rev::{Bytes, Step};
-use std::alloc::{AllocError, Global};
+use nr_rev::{Bytes, Memory, Step};
+use std::alloc::Global;
 
-fn copy_of(alloc: Global, bytes: &Bytes) -> Result<Bytes, AllocError>
+fn copy_of(alloc: Global, bytes: &Bytes) -> Result<Bytes, Memory>
     ensures { IfOk result (λ copy. copy ≡ bytes.now) }
 {
     Ok(Bytes::new(bytes.as_slice().to_vec(alloc)?))
 }
 
 /// The same step once more. Only its bytes take memory.
-pub fn step_copy(alloc: Global, step: &Step) -> Result<Step, AllocError>
+pub fn step_copy(alloc: Global, step: &Step) -> Result<Step, Memory>
     ensures { IfOk result (λ copy. copy ≡ step.now) }
 {
     Ok(match step {

@@ -1,17 +1,18 @@
 //! Why a recording could not be made, read or written.
 
 ghost use Rattle.std.specs.Prelude.{◌≡◌, Some};
-ghost use Rattle.nr_recording.specs.declared.fault.LineError.TheVariants.{Memory, Fault as AFault};
+ghost use Rattle.nr_recording.specs.declared.fault.LineError.TheVariants.{Memory as LineMemory, Fault as AFault};
 ghost use Rattle.nr_recording.specs.declared.fault.WriteFault.TheVariants.{Memory as NoMemory, Device as DeviceFailed};
-ghost use Rattle.nr_recording.specs.Faults.{fault_text, memory_line, read_fault_line, read_fault_text, make_fault_text, write_fault_text, of_hex, of_json};
+ghost use Rattle.nr_recording.specs.Faults.{fault_text, memory_line, read_fault_line, of_hex, of_json};
 
 use hex::FromHexError;
-use nr_text::{Buffered, CutShort, Text, Token, WriteFailed, send_all};
+use nr_rev::Memory;
+use nr_text::{Buffered, Part, Text, Token, WriteFailed, send_all};
 use serde_json::Category;
-use std::alloc::{AllocError, AllocFailed};
-use std::error::Error;
+use std::alloc::AllocFailed;
 use std::fmt::{Display, Formatter, Write};
 use std::{fmt, io};
+use thiserror::Error;
 
 /// What is wrong with a line.
 #[derive(Clone, Copy, Debug, PartialEq, Eq)]
@@ -69,11 +70,13 @@ impl Text for OutOfMemory {
 }
 
 /// Why a text was not read.
-#[derive(Clone, Copy, Debug, PartialEq, Eq)]
+#[derive(Clone, Copy, Debug, PartialEq, Eq, Error)]
 pub enum ReadFault {
     /// The first faulty line, counted from 1, and what is wrong with it.
+    #[error("line {line}: fault {fault}")]
     Line { line: usize, fault: Fault },
     /// Memory ran out.
+    #[error("fault 108 memory")]
     Memory,
 }
 
@@ -98,45 +101,20 @@ impl Text for ReadFault {
     }
 }
 
-impl Display for ReadFault {
-    ghost output = { λ fault. Some (read_fault_text fault) };
-
-    fn fmt<W: Write>(&self, f: &mut Formatter<W>) -> fmt::Result {
-        match self {
-            ReadFault::Line { line, fault } => write!(f, "line {line}: fault {fault}"),
-            ReadFault::Memory => f.write_str("fault 108 memory"),
-        }
-    }
-}
-
-impl Error for ReadFault {}
-
 /// Why limits and steps make no recording.
-#[derive(Clone, Copy, Debug, PartialEq, Eq)]
+#[derive(Clone, Copy, Debug, PartialEq, Eq, Error)]
 pub enum MakeFault {
     /// A limit is out of its range.
+    #[error("a limit is out of its range")]
     Limit,
     /// There are more than 1,000,000 steps.
+    #[error("more than 1,000,000 steps")]
     TooManySteps,
     /// A step carries more than 65,536 bytes, sets the clock below 0, or is not of the version: version 1 has no step
     /// that shuts a write side, and no answers; in version 2 each step has its answer.
+    #[error("a step carries too many bytes, sets the clock below 0 or is not of the version")]
     Step,
 }
-
-impl Display for MakeFault {
-    ghost output = { λ fault. Some (make_fault_text fault) };
-
-    fn fmt<W: Write>(&self, f: &mut Formatter<W>) -> fmt::Result {
-        f.write_str(match self {
-            MakeFault::Limit => "a limit is out of its range",
-            MakeFault::TooManySteps => "more than 1,000,000 steps",
-            MakeFault::Step =>
-                "a step carries too many bytes, sets the clock below 0 or is not of the version",
-        })
-    }
-}
-
-impl Error for MakeFault {}
 
 /// Why a line could not be read.
 #[derive(Debug, Drop)]
@@ -178,7 +156,7 @@ impl From<serde_json::Error> for LineError {
 }
 
 impl<T: Drop> From<AllocFailed<T>> for LineError {
-    ghost from_gives = { λ _ e. e ≡ Memory };
+    ghost from_gives = { λ _ e. e ≡ LineMemory };
 
     fn from(_e: AllocFailed<T>) -> LineError {
         LineError::Memory
@@ -200,39 +178,28 @@ impl LineError {
 }
 
 /// Why a recording was not written.
-#[derive(Clone, Copy, Debug, PartialEq, Eq)]
+#[derive(Clone, Copy, Debug, PartialEq, Eq, Error)]
 pub enum WriteFault {
     /// Memory ran out. Just some first lines went out, whole, and not all.
+    #[error("memory")]
     Memory,
     /// A write failed or took nothing. Just a prefix of the text went out, and not all.
+    #[error("device")]
     Device,
 }
 
-impl Display for WriteFault {
-    ghost output = { λ fault. Some (write_fault_text fault) };
-
-    fn fmt<W: Write>(&self, f: &mut Formatter<W>) -> fmt::Result {
-        f.write_str(match self {
-            WriteFault::Memory => "memory",
-            WriteFault::Device => "device",
-        })
-    }
-}
-
-impl Error for WriteFault {}
-
-impl From<AllocError> for WriteFault {
+impl From<Memory> for WriteFault {
     ghost from_gives = { λ _ e. e ≡ NoMemory };
 
-    fn from(_e: AllocError) -> WriteFault {
+    fn from(_e: Memory) -> WriteFault {
         WriteFault::Memory
     }
 }
 
-impl From<CutShort> for WriteFault {
+impl From<Part> for WriteFault {
     ghost from_gives = { λ _ e. e ≡ DeviceFailed };
 
-    fn from(_e: CutShort) -> WriteFault {
+    fn from(_e: Part) -> WriteFault {
         WriteFault::Device
     }
 }

@@ -16,9 +16,9 @@ use crate::part::{Part, Parts};
 use crate::recording::RecordedStep;
 use crate::spelling::{arrival, bare, deadline, event, one, pair, sided, timed, transfer, triple};
 use crate::version::Version;
-use nr_rev::{Answer, Kind, Step};
+use nr_rev::{Answer, Kind, Memory, Step};
 use serde_json::Value;
-use std::alloc::{AllocError, Global};
+use std::alloc::Global;
 
 /// The step of this kind; what is behind its arguments is left.
 #[tactic(auto, unfolding(crate::specs::Arguments::none))]
@@ -150,7 +150,7 @@ fn step_in(alloc: Global, kind: Kind, arguments: &mut Parts<'_>) -> Result<Step,
 }
 
 /// The name of the step's kind, and its arguments.
-fn step_value(alloc: Global, step: &Step) -> Result<Value, AllocError>
+fn step_value(alloc: Global, step: &Step) -> Result<Value, Memory>
     ensures { IfOk result (λ v. IsSpelling (view v) (step_spelling step.now)) }
 {
     let name = step.kind().name();
@@ -243,7 +243,7 @@ fn answer_in(version: Version, arguments: &mut Parts<'_>) -> Result<Option<Answe
 }
 
 /// The line with one more part, an answer.
-fn with_answer(alloc: Global, line: Value, answer: Answer) -> Result<Value, AllocError>
+fn with_answer(alloc: Global, line: Value, answer: Answer) -> Result<Value, Memory>
     ensures { (name : List ℕ) (arguments : List Argument) → IsSpelling (view line) (name, arguments)
         → IfOk result (λ v. IsSpelling (view v) (name, arguments ++ answer_argument answer ∷ [])) }
 {
@@ -257,7 +257,7 @@ fn with_answer(alloc: Global, line: Value, answer: Answer) -> Result<Value, Allo
 }
 
 /// The value of a line: the name of the step's kind, its arguments, and the answer where one is recorded.
-pub(crate) fn line_value(alloc: Global, recorded: &RecordedStep) -> Result<Value, AllocError>
+pub(crate) fn line_value(alloc: Global, recorded: &RecordedStep) -> Result<Value, Memory>
     ensures { IfOk result (λ v. IsSpelling (view v) (spelling_of recorded.now)) }
 {
     let line = step_value(alloc, &recorded.step)?;

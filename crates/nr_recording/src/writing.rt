@@ -12,13 +12,13 @@ use crate::fault::WriteFault;
 use crate::recording::Recording;
 use crate::steps::line_value;
 use crate::version::Version;
-use nr_rev::Limits;
+use nr_rev::{Limits, Memory};
 use nr_text::Sink;
 use serde_json::{Value, json};
-use std::alloc::{AllocError, Global};
+use std::alloc::Global;
 use std::io::Write;
 
-fn header_value(alloc: Global, version: Version, limits: Limits) -> Result<Value, AllocError>
+fn header_value(alloc: Global, version: Version, limits: Limits) -> Result<Value, Memory>
     ensures { IfOk result (λ v. view v ≡ header_data version limits) }
 {
     json!(in alloc; {
@@ -31,7 +31,7 @@ fn header_value(alloc: Global, version: Version, limits: Limits) -> Result<Value
 }
 
 #[tactic(auto, unfolding(crate::specs::Writing::line_text))]
-fn line_bytes(alloc: Global, value: &Value) -> Result<Vec<u8>, AllocError>
+fn line_bytes(alloc: Global, value: &Value) -> Result<Vec<u8>, Memory>
     requires { has_float (view value.now) ≡ false }
     ensures { IfOk result (λ line. line.items ≡ line_text (view value.now)) }
 {

@@ -126,13 +126,13 @@ fn finish_both(rt: &HostRuntime, journal: &Journal, seat: Seat) -> Option<Twice>
         return None;
     }
     refuse(rt);
-    let first = journal.finish(rt.alloc(), &mut pass);
+    let first = journal.finish(&mut pass);
     grant(rt);
     let seen = pass.seen();
     let is_placed = place(journal, &mut pass);
     Some(Twice {
         first: is_read(first, 1).leaving(seen == 1 && is_placed),
-        again: is_read(journal.finish(rt.alloc(), &mut pass), 2),
+        again: is_read(journal.finish(&mut pass), 2),
     })
 }
 

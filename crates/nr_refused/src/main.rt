@@ -2,8 +2,8 @@
 //! `nr_refused CALL`, or `nr_refused all` for one call after the other.
 //!
 //! It refuses nothing itself. The line `refuse` says that requests may be refused from now on, and `grant` that none is any
-//! more; scripts/each_call.py puts scripts/refused.c before the C library, which goes by these lines. Then a line says what
-//! came of both calls. Where a call was refused, what it had to leave as it was has been compared.
+//! more; python/tests/program/each_call.py puts scripts/refused.c before the C library, which goes by these lines. Then a line
+//! says what came of both calls. Where a call was refused, what it had to leave as it was has been compared.
 #![tactic(auto)]
 
 mod calls;

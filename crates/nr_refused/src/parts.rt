@@ -206,10 +206,10 @@ fn armed(alloc: Global) -> Option<Timers> {
 pub(crate) fn copy_timers_twice(rt: &HostRuntime) -> Option<Twice> {
     let timers = armed(rt.alloc())?;
     refuse(rt);
-    let first = timers.try_copy(rt.alloc());
+    let first = timers.try_copy();
     grant(rt);
     Some(Twice {
         first: came_of_timers(first, &[10, 20]).leaving(has_times(&timers, &[10, 20])),
-        again: came_of_timers(timers.try_copy(rt.alloc()), &[10, 20]),
+        again: came_of_timers(timers.try_copy(), &[10, 20]),
     })
 }

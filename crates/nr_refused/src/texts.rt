@@ -156,12 +156,12 @@ fn came_of_answering(alloc: Global, answered: Result<Recording, AllocError>) -> 
 pub(crate) fn answer_twice(rt: &HostRuntime, film: &Film<World>) -> Twice {
     let alloc = rt.alloc();
     refuse(rt);
-    let first = film.with_answers(alloc);
+    let first = film.with_answers();
     grant(rt);
     let first = came_of_answering(alloc, first);
     Twice {
         first,
-        again: came_of_answering(alloc, film.with_answers(alloc)),
+        again: came_of_answering(alloc, film.with_answers()),
     }
 }
 

@@ -1,11 +1,15 @@
-//! Tests of worlds, recordings, films, walks and marks by their public calls; and films, streams, a text and a world of their own,
+//! Tests of worlds, recordings, films and walks by their public calls; and films, streams, a text and a world of their own,
 //! which the tests of sessions use too.
 #![tactic(auto)]
 
+#[cfg(test)]
+mod faults;
 mod films;
+#[cfg(test)]
+mod hits;
 pub mod laws;
 #[cfg(test)]
-mod marks;
+mod lists;
 mod observed;
 #[cfg(test)]
 mod recording;

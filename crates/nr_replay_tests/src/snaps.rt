@@ -4,8 +4,7 @@ use crate::films::{LIMITS, OPEN, add_ticks, recording_of, ticking};
 use nr_machine::World;
 use nr_recording::{RecordedStep, Recording, Version};
 use nr_rev::{Answer, Cell, CellValue, Refusal, Step, Worlds};
-use nr_snaps::{Film, LoadFault, Snaps};
-use nr_text::Sink;
+use nr_snaps::{Film, LoadFault, Snap, Snaps};
 use std::alloc::Global;
 use std::test::Fail;
 
@@ -23,49 +22,47 @@ fn clock_below(film: &Film<World>, n: usize) -> Option<CellValue> {
     if n > film.len() {
         return None;
     }
-    let world = film.world_below(n).ok()?;
+    let world = film.snap_below(n).to_world().ok()?;
     Some(world.cell(Cell::Clock))
+}
+
+/// The clocks of the copies below five positions, of which two have one of their own.
+fn clocks(film: &Film<World>) -> [Option<CellValue>; 5] {
+    [
+        clock_below(film, 0),
+        clock_below(film, 63),
+        clock_below(film, 64),
+        clock_below(film, 127),
+        clock_below(film, 128),
+    ]
 }
 
 #[test]
 fn a_film_has_a_copy_at_its_end(rt: HostRuntime) -> Result<(), Fail> {
     let film = ticking::<World>(rt.alloc(), 128).ok_or("no film")?;
-    assert_eq!(rt; (film.len(), film.every()), (128, 64));
-    assert!(rt; film.step(127).is_some() && film.step(128).is_none());
-    for (n, time) in [(0, 0), (63, 0), (64, 64), (127, 64), (128, 128)] {
-        assert_eq!(rt;
-            clock_below(&film, n),
-            Some(CellValue::Time(time)),
-            "below {n}"
-        );
-    }
+    let has_steps = (film.step(127).is_some(), film.step(128).is_some());
+    let clock = |time| Some(CellValue::Time(time));
+    assert_eq!(rt;
+        (film.len(), film.every(), has_steps, clocks(&film)),
+        (
+            128,
+            64,
+            (true, false),
+            [clock(0), clock(0), clock(64), clock(64), clock(128)]
+        )
+    );
     Ok(())
 }
 
 #[test]
-fn a_refused_step_is_reported_with_its_reason(rt: HostRuntime) -> Result<(), Fail> {
-    let fault = fault_of_the_last(rt.alloc()).ok_or("no fault")?;
+fn a_refused_step_is_reported_with_its_reason(rt: HostRuntime) {
     assert_eq!(rt;
-        fault,
-        LoadFault::Refused {
+        fault_of_the_last(rt.alloc()),
+        Some(LoadFault::Refused {
             step: 71,
             reason: Refusal::ClockGoesBack
-        }
+        })
     );
-    assert_eq!(rt;
-        fault.to_string(rt.alloc())?.as_str(),
-        "step 71: fault 107 reason 12"
-    );
-    assert_eq!(rt;
-        LoadFault::Memory.to_string(rt.alloc())?.as_str(),
-        "fault 108 memory"
-    );
-    let mut out = Sink::new(Vec::new(rt.alloc()));
-    assert_eq!(rt; out.print(&fault), Ok(()));
-    assert_eq!(rt; out.print(&LoadFault::Memory), Ok(()));
-    let lines = b"step 71: fault 107 reason 12\nfault 108 memory\n";
-    assert_eq!(rt; out.into_inner().as_slice(), lines.as_slice());
-    Ok(())
 }
 
 /// The fault of a recording of two steps in version 2: a socket is opened, and then this step.
@@ -90,7 +87,7 @@ fn fault_of_tick(alloc: Global, opened: Answer, answer: Answer) -> Option<LoadFa
 }
 
 #[test]
-fn another_answer_is_reported_where_its_step_applies(rt: HostRuntime) -> Result<(), Fail> {
+fn another_answer_is_reported_where_its_step_applies(rt: HostRuntime) {
     let zero = Answer::Number(0);
     let one = Answer::Number(1);
     assert_eq!(rt; fault_of_tick(rt.alloc(), zero, Answer::Done), None);
@@ -111,24 +108,31 @@ fn another_answer_is_reported_where_its_step_applies(rt: HostRuntime) -> Result<
         fault_of_second(rt.alloc(), zero, drain, Answer::Stale),
         Some(LoadFault::Refused { step: 2, reason })
     );
-    assert_eq!(rt;
-        LoadFault::OtherAnswer { step: 11 }
-            .to_string(rt.alloc())?
-            .as_str(),
-        "step 11: fault 109 answer"
-    );
-    Ok(())
+}
+
+/// What a film is written as with its answers: the version, how many steps, and the last answer and what is behind it.
+fn answered(film: &Film<World>) -> Option<(Version, usize, [Option<Answer>; 2])> {
+    let recording = film.with_answers().ok()?;
+    let answers = [recording.answer(64), recording.answer(65)];
+    Some((recording.version(), recording.len(), answers))
+}
+
+/// How many steps it has when it is loaded again.
+fn loaded_again(alloc: Global, film: &Film<World>) -> Option<usize> {
+    let recording = film.with_answers().ok()?;
+    let again = Snaps::load::<World>(alloc, recording, 64).ok()?;
+    Some(again.len())
 }
 
 #[test]
 fn a_film_has_its_answers(rt: HostRuntime) -> Result<(), Fail> {
     let film = ticking::<World>(rt.alloc(), 65).ok_or("no film")?;
-    let recording = film.with_answers(rt.alloc())?;
-    assert_eq!(rt; (recording.version(), recording.len()), (Version::Two, 65));
-    assert!(rt; matches!(recording.step(64), Some(Step::Tick { time: 65 })));
-    assert_eq!(rt; recording.answer(64), Some(Answer::Done));
-    assert_eq!(rt; recording.answer(65), None);
-    let again = Snaps::load::<World>(rt.alloc(), recording, 64)?;
-    assert_eq!(rt; again.with_answers(rt.alloc())?.len(), 65);
+    assert_eq!(rt;
+        (answered(&film), loaded_again(rt.alloc(), &film)),
+        (
+            Some((Version::Two, 65, [Some(Answer::Done), None])),
+            Some(65)
+        )
+    );
     Ok(())
 }

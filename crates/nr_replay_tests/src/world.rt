@@ -10,8 +10,8 @@ use crate::films::OPEN;
 use arrayvec::ArrayVec;
 use nr_machine::World;
 use nr_rev::{
-    Answer, Bytes, Cell, CellValue, Limits, Refusal, Reversible, Side, Status, Step, Worlds,
-    transact, undo_all,
+    Answer, Bytes, Cell, CellValue, Limits, Refusal, Reversible, Side, Step, Worlds, transact,
+    undo_all,
 };
 use std::alloc::{AllocError, Global};
 use std::process::Abort;
@@ -51,6 +51,17 @@ fn advance(world: &mut World, step: &Step) -> Result<Answer, Refusal>
     world.advance(step)
 }
 
+/// Leads the world over the steps, or up to the first that does not apply.
+fn lead(world: &mut World, steps: &[Step]) -> Result<(), Refusal>
+    requires { IsWorld world.old }
+    ensures { IsWorld world.new }
+{
+    for step in steps {
+        advance(world, step)?;
+    }
+    Ok(())
+}
+
 /// Applies all the steps or none: whether they apply, how many deltas there are, and the lock word of socket 0 then.
 fn transacted(world: &mut World, steps: &[Step]) -> (Result<(), Refusal>, usize, CellValue)
     requires well_formed { IsWorld world.old }
@@ -62,17 +73,27 @@ fn transacted(world: &mut World, steps: &[Step]) -> (Result<(), Refusal>, usize,
     (applied, deltas.len(), world.cell(Cell::Lock(0)))
 }
 
+/// A list of which the last doesn't apply, an empty one, and one that applies.
+fn transactions(world: &mut World) -> [(Result<(), Refusal>, usize, CellValue); 3]
+    requires { IsWorld world.old }
+{
+    [
+        transacted(world, &[OPEN, INCREF, DECREF, DECREF]),
+        transacted(world, &[]),
+        transacted(world, &[OPEN, INCREF, DECREF]),
+    ]
+}
+
 #[test]
 fn applies_all_or_none(rt: HostRuntime) -> Result<(), Fail> {
     let mut world = little_world(rt.alloc())?;
     assert_eq!(rt;
-        transacted(&mut world, &[OPEN, INCREF, DECREF, DECREF]),
-        (Err(Refusal::InconsistentLock), 0, CellValue::Absent)
-    );
-    assert_eq!(rt; transacted(&mut world, &[]), (Ok(()), 0, CellValue::Absent));
-    assert_eq!(rt;
-        transacted(&mut world, &[OPEN, INCREF, DECREF]),
-        (Ok(()), 3, CellValue::Number(0))
+        transactions(&mut world),
+        [
+            (Err(Refusal::InconsistentLock), 0, CellValue::Absent),
+            (Ok(()), 0, CellValue::Absent),
+            (Ok(()), 3, CellValue::Number(0)),
+        ]
     );
     Ok(())
 }
@@ -96,22 +117,28 @@ fn there_and_back(
     Ok((made, there, world.cell(shown)))
 }
 
+/// A reference taken and given up, in all and one by one.
+fn references(world: &mut World) -> Result<[(usize, CellValue, CellValue); 3], Refusal>
+    requires { IsWorld world.old }
+{
+    let all = there_and_back(world, &[OPEN, INCREF, DECREF], Cell::Lock(0))?;
+    lead(world, &[OPEN])?;
+    let taken = there_and_back(world, &[INCREF], Cell::Lock(0))?;
+    lead(world, &[INCREF])?;
+    let given_up = there_and_back(world, &[DECREF], Cell::Lock(0))?;
+    Ok([all, taken, given_up])
+}
+
 #[test]
 fn undoes_all(rt: HostRuntime) -> Result<(), Fail> {
     let mut world = little_world(rt.alloc())?;
     assert_eq!(rt;
-        there_and_back(&mut world, &[OPEN, INCREF, DECREF], Cell::Lock(0)),
-        Ok((3, CellValue::Number(0), CellValue::Absent))
-    );
-    assert_eq!(rt; advance(&mut world, &OPEN), Ok(Answer::Number(0)));
-    assert_eq!(rt;
-        there_and_back(&mut world, &[INCREF], Cell::Lock(0)),
-        Ok((1, CellValue::Number(8), CellValue::Number(0)))
-    );
-    assert_eq!(rt; advance(&mut world, &INCREF), Ok(Answer::Yes));
-    assert_eq!(rt;
-        there_and_back(&mut world, &[DECREF], Cell::Lock(0)),
-        Ok((1, CellValue::Number(0), CellValue::Number(8)))
+        references(&mut world),
+        Ok([
+            (3, CellValue::Number(0), CellValue::Absent),
+            (1, CellValue::Number(8), CellValue::Number(0)),
+            (1, CellValue::Number(0), CellValue::Number(8)),
+        ])
     );
     Ok(())
 }
@@ -121,170 +148,28 @@ const SHUT: Step = Step::CloseWrite {
     socket: 0,
 };
 
+/// A write side shut once and again.
+fn shuts(world: &mut World) -> Result<[(usize, CellValue, CellValue); 2], Refusal>
+    requires { IsWorld world.old }
+{
+    lead(world, &[OPEN])?;
+    let once = there_and_back(world, &[SHUT], Cell::Shut(0))?;
+    lead(world, &[SHUT])?;
+    let again = there_and_back(world, &[SHUT], Cell::Shut(0))?;
+    Ok([once, again])
+}
+
 #[test]
 fn undoes_the_shutting_of_a_write_side(rt: HostRuntime) -> Result<(), Fail> {
     let mut world = little_world(rt.alloc())?;
-    assert_eq!(rt; advance(&mut world, &SHUT), Err(Refusal::NoSuchSocket));
-    assert_eq!(rt; advance(&mut world, &OPEN), Ok(Answer::Number(0)));
     assert_eq!(rt;
-        there_and_back(&mut world, &[SHUT], Cell::Shut(0)),
-        Ok((1, CellValue::Number(1), CellValue::Number(0)))
+        shuts(&mut world),
+        Ok([
+            (1, CellValue::Number(1), CellValue::Number(0)),
+            (1, CellValue::Number(1), CellValue::Number(1)),
+        ])
     );
-    assert_eq!(rt; advance(&mut world, &SHUT), Ok(Answer::Done));
-    assert_eq!(rt;
-        there_and_back(&mut world, &[SHUT], Cell::Shut(0)),
-        Ok((1, CellValue::Number(1), CellValue::Number(1)))
-    );
-    assert_eq!(rt; world.cell(Cell::Shut(1)), CellValue::Absent);
     Ok(())
-}
-
-fn lock(goroutine: u32, side: Side) -> Step {
-    Step::RwLock {
-        goroutine,
-        socket: 0,
-        side,
-    }
-}
-
-fn unlock(goroutine: u32, side: Side) -> Step {
-    Step::RwUnlock {
-        goroutine,
-        socket: 0,
-        side,
-    }
-}
-
-/// What a step answers, with the lock word of socket 0 before and after it, and where its goroutine is then.
-#[derive(Clone, Copy, Debug, PartialEq)]
-struct Locking {
-    before: CellValue,
-    answer: Answer,
-    after: CellValue,
-    left: CellValue,
-}
-
-/// Leads the world over the steps, or up to the first that does not apply.
-fn lead(world: &mut World, steps: &[Step]) -> Result<(), Refusal>
-    requires { IsWorld world.old }
-    ensures { IsWorld world.new }
-{
-    for step in steps {
-        advance(world, step)?;
-    }
-    Ok(())
-}
-
-/// Takes the steps, and one more of goroutine 0.
-fn lead_and_lock(world: &mut World, steps: &[Step], last: &Step) -> Result<Locking, Refusal>
-    requires { IsWorld world.old }
-{
-    lead(world, steps)?;
-    let before = world.cell(Cell::Lock(0));
-    Ok(Locking {
-        before,
-        answer: advance(world, last)?,
-        after: world.cell(Cell::Lock(0)),
-        left: world.cell(Cell::Goroutine(0)),
-    })
-}
-
-/// Takes them from the beginning.
-fn last_of(alloc: Global, steps: &[Step], last: &Step) -> Result<Locking, Refusal> {
-    let mut world = little_world(alloc)?;
-    lead_and_lock(&mut world, steps, last)
-}
-
-#[test]
-fn closing_changes_a_lock_word_as_in_go(rt: HostRuntime) {
-    // 0 has the lock for reading, 1 and 2 wait for it; of two who waited to write 5 still does
-    let steps = [
-        OPEN,
-        Step::Spawn,
-        Step::Spawn,
-        Step::Spawn,
-        Step::Spawn,
-        Step::Spawn,
-        lock(0, Side::Read),
-        lock(1, Side::Read),
-        lock(2, Side::Read),
-        lock(3, Side::Write),
-        lock(4, Side::Write),
-        lock(5, Side::Write),
-        unlock(3, Side::Write),
-    ];
-    let closing = Step::IncrefClose {
-        goroutine: 0,
-        socket: 0,
-    };
-    let locking = Locking {
-        before: CellValue::Number(8_796_109_799_434),
-        answer: Answer::Yes,
-        after: CellValue::Number(19),
-        left: CellValue::Status(Status::Owing {
-            socket: 0,
-            reads: 2,
-            writes: 1,
-        }),
-    };
-    assert_eq!(rt; last_of(rt.alloc(), &steps, &closing), Ok(locking));
-}
-
-#[test]
-fn unlocking_changes_a_lock_word_as_in_go(rt: HostRuntime) {
-    let steps = [OPEN, Step::Spawn, lock(0, Side::Read), lock(1, Side::Read)];
-    let locking = Locking {
-        before: CellValue::Number(8_388_618),
-        answer: Answer::NotLast,
-        after: CellValue::Number(0),
-        left: CellValue::Status(Status::Owing {
-            socket: 0,
-            reads: 1,
-            writes: 0,
-        }),
-    };
-    assert_eq!(rt;
-        last_of(rt.alloc(), &steps, &unlock(0, Side::Read)),
-        Ok(locking)
-    );
-}
-
-/// Opens socket 0, and takes so many references to it.
-fn refer(world: &mut World, count: u32) -> Result<(), Refusal>
-    requires { IsWorld world.old }
-    ensures { IsWorld world.new }
-{
-    advance(world, &OPEN)?;
-    for _ in 0..count {
-        advance(world, &INCREF)?;
-    }
-    Ok(())
-}
-
-/// The lock word of a socket with so many references, and what one more answers.
-fn refer_once_more(
-    world: &mut World,
-    count: u32,
-) -> Result<(CellValue, Result<Answer, Refusal>), Refusal>
-    requires { IsWorld world.old }
-{
-    refer(world, count)?;
-    Ok((world.cell(Cell::Lock(0)), advance(world, &INCREF)))
-}
-
-/// That, from the beginning.
-fn referred(alloc: Global, count: u32) -> Result<(CellValue, Result<Answer, Refusal>), Refusal> {
-    let mut world = little_world(alloc)?;
-    refer_once_more(&mut world, count)
-}
-
-/// Takes a second where it is proved, and two minutes of `rt try --test`, which needs `--seconds 300` for it.
-#[test]
-fn a_lock_word_is_full_where_it_is_in_go(rt: HostRuntime) {
-    assert_eq!(rt;
-        referred(rt.alloc(), 1_048_575),
-        Ok((CellValue::Number(8_388_600), Err(Refusal::FieldOverflow)))
-    );
 }
 
 /// A socket with room for four bytes a side.
@@ -389,28 +274,56 @@ fn lead_and_return(world: &mut World, steps: &[Step; 3], count: u32) -> Result<(
     Ok(())
 }
 
-/// The input of socket 0 then, where there is one.
-fn input_behind(world: &mut World, steps: &[Step; 3], count: u32) -> Result<Option<Bytes>, Refusal>
+/// Whether the bytes are these.
+fn is_held(bytes: &Option<Bytes>, wanted: &[u8]) -> bool {
+    match bytes {
+        Some(bytes) => bytes.as_slice() == wanted,
+        None => false,
+    }
+}
+
+/// Whether the input of socket 0 is this then, or there is none.
+fn is_left(
+    world: &mut World,
+    steps: &[Step; 3],
+    count: u32,
+    input: Option<&[u8]>,
+) -> Result<bool, Refusal>
     requires { IsWorld world.old }
 {
     lead_and_return(world, steps, count)?;
-    world.bytes(0, Side::Read)
+    let left = world.bytes(0, Side::Read)?;
+    Ok(match input {
+        Some(input) => is_held(&left, input),
+        None => left.is_none(),
+    })
 }
 
 /// That, from the beginning.
-fn undone(alloc: Global, steps: &[Step; 3], count: u32) -> Result<Option<Bytes>, Refusal> {
+fn undone(
+    alloc: Global,
+    steps: &[Step; 3],
+    count: u32,
+    input: Option<&[u8]>,
+) -> Result<bool, Refusal> {
     let mut world = little_world(alloc)?;
-    input_behind(&mut world, steps, count)
+    is_left(&mut world, steps, count, input)
+}
+
+/// What none, one, two and three undos leave of three steps, by which bytes arrive and one is read.
+fn all_undone(alloc: Global, steps: &[Step; 3]) -> Result<[bool; 4], Refusal> {
+    Ok([
+        undone(alloc, steps, 0, Some(b"i".as_slice()))?,
+        undone(alloc, steps, 1, Some(b"hi".as_slice()))?,
+        undone(alloc, steps, 2, Some(b"".as_slice()))?,
+        undone(alloc, steps, 3, None)?,
+    ])
 }
 
 #[test]
 fn undoes_one_by_one(rt: HostRuntime) -> Result<(), Fail> {
     let steps = [OPEN_FOR_FOUR, arriving(rt.alloc())?, READ];
-    for (count, input) in [(0, b"i".as_slice()), (1, b"hi"), (2, b"")] {
-        let held = undone(rt.alloc(), &steps, count)?.ok_or("no such socket")?;
-        assert_eq!(rt; held.as_slice(), input);
-    }
-    assert!(rt; undone(rt.alloc(), &steps, 3)?.is_none());
+    assert_eq!(rt; all_undone(rt.alloc(), &steps), Ok([true; 4]));
     Ok(())
 }
 
@@ -443,22 +356,37 @@ fn moved(alloc: Global, steps: &[Step]) -> Result<Buffers, Refusal> {
     })
 }
 
+/// Whether the last of the steps answers so, and leaves these bytes.
+fn is_moved(
+    alloc: Global,
+    steps: Option<&[Step]>,
+    answer: Answer,
+    input: &[u8],
+    output: &[u8],
+) -> Result<bool, Refusal> {
+    let moved = moved(alloc, steps.unwrap_or(&[]))?;
+    Ok(
+        moved.answer == Some(answer)
+            && is_held(&moved.input, input)
+            && is_held(&moved.output, output),
+    )
+}
+
+/// Whether that is so of the first step, the first two and so on.
+fn all_moved(alloc: Global, steps: &[Step]) -> Result<[bool; 5], Refusal> {
+    Ok([
+        is_moved(alloc, steps.get(..1), Answer::Number(0), b"", b"")?,
+        is_moved(alloc, steps.get(..2), Answer::Done, b"hi", b"")?,
+        is_moved(alloc, steps.get(..3), Answer::Put(2), b"hi", b"yo")?,
+        is_moved(alloc, steps.get(..4), Answer::Got(1), b"i", b"yo")?,
+        is_moved(alloc, steps.get(..5), Answer::Done, b"i", b"")?,
+    ])
+}
+
 #[test]
 fn moves_bytes(rt: HostRuntime) -> Result<(), Fail> {
     let steps = traffic(rt.alloc())?;
-    for (count, answer, input, output) in [
-        (1, Answer::Number(0), b"".as_slice(), b"".as_slice()),
-        (2, Answer::Done, b"hi", b""),
-        (3, Answer::Put(2), b"hi", b"yo"),
-        (4, Answer::Got(1), b"i", b"yo"),
-        (5, Answer::Done, b"i", b""),
-    ] {
-        let steps = steps.get(..count).ok_or("no such step")?;
-        let moved = moved(rt.alloc(), steps)?;
-        assert_eq!(rt; moved.answer, Some(answer));
-        assert_eq!(rt; moved.input.ok_or("no socket")?.as_slice(), input);
-        assert_eq!(rt; moved.output.ok_or("no socket")?.as_slice(), output);
-    }
+    assert_eq!(rt; all_moved(rt.alloc(), &steps), Ok([true; 5]));
     Ok(())
 }
 
@@ -470,11 +398,18 @@ fn missing_and_empty(world: &World) -> Result<(bool, bool), Refusal> {
     Ok((bytes.is_none(), is_empty))
 }
 
+/// That, with one socket that was just opened.
+fn opened(world: &mut World) -> Result<(bool, bool), Refusal>
+    requires { IsWorld world.old }
+{
+    lead(world, &[OPEN])?;
+    missing_and_empty(world)
+}
+
 #[test]
 fn shows_what_is_missing_or_empty(rt: HostRuntime) -> Result<(), Fail> {
     let mut world = little_world(rt.alloc())?;
-    assert_eq!(rt; advance(&mut world, &OPEN), Ok(Answer::Number(0)));
-    assert_eq!(rt; missing_and_empty(&world), Ok((true, true)));
+    assert_eq!(rt; opened(&mut world), Ok((true, true)));
     Ok(())
 }
 

@@ -1,3 +1,7 @@
+pub mod AspectDescriptorStepLemmas
+pub mod AspectLemmas
+pub mod AspectSocketStepLemmas
+pub mod AspectStepLemmas
 pub mod BitLemmas
 pub mod BoolLemmas
 pub mod DescriptorChangeLemmas
@@ -15,10 +19,6 @@ pub mod LookupLemmas
 pub mod NameLookupLemmas
 pub mod NumberLemmas
 pub mod OutcomeLemmas
-pub mod PartDescriptorStepLemmas
-pub mod PartLemmas
-pub mod PartSocketStepLemmas
-pub mod PartStepLemmas
 pub mod PositionLemmas
 pub mod ReferenceLemmas
 pub mod RowSetLemmas

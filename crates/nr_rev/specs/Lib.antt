@@ -13,7 +13,7 @@ pub mod World
 pub mod Step
 pub mod Cell
 pub mod CellName
-pub mod Part
+pub mod Aspect
 pub mod Run
 pub mod WellFormed
 pub mod Reversible

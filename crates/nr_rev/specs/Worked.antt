@@ -11,9 +11,15 @@ use Rattle.nr_rev.specs.declared.step.Step.TheVariants.{Spawn, Exit, SockOpen, A
 use Rattle.nr_rev.specs.declared.lock.Lock.{Lock}
 use Rattle.nr_rev.specs.declared.lock.LockOutcome.{LockOutcome}
 use Rattle.nr_rev.specs.Lock.{open_lock, lock_number}
+use Rattle.nr_rev.specs.declared.descriptor.Descriptor.{Descriptor}
+use Rattle.nr_rev.specs.declared.timer.TimerFunction.{TimerFunction}
+use Rattle.nr_rev.specs.declared.timer.TimerOrder.TheVariants.{Arm}
+use Rattle.nr_rev.specs.Descriptor.{never_opened}
+use Rattle.nr_rev.specs.Refusing.{◌>>=◌}
+use Rattle.nr_rev.specs.Sides.{twice}
 use Rattle.nr_rev.specs.Socket.{new_socket}
 use Rattle.nr_rev.specs.World.{World, empty_world}
-use Rattle.nr_rev.specs.Step.{outcome}
+use Rattle.nr_rev.specs.Step.{outcome, after_order}
 use Rattle.nr_rev.specs.Cell.{cell}
 use Rattle.nr_rev.specs.Run.{Recording, world_at}
 
@@ -190,3 +196,31 @@ world_with_lock lock =
     record (world_at (recording []) 0) {
       sockets = record (new_socket 16 16) { lock = lock } ∷ [];
     }
+
+-- a descriptor whose sequence of writing is the last number of 64 bits
+abbrev pub a_last_sequence : Descriptor
+a_last_sequence =
+    record never_opened { sequences = record { read = 3; write = 18446744073709551615 } }
+
+-- the same, while a timer runs for writing
+abbrev pub a_last_sequence_timed : Descriptor
+a_last_sequence_timed =
+    record a_last_sequence {
+      deadlines = record { read = pos 0; write = pos 50 };
+      running = record { read = false; write = true };
+    }
+
+-- a descriptor whose tag is the last number of 64 bits
+abbrev pub a_last_tag : Descriptor
+a_last_tag = record never_opened { closing = true; fdseq = 18446744073709551615 }
+
+-- the next arming number, after a timer for writing is armed where none was
+abbrev pub armed_after : ℕ → Result ℕ Refusal
+armed_after number = do
+  after ← after_order (Arm Side.Write (pos 50) TimerFunction.Write 0) (twice None, number)
+  Ok after.1
+
+-- a world with one open descriptor, whose next timer has this arming number
+abbrev pub world_with_arming : ℕ → World
+world_with_arming number =
+    record (world_at (recording (SockOpen 1 1 ∷ PollOpen 0 0 ∷ [])) 2) { next_arming = number }

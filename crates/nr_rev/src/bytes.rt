@@ -54,3 +54,23 @@ impl Bytes {
         self.items
     }
 }
+
+impl From<Vec<u8>> for Bytes {
+    ghost use Rattle.std.specs.Prelude.{◌≡◌};
+
+    ghost from_gives = { λ items kept. kept ≡ items.items };
+
+    fn from(items: Vec<u8>) -> Bytes {
+        Bytes::new(items)
+    }
+}
+
+impl From<Bytes> for Vec<u8> {
+    ghost use Rattle.std.specs.Prelude.{◌≡◌};
+
+    ghost from_gives = { λ kept items. items.items ≡ kept };
+
+    fn from(kept: Bytes) -> Vec<u8> {
+        kept.into_vec()
+    }
+}

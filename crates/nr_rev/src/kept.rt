@@ -1,6 +1,7 @@
 //! Bytes that left a buffer, kept for the way back.
 
-use std::alloc::{AllocError, Global};
+use crate::Memory;
+use std::alloc::Global;
 use std::marker::Model;
 
 /// Bytes kept for the way back, seen in contracts as the list of them. They take just the room that they need: the
@@ -24,7 +25,7 @@ impl KeptBytes {
     ghost use Rattle.std.specs.Prelude.{◌≡◌, ◌<◌, length, IfOk, OnErr};
 
     /// A copy of the bytes. Only of some bytes can it be refused memory.
-    pub fn copy_of(alloc: Global, bytes: &[u8]) -> Result<KeptBytes, AllocError>
+    pub fn copy_of(alloc: Global, bytes: &[u8]) -> Result<KeptBytes, Memory>
         ensures ok { IfOk result (λ kept. kept ≡ bytes.now) }
         ensures err { OnErr result (0 < length bytes.now) }
     {

@@ -22,7 +22,7 @@ ghost use Rattle.nr_rev.specs.declared.status.Status.TheVariants.{Entering, Swap
 ghost use Rattle.nr_rev.specs.Run.{Recording, world_at};
 ghost use Rattle.nr_rev.specs.Step.{IsTimely, outcome};
 ghost use Rattle.nr_rev.specs.Cell.{cell};
-ghost use Rattle.nr_rev.specs.Part.{can_change};
+ghost use Rattle.nr_rev.specs.Aspect.{can_change};
 ghost use Rattle.nr_rev.specs.declared.cell.Cell.{Cell};
 ghost use Rattle.nr_rev.specs.CellName.{cell_index, cell_name, cell_named, cell_number, cell_numbered};
 ghost use Rattle.nr_rev.specs.declared.kind.Kind.{Kind};
@@ -42,7 +42,7 @@ pub fn steps_keep_well_formedness()
 {}
 
 /// A step changes no cell that its kind cannot change, in any world.
-pub fn steps_change_their_parts_alone()
+pub fn steps_change_their_aspects_alone()
     ensures { (w : World) (step : Step) (answer : Answer) (next : World) (c : Cell)
         → outcome w step ≡ Ok (answer, next) → can_change (kind_of step) c ≡ false
         → cell next c ≡ cell w c }

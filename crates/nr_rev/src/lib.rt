@@ -8,6 +8,7 @@
 #![tactic(auto)]
 
 mod answer;
+mod aspect;
 mod bytes;
 mod cell;
 mod cell_value;
@@ -17,7 +18,6 @@ mod kind;
 pub mod laws;
 mod limits;
 mod lock;
-mod part;
 mod queue;
 mod refusal;
 mod reversible;
@@ -31,6 +31,7 @@ pub mod worked;
 mod worlds;
 
 pub use answer::Answer;
+pub use aspect::Aspect;
 pub use bytes::Bytes;
 pub use cell::Cell;
 pub use cell_value::CellValue;
@@ -41,7 +42,6 @@ pub use kept::KeptBytes;
 pub use kind::Kind;
 pub use limits::{Limits, MOST_BUFFER, MOST_DESCRIPTORS, MOST_GOROUTINES, MOST_SOCKETS, is_limit};
 pub use lock::{Lock, LockOutcome};
-pub use part::Part;
 pub use queue::Queue;
 pub use refusal::Refusal;
 pub use reversible::Reversible;
@@ -52,3 +52,6 @@ pub use step::Step;
 pub use timer::{Entry, Timer, TimerFunction, TimerOrder};
 pub use transaction::{transact, undo_all};
 pub use worlds::Worlds;
+
+/// There was no memory: what a call answers that can run out of memory, and fails with nothing else.
+pub use std::alloc::AllocError as Memory;

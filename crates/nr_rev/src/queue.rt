@@ -41,3 +41,23 @@ impl Queue {
         self.items
     }
 }
+
+impl From<Vec<u32>> for Queue {
+    ghost use Rattle.std.specs.Prelude.{◌≡◌};
+
+    ghost from_gives = { λ items kept. kept ≡ items.items };
+
+    fn from(items: Vec<u32>) -> Queue {
+        Queue::new(items)
+    }
+}
+
+impl From<Queue> for Vec<u32> {
+    ghost use Rattle.std.specs.Prelude.{◌≡◌};
+
+    ghost from_gives = { λ kept items. items.items ≡ kept };
+
+    fn from(kept: Queue) -> Vec<u32> {
+        kept.into_vec()
+    }
+}

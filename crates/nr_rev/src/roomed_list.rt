@@ -2,7 +2,8 @@
 
 ghost use Rattle.std.specs.Prelude.{◌≡◌, ◌+◌, ◌-◌, ◌<◌, ◌≤◌, ◌∷◌, ◌++◌, [], length, take, drop, insert, remove, slice_get, slice_set, Some, IfOk, IfSome};
 
-use std::alloc::{AllocError, Global};
+use crate::Memory;
+use std::alloc::Global;
 use std::marker::Model;
 
 /// At most `room` items, seen in contracts as the list of them with its room. The constructor takes all the memory that
@@ -26,7 +27,7 @@ impl<T> Model for RoomedList<T> {
 
 impl<T: Drop> RoomedList<T> {
     /// An empty list with room for so many items. An error is that there is no memory for them.
-    pub fn with_room(alloc: Global, room: usize) -> Result<RoomedList<T>, AllocError>
+    pub fn with_room(alloc: Global, room: usize) -> Result<RoomedList<T>, Memory>
         ensures { IfOk result (λ t. t ≡ record { items = []; room = room }) }
     {
         let items = Vec::with_capacity(alloc, room)?;
@@ -102,7 +103,7 @@ impl<T: Drop> RoomedList<T> {
 
 impl<T: Copy + Drop> RoomedList<T> {
     /// An equal one, in room of its own. An error is that there is no memory for it.
-    pub fn try_copy(&self, alloc: Global) -> Result<RoomedList<T>, AllocError>
+    pub fn try_copy(&self, alloc: Global) -> Result<RoomedList<T>, Memory>
         ensures { IfOk result (λ t. t ≡ self.now) }
     {
         let mut copy = RoomedList::with_room(alloc, self.room)?;

@@ -4,11 +4,13 @@
 ghost use Rattle.std.specs.Prelude.{◌≡◌, true, false, pos, negsuc, ◌∷◌, [], Some, None, Ok, Err};
 ghost use Rattle.nr_rev.specs.Lock.{lock_number, incref, incref_close, rw_unlock};
 ghost use Rattle.nr_rev.specs.Cell.{bytes_of, queue_of};
-ghost use Rattle.nr_rev.specs.Part.{can_change};
+ghost use Rattle.nr_rev.specs.Aspect.{can_change};
+ghost use Rattle.nr_rev.specs.Descriptor.{change_by_deadline, change_by_evict, closed, opened_for};
 ghost use Rattle.nr_rev.specs.Refusing.{raised_sequence};
 ghost use Rattle.nr_rev.specs.Run.{next_of, world_at};
 ghost use Rattle.nr_rev.specs.Step.{outcome};
-ghost use Rattle.nr_rev.specs.Worked.{a_deadline_past_the_greatest_time, a_descriptor_opened_again, a_drained_output, a_firing_too_many, a_lock_full_of_references, a_lock_with_one_waiter, a_lock_with_three_waiters, a_read_through_the_poller, a_release_without_hand_off, a_shut_write_side, a_stale_firing_of_both_deadlines, an_error_while_reading_waits, an_event_before_the_parking, answers_of, first_refused_of, lock_left_by, one_reference_given_up_twice, reason_of, cell_after, two_readers_and_a_close, world_with_lock};
+ghost use Rattle.nr_rev.specs.Worked.{a_deadline_past_the_greatest_time, a_descriptor_opened_again, a_drained_output, a_firing_too_many, a_last_sequence, a_last_sequence_timed, a_last_tag, a_lock_full_of_references, a_lock_with_one_waiter, a_lock_with_three_waiters, a_read_through_the_poller, a_release_without_hand_off, a_shut_write_side, a_stale_firing_of_both_deadlines, an_error_while_reading_waits, an_event_before_the_parking, answers_of, armed_after, first_refused_of, lock_left_by, one_reference_given_up_twice, reason_of, cell_after, two_readers_and_a_close, world_with_arming, world_with_lock};
+ghost use Rattle.nr_rev.specs.declared.sides.Mode.{Mode};
 ghost use Rattle.nr_rev.specs.declared.sides.Side.{Side};
 ghost use Rattle.nr_rev.specs.declared.descriptor.WaitWord.{WaitWord};
 ghost use Rattle.nr_rev.specs.declared.status.Status.{Status};
@@ -241,6 +243,20 @@ pub fn reasons_are_met()
         ≡ Some (1, Refusal.SizeOutOfRange) }
     ensures peer_closed { reason_of (Step.SockOpen 1 1 ∷ Step.PeerClose 0 ∷ Step.PeerClose 0 ∷ [])
         ≡ Some (3, Refusal.PeerClosed) }
+{}
+
+/// What no recording reaches: the last number of 64 bits isn't raised. A descriptor's sequence or tag refuses what would
+/// raise it, and the last arming number is never given.
+pub fn last_numbers_are_not_raised()
+    ensures opened { opened_for 0 a_last_sequence ≡ Err Refusal.LastNumber }
+    ensures evicted { change_by_evict a_last_sequence ≡ Err Refusal.LastNumber }
+    ensures timed { change_by_deadline (pos 0) Mode.Both (pos 60) a_last_sequence_timed
+        ≡ Err Refusal.LastNumber }
+    ensures tag { closed a_last_tag ≡ Err Refusal.LastNumber }
+    ensures last_but_one_armed { armed_after 18446744073709551614 ≡ Ok 18446744073709551615 }
+    ensures last_not_armed { armed_after 18446744073709551615 ≡ Err Refusal.LastNumber }
+    ensures step_refused { outcome (world_with_arming 18446744073709551615)
+        (Step.SetDeadline 0 0 Mode.Read (pos 1)) ≡ Err Refusal.LastNumber }
 {}
 
 /// What kinds of steps can change: an rwlock a lock word and where a goroutine is, a tick the clock and no lock word, and

@@ -6,7 +6,7 @@ use Rattle.std.proofs.lemmas.Option.{get_or_from_slice_get, slice_get-get_or}
 use Rattle.nr_rev.specs.Kind.{kind_number, kind_numbered, kind_of}
 use Rattle.nr_rev.proofs.ListUpdateLemmas.{slice_get-set_cases}
 use Rattle.nr_rev.proofs.NameLookupLemmas.{kind_counted}
-use Rattle.nr_rev.specs.Part.{can_change}
+use Rattle.nr_rev.specs.Aspect.{can_change}
 use Rattle.nr_rev.specs.Run.{Recording, world_at}
 use Rattle.nr_rev.specs.Step.{Outcome, outcome}
 use Rattle.nr_rev.specs.World.{World}
@@ -15,7 +15,7 @@ use Rattle.nr_rev.specs.declared.cell.Cell.{Cell}
 use Rattle.nr_rev.specs.declared.cell_value.CellValue.{CellValue}
 use Rattle.nr_rev.specs.declared.kind.Kind.{Kind}
 use Rattle.nr_rev.specs.declared.step.Step.{Step}
-use Rattle.nr_rev.proofs.PartStepLemmas.{step_keeps_cell}
+use Rattle.nr_rev.proofs.AspectStepLemmas.{step_keeps_cell}
 use Rattle.nr_rev.proofs.RunLemmas.{IsWorldAt-next}
 use Rattle.nr_marks.specs.Hit.{hits_between, mark_hits, numbered, same_value, watched}
 use Rattle.nr_marks.specs.Marks.{NumberedMark, is_watch}

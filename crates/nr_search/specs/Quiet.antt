@@ -2,7 +2,7 @@
 use Rattle.std.specs.Prelude.{◌≡◌, Bool, false, not, List, slice_get, Option, Some}
 use Rattle.std.specs.List.{list_any}
 use Rattle.nr_rev.specs.Kind.{kind_number}
-use Rattle.nr_rev.specs.Part.{can_change}
+use Rattle.nr_rev.specs.Aspect.{can_change}
 use Rattle.nr_rev.specs.declared.kind.Kind.{Kind}
 use Rattle.nr_marks.specs.Hit.{break_hits}
 use Rattle.nr_marks.specs.Marks.{NumberedMark, is_watch}

@@ -14,9 +14,8 @@ use crate::steps::nearest_step;
 use crate::stretch::hits_at_start;
 use crate::workers::{Claims, ManyWorkers, search_by};
 use nr_marks::Marks;
-use nr_rev::Worlds;
+use nr_rev::{Memory, Worlds};
 use nr_snaps::Film;
-use std::alloc::AllocError;
 use std::marker::PhantomData;
 use std::thread::Threads;
 
@@ -114,7 +113,7 @@ pub fn nearest_hit<W: Worlds + Drop + Sync, F: Finder>(
     marks: &Marks,
     direction: Direction,
     n: usize,
-) -> Result<Found, AllocError>
+) -> Result<Found, Memory>
 where
     W::Snapshot: Drop + Sync,
     requires { n ≤ length film.now.recording.steps }
@@ -139,13 +138,55 @@ where
     }
 }
 
+/// The least position above n where a mark hits, up to the end, with the numbers of the marks that hit there: what
+/// `nearest_hit` finds forwards.
+pub fn first_after<W: Worlds + Drop + Sync, F: Finder>(
+    finder: &F,
+    film: &Film<W>,
+    marks: &Marks,
+    n: usize,
+) -> Result<Found, Memory>
+where
+    W::Snapshot: Drop + Sync,
+    requires { n ≤ length film.now.recording.steps }
+    ensures found { IfOk result (λ found. found
+        ≡ nearest_hit Forward film.now.recording marks.now.present n) }
+    ensures rising { IfOk result (Rises marks.now.made) }
+    ensures copy { OnErr result (NeedsCopy Forward film.now.recording n) }
+    ensures marks { OnErr result (0 < length marks.now.present) }
+    ensures watch { OnErr result (any_watch marks.now.present ≡ true) }
+{
+    nearest_hit(finder, film, marks, Direction::Forward, n)
+}
+
+/// The greatest position below n where a mark hits, with the numbers of the marks that hit there: what `nearest_hit` finds
+/// backwards.
+pub fn last_before<W: Worlds + Drop + Sync, F: Finder>(
+    finder: &F,
+    film: &Film<W>,
+    marks: &Marks,
+    n: usize,
+) -> Result<Found, Memory>
+where
+    W::Snapshot: Drop + Sync,
+    requires { n ≤ length film.now.recording.steps }
+    ensures found { IfOk result (λ found. found
+        ≡ nearest_hit Backward film.now.recording marks.now.present n) }
+    ensures rising { IfOk result (Rises marks.now.made) }
+    ensures copy { OnErr result (NeedsCopy Backward film.now.recording n) }
+    ensures marks { OnErr result (0 < length marks.now.present) }
+    ensures watch { OnErr result (any_watch marks.now.present ≡ true) }
+{
+    nearest_hit(finder, film, marks, Direction::Backward, n)
+}
+
 // The greatest hit below position n. Position 0 is the last one on the way, and needs no copy.
 fn last_hit_below<W: Worlds + Drop + Sync, F: Finder>(
     finder: &F,
     film: &Film<W>,
     marks: &Marks,
     n: usize,
-) -> Result<Found, AllocError>
+) -> Result<Found, Memory>
 where
     W::Snapshot: Drop + Sync,
     requires { n ≤ length film.now.recording.steps }
@@ -171,7 +212,7 @@ fn search_between<W: Worlds + Drop + Sync, F: Finder>(
     direction: Direction,
     after: usize,
     last: usize,
-) -> Result<Found, AllocError>
+) -> Result<Found, Memory>
 where
     W::Snapshot: Drop + Sync,
     requires order { after ≤ last }

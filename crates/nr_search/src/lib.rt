@@ -16,7 +16,7 @@ mod watched;
 mod workers;
 
 pub use direction::Direction;
-pub use finder::{Finder, OneWorker, nearest_hit};
+pub use finder::{Finder, OneWorker, first_after, last_before, nearest_hit};
 pub use found::{Found, Hit};
 pub use gate::{Gate, Open};
 pub use workers::{Claims, LEAST_WORKERS, MOST_WORKERS, ManyWorkers};

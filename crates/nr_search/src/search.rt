@@ -14,9 +14,8 @@ use crate::segments::Span;
 use crate::slot::{Report, Slot, note_all, slot_at};
 use crate::stretch::{WorldAt, search_stretch, world_at};
 use nr_marks::Marks;
-use nr_rev::Worlds;
+use nr_rev::{Memory, Worlds};
 use nr_snaps::Film;
-use std::alloc::AllocError;
 
 /// A search through a film for where marks hit.
 #[derive(Drop)]
@@ -63,11 +62,7 @@ where
 
     /// The nearest hit of a segment. The world at hand is led through it, if it is at its beginning, else a copy.
     /// Afterwards the world at hand is at its end, if the search came there.
-    pub fn search_segment(
-        &self,
-        s: usize,
-        held: &mut Option<WorldAt<W>>,
-    ) -> Result<Found, AllocError>
+    pub fn search_segment(&self, s: usize, held: &mut Option<WorldAt<W>>) -> Result<Found, Memory>
         requires first { self.now.span.first ≤ s }
         requires last { s < self.now.span.first + self.now.span.count }
         requires held { IfSome held.old (λ h.
@@ -96,7 +91,7 @@ where
         known: &[Slot],
         s: usize,
         held: &mut Option<WorldAt<W>>,
-    ) -> Result<Found, AllocError>
+    ) -> Result<Found, Memory>
         requires first { self.now.span.first ≤ s }
         requires last { s < self.now.span.first + self.now.span.count }
         requires known { AreTrue self.now.span
@@ -112,14 +107,14 @@ where
     {
         match slot_at(known, s) {
             Slot::Searched(found) => Ok(found),
-            Slot::Refused => Err(AllocError),
+            Slot::Refused => Err(Memory),
             Slot::Unknown => self.search_segment(s, held),
         }
     }
 
     /// The nearest hit: segment by segment on the way, by what is known of each, or else by a search of it. The first
     /// segment with a hit decides: that others ran out of memory changes nothing then.
-    pub fn decide(&self, known: &[Slot]) -> Result<Found, AllocError>
+    pub fn decide(&self, known: &[Slot]) -> Result<Found, Memory>
         requires { AreTrue self.now.span
             (hits_at self.now.film.now.recording self.now.marks.now.present) (slot_of known.now) }
         ensures found { IfOk result (IsFound self.now.span.direction
@@ -141,11 +136,7 @@ where
     /// The nearest hit, by what the workers report, a row for each worker. Of a segment the first report counts; where
     /// there is none, it is searched here. It runs out of memory only where a segment on the way isn't searched by the
     /// report that counts, and none before it has a hit. The table has a slot for each segment, where nothing is known yet.
-    pub fn decide_by(
-        &self,
-        by_worker: &[Vec<Report>],
-        table: &mut [Slot],
-    ) -> Result<Found, AllocError>
+    pub fn decide_by(&self, by_worker: &[Vec<Report>], table: &mut [Slot]) -> Result<Found, Memory>
         requires table { table.old
             ≡ replicate (self.now.span.first + self.now.span.count) Unknown }
         requires reports { All (λ one_worker. All (IsReport self.now.span

@@ -6,7 +6,8 @@ ghost use Rattle.nr_search.specs.Reports.{AddsTo, said_by, said_in, slot_from};
 ghost use Rattle.nr_search.specs.declared.slot.Slot.TheVariants.{Unknown};
 
 use crate::found::Found;
-use std::alloc::{AllocError, Global};
+use nr_rev::Memory;
+use std::alloc::Global;
 
 /// What is known of a segment.
 #[derive(Debug, Drop)]
@@ -21,12 +22,12 @@ pub(crate) enum Slot {
 
 impl Slot {
     /// What a search of a segment makes known of it.
-    pub fn from_search(searched: Result<Found, AllocError>) -> Slot
+    pub fn from_search(searched: Result<Found, Memory>) -> Slot
         ensures { result ≡ slot_from searched }
     {
         match searched {
             Ok(found) => Slot::Searched(found),
-            Err(AllocError) => Slot::Refused,
+            Err(Memory) => Slot::Refused,
         }
     }
 
@@ -50,7 +51,7 @@ pub(crate) struct Report {
 }
 
 /// Nothing is known of so many segments.
-pub(crate) fn unknown(alloc: Global, count: usize) -> Result<Vec<Slot>, AllocError>
+pub(crate) fn unknown(alloc: Global, count: usize) -> Result<Vec<Slot>, Memory>
     ensures { IfOk result (λ known. known.items ≡ replicate count Unknown) }
 {
     let mut known = Vec::with_capacity(alloc, count)?;

@@ -14,9 +14,8 @@ use crate::quiet::{Outlook, is_quiet, outlook_of};
 use crate::watched::look;
 use arrayvec::ArrayVec;
 use nr_marks::{MOST_MARKS, Marks, NextStep, NumberedMark};
-use nr_rev::{CellValue, Worlds};
+use nr_rev::{CellValue, Memory, Worlds};
 use nr_snaps::Film;
-use std::alloc::AllocError;
 
 /// The step that comes next at position n.
 #[inline(always)]
@@ -134,7 +133,7 @@ pub(crate) fn world_at<W: Worlds + Drop>(
     film: &Film<W>,
     held: Option<WorldAt<W>>,
     n: usize,
-) -> Result<W, AllocError>
+) -> Result<W, Memory>
 where
     W::Snapshot: Drop,
     requires held { IfSome held (λ h. IsFrame W.is_well_formed W.world W.steps film.now h.position h.world) }
@@ -148,7 +147,7 @@ where
 }
 
 // A copy of the world at position n, led on from the film's copy below.
-fn copy_at<W: Worlds + Drop>(film: &Film<W>, n: usize) -> Result<W, AllocError>
+fn copy_at<W: Worlds + Drop>(film: &Film<W>, n: usize) -> Result<W, Memory>
 where
     W::Snapshot: Drop,
     requires { n ≤ length film.now.recording.steps }
@@ -170,5 +169,9 @@ where
     ensures { result.items ≡ hits_at film.now.recording marks.now.present 0 }
 {
     let start = film.start();
-    marks.hits(start, start, next_step(film, 0))
+    let first = match film.step(0) {
+        Some(step) => Some((1, step)),
+        None => None,
+    };
+    marks.hits(start, start, first)
 }

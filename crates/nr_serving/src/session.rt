@@ -12,10 +12,10 @@ use crate::connection::{Connections, Ports};
 use crate::fronts::{Done, serve_each};
 use nr_front::Front;
 use nr_journal::{Journal, Pass, Seat};
-use nr_rev::Worlds;
+use nr_rev::{Memory, Worlds};
 use nr_search::Finder;
 use nr_snaps::Film;
-use std::alloc::{AllocError, Global};
+use std::alloc::Global;
 use std::sync::Wait;
 use std::thread::Threads;
 
@@ -23,7 +23,7 @@ use std::thread::Threads;
 #[derive(Drop)]
 pub struct Ended {
     /// The words of the commands that were placed, in their order, unless memory ran out for them.
-    pub history: Result<Vec<u64>, AllocError>,
+    pub history: Result<Vec<u64>, Memory>,
     /// A front had no callers any more before its time, or a read or a write failed.
     pub failed: bool,
 }
@@ -48,10 +48,10 @@ pub enum Unshared {
     NoTag,
 }
 
-impl From<AllocError> for Unshared {
+impl From<Memory> for Unshared {
     ghost from_gives = { λ _ fault. fault ≡ unshared.Memory };
 
-    fn from(_error: AllocError) -> Unshared {
+    fn from(_error: Memory) -> Unshared {
         Unshared::Memory
     }
 }
@@ -149,7 +149,7 @@ fn finish(alloc: Global, journal: &Journal, mut done: Vec<Done>) -> Ended
 {
     let failed = done.as_slice().iter().any(|one| one.failed);
     let history = match take_done(journal, &mut done) {
-        Some(mut last) => collect(alloc, journal, &mut last.pass, done),
+        Some(mut last) => collect(journal, &mut last.pass, done),
         None => Ok(Vec::new(alloc)),
     };
     Ended { history, failed }
@@ -157,12 +157,7 @@ fn finish(alloc: Global, journal: &Journal, mut done: Vec<Done>) -> Ended
 
 // Lets a pass see all that those of the others had seen, and then on until there is nothing. Returns what it has seen then.
 // Lets each of the others see that too, which proves that no word among it that is new to the other is the other's own.
-fn collect(
-    alloc: Global,
-    journal: &Journal,
-    last: &mut Pass,
-    mut done: Vec<Done>,
-) -> Result<Vec<u64>, AllocError>
+fn collect(journal: &Journal, last: &mut Pass, mut done: Vec<Done>) -> Result<Vec<u64>, Memory>
     requires last { last.old.table ≡ journal.now }
     requires done { All (λ d. d.pass.table ≡ journal.now) done.items }
     ensures table { last.new.table ≡ last.old.table }
@@ -171,10 +166,10 @@ fn collect(
     ensures others { IfOk result (λ words. All (λ d. HasOwn words.items d.pass.pass_state) done.items) }
 {
     let Some(mut other) = take_done(journal, &mut done) else {
-        return journal.finish(alloc, last);
+        return journal.finish(last);
     };
     journal.see_all_of(last, &mut other.pass);
-    let history = collect(alloc, journal, last, done);
+    let history = collect(journal, last, done);
     journal.see_all_of(&mut other.pass, last);
     history
 }

@@ -1,11 +1,8 @@
 //! Lines, words and texts by worked examples.
 
-use arrayvec::ArrayVec;
-use nr_command::{
-    Checkpoint, CheckpointFault, Checkpoints, Command, Line, LineFault, Query, Reply,
-};
+use nr_command::{Command, Line, Query, Reply};
 use nr_journal::GREATEST_OPCODE;
-use nr_marks::{Break, Mark, NumberedMark};
+use nr_marks::Break;
 use nr_replay_tests::Counted;
 use nr_rev::{Bytes, Cell, Kind, Side};
 use nr_search::Direction;
@@ -120,72 +117,13 @@ fn lines_ask_for_commands(rt: HostRuntime) -> Result<(), Fail> {
     Ok(())
 }
 
-#[test]
-fn other_lines_ask_for_nothing(rt: HostRuntime) -> Result<(), Fail> {
-    let refused = [
-        (b"frob".as_slice(), LineFault::UnknownCommand),
-        (b"stepi 0", LineFault::BadArgument),
-        (b"break @0", LineFault::BadArgument),
-        (b"tbreak", LineFault::BadArgument),
-        (b"tb @0", LineFault::BadArgument),
-        (b"info", LineFault::BadArgument),
-        (b"watch clock 0", LineFault::BadArgument),
-        (b"delete checkpoint", LineFault::BadArgument),
-        (b"stepi 4294967296", LineFault::BadArgument),
-        ([b' '; 257].as_slice(), LineFault::TooLong),
-    ];
-    for (line, fault) in refused {
-        assert_eq!(rt; Command::parse(line), Err(fault));
-    }
-    Ok(())
-}
-
-#[test]
-fn lists_are_printed_line_by_line(rt: HostRuntime) -> Result<(), Fail> {
-    let mut marks = ArrayVec::new();
-    for (number, mark) in [
-        (1, Mark::Break(Break::Kind(Kind::RwLock))),
-        (2, Mark::Break(Break::Step(times(7)))),
-        (3, Mark::Watch(Cell::ReadWord(0))),
-        (4, Mark::TemporaryBreak(Break::Kind(Kind::RwLock))),
-        (5, Mark::TemporaryBreak(Break::Step(times(7)))),
-    ] {
-        let mark = NumberedMark { number, item: mark };
-        assert!(rt; marks.try_push(mark).is_ok());
-    }
-    let mut hits = ArrayVec::new();
-    hits.push(1);
-    hits.push(3);
-    let mut out = Sink::new(Vec::new(rt.alloc()));
-    let printed = [
-        out.print(&Reply::Marks(marks)),
-        out.print(&Reply::AtHit {
-            position: 5,
-            marks: hits,
-        }),
-        out.print(&Reply::Position {
-            position: 5,
-            last: 12,
-            direction: Direction::Backward,
-        }),
-    ];
-    for reported in printed {
-        assert_eq!(rt; reported, Ok(()));
-    }
-    let text =
-        b"marks 5\n1 break rwlock\n2 break @7\n3 watch rg 0\n4 tbreak rwlock\n5 tbreak @7\nat 5 by 1 3\nat 5 of 12 reverse\n";
-    assert!(rt; !out.has_failed());
-    assert_eq!(rt; out.into_inner().as_slice(), text.as_slice());
-    Ok(())
-}
-
 /// How long a reply's text is, and in how many writes it goes out.
 fn length_and_writes(rt: &HostRuntime, reply: &Reply) -> Result<(usize, usize), Fail> {
     let mut out = Sink::new(Counted {
         held: Vec::new(rt.alloc()),
         calls: 0,
     });
-    if out.print(reply).is_err() {
+    if reply.print(&mut out).is_err() {
         return Err("a write failed".into());
     }
     let taken = out.into_inner();
@@ -205,24 +143,5 @@ fn a_reply_goes_out_in_writes_of_512_bytes(rt: HostRuntime) -> Result<(), Fail> 
         bytes: Some(Bytes::new(items)),
     };
     assert_eq!(rt; length_and_writes(&rt, &reply)?, (131_080, 257));
-    Ok(())
-}
-
-#[test]
-fn a_checkpoint_number_is_not_given_again(rt: HostRuntime) -> Result<(), Fail> {
-    let mut checkpoints = Checkpoints::new();
-    let first = Checkpoint { number: 1, item: 5 };
-    assert_eq!(rt; checkpoints.make(5), Ok(first));
-    assert_eq!(rt; checkpoints.delete(1), Ok(()));
-    assert_eq!(rt;
-        checkpoints.delete(1),
-        Err(CheckpointFault::NoSuchCheckpoint)
-    );
-    assert_eq!(rt; checkpoints.position_of(1), None);
-    for number in 2..=65 {
-        assert_eq!(rt; checkpoints.make(7), Ok(Checkpoint { number, item: 7 }));
-    }
-    assert_eq!(rt; checkpoints.make(7), Err(CheckpointFault::CheckpointsFull));
-    assert_eq!(rt; checkpoints.as_slice().len(), 64);
     Ok(())
 }

@@ -4,6 +4,8 @@
 #[cfg(test)]
 mod command;
 #[cfg(test)]
+mod debugging;
+#[cfg(test)]
 mod journal;
 #[cfg(test)]
 mod searching;

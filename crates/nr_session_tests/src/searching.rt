@@ -4,9 +4,10 @@ use arrayvec::ArrayVec;
 use nr_machine::World;
 use nr_marks::{Break, Marks};
 use nr_replay_tests::{OPEN, add_ticks, film_of};
-use nr_rev::{Cell, Kind, Mode, Side, Step};
+use nr_rev::{Cell, Step};
 use nr_search::{
-    Claims, Direction, Finder, Found, Gate, Hit, ManyWorkers, OneWorker, Open, nearest_hit,
+    Claims, Direction, Finder, Found, Gate, Hit, ManyWorkers, OneWorker, Open, first_after,
+    last_before,
 };
 use nr_snaps::Film;
 use std::alloc::{AllocError, Global};
@@ -62,7 +63,11 @@ fn find<F: Finder>(
     if n > film.len() {
         return None;
     }
-    nearest_hit(finder, film, marks, direction, n).ok()
+    let found = match direction {
+        Direction::Forward => first_after(finder, film, marks, n),
+        Direction::Backward => last_before(finder, film, marks, n),
+    };
+    found.ok()
 }
 
 /// A hit of one mark.
@@ -101,20 +106,34 @@ impl Gate for Turnstile {
     }
 }
 
+/// What two workers find, one of whom is held: whether the other searched a segment meanwhile.
+fn found_while_held<R: Threads + Sync>(
+    rt: &R,
+    alloc: Global,
+    film: &Film<World>,
+    held: usize,
+) -> (Option<Found>, bool) {
+    let gate = Turnstile {
+        held,
+        other_has_left: AtomicBool::new(false),
+        gave_up: AtomicBool::new(false),
+    };
+    let many = ManyWorkers::new(rt, alloc, &gate, 2);
+    let found = find(&many, film, &marks(0), Direction::Backward, 192);
+    let at_once = gate.other_has_left.load(SeqCst) && !gate.gave_up.load(SeqCst);
+    (found, at_once)
+}
+
 #[test]
 fn two_workers_search_at_once(rt: HostRuntime) -> Result<(), Fail> {
     let film = ticking(rt.alloc()).ok_or("no film")?;
-    for held in [1, 2] {
-        let gate = Turnstile {
-            held,
-            other_has_left: AtomicBool::new(false),
-            gave_up: AtomicBool::new(false),
-        };
-        let many = ManyWorkers::new(&rt, rt.alloc(), &gate, 2);
-        let found = find(&many, &film, &marks(0), Direction::Backward, 192);
-        assert_eq!(rt; found, Some(hit(2, 1)));
-        assert!(rt; gate.other_has_left.load(SeqCst) && !gate.gave_up.load(SeqCst));
-    }
+    assert_eq!(rt;
+        [
+            found_while_held(&rt, rt.alloc(), &film, 1),
+            found_while_held(&rt, rt.alloc(), &film, 2)
+        ],
+        [(Some(hit(2, 1)), true), (Some(hit(2, 1)), true)]
+    );
     Ok(())
 }
 
@@ -139,58 +158,27 @@ fn four_hits() -> [Option<Found>; 4] {
     ]
 }
 
+/// Whether so many workers find these.
+fn is_found_by<R: Threads + Sync>(
+    rt: &R,
+    alloc: Global,
+    film: &Film<World>,
+    workers: usize,
+) -> bool {
+    let many = crew(rt, alloc, workers);
+    many.workers() == workers && four(&many, film) == four_hits()
+}
+
 #[test]
 fn any_number_of_workers_finds_the_same(rt: HostRuntime) -> Result<(), Fail> {
     let film = ticking(rt.alloc()).ok_or("no film")?;
-    assert_eq!(rt; four(&OneWorker::<&HostRuntime>::new(), &film), four_hits());
+    assert!(rt; four(&OneWorker::<&HostRuntime>::new(), &film) == four_hits());
     for workers in [1, 2, 3, 16] {
-        let many = crew(&rt, rt.alloc(), workers);
-        assert_eq!(rt; many.workers(), workers);
-        assert_eq!(rt; four(&many, &film), four_hits(), "{workers} workers");
+        assert!(rt;
+            is_found_by(&rt, rt.alloc(), &film, workers),
+            "{workers} workers"
+        );
     }
-    Ok(())
-}
-
-/// Breaks before the first step, before step 100 and before the second step.
-fn breaks() -> Marks {
-    let mut marks = Marks::new();
-    let _ = marks.add_break(Break::Kind(Kind::SockOpen));
-    let _ = marks.add_break(Break::Step(NonZeroU32::MIN.saturating_add(99)));
-    let _ = marks.add_break(Break::Kind(Kind::PollOpen));
-    marks
-}
-
-/// What breaks alone find, first backwards and then forwards.
-fn found_by_breaks<F: Finder>(finder: &F, film: &Film<World>) -> [Option<Found>; 7] {
-    let marks = breaks();
-    [
-        find(finder, film, &marks, Direction::Backward, 192),
-        find(finder, film, &marks, Direction::Backward, 99),
-        find(finder, film, &marks, Direction::Backward, 1),
-        find(finder, film, &marks, Direction::Backward, 0),
-        find(finder, film, &marks, Direction::Forward, 0),
-        find(finder, film, &marks, Direction::Forward, 1),
-        find(finder, film, &marks, Direction::Forward, 99),
-    ]
-}
-
-#[test]
-fn breaks_alone_are_found_both_ways(rt: HostRuntime) -> Result<(), Fail> {
-    let film = ticking(rt.alloc()).ok_or("no film")?;
-    let hits = [
-        Some(hit(99, 2)),
-        Some(hit(1, 3)),
-        Some(hit(0, 1)),
-        Some(Found::Nothing),
-        Some(hit(1, 3)),
-        Some(hit(99, 2)),
-        Some(Found::Nothing),
-    ];
-    assert_eq!(rt;
-        found_by_breaks(&OneWorker::<&HostRuntime>::new(), &film),
-        hits
-    );
-    assert_eq!(rt; found_by_breaks(&crew(&rt, rt.alloc(), 3), &film), hits);
     Ok(())
 }
 
@@ -218,159 +206,32 @@ impl<R: Threads + Sync> Finder for Misled<R> {
     }
 }
 
+/// Whether workers who are told this find the same.
+fn is_found_by_misled<R: Threads + Sync>(
+    rt: &R,
+    alloc: Global,
+    film: &Film<World>,
+    workers: usize,
+    (claimed, hint): (usize, usize),
+) -> bool {
+    let misled = Misled {
+        many: crew(rt, alloc, workers),
+        claimed,
+        hint,
+    };
+    four(&misled, film) == four_hits()
+}
+
 #[test]
 fn a_wrong_hint_changes_nothing(rt: HostRuntime) -> Result<(), Fail> {
     let film = ticking(rt.alloc()).ok_or("no film")?;
     for workers in [1, 2, 3, 16] {
-        for (claimed, hint) in [(0, 0), (0, 1), (0, 2), (1, 9), (2, 9), (3, 9), (1, 0)] {
-            let misled = Misled {
-                many: crew(&rt, rt.alloc(), workers),
-                claimed,
-                hint,
-            };
-            assert_eq!(rt;
-                four(&misled, &film),
-                four_hits(),
-                "told {claimed} and {hint}"
+        for told in [(0, 0), (0, 1), (0, 2), (1, 9), (2, 9), (3, 9), (1, 0)] {
+            assert!(rt;
+                is_found_by_misled(&rt, rt.alloc(), &film, workers, told),
+                "{workers} told {told:?}"
             );
         }
     }
-    Ok(())
-}
-
-/// A generator of numbers below 2^31.
-#[derive(Drop)]
-struct Numbers(u64);
-
-impl Numbers {
-    fn next(&mut self) -> u64 {
-        self.0 = self
-            .0
-            .wrapping_mul(6364136223846793005)
-            .wrapping_add(1442695040888963407);
-        self.0 >> 33
-    }
-
-    fn mode(&mut self) -> Mode {
-        match self.next() % 3 {
-            0 => Mode::Read,
-            1 => Mode::Write,
-            _ => Mode::Both,
-        }
-    }
-
-    /// A step that always applies to the open descriptor; seldom one that changes more than the clock.
-    fn step(&mut self, time: i64) -> Step {
-        match self.next() % 64 {
-            0 => Step::PollEvent {
-                descriptor: 0,
-                tag: self.next() % 2,
-                mode: self.mode(),
-                error: self.next() % 4 == 0,
-            },
-            1 => Step::PollReset {
-                goroutine: 0,
-                descriptor: 0,
-                side: Side::Read,
-            },
-            2 => Step::SetDeadline {
-                goroutine: 0,
-                descriptor: 0,
-                mode: self.mode(),
-                time: if self.next() % 2 == 0 { 1000 } else { -1 },
-            },
-            _ => Step::Tick { time: time / 8 },
-        }
-    }
-}
-
-/// The film of steps that numbers choose.
-fn chosen(alloc: Global, numbers: &mut Numbers) -> Option<Film<World>> {
-    let mut steps = opening(alloc).ok()?;
-    for time in 0..298 {
-        steps.push(numbers.step(time)).ok()?;
-    }
-    film_of(alloc, steps)
-}
-
-/// Some marks that numbers choose.
-fn chosen_marks(numbers: &mut Numbers) -> Marks {
-    let mut marks = Marks::new();
-    for cell in [
-        Cell::ReadWord(0),
-        Cell::Info(0),
-        Cell::Timers,
-        Cell::WriteDeadline(0),
-    ] {
-        if numbers.next() % 2 == 0 {
-            let _ = marks.add_watch(cell);
-        }
-    }
-    if numbers.next() % 2 == 0 {
-        let _ = marks.add_break(Break::Kind(Kind::PollEvent));
-    }
-    marks
-}
-
-#[test]
-fn several_workers_agree_with_one_at_each_position(rt: HostRuntime) -> Result<(), Fail> {
-    let one = OneWorker::<&HostRuntime>::new();
-    let mut numbers = Numbers(2026);
-    for _ in 0..3 {
-        let film = chosen(rt.alloc(), &mut numbers).ok_or("no film")?;
-        let marks = chosen_marks(&mut numbers);
-        for workers in [2, 3, 16] {
-            let many = crew(&rt, rt.alloc(), workers);
-            for n in 0..film.len() + 1 {
-                for direction in [Direction::Forward, Direction::Backward] {
-                    let found = find(&many, &film, &marks, direction, n);
-                    let alone = find(&one, &film, &marks, direction, n);
-                    assert!(rt; found.is_some() && found == alone, "{direction:?} from {n}");
-                }
-            }
-        }
-    }
-    Ok(())
-}
-
-/// What is found at last, where one request for memory is refused; and how often it was refused.
-fn find_at_last<F: Finder>(
-    finder: &F,
-    film: &Film<World>,
-    direction: Direction,
-    n: usize,
-    refusals: &mut u32,
-) -> Option<Found> {
-    for _ in 0..2 {
-        match find(finder, film, &marks(100), direction, n) {
-            Some(found) => return Some(found),
-            None => *refusals = refusals.wrapping_add(1),
-        }
-    }
-    None
-}
-
-#[test]
-fn refused_memory_once_a_search_can_be_done_again(rt: HostRuntime) -> Result<(), Fail> {
-    let mut refusals: u32 = 0;
-    for _ in 0..2 {
-        let Some(film) = ticking(rt.alloc()) else {
-            refusals = refusals.wrapping_add(1);
-            continue;
-        };
-        let many = crew(&rt, rt.alloc(), 3);
-        for (direction, n, position, mark) in [
-            (Direction::Backward, 192, 99, 2),
-            (Direction::Backward, 99, 2, 1),
-            (Direction::Forward, 2, 99, 2),
-        ] {
-            let found = find_at_last(&many, &film, direction, n, &mut refusals);
-            assert_eq!(rt; found, Some(hit(position, mark)));
-        }
-        let found = find_at_last(&many, &film, Direction::Forward, 99, &mut refusals);
-        assert_eq!(rt; found, Some(Found::Nothing));
-        break;
-    }
-    assert!(rt; refusals <= 1);
     Ok(())
 }

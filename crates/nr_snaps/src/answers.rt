@@ -5,8 +5,8 @@ ghost use Rattle.nr_snaps.specs.Answers.{answered};
 
 use crate::film::Film;
 use nr_recording::{RecordedStep, Recording, Version, step_copy};
-use nr_rev::{Answer, Step, Worlds};
-use std::alloc::{AllocError, Global};
+use nr_rev::{Answer, Memory, Step, Worlds};
+use std::alloc::Global;
 
 impl<W: Worlds + Drop> Film<W>
 where
@@ -14,19 +14,19 @@ where
 {
     /// The recording of the film's steps in version 2, each with the answer that it gives, whichever version was loaded.
     /// It takes memory for a world, for the list of the steps and for the bytes that they carry.
-    pub fn with_answers(&self, alloc: Global) -> Result<Recording, AllocError>
+    pub fn with_answers(&self) -> Result<Recording, Memory>
         ensures { IfOk result (λ recorded. recorded ≡ answered self.now.recording) }
     {
         let Ok(mut world) = self.start.try_copy() else {
-            return Err(AllocError);
+            return Err(Memory);
         };
-        let mut steps = Vec::with_capacity(alloc, self.recording.len())?;
+        let mut steps = Vec::with_capacity(self.alloc, self.recording.len())?;
         for n in 0..self.recording.len() {
             let Some(step) = self.recording.step(n) else {
                 unreachable!()
             };
             let answer = self.advance(&mut world, n);
-            steps.push_reserved(answered_step(alloc, step, answer)?);
+            steps.push_reserved(answered_step(self.alloc, step, answer)?);
         }
         let Ok(recorded) = Recording::new(Version::Two, self.recording.limits(), steps) else {
             unreachable!()
@@ -35,7 +35,7 @@ where
     }
 }
 
-fn answered_step(alloc: Global, step: &Step, answer: Answer) -> Result<RecordedStep, AllocError>
+fn answered_step(alloc: Global, step: &Step, answer: Answer) -> Result<RecordedStep, Memory>
     ensures { IfOk result (λ recorded.
         recorded ≡ record { step = step.now; answer = Some answer }) }
 {

@@ -1,28 +1,28 @@
 //! Why a recording is not loaded.
 
-ghost use Rattle.std.specs.Prelude.{◌≡◌, Some};
-ghost use Rattle.nr_snaps.specs.Fault.{load_fault_line, load_fault_text};
+ghost use Rattle.std.specs.Prelude.{◌≡◌};
+ghost use Rattle.nr_snaps.specs.Fault.{load_fault_line};
 ghost use Rattle.nr_snaps.specs.declared.fault.LoadFault.TheVariants as faults;
 
 use nr_recording::OutOfMemory;
-use nr_rev::Refusal;
+use nr_rev::{Memory, Refusal};
 use nr_text::{Buffered, Text, Token, WriteFailed, send_all};
-use std::alloc::AllocError;
-use std::error::Error;
-use std::fmt;
-use std::fmt::{Display, Formatter};
 use std::io::Write;
+use thiserror::Error;
 
 /// Why a recording is not loaded.
-#[derive(Clone, Copy, Debug, PartialEq, Eq)]
+#[derive(Clone, Copy, Debug, PartialEq, Eq, Error)]
 pub enum LoadFault {
     /// The step of this number, counted from 1, does not apply after the ones before it.
+    #[error("step {step}: fault 107 reason {}", .reason.number())]
     Refused { step: usize, reason: Refusal },
     /// The step of this number, counted from 1, applies after the ones before it, and answers otherwise than is
     /// recorded of it.
+    #[error("step {step}: fault 109 answer")]
     OtherAnswer { step: usize },
     /// No memory for the world that the steps are tried on, for a copy of it or for the list of
     /// copies.
+    #[error("fault 108 memory")]
     Memory,
 }
 
@@ -56,26 +56,10 @@ impl Text for LoadFault {
     }
 }
 
-impl Display for LoadFault {
-    ghost output = { λ fault. Some (load_fault_text fault) };
-
-    fn fmt<W: fmt::Write>(&self, f: &mut Formatter<W>) -> fmt::Result {
-        match self {
-            LoadFault::Refused { step, reason } => {
-                write!(f, "step {step}: fault 107 reason {}", reason.number())
-            }
-            LoadFault::OtherAnswer { step } => write!(f, "step {step}: fault 109 answer"),
-            LoadFault::Memory => f.write_str("fault 108 memory"),
-        }
-    }
-}
-
-impl Error for LoadFault {}
-
-impl From<AllocError> for LoadFault {
+impl From<Memory> for LoadFault {
     ghost from_gives = { λ _ fault. fault ≡ faults.Memory };
 
-    fn from(_error: AllocError) -> LoadFault {
+    fn from(_error: Memory) -> LoadFault {
         LoadFault::Memory
     }
 }

@@ -6,11 +6,13 @@ ghost use Rattle.nr_recording.specs.declared.recording.TheConstants.{MOST_STEPS}
 ghost use Rattle.nr_rev.specs.Run.{IsGood, LosesBytesAt};
 ghost use Rattle.nr_snaps.specs.Answers.{answer_at};
 ghost use Rattle.nr_snaps.specs.Film.{IsFrame};
+ghost use Rattle.nr_snaps.specs.Snap.{snap_world};
 ghost use Rattle.nr_snaps.specs.declared.film.TheConstants.{LEAST_EVERY, MOST_EVERY};
 
+use crate::snap::Snap;
 use nr_recording::Recording;
-use nr_rev::{Answer, Refusal, Step, Worlds};
-use std::alloc::AllocError;
+use nr_rev::{Answer, Memory, Refusal, Step, Worlds};
+use std::alloc::Global;
 use std::marker::Model;
 
 /// The fewest steps that may lie between two copies.
@@ -26,6 +28,7 @@ pub struct Film<W: Worlds + Drop>
 where
     W::Snapshot: Drop,
 {
+    pub(crate) alloc: Global,
     pub(crate) recording: Recording,
     pub(crate) every: usize,
     // the world at position 0
@@ -85,29 +88,33 @@ where
         &self.start
     }
 
-    /// The world at the copy at position n, or at the nearest one below it, in room of its own.
-    pub fn world_below(&self, n: usize) -> Result<W, AllocError>
+    /// The copy at position n, or the nearest one below it. It takes no memory.
+    pub fn snap_below(&self, n: usize) -> Snap<'_, W, W::Snapshot>
+        requires { n ≤ length self.now.recording.steps }
+        ensures { IsFrame W.is_well_formed W.world W.steps self.now
+            (n / self.now.every * self.now.every) (snap_world W.kept result) }
+    {
+        let copy = n / self.every;
+        if copy == 0 {
+            Snap::Start(&self.start)
+        } else {
+            Snap::AtRest(&self.later[copy - 1])
+        }
+    }
+
+    /// The world of the copy at position n, or of the nearest one below it, in room of its own.
+    pub fn world_below(&self, n: usize) -> Result<W, Memory>
         requires { n ≤ length self.now.recording.steps }
         ensures { IfOk result (λ world. IsFrame W.is_well_formed W.world W.steps self.now
             (n / self.now.every * self.now.every) world) }
     {
-        let copy = n / self.every;
-        if copy == 0 {
-            let Ok(world) = self.start.try_copy() else {
-                return Err(AllocError);
-            };
-            return Ok(world);
-        }
-        let Ok(world) = W::restored(&self.later[copy - 1]) else {
-            return Err(AllocError);
-        };
-        Ok(world)
+        self.snap_below(n).to_world()
     }
 
     /// Leads a world from position n to the next one, and returns the way back. Only a step that
     /// takes bytes out of a buffer can run out of memory; then the world stays.
     #[inline(always)]
-    pub fn apply(&self, world: &mut W, n: usize) -> Result<W::Delta, AllocError>
+    pub fn apply(&self, world: &mut W, n: usize) -> Result<W::Delta, Memory>
         requires frame { IsFrame W.is_well_formed W.world W.steps self.now n world.old }
         requires below { n < length self.now.recording.steps }
         ensures frame { OnOk result (IsFrame W.is_well_formed W.world W.steps self.now (n + 1) world.new) }
@@ -120,7 +127,7 @@ where
         };
         match world.apply(step) {
             Ok((_, delta)) => Ok(delta),
-            Err(Refusal::Memory) => Err(AllocError),
+            Err(Refusal::Memory) => Err(Memory),
             Err(_) => unreachable!(),
         }
     }

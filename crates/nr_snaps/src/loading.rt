@@ -48,6 +48,7 @@ impl Snaps {
         };
         let later = replay(alloc, &start, &recording, every)?;
         Ok(Film {
+            alloc,
             recording,
             every,
             start,

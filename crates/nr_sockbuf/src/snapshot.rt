@@ -4,7 +4,8 @@ ghost use Rattle.std.specs.Prelude.{◌≡◌, IfOk};
 
 use crate::pipe::PipeSnapshot;
 use crate::sock::Sock;
-use std::alloc::{AllocError, Global};
+use nr_rev::Memory;
+use std::alloc::Global;
 use std::marker::Model;
 
 /// The buffers of a socket at rest, seen in contracts as the buffers are: the marks, and the bytes in just the room that
@@ -32,7 +33,7 @@ impl Model for SockSnapshot {
 
 impl Sock {
     /// The buffers at rest. They take memory for their bytes alone.
-    pub fn snapshot(&self) -> Result<SockSnapshot, AllocError>
+    pub fn snapshot(&self) -> Result<SockSnapshot, Memory>
         ensures { IfOk result (λ s. s ≡ self.now) }
     {
         let input = self.input.snapshot(self.alloc)?;
@@ -50,7 +51,7 @@ impl Sock {
 
 impl SockSnapshot {
     /// The buffers, with room for the limit each.
-    pub fn restored(&self, alloc: Global) -> Result<Sock, AllocError>
+    pub fn restored(&self, alloc: Global) -> Result<Sock, Memory>
         ensures { IfOk result (λ s. s ≡ self.now) }
     {
         let input = self.input.restored(alloc)?;

@@ -1,7 +1,7 @@
 -- Readers and writers that remember whether they failed.
 use Rattle.std.specs.Prelude.{◌≡◌, ℕ, ◌-◌, ◌^◌, ◌<◌, min, Bool, true, List, length, take, Option, Result, Ok, Err}
 use Rattle.std.specs.Io.KnownBytes.{Appends}
-use Rattle.nr_text.specs.declared.sink.CutShort.{CutShort}
+use Rattle.nr_text.specs.declared.sink.Part.{Part}
 
 -- what is seen of a source: the bytes that it has left, where they are known, and whether a read
 -- failed
@@ -32,6 +32,6 @@ pub record WritesPrefix (old new : Outgoing) (text : List ℕ) (count : ℕ) : T
   pub failed : new.failed ≡ true
 
 -- The whole text was written; or a write failed, and how much is out is reported.
-abbrev pub Prints : Outgoing → Outgoing → List ℕ → Result (Unit {0}) CutShort → Type 0
+abbrev pub Prints : Outgoing → Outgoing → List ℕ → Result (Unit {0}) Part → Type 0
 Prints old new text (Ok _) = WritesAll old new text
-Prints old new text (Err cut) = WritesPrefix old new text cut.0
+Prints old new text (Err part) = WritesPrefix old new text part.0

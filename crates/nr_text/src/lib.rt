@@ -9,7 +9,7 @@ mod text;
 mod token;
 
 pub use buffered::{Buffered, WriteFailed};
-pub use sink::{CutShort, Sink};
+pub use sink::{Part, Sink};
 pub use source::{ReadFailed, Source};
 pub use text::{Parts, Text, send_all};
 pub use token::Token;

@@ -28,9 +28,10 @@ impl<W: Write> Model for Sink<W> {
     ghost invariant = { λ s. s.writer.held ≡ [] };
 }
 
-/// A write failed, or took nothing, when exactly so many bytes of the text were out. The count stays at `u64::MAX`.
+/// A part of a text: a write failed, or took nothing, when exactly its first so many bytes were out. The count stays at
+/// `u64::MAX`.
 #[derive(Clone, Copy, Debug, PartialEq, Eq)]
-pub struct CutShort(pub u64);
+pub struct Part(pub u64);
 
 impl<W: Write> Sink<W> {
     /// The writer, of which no write has failed.
@@ -58,16 +59,16 @@ impl<W: Write> Sink<W> {
         self.failed
     }
 
-    /// Writes a text whole. Where a write fails or takes nothing, `CutShort` says how many bytes of the text are out, and no
+    /// Writes a text whole. Where a write fails or takes nothing, `Part` says how many bytes of the text are out, and no
     /// more are written. A write that is interrupted is tried again. It takes no memory.
-    pub fn print<T: Text>(&mut self, text: &T) -> Result<(), CutShort>
+    pub fn print<T: Text>(&mut self, text: &T) -> Result<(), Part>
         ensures { Prints self.old self.new (T.text text.now) result }
     {
         match self.writer.print(text) {
             Ok(()) => Ok(()),
             Err(WriteFailed) => {
                 self.failed = true;
-                Err(CutShort(self.writer.out()))
+                Err(Part(self.writer.out()))
             }
         }
     }

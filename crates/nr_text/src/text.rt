@@ -18,15 +18,16 @@ pub trait Text {
         ensures { Writes w.old w.new (text self.now) result };
 }
 
-/// A byte is two hexadecimal digits.
+/// A byte is two hexadecimal digits, in lower case.
 impl Text for u8 {
     ghost text = { hex_pair };
 
     fn send<W: Write>(&self, w: &mut Buffered<W>) -> Result<(), WriteFailed> {
-        let digits = b"0123456789abcdef";
-        let high = digits[usize::from(*self / 16)];
-        let low = digits[usize::from(*self % 16)];
-        w.send(&[high, low])
+        let mut digits = [0u8; 2];
+        let Ok(()) = hex::encode_to_slice(&[*self], &mut digits) else {
+            unreachable!()
+        };
+        w.send(&digits)
     }
 }
 

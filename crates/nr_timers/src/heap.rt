@@ -6,8 +6,8 @@ ghost use Rattle.nr_timers.specs.Index.{key, Absent, Keyed};
 ghost use Rattle.nr_timers.specs.Order.{at, is_less};
 
 use crate::entries::{is_less, key};
-use nr_rev::Entry;
-use std::alloc::{AllocError, Global};
+use nr_rev::{Entry, Memory};
+use std::alloc::Global;
 use std::marker::Model;
 
 /// A heap with four children a place, for keys below a limit, all room of which is made at once.
@@ -45,7 +45,7 @@ impl Model for Heap {
 
 impl Heap {
     /// No entry, and room for one of each key.
-    pub(crate) fn with_limit(alloc: Global, limit: usize) -> Result<Heap, AllocError>
+    pub(crate) fn with_limit(alloc: Global, limit: usize) -> Result<Heap, Memory>
         requires { limit < 2 ^ 32 }
         ensures { IfOk result (λ heap. heap ≡ record { entries = []; limit = limit }) }
     {
@@ -55,7 +55,7 @@ impl Heap {
     }
 
     /// An equal one, each entry at its place, in room of its own.
-    pub(crate) fn try_copy(&self, alloc: Global) -> Result<Heap, AllocError>
+    pub(crate) fn try_copy(&self, alloc: Global) -> Result<Heap, Memory>
         ensures { IfOk result (λ heap. heap ≡ self.now) }
     {
         let limit = self.index.len();
@@ -159,7 +159,7 @@ impl Heap {
 }
 
 /// A copy of the items, with room for so many.
-fn copy_of<T: Copy>(alloc: Global, items: &[T], room: usize) -> Result<Vec<T>, AllocError>
+fn copy_of<T: Copy>(alloc: Global, items: &[T], room: usize) -> Result<Vec<T>, Memory>
     requires { length items.now ≤ room }
     ensures items { IfOk result (λ copy. copy.items ≡ items.now) }
     ensures room { IfOk result (λ copy. room ≤ vec_capacity copy) }

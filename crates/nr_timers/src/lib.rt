@@ -11,8 +11,6 @@ pub mod laws;
 mod op;
 mod performing;
 mod sifting;
-#[cfg(test)]
-mod tests;
 mod timers;
 mod undoing;
 

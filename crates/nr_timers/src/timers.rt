@@ -1,7 +1,7 @@
 //! Timers that are armed, and the firings that wait to be run.
 
 ghost use Rattle.std.specs.Prelude.{◌≡◌, ◌≢◌, ℕ, ◌^◌, ◌<◌, [], List, length, slice_get, IfOk, IfErr, MatchOption};
-ghost use Rattle.nr_rev.specs.declared.refusal.Refusal.TheVariants.{Memory};
+ghost use Rattle.nr_rev.specs.declared.refusal.Refusal.TheVariants as refusals;
 ghost use Rattle.nr_rev.specs.declared.sides.Sides.{Sides};
 ghost use Rattle.nr_rev.specs.declared.timer.Timer.{Timer};
 ghost use Rattle.nr_timers.specs.Index.{Absent, key, key_of};
@@ -10,8 +10,8 @@ ghost use Rattle.nr_timers.specs.State.{IsTimers};
 
 use crate::entries::key_of;
 use crate::heap::Heap;
-use nr_rev::{Entry, Refusal, RoomedList, Side};
-use std::alloc::{AllocError, Global};
+use nr_rev::{Entry, Memory, Refusal, RoomedList, Side};
+use std::alloc::Global;
 use std::marker::Model;
 
 /// Timers that are armed for the sides of descriptors below a limit, and the firings that wait to be run. All room is made
@@ -21,6 +21,7 @@ use std::marker::Model;
 /// are due, and of those due at once by arming number.
 #[derive(Drop)]
 pub struct Timers {
+    pub(crate) alloc: Global,
     pub(crate) heap: Heap,
     pub(crate) firings: RoomedList<Entry>,
     pub(crate) next: u64,
@@ -56,12 +57,12 @@ impl Timers {
           next = 1;
           descriptors = descriptors;
         }) }
-        ensures err { IfErr result (λ e. e ≡ Memory) }
+        ensures err { IfErr result (λ e. e ≡ refusals.Memory) }
     {
         Timers::with_room(alloc, descriptors).map_err(|_| Refusal::Memory)
     }
 
-    fn with_room(alloc: Global, descriptors: u32) -> Result<Timers, AllocError>
+    fn with_room(alloc: Global, descriptors: u32) -> Result<Timers, Memory>
         requires { descriptors < 2 ^ 31 }
         ensures { IfOk result (λ t. t ≡ record {
           entries = [];
@@ -72,6 +73,7 @@ impl Timers {
     {
         let limit = 2 * descriptors as usize;
         Ok(Timers {
+            alloc,
             heap: Heap::with_limit(alloc, limit)?,
             firings: RoomedList::with_room(alloc, limit)?,
             next: 1,
@@ -80,20 +82,21 @@ impl Timers {
     }
 
     /// An equal one, each entry at its place, in room of its own. `Refusal::Memory` where there is none for it.
-    pub fn try_copy(&self, alloc: Global) -> Result<Timers, Refusal>
+    pub fn try_copy(&self) -> Result<Timers, Refusal>
         ensures well_formed { IsTimers self.now → IfOk result IsTimers }
         ensures equal { IfOk result (λ t. t ≡ self.now) }
-        ensures err { IfErr result (λ e. e ≡ Memory) }
+        ensures err { IfErr result (λ e. e ≡ refusals.Memory) }
     {
-        self.copy(alloc).map_err(|_| Refusal::Memory)
+        self.copy().map_err(|_| Refusal::Memory)
     }
 
-    fn copy(&self, alloc: Global) -> Result<Timers, AllocError>
+    fn copy(&self) -> Result<Timers, Memory>
         ensures { IfOk result (λ t. t ≡ self.now) }
     {
         Ok(Timers {
-            heap: self.heap.try_copy(alloc)?,
-            firings: self.firings.try_copy(alloc)?,
+            alloc: self.alloc,
+            heap: self.heap.try_copy(self.alloc)?,
+            firings: self.firings.try_copy(self.alloc)?,
             next: self.next,
             descriptors: self.descriptors,
         })

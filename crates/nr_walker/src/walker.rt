@@ -9,9 +9,9 @@ ghost use Rattle.nr_walker.specs.declared.walker.TheConstants.{LEAST_DEPTH, MOST
 use crate::moved::Moved;
 use crate::route::Route;
 use circular_buffer::HeapCircularBuffer;
-use nr_rev::Worlds;
+use nr_rev::{Memory, Worlds};
 use nr_snaps::Film;
-use std::alloc::{AllocError, Global};
+use std::alloc::Global;
 use std::marker::Model;
 
 /// The fewest deltas that a walker may be made to keep.
@@ -62,14 +62,14 @@ where
 {
     /// At position 0; it will keep the deltas of the last `depth` steps. Takes memory for a
     /// copy of the world and for the room of the deltas.
-    pub fn new(alloc: Global, film: &'f Film<W>, depth: usize) -> Result<Walker<'f, W>, AllocError>
+    pub fn new(alloc: Global, film: &'f Film<W>, depth: usize) -> Result<Walker<'f, W>, Memory>
         requires least { LEAST_DEPTH ≤ depth }
         requires most { depth ≤ MOST_DEPTH }
         ensures { IfOk result (λ walker. walker
             ≡ record { film = film.now; position = 0; kept = 0; depth = depth }) }
     {
         let Ok(world) = film.start().try_copy() else {
-            return Err(AllocError);
+            return Err(Memory);
         };
         Ok(Walker {
             film,
@@ -130,7 +130,7 @@ where
     /// Going back over deltas takes no memory, and a step takes some only where bytes leave a buffer.
     /// Where such a step runs out of memory, the walker is before it, with the deltas of the steps so
     /// far. Where the copy does, it stays where it was.
-    pub fn goto(&mut self, n: usize) -> Result<Moved, AllocError>
+    pub fn goto(&mut self, n: usize) -> Result<Moved, Memory>
         requires { n ≤ length self.old.film.recording.steps }
         ensures there { OnOk result (self.new ≡ walk_by (route self.old n) self.old n) }
         ensures moved { IfOk result (λ moved. moved ≡ moved_by (route self.old n) self.old n) }
@@ -195,7 +195,7 @@ where
     }
 
     // Forward to position n. Out of memory, it is before a step that takes some.
-    fn forward_to(&mut self, n: usize) -> Result<(), AllocError>
+    fn forward_to(&mut self, n: usize) -> Result<(), Memory>
         requires from { self.old.position ≤ n }
         requires within { n ≤ length self.old.film.recording.steps }
         requires kept { self.old.kept ≤ self.old.depth }
@@ -210,7 +210,7 @@ where
 
     // A copy of the film's copy at or below n replaces the world. Out of memory, nothing has
     // changed.
-    fn to_copy_below(&mut self, n: usize) -> Result<(), AllocError>
+    fn to_copy_below(&mut self, n: usize) -> Result<(), Memory>
         requires { n ≤ length self.old.film.recording.steps }
         ensures ok { OnOk result (self.new ≡ at_copy self.old n) }
         ensures err { OnErr result (self.new ≡ self.old) }
@@ -225,7 +225,7 @@ where
 
     // One step forward; where the ring is full, the oldest delta is dropped. Out of memory, it stays.
     #[inline(always)]
-    fn forward(&mut self) -> Result<(), AllocError>
+    fn forward(&mut self) -> Result<(), Memory>
         requires within { self.old.position < length self.old.film.recording.steps }
         requires fits { self.old.position < usize.MAX }
         ensures ok { OnOk result (self.new ≡ forwards self.old (self.old.position + 1)) }

@@ -1,6 +1,4 @@
-// Programs that hang or come too late, each for a reason of its own, to be recorded with the patched Go.
-//
-//	GOROOT=COPY go run samples/main.go NAME 2> log.txt
+// Programs that hang or come too late, each for a reason of its own:  netrev-go run main.go NAME
 package main
 
 import (
@@ -144,11 +142,9 @@ func main() {
 		println("one of: past lost leak late writers busy half")
 		os.Exit(2)
 	}
-	runtime.NetrevStart()
 	end, other := pair()
 	programs[os.Args[1]](end, other)
 	time.Sleep(4 * moment)
-	runtime.NetrevDump()
 	runtime.KeepAlive(end)
 	runtime.KeepAlive(other)
 	os.Exit(0)

@@ -23,8 +23,8 @@ loop-next-preserved c =
     let q : List ℕ = queue_at c.args.socket c.args.side c.self.inside.core.goroutines in
     let walked = c.loop-next.invariant in
     let r = c.in_ok-push.ensures in
-    walk_more q c.loop-next.items.items c.push.new.self.items c.loop-next.next c.next_in_queue-next.result c.in-Some.goroutine walked c.in-Some.is r.items
-    (c.next_in_queue-next.ensures
+    walk_more q c.loop-next.items.items c.push.new.self.items c.loop-next.next c.next_of-next.result c.in-Some.goroutine walked c.in-Some.is r.items
+    (c.next_of-next.ensures
     ∙ next_at c.self.inside.core.goroutines c.queues_hold_the_queued.ensures c.args.socket c.args.side (length c.loop-next.items.items) c.in-Some.goroutine (sym walked.1 ∙ c.in-Some.is))
 
 pub returns-in_err-push-clause-some : goal.returns-in_err-push-clause-some

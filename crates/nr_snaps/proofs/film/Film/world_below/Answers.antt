@@ -1,26 +1,15 @@
-use Rattle.std.proofs.Common.{◌≡◌, ◌+◌, ◌-◌, ◌*◌, ◌/◌, ◌<◌, ◌≤◌, length, refl, sym, subst, arith}
-use Rattle.std.proofs.lemmas.Option.{slice_get_read}
-use Rattle.nr_recording.specs.Recording.{run_of}
-use Rattle.nr_snaps.specs.Film.{IsFrame, Reel}
-use Rattle.nr_snaps.proofs.Copies.{div-mono}
+use Rattle.std.proofs.Common.{◌≡◌, ◌*◌, ◌/◌, Result, Ok, Err, sym, subst}
+use Rattle.std.specs.Prelude.{IfOk}
+use Rattle.nr_snaps.specs.Film.{IsFrame}
+use Rattle.nr_snaps.specs.Snap.{snap_world}
 use Rattle.nr_snaps.proofs.film.Film.world_below.Goals as goal
 
--- the copy that is read is the one of its position
+-- the world is the one that the copy keeps
+made : {W E : Type 0} (Holds : W → Type 0) (kept : W) (r : Result W E) → Holds kept → IfOk r (λ world. world ≡ kept) → IfOk r Holds
+made Holds kept (Ok world) holds is = subst Holds (sym is) holds
+made Holds kept (Err e) holds is = tt
+
 pub returns : goal.returns
 returns g c =
-    let inside = c.self.inside in
-    let has = c.self.invariant in
-    let film : Reel g.row.W.Denot = record { recording = run_of inside.recording; every = inside.every; origin = inside.start } in
-    let least = has.least in
-    let k = c.args.n / inside.every in
-    let below = subst (λ v. c.args.n ≤ length v.recording.steps) (sym c.self.view_is) c.requires in
-    let positive : 0 < inside.every = omega (arith, least) in
-    let most : k ≤ length (run_of inside.recording).steps / inside.every = div-mono c.args.n (length (run_of inside.recording).steps) inside.every positive below in
-    let some = c.if-copy-eq0.false in
-    let count = has.copies.count in
-    let there : k - 1 < length inside.later.items = omega (arith, most, some, count) in
-    let place : k - 1 + 1 ≡ k = omega (arith, some) in
-    let copy = has.copies.each (k - 1) c.index.result.now (slice_get_read inside.later.items (length inside.later.items) (k - 1) c.index.result.now refl there c.index.ensures) in
-    let keeps = subst (λ j. IsFrame g.W.Reversible.is_well_formed g.W.Worlds.world g.W.Reversible.steps film (j * inside.every) (g.W.Worlds.kept c.index.result.now)) place copy in
-    let made = subst (λ w. IsFrame g.W.Reversible.is_well_formed g.W.Worlds.world g.W.Reversible.steps film (k * inside.every) w) (sym c.in-Ok-restored.ensures.ok) keeps in
-    subst (λ v. IsFrame g.W.Reversible.is_well_formed g.W.Worlds.world g.W.Reversible.steps v (c.args.n / v.every * v.every) c.in-Ok-restored.world) c.self.view_is made
+    made (λ world. IsFrame g.W.Reversible.is_well_formed g.W.Worlds.world g.W.Reversible.steps c.args.self.now (c.args.n / c.args.self.now.every * c.args.self.now.every) world)
+    (snap_world g.W.Worlds.kept c.snap_below.result) c.to_world.result c.snap_below.ensures c.to_world.ensures

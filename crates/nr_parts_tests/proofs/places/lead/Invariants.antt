@@ -1,5 +1,0 @@
-use Rattle.nr_machine.specs.Fits.{IsWorld}
-use Rattle.nr_parts_tests.proofs.places.lead.Given as goal
-
-abbrev pub invariant-loop-step : goal.invariant-loop-step
-invariant-loop-step l = IsWorld l.world

@@ -1,0 +1,149 @@
+//! Streams that give or take a byte a call, and stop.
+use crate::playing::{record, run_on};
+use crate::texts::{LOCKS, REPLIES, SCRIPT};
+use nr_machine::World;
+use nr_programs::{ExitStatus, check_bytes};
+use nr_replay_tests::{AtBrim, Cup, Drip, HEADER};
+use nr_text::Sink;
+use std::alloc::{AllocError, Global};
+use std::sync::Wait;
+use std::test::*;
+use std::thread::Threads;
+
+/// More bytes than the script or its replies have.
+const ALL: usize = 1_000;
+
+/// How far the script can be read and its replies be written, and what comes of it.
+#[derive(Clone, Copy)]
+struct Cut<'a> {
+    left: usize,
+    room: usize,
+    status: ExitStatus,
+    text: &'a [u8],
+    read_failed: bool,
+    write_failed: bool,
+}
+
+/// A read that fails behind so many bytes.
+fn starved(left: usize, replies: &str) -> Cut<'_> {
+    Cut {
+        left,
+        room: ALL,
+        status: ExitStatus::StreamFailed,
+        text: replies.as_bytes(),
+        read_failed: true,
+        write_failed: false,
+    }
+}
+
+/// A write that fails behind so many bytes of a text.
+fn filled(room: usize, text: &str) -> Cut<'_> {
+    Cut {
+        left: ALL,
+        room,
+        status: ExitStatus::StreamFailed,
+        text: text.as_bytes().get(..room).unwrap_or(&[]),
+        read_failed: false,
+        write_failed: true,
+    }
+}
+
+/// Whether that comes of the script on a recording.
+fn is_so<R: Wait + Threads + Sync>(rt: &R, alloc: Global, recording: &str, cut: &Cut<'_>) -> bool {
+    let reader = Drip {
+        bytes: SCRIPT.as_bytes(),
+        left: cut.left,
+    };
+    let writer = Cup {
+        held: Vec::new(alloc),
+        room: cut.room,
+        then: AtBrim::Fails,
+    };
+    let ended = run_on(rt, alloc, recording, reader, writer);
+    ended.status == cut.status
+        && ended.writer.held.as_slice() == cut.text
+        && ended.read_failed == cut.read_failed
+        && ended.write_failed == cut.write_failed
+}
+
+#[test]
+fn one_byte_a_call_makes_no_difference(rt: HostRuntime) -> Result<(), AllocError> {
+    let recording = record(rt.alloc(), HEADER, LOCKS)?;
+    let cut = Cut {
+        left: SCRIPT.len() + 1,
+        room: REPLIES.len(),
+        status: ExitStatus::Done,
+        text: REPLIES.as_bytes(),
+        read_failed: false,
+        write_failed: false,
+    };
+    assert!(rt; is_so(&rt, rt.alloc(), recording.as_str(), &cut));
+    Ok(())
+}
+
+#[test]
+fn a_failed_read_leaves_whole_replies(rt: HostRuntime) -> Result<(), AllocError> {
+    let recording = record(rt.alloc(), HEADER, LOCKS)?;
+    for (left, replies) in [
+        (0, ""),
+        (7, ""),
+        (8, "at 6\n"),
+        (21, "at 6\nlock 0 = 8388626\n"),
+    ] {
+        let cut = starved(left, replies);
+        assert!(rt;
+            is_so(&rt, rt.alloc(), recording.as_str(), &cut),
+            "behind {left}"
+        );
+    }
+    Ok(())
+}
+
+#[test]
+fn a_failed_write_leaves_the_first_bytes(rt: HostRuntime) -> Result<(), AllocError> {
+    let recording = record(rt.alloc(), HEADER, LOCKS)?;
+    for (recording, text) in [
+        (recording.as_str(), REPLIES),
+        ("", "line 1: fault 101 header\n"),
+    ] {
+        for room in 0..text.len() {
+            let cut = filled(room, text);
+            assert!(rt;
+                is_so(&rt, rt.alloc(), recording, &cut),
+                "behind {room} of {text}"
+            );
+        }
+    }
+    Ok(())
+}
+
+/// Whether a check on a writer that fails behind so many bytes leaves just those.
+fn is_cut(alloc: Global, recording: &str, room: usize, text: &str) -> bool {
+    let mut output = Sink::new(Cup {
+        held: Vec::new(alloc),
+        room,
+        then: AtBrim::Fails,
+    });
+    let status = check_bytes::<World, _>(alloc, recording.as_bytes(), &mut output);
+    let has_failed = output.has_failed();
+    status == ExitStatus::StreamFailed
+        && has_failed
+        && Some(output.into_inner().held.as_slice()) == text.as_bytes().get(..room)
+}
+
+#[test]
+fn a_failed_write_leaves_the_first_bytes_of_a_check(rt: HostRuntime) -> Result<(), AllocError> {
+    let recording = record(rt.alloc(), HEADER, LOCKS)?;
+    for (recording, text) in [
+        (recording.as_str(), "ok 10 steps\n"),
+        ("", "line 1: fault 101 header\n"),
+    ] {
+        for room in 0..text.len() {
+            assert!(rt;
+                is_cut(rt.alloc(), recording, room, text),
+                "behind {room} of {text}"
+            );
+        }
+    }
+    Ok(())
+}

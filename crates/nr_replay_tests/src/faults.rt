@@ -1,0 +1,97 @@
+//! What faults are printed as: the line, whose text is proved, and the message, which is derived.
+
+use nr_recording::{Fault, ReadFault};
+use nr_rev::Refusal;
+use nr_snaps::LoadFault;
+use nr_text::{Sink, Text};
+use std::alloc::Global;
+use std::fmt::Display;
+use std::test::Fail;
+
+/// The faults of a line.
+const FAULTS: [Fault; 6] = [
+    Fault::Header,
+    Fault::NotJson,
+    Fault::UnknownStep,
+    Fault::Arguments,
+    Fault::Limit,
+    Fault::TooManySteps,
+];
+
+/// The reasons, by their numbers.
+const REASONS: [Refusal; 22] = [
+    Refusal::Memory,
+    Refusal::NoSuchGoroutine,
+    Refusal::NotThere,
+    Refusal::TableFull,
+    Refusal::NoSuchSocket,
+    Refusal::NoSuchDescriptor,
+    Refusal::FieldOverflow,
+    Refusal::InconsistentLock,
+    Refusal::DoubleWait,
+    Refusal::CloseWithoutUnblock,
+    Refusal::AlreadyClosing,
+    Refusal::WaiterInside,
+    Refusal::ClockGoesBack,
+    Refusal::NoTimerDue,
+    Refusal::FiringsFull,
+    Refusal::NoSuchFiring,
+    Refusal::NoRoom,
+    Refusal::TooFewBytes,
+    Refusal::LastNumber,
+    Refusal::SizeOutOfRange,
+    Refusal::PeerClosed,
+    Refusal::CorruptedDescriptor,
+];
+
+/// Whether a fault's line is its message with a line feed behind it.
+fn has_one_text<T: Text + Display + Drop>(alloc: Global, fault: &T) -> Option<bool> {
+    let mut out = Sink::new(Vec::new(alloc));
+    let is_out = out.print(fault).is_ok();
+    let message = fault.to_string(alloc).ok()?;
+    let line = out.into_inner();
+    let (last, text) = line.as_slice().split_last()?;
+    Some(is_out && *last == b'\n' && text == message.as_bytes())
+}
+
+#[test]
+fn the_message_of_a_text_that_is_not_read_is_its_line(rt: HostRuntime) -> Result<(), Fail> {
+    for fault in FAULTS {
+        for line in [1, usize::MAX] {
+            let fault = ReadFault::Line { line, fault };
+            assert_eq!(rt; has_one_text(rt.alloc(), &fault), Some(true), "{fault:?}");
+        }
+    }
+    assert_eq!(rt; has_one_text(rt.alloc(), &ReadFault::Memory), Some(true));
+    let last = ReadFault::Line {
+        line: usize::MAX,
+        fault: Fault::TooManySteps,
+    };
+    assert_eq!(rt;
+        last.to_string(rt.alloc())?.as_str(),
+        "line 18446744073709551615: fault 106 too many steps"
+    );
+    Ok(())
+}
+
+#[test]
+fn the_message_of_a_recording_that_is_not_loaded_is_its_line(rt: HostRuntime) -> Result<(), Fail> {
+    for step in [1, usize::MAX] {
+        for reason in REASONS {
+            let fault = LoadFault::Refused { step, reason };
+            assert_eq!(rt; has_one_text(rt.alloc(), &fault), Some(true), "{fault:?}");
+        }
+        let fault = LoadFault::OtherAnswer { step };
+        assert_eq!(rt; has_one_text(rt.alloc(), &fault), Some(true), "{fault:?}");
+    }
+    assert_eq!(rt; has_one_text(rt.alloc(), &LoadFault::Memory), Some(true));
+    let last = LoadFault::Refused {
+        step: usize::MAX,
+        reason: Refusal::CorruptedDescriptor,
+    };
+    assert_eq!(rt;
+        last.to_string(rt.alloc())?.as_str(),
+        "step 18446744073709551615: fault 107 reason 21"
+    );
+    Ok(())
+}

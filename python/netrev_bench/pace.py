@@ -1,0 +1,73 @@
+"""Measures how fast the machine itself is, without commands:  python3 python netrev_bench.pace [STEPS]
+
+Prints for each shape of recording, of 1,000,000 steps or so many, how many thousand steps a second each representation of a
+world replays, applies with a way back, undoes, and searches in vain for a watch: the lists of `nr_plain`, the packed world
+of `nr_machine`, and the same machine in plain Rust without proofs (`baseline`). Each is the best of three runs. Behind
+them stand the packed world's figures as multiples of the others'.
+
+NETREV_PACE names the program of `bench/pace/crate` in place of out/nr_pace, NETREV_BASELINE that of `bench/baseline`, which
+is built where it isn't given. Where it can't be built, its columns are empty. SHAPES has the shapes. There are no limits.
+"""
+
+import os
+import subprocess
+import sys
+import tempfile
+from pathlib import Path
+
+from .programs import ROOT, built_baseline, write_recording
+
+PACE = Path(os.environ.get("NETREV_PACE", ROOT / "out/nr_pace"))
+SHAPES = os.environ.get("SHAPES", "locks queues bytes waits timers armed mix").split()
+STEPS = 1_000_000
+MEASURES = ("advance", "apply", "undo", "search")
+
+
+def figures(program, recording):
+    """What a program prints: the figures of each name, as `World advance 1 apply 2 undo 3 search 4`."""
+    found = {}
+    printed = subprocess.run([program, recording], stdout=subprocess.PIPE, check=True, text=True).stdout
+    for line in printed.splitlines():
+        name, *words = line.split()
+        if tuple(words[::2]) != MEASURES:
+            raise ValueError(f"{program}: {line}")
+        found[name] = [int(word) for word in words[1::2]]
+    return found
+
+
+def times(figure, other):
+    return f"{figure / other:.2f}" if other else ""
+
+
+def row(shape, plain, packed, baseline):
+    cells = [shape]
+    for figures_of_one in (plain, packed, baseline):
+        cells += [f"{figure:,}" for figure in figures_of_one] or [""] * len(MEASURES)
+    cells += [times(figure, other) for figure, other in zip(packed, plain)]
+    cells += [times(figure, other) for figure, other in zip(packed, baseline)] or [""] * len(MEASURES)
+    return "| " + " | ".join(cells) + " |"
+
+
+def head():
+    groups = ("lists:", "packed:", "baseline:", "packed/lists:", "packed/baseline:")
+    names = [f"{group} {name}" if name == MEASURES[0] else name for group in groups for name in MEASURES]
+    return f"| k steps/s | {' | '.join(names)} |\n|---|{'--:|' * len(names)}"
+
+
+def main(steps):
+    baseline = built_baseline()
+    with tempfile.TemporaryDirectory() as folder:
+        recording = Path(folder) / "recording.jsonl"
+        print(head())
+        for shape in SHAPES:
+            write_recording(shape, steps, recording)
+            worlds = figures(PACE, recording)
+            plain_rust = figures(baseline, recording)["baseline"] if baseline else []
+            print(row(shape, worlds["PlainWorld"], worlds["World"], plain_rust), flush=True)
+
+
+if __name__ == "__main__":
+    try:
+        main(int(sys.argv[1]) if sys.argv[1:] else STEPS)
+    except (OSError, ValueError, subprocess.CalledProcessError) as error:
+        sys.exit(f"pace.py: {error}")

@@ -1,0 +1,35 @@
+"""What the benchmarks run: netrev, the same machine in plain Rust without proofs (`baseline`), and recordings of many shapes.
+
+NETREV names the program, NETREV_BASELINE that of `bench/baseline`, which is built where it isn't given.
+"""
+
+import os
+import subprocess
+import sys
+from pathlib import Path
+from typing import Optional
+
+ROOT = Path(__file__).resolve().parents[2]
+NETREV = os.environ.get("NETREV", str(ROOT / "crates/netrev/out/netrev"))
+BASELINE = os.environ.get("NETREV_BASELINE")
+
+
+def built_baseline() -> Optional[str]:
+    """The baseline's program; None where it can't be built."""
+    if BASELINE:
+        return BASELINE
+    target = ROOT / "out/baseline"
+    words = ["cargo", "build", "--quiet", "--release", "--offline", "--target-dir", str(target)]
+    try:
+        subprocess.run(words, cwd=ROOT / "bench/baseline", check=True)
+    except (OSError, subprocess.CalledProcessError) as error:
+        print(f"{Path(sys.argv[0]).name}: no baseline: {error}", file=sys.stderr)
+        return None
+    return str(target / "release/netrev-baseline")
+
+
+def write_recording(shape: str, steps: int, file: Path) -> None:
+    """Makes a recording of a shape with so many steps."""
+    words = ["awk", "-v", f"shape={shape}", "-v", f"n={steps}", "-f", str(ROOT / "bench/shapes.awk")]
+    with open(file, "wb") as out:
+        subprocess.run(words, stdout=out, check=True)

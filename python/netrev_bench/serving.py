@@ -1,0 +1,143 @@
+"""Measures how fast a session is shared:  python3 python netrev_bench.serving
+
+Prints commands and looks a second through one front, over a pipe (`netrev run`) and over the loopback, with all lines sent
+at once; commands a second in all through several fronts that place 1,000 each at the same time, each by a connection over
+the loopback, and how long the slowest front then takes until a look shows them all; and round trips a second of one
+caller who waits for each reply. Each is the best of three. There are no limits; a reply that isn't right ends it.
+"""
+
+import subprocess
+import sys
+import tempfile
+import threading
+import time
+from pathlib import Path
+
+from tests.program.sharing import NETREV, ROOT, Server, Wrong, expect
+
+STEPS = 100_000
+MANY = 50_000
+EACH = 1_000
+RUNS = 3
+
+
+def run_piped(recording, lines, replies):
+    """Seconds of `netrev run` for these lines again and again, MANY in all, loading left out."""
+    seconds = []
+    for count in (0, MANY // len(lines)):
+        asked = "".join(f"{line}\n" for line in lines) * count
+        began = time.perf_counter()
+        words = [NETREV, "run", recording]
+        ended = subprocess.run(words, input=asked.encode(), capture_output=True, timeout=60, check=True)
+        seconds.append(time.perf_counter() - began)
+        expect("the last replies", replies(count), ended.stdout.decode().splitlines()[-len(lines) :])
+    return seconds[1] - seconds[0]
+
+
+def stepped(count):
+    """The last reply to so many steps."""
+    return [f"at {count}"] if count else []
+
+
+def clocks(count):
+    """The last of so many looks at the clock."""
+    return ["clock = 0"] if count else []
+
+
+def stepped_with_clocks(count):
+    """The last replies to so many steps with a look behind each."""
+    return stepped(count) + clocks(count)
+
+
+def place(caller, count):
+    """Places so many commands, sent at once, and gives the seconds until the last reply came."""
+    lines = b"stepi\n" * count
+    sender = threading.Thread(target=caller.sendall, args=(lines,))
+    began = time.perf_counter()
+    sender.start()
+    left = count
+    while left:
+        came = caller.recv(1 << 16)
+        if not came:
+            raise Wrong("a connection ended before all was answered")
+        left -= came.count(b"\n")
+    sender.join()
+    return time.perf_counter() - began
+
+
+def look(caller):
+    """Seconds until a look is answered, and the reply."""
+    began = time.perf_counter()
+    caller.sendall(b"info position\n")
+    reply = b""
+    while not reply.endswith(b"\n"):
+        reply += caller.recv(100)
+    return time.perf_counter() - began, reply.decode()
+
+
+def share(recording, fronts, each):
+    """Seconds until that many fronts have placed their commands at the same time, and the longest until one has caught
+    up."""
+    with Server(recording, fronts, journal=1_000_000) as server:
+        callers = [server.call(front) for front in range(fronts)]
+        expect("the first replies", {f"at 0 of {STEPS} forward\n"}, {look(caller)[1] for caller in callers})
+        workers = [threading.Thread(target=place, args=(caller, each)) for caller in callers]
+        began = time.perf_counter()
+        for worker in workers:
+            worker.start()
+        for worker in workers:
+            worker.join()
+        placed = time.perf_counter() - began
+        looks = [look(caller) for caller in callers]
+        expect("where all stand", {f"at {fronts * each} of {STEPS} forward\n"}, {reply for _, reply in looks})
+        for caller in callers:
+            caller.close()
+        server.expect_end(0, f"placed {fronts * each}\n")
+    return placed, max(seconds for seconds, _ in looks)
+
+
+def wait_for_each(recording, count):
+    """Seconds of so many round trips."""
+    with Server(recording) as server:
+        caller = server.call(0)
+        began = time.perf_counter()
+        for _ in range(count):
+            look(caller)
+        seconds = time.perf_counter() - began
+        caller.close()
+        server.expect_end(0, "placed 0\n")
+    return seconds
+
+
+def main():
+    with tempfile.TemporaryDirectory() as folder:
+        recording = Path(folder) / "recording.jsonl"
+        words = ["awk", "-v", "shape=locks", "-v", f"n={STEPS}", "-f", str(ROOT / "bench/shapes.awk")]
+        with open(recording, "wb") as out:
+            subprocess.run(words, stdout=out, timeout=60, check=True)
+
+        piped = min(run_piped(recording, ["stepi"], stepped) for _ in range(RUNS))
+        looked = min(run_piped(recording, ["print clock"], clocks) for _ in range(RUNS))
+        both = min(run_piped(recording, ["stepi", "print clock"], stepped_with_clocks) for _ in range(RUNS))
+        alone, _ = min(share(recording, 1, MANY) for _ in range(RUNS))
+        trips = min(wait_for_each(recording, MANY // 5) for _ in range(RUNS))
+        print("| One front | a second |")
+        print("|---|--:|")
+        print(f"| commands over a pipe, sent at once | {MANY / piped:,.0f} |")
+        print(f"| looks over a pipe, sent at once | {MANY / looked:,.0f} |")
+        print(f"| steps and looks by turns over a pipe, sent at once | {MANY / both:,.0f} |")
+        print(f"| commands over the loopback, sent at once | {MANY / alone:,.0f} |")
+        print(f"| round trips over the loopback | {MANY // 5 / trips:,.0f} |")
+        print()
+        print(f"| Fronts, {EACH:,} commands each | commands a second in all | slowest look behind them ms |")
+        print("|--:|--:|--:|")
+        for fronts in (1, 2, 4, 8, 16, 64):
+            placed, caught_up = min(share(recording, fronts, EACH) for _ in range(RUNS))
+            print(f"| {fronts} | {fronts * EACH / placed:,.0f} | {caught_up * 1e3:.2f} |")
+
+
+if __name__ == "__main__":
+    try:
+        main()
+    except Wrong as wrong:
+        sys.exit(f"serving.py: {wrong}")

@@ -1,0 +1,113 @@
+"""make fuzz, or by hand:  python3 python netrev_fuzz [--minutes M] [--cases N] [--seed S]
+
+Plays random cases until the time is up or there were so many. Half of the time goes to cases for netrev, half to sessions of
+nrdb, but for `--cases`, which has none of these. Each has a seed of its own, `S-1`, `S-2`, ..; `S-nrdb-1`, .. for nrdb;
+`--case S-7` plays that one alone. Where netrev prints something else than the model, the case is kept in `out/fuzz/S-7/`, with as few
+lines as still show it, what was `told` and what the model `wanted`; `--again out/fuzz/S-7` plays what is kept there. The
+program is $NETREV, else the built one. Ends with status 1 where there was a difference.
+"""
+
+import argparse
+import os
+import sys
+import tempfile
+import time
+from pathlib import Path
+from typing import Iterator, Optional, Sequence
+
+from .cases import Case, make
+from .companion import visit
+from .counts import Met
+from .keeping import keep, kept
+from .playing import difference, first_difference
+
+ROOT = Path(__file__).resolve().parents[2]
+MOST_DIFFERENCES = 10
+OF_NRDB = "-nrdb"
+
+
+def arguments(words: Optional[Sequence[str]]) -> argparse.Namespace:
+    parser = argparse.ArgumentParser(prog="fuzz", description="random cases for netrev, held against a model")
+    parser.add_argument("--minutes", type=float, default=5)
+    parser.add_argument("--cases", type=int, help="at most so many")
+    parser.add_argument("--seed", default="")
+    parser.add_argument("--case", metavar="SEED", help="plays this one")
+    parser.add_argument("--again", type=Path, metavar="FOLDER", help="plays the case that was kept there")
+    return parser.parse_args(words)
+
+
+def play_one(netrev: str, case: Case, met: Met) -> bool:
+    """Plays one case and says what came of it. Whether there was a difference."""
+    with tempfile.TemporaryDirectory() as folder:
+        differs = difference(netrev, case, Path(folder), met)
+    print(f"{case.seed} ({case.sort}): {first_difference(*differs) if differs else 'no difference'}")
+    return bool(differs)
+
+
+def seeds(seed: str, most: Optional[int]) -> Iterator[str]:
+    """The cases' seeds, without end or so many."""
+    number = 0
+    while most is None or number < most:
+        number += 1
+        yield f"{seed}-{number}"
+
+
+def case_of(seed: str) -> Case:
+    """The case of a seed: those of `7-nrdb` are sessions of nrdb."""
+    return visit(seed) if seed.rpartition("-")[0].endswith(OF_NRDB) else make(seed)
+
+
+def by_turns(seed: str) -> Iterator[str]:
+    """Seeds without end, so that cases for netrev and sessions of nrdb take the same time."""
+    of_netrev, of_nrdb = seeds(seed, None), seeds(f"{seed}{OF_NRDB}", None)
+    spent = {of_netrev: 0.0, of_nrdb: 0.0}
+    while True:
+        least = min(spent, key=lambda which: spent[which])
+        begun = time.monotonic()
+        yield next(least)
+        spent[least] += time.monotonic() - begun
+
+
+def play(
+    netrev: str, seed: str, met: Met, minutes: float = 5, cases: Optional[int] = None, out: Path = ROOT / "out/fuzz"
+) -> int:
+    """Plays cases, and keeps each that differs. How many did."""
+    until, found = time.monotonic() + 60 * minutes, 0
+    with tempfile.TemporaryDirectory() as name:
+        for case in map(case_of, seeds(seed, cases) if cases else by_turns(seed)):
+            if time.monotonic() > until or found == MOST_DIFFERENCES:
+                break
+            met.cases[case.sort] += 1
+            try:
+                differs = difference(netrev, case, Path(name), met)
+            except Exception:
+                print(f"{case.seed} ({case.sort}): the fuzzer itself failed", flush=True)
+                raise
+            if differs:
+                found += 1
+                where = out / case.seed
+                print(f"{case.seed} ({case.sort}): {keep(netrev, case, differs, where)}")
+                print(f"    again: python3 python netrev_fuzz --again {where}", flush=True)
+    return found
+
+
+def main(words: Optional[Sequence[str]] = None) -> int:
+    asked = arguments(words)
+    netrev = os.environ.get("NETREV") or str(ROOT / "crates/netrev/out/netrev")
+    if not Path(netrev).is_file():
+        print(f"no program at {netrev}: `make netrev` builds it, or NETREV names another", file=sys.stderr)
+        return 2
+    met = Met()
+    if asked.again or asked.case:
+        return int(play_one(netrev, kept(asked.again) if asked.again else case_of(asked.case), met))
+    seed = asked.seed or f"{time.time_ns() // 1_000_000}"
+    print(f"seed {seed}, {asked.minutes:g} minutes", flush=True)
+    found = play(netrev, seed, met, asked.minutes, asked.cases)
+    print("\n".join(met.lines()))
+    commands, steps = sum(met.commands.values()), sum(met.answers.values())
+    print(f"{sum(met.cases.values())} cases, {steps} steps, {commands} lines that ask: {found} differences")
+    return int(found > 0)
+
+
+if __name__ == "__main__":
+    sys.exit(main())

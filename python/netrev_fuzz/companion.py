@@ -1,0 +1,168 @@
+"""Cases for nrdb: a session over a random recording, while Ctrl-C is pressed, replies are slow and netrevs are killed. Whatever
+it tells up to where it ends has to be right (views.py).
+
+nrdb runs in this process, with netrevs of its own. What happens to it happens at random points of its conversations: where
+lines are sent, and where one is waited for. The signals are real ones."""
+
+import io
+import json
+import os
+import random
+import signal
+import time
+from collections import Counter
+from pathlib import Path
+from typing import Optional, Sequence
+
+from netrev_model.cells import CELLS_OF_ALL, CELLS_OF_ONE
+from netrev_model.observing import Observer
+from netrev_model.program import replay
+from netrev_model.session import Session as ModelSession
+from netrev_model.session import recording_of
+from netrev_model.writing import write_plain
+from nrdb.answers import ANSWERS
+from nrdb.interrupts import GivenUp, Interrupts
+from nrdb.netrev import Ended, Own
+from nrdb.output import JsonPrinter
+from nrdb.recording import Recording
+from nrdb.scout import Scout
+from nrdb.session import Session
+
+from .cases import Case
+from .counts import Met
+from .randomsteps import Author
+from .views import Judge
+
+PAUSE = 0.002  # seconds
+HAPPENS = {"ctrl-c": 8, "slow ctrl-c": 3, "slow": 1, "ctrl-c twice": 1, "killed": 1}
+VALUES = ("*", "idle", "parked *", "nil", "wait", "g*", "ready", "0", "8", "*read lock*", "no deadline", "1")
+
+
+def visit(seed: str) -> Case:
+    """The case of a seed: a recording, and lines for nrdb."""
+    dice = random.Random(seed)
+    recording, _ = Author(dice).recording(dice.choice([5, 20, 60, 150]))
+    lines = [line_of(dice, len(recording.steps)) for _ in range(dice.choice([5, 15, 40]))]
+    return Case(seed, "nrdb", "nrdb", write_plain(recording), "\n".join(lines).encode())
+
+
+def line_of(dice: random.Random, length: int) -> str:
+    """A line at random."""
+    cell = (
+        dice.choice(CELLS_OF_ALL) if dice.random() < 0.2 else f"{dice.choice(CELLS_OF_ONE)} {dice.choice([0, 0, 1, 2])}"
+    )
+    number = dice.choice([0, 0, 1, 2])
+    return dice.choice(
+        (
+            *(
+                f"goto {dice.randint(0, length)}",
+                f"goto {length}",
+                f"stepi {dice.choice([1, 3, 20])}",
+                "reverse-stepi 2",
+            ),
+            *(f"until {cell} {dice.choice(VALUES)}", f"reverse-until {cell} {dice.choice(VALUES)}"),
+            *(f"history {cell}", f"history {cell} all", f"history {cell} {dice.choice([1, 2, 5])}"),
+            *(f"history {cell}", f"until {cell} *", f"reverse-until {cell} *", f"goto {dice.randint(0, length)}"),
+            *("info goroutines", "info goroutines all", "info sockets", "info sockets all", "info descriptors"),
+            *("info descriptors all", "info timers", f"info holders {number}", "where", "list", "info breakpoints"),
+            *(f"watch {cell}", "continue", "reverse-continue", f"display {cell}", f"print {cell}", f"dump rq {number}"),
+        )
+    )
+
+
+class Weather:
+    """What happens at the points of a session's conversations."""
+
+    def __init__(self, dice: random.Random, chance: float) -> None:
+        self.dice, self.chance = dice, chance
+        self.met: Counter[str] = Counter()
+
+    def blow(self, netrev: "Disturbed") -> None:
+        """A point has come."""
+        if self.dice.random() < self.chance:
+            (name,) = self.dice.choices(list(HAPPENS), list(HAPPENS.values()))
+            self.met[name] += 1
+            if name.startswith("slow"):
+                time.sleep(PAUSE)
+            if name == "killed":
+                netrev.kill()
+            if "ctrl-c" in name:
+                os.kill(os.getpid(), signal.SIGINT)
+            if name.endswith("twice"):
+                os.kill(os.getpid(), signal.SIGINT)
+
+
+class Disturbed(Own):
+    """A netrev to which something happens."""
+
+    def __init__(self, program: str, path: str, interrupts: Interrupts, weather: Weather) -> None:
+        super().__init__(program, path, interrupts)
+        self._weather = weather
+
+    def kill(self) -> None:
+        """Ends the process, and nothing else."""
+        self._process.kill()
+
+    def _send(self, text: bytes) -> None:
+        self._weather.blow(self)
+        super()._send(text)
+
+    def _next(self, asked: str) -> Optional[str]:
+        self._weather.blow(self)
+        return super()._next(asked)
+
+
+def played(program: str, case: Case, folder: Path, met: Met) -> str:
+    """Plays a case: what is wrong with what was told first, or nothing. What was met is counted."""
+    replayed = replay(case.recording, met)
+    recording = recording_of(replayed.text.steps, replayed.worlds)
+    judge = Judge(replayed.text.steps, replayed.worlds, ModelSession(recording, Observer()))
+    dice = random.Random(f"{case.seed} weather")
+    weather = Weather(dice, dice.choice([0, 0.01, 0.03, 0.1]))
+    path = folder / "recording.jsonl"
+    path.write_bytes(case.recording)
+    wrong = followed(program, str(path), case.script.decode().split("\n"), weather, judge, met.nrdb)
+    met.nrdb.update(weather.met)
+    return wrong
+
+
+def followed(program: str, path: str, lines: Sequence[str], weather: Weather, judge: Judge, met: Counter[str]) -> str:
+    """Runs the lines in a session, and holds each event against what is right."""
+    interrupts, out = Interrupts(), io.StringIO()
+
+    def opened() -> Disturbed:
+        return Disturbed(program, path, interrupts, weather)
+
+    calm, weather.chance = weather.chance, 0.0
+    session = Session(opened(), Recording.read(path), Scout(opened), JsonPrinter(out), interrupts, ANSWERS)
+    try:
+        session.begin(session.ask("info position"))
+        weather.chance = calm
+        for line in lines:
+            out.seek(0)
+            out.truncate()
+            ended = told_all(session, line)
+            for event in map(json.loads, out.getvalue().splitlines()):
+                met["events"] += 1
+                if wrong := judge.wrong(line, event):
+                    return f"{wrong} (behind {dict(weather.met)})"
+            if ended:
+                met[f"sessions that ended: {ended}"] += 1
+                return "" if weather.met else f"{line}: {ended}, and nothing had happened"
+    finally:
+        weather.chance = 0.0
+        session.looks().drop()
+        session.netrev.drop()
+    met["sessions that came to the end of their lines"] += 1
+    return ""
+
+
+def told_all(session: Session, line: str) -> str:
+    """Answers a line; how the session ended, where it did."""
+    try:
+        session.run(line)
+    except GivenUp:
+        return "given up"
+    except Ended:
+        return "netrev has ended"
+    return ""

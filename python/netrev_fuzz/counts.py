@@ -1,0 +1,90 @@
+"""What the cases of a run met, for the last lines that it prints."""
+
+from collections import Counter
+from typing import Any, Iterator, Mapping
+
+from netrev_model.debugger import Asked, Reply
+from netrev_model.machine import Answer
+from netrev_model.observing import Observer
+from netrev_model.vocabulary import KINDS
+
+
+class Met(Observer):
+    """Counts what the model met: applied steps by kind and answer, refused ones by kind and reason, those whose recorded
+    answer was another, faults, commands."""
+
+    def __init__(self) -> None:
+        self.cases: Counter[str] = Counter()
+        self.answers: Counter[tuple[str, str]] = Counter()
+        self.reasons: Counter[tuple[str, int]] = Counter()
+        self.others: Counter[str] = Counter()
+        self.faults: Counter[str] = Counter()
+        self.commands: Counter[str] = Counter()
+        self.replies: Counter[str] = Counter()
+        self.doubted = 0
+        self.nrdb: Counter[str] = Counter()
+
+    def applied(self, kind: str, answer: Answer) -> None:
+        self.answers[kind, name_of(answer)] += 1
+
+    def refused(self, kind: str, reason: int) -> None:
+        self.reasons[kind, reason] += 1
+
+    def differed(self, kind: str, recorded: Answer, answer: Answer) -> None:
+        """A recorded answer that isn't the machine's: of the same sort, of another that the kind can give, or of none."""
+        if recorded[0] == answer[0]:
+            self.others["another number"] += 1
+        else:
+            self.others["another answer" if recorded[0] in KINDS[kind].answers else "none of the kind's"] += 1
+
+    def printed(self, fault: str) -> None:
+        """A fault of a recording, without its place."""
+        self.faults[fault.split(": ", 1)[1].split(" reason")[0]] += 1
+
+    def asked(self, asked: Asked, reply: Reply) -> None:
+        self.commands[asked.sort] += 1
+        self.replies[first_words(reply[0])] += 1
+
+    def lines(self) -> Iterator[str]:
+        """The counts, a line for each sort of them."""
+        kinds = by_first(self.answers)
+        reasons: Counter[int] = Counter()
+        for (_, reason), count in self.reasons.items():
+            reasons[reason] += count
+        yield f"cases: {told(self.cases)}" + (f"; not judged {self.doubted}" if self.doubted else "")
+        yield f"faults: {told(self.faults)}"
+        yield f"reasons: {told(dict(sorted(reasons.items())))}"
+        yield f"recorded answers that differ: {told(self.others)}"
+        yield f"steps: {sum(self.answers.values())}, of these"
+        for kind in KINDS:
+            refused = {f"reason {reason}": count for (of, reason), count in sorted(self.reasons.items()) if of == kind}
+            yield f"    {kind}: {told({**kinds.get(kind, {}), **refused})}"
+        yield f"lines that ask: {told(self.commands)}"
+        yield f"replies: {told(self.replies)}"
+        yield f"sessions of nrdb: {told(self.nrdb)}"
+
+
+def name_of(answer: Answer) -> str:
+    """The name of an answer, of a code with its number."""
+    return f"code {answer[1]}" if answer[0] == "code" else answer[0]
+
+
+def by_first(counts: Mapping[tuple[str, str], int]) -> dict[str, dict[object, int]]:
+    """Counts of pairs, as counts of what stands second for each first."""
+    found: dict[str, dict[object, int]] = {}
+    for (first, second), count in sorted(counts.items()):
+        found.setdefault(first, {})[second] = count
+    return found
+
+
+def first_words(reply: str) -> str:
+    """What sort of reply it is: its words, without numbers."""
+    if reply.startswith("fault"):
+        return reply
+    if " = " in reply:
+        return "a value"
+    return " ".join(word for word in reply.split() if not word.isdigit())
+
+
+def told(counts: Mapping[Any, int]) -> str:
+    return ", ".join(f"{name} {count}" for name, count in counts.items()) or "none"

@@ -1,0 +1,358 @@
+"""Random traffic over connections, with a bug planted at a random place, or without one: what `info suspects` is measured
+by:  python3 -m netrev_fuzz.injections FIRST LAST   plays each bug with these seeds, and prints the table."""
+
+import sys
+from enum import Enum
+from typing import Any, Callable, NamedTuple, Optional
+
+from netrev_model.machine import Limits
+from nrdb.recording import Recording
+from nrdb.suspects import suspects_of
+from nrdb.suspects.found import Rule, Suspect
+
+from .little_go import Program, Turns
+
+LIMITS = Limits(gor=1500, sock=120, desc=10, buf=64)
+LETTERS = range(ord("a"), ord("z") + 1)
+BOTH, OWN_SIDE, RAW, CANCELS = range(4)  # what a connection does about deadlines; above these nothing
+
+
+class Bug(Enum):
+    """What is planted, in words."""
+
+    RELEASE = "a release never comes"
+    IDLE = "a reference is kept by who does nothing any more"
+    GONE = "a reference is kept by who is gone"
+    NO_EVENT = "an event is lost"
+    OLD_TAG = "an event comes with an old tag"
+    TAKEN_BACK = "a passed deadline is taken back at once"
+    NO_TRY = "a wait without a try"
+    LEFT_BEHIND = "a deadline is left behind"
+    LOCK = "a read lock is held for ever"
+    NOT_EVICTED = "closed and never evicted"
+
+
+RULES = {
+    Bug.RELEASE: {Rule.MISSED_RELEASE},
+    Bug.IDLE: {Rule.LEAKED_REFERENCE},
+    Bug.GONE: {Rule.LEAKED_REFERENCE},
+    Bug.NO_EVENT: {Rule.NO_EVENT},
+    Bug.OLD_TAG: {Rule.STALE_EVENT},
+    Bug.TAKEN_BACK: {Rule.TAKEN_BACK},
+    Bug.NO_TRY: {Rule.LOST_WAKE_UP},
+    Bug.LEFT_BEHIND: {Rule.LEFT_BEHIND},
+    Bug.LOCK: {Rule.LOCK_HELD, Rule.LEAKED_REFERENCE},
+    Bug.NOT_EVICTED: {Rule.NOT_EVICTED},
+}
+HANGING = (Bug.NO_EVENT, Bug.OLD_TAG, Bug.NO_TRY, Bug.TAKEN_BACK)  # whose symptom is a goroutine that hangs at the end
+
+
+class Planted(NamedTuple):
+    """Where a bug was planted, as far as it is about these."""
+
+    socket: int
+    goroutine: Optional[int] = None
+    descriptor: Optional[int] = None
+
+    def is_of(self, suspect: Suspect) -> bool:
+        """Whether a suspect is about that."""
+        pairs = zip(self, (suspect.socket, suspect.goroutine, suspect.descriptor))
+        return all(None in pair or pair[0] == pair[1] for pair in pairs)
+
+
+class Traffic(Program):
+    """Connections with readers, writers, and who controls and closes them."""
+
+    def __init__(self, seed: int, bug: Optional[Bug], length: int = 3_000):
+        super().__init__(seed, LIMITS)
+        self.bug, self.length = bug, length
+        self.begins = length * (0.3 + 0.4 * self.dice.random())
+        self.planted: list[Planted] = []
+        self.passed: set[Planted] = set()  # those whose deadline that was left behind has passed
+        self.busy: dict[int, int] = {}  # of each connection, how many read and write
+        self.muted: set[int] = set()  # sockets for which nothing comes any more
+        self.fed: set[int] = set()
+
+    def is_due(self, bug: Bug) -> bool:
+        """Whether that bug is to be planted now. (One that is left behind at a time is planted once; the others too.)"""
+        return self.bug is bug and not self.planted and len(self.steps) > self.begins
+
+    def plant(self, socket: int, goroutine: Optional[int] = None, descriptor: Optional[int] = None) -> None:
+        self.planted.append(Planted(socket, goroutine, descriptor))
+
+    def run(self) -> "Traffic":
+        """Plays it to its length."""
+        while len(self.steps) < self.length:
+            chance, ready = self.dice.random(), self.ready()
+            is_early = len(self.steps) < 0.9 * self.length
+            if chance < 0.06 and is_early and len(self.busy) < 8 and len(self.running) < 60:
+                if len(self.world.sockets) < 110:
+                    self.go(self.connection)
+            elif chance < 0.84 and ready:
+                self.take_turn(self.dice.choice(ready))
+            elif chance < 0.93 and self.busy:
+                self.use_network(self.dice.choice(list(self.busy)))
+            else:
+                self.pass_time(60)
+        return self
+
+    def symptom(self) -> bool:
+        """Whether the bug was planted and shows at the end."""
+        return any(map(self.shows, self.planted))
+
+    def shows(self, planted: Planted) -> bool:
+        """Whether the bug that was planted there shows at the end: a goroutine hangs, with bytes unread where it waits for
+        what has come; a deadline has passed; or something is kept, which always shows."""
+        g, d = planted.goroutine, planted.descriptor
+        if self.bug is Bug.LEFT_BEHIND:
+            return planted in self.passed
+        if self.bug not in HANGING or g is None:
+            return True
+        is_parked = self.world.goroutines[g][:2] == ("parked", d)
+        return is_parked and (self.bug is Bug.TAKEN_BACK or len(self.world.sockets[planted.socket].buffers[0]) > 0)
+
+    # ---- the scheduler, the network and the clock
+
+    def pass_time(self, most: int) -> None:
+        super().pass_time(most)
+        if self.bug is Bug.LEFT_BEHIND:
+            self.passed.update(one for one in self.planted if self.has_passed(one))
+
+    def has_passed(self, planted: Planted) -> bool:
+        """Whether the write deadline of the connection has passed."""
+        if planted.descriptor is None:
+            return False
+        descriptor = self.world.descs[planted.descriptor]
+        return descriptor.socket == planted.socket and descriptor.deadlines[1] < 0
+
+    def take_turn(self, g: int) -> None:
+        status = self.world.goroutines[g]
+        if status[0] == "owing" and self.is_due(Bug.RELEASE):
+            socket = self.world.sockets[status[1]]
+            if not socket.lock.closed and any(socket.queues):
+                self.plant(status[1], g)
+                self.stopped.add(g)
+                return
+        self.turn(g)
+
+    def use_network(self, s: int) -> None:
+        d = self.descriptors[s]
+        socket = self.world.sockets[s]
+        if s in self.muted or socket.lock.closed or not self.world.is_open(d):
+            return
+        if self.dice.random() >= 0.55:
+            if held := len(socket.buffers[1]):
+                self.drain(s, self.dice.randint(1, held))
+        elif len(socket.buffers[0]) <= 40 and not self.loses_event(s, d):
+            self.arrive(s, self.letters(11))
+            self.fed.add(s)
+
+    def loses_event(self, s: int, d: int) -> bool:
+        """Plants a lost event, or one with an old tag, where somebody is parked for it."""
+        parked = [g for g in self.world.inside(d, "r") if self.world.goroutines[g][0] == "parked"]
+        if not parked or not (self.is_due(Bug.NO_EVENT) or self.is_due(Bug.OLD_TAG)):
+            return False
+        self.muted.add(s)
+        self.do("arrive", s, b"lost")
+        if self.bug is Bug.OLD_TAG:
+            self.do("pollevent", d, self.world.descs[d].fdseq - 1, "r", 0)
+        self.plant(s, parked[0], d)
+        return True
+
+    def letters(self, most: int) -> bytes:
+        return bytes(self.dice.choice(LETTERS) for _ in range(self.dice.randint(1, most)))
+
+    # ---- what goroutines do
+
+    def connection(self, g: int) -> Turns:
+        """Opens a connection, starts those who use it, and closes it."""
+        made = self.may("sockopen", 64, 40)
+        yield
+        if not made:
+            return
+        s = made[1]
+        while not (opened := self.may("pollopen", g, s)):
+            yield
+        self.descriptors[s] = d = opened[1]
+        self.busy[s] = 0
+        yield
+        style = self.dice.randrange(5)
+        if self.is_due(Bug.LEFT_BEHIND):
+            self.plant(s, descriptor=d)
+            yield from self.set_deadline(g, s, "rw", 900)
+            yield from self.set_deadline(g, s, "r", 0)
+        elif style == BOTH:
+            yield from self.set_deadline(g, s, "rw", self.dice.randrange(4_000, 90_000))
+        self.start_users(s, style)
+        for _ in range(self.dice.randrange(20, 60)):
+            yield
+        if style == CANCELS or self.is_due(Bug.TAKEN_BACK):
+            yield from self.cancel_reads(g, s)
+        while self.busy[s] > self.dice.randrange(3) and (s in self.muted or self.dice.random() > 0.002):
+            yield
+        yield from self.close(g, s)
+
+    def start_users(self, s: int, style: int) -> None:
+        """Starts the readers and writers of a connection, and who controls it."""
+        for _ in range(self.dice.randint(1, 2)):
+            self.go(self.user(s, self.reader, style))
+        for _ in range(self.dice.randint(1, 3)):
+            self.go(self.user(s, self.writer, style))
+        if self.dice.random() < 0.5:
+            self.go(lambda g: self.controller(g, s))
+
+    def user(self, s: int, uses: Callable[[int, int, int], Turns], style: int) -> Callable[[int], Turns]:
+        """A goroutine that uses a connection, which is busy for as long."""
+
+        def body(g: int) -> Turns:
+            self.busy[s] += 1
+            yield from uses(g, s, style)
+            if s in self.busy:
+                self.busy[s] -= 1
+
+        return body
+
+    def reader(self, g: int, s: int, style: int) -> Turns:
+        for _ in range(self.dice.randrange(3, 14)):
+            if style == OWN_SIDE:
+                yield from self.set_deadline(g, s, "r", self.dice.randrange(300, 5_000))
+            if (style == RAW and self.dice.random() < 0.4) or self.is_due(Bug.NO_TRY):
+                if not (yield from self.raw_read(g, s)):
+                    return
+                continue
+            if self.is_due(Bug.LOCK):
+                if (yield from self.rwlock(g, s, "r")):
+                    self.plant(s, g)
+                    self.stopped.add(g)
+                    yield
+                return
+            count = yield from self.read(g, s, 16)
+            if count <= 0 and not (count == -2 and style in (OWN_SIDE, CANCELS)):
+                return
+
+    def raw_read(self, g: int, s: int) -> Turns:
+        """`RawConn.Read`: the program's function tries, and says whether it is done. The bug is one that doesn't try."""
+        if not (yield from self.rwlock(g, s, "r")):
+            return False
+        code = yield from self.reset(g, s, "r")
+        held = self.world.sockets[s].buffers[0]
+        tries = not (code == 0 and held and s in self.fed and self.is_due(Bug.NO_TRY))
+        if not tries:
+            self.plant(s, g, self.descriptors[s])
+            self.muted.add(s)
+        while code == 0:
+            if tries:
+                answer = self.do("sysread", g, s, 8)[0]
+                yield
+                if answer != "again":
+                    break
+            tries = True
+            code = yield from self.wait(g, s, "r")
+        yield from self.rwunlock(g, s, "r")
+        return True
+
+    def writer(self, g: int, s: int, style: int) -> Turns:
+        for _ in range(self.dice.randrange(1, 8)):
+            if style == OWN_SIDE:
+                yield from self.set_deadline(g, s, "w", self.dice.randrange(3_000, 20_000))
+            if (yield from self.write(g, s, self.letters(29))) < 0:
+                return
+
+    def controller(self, g: int, s: int) -> Turns:
+        """`RawConn.Control`: a reference for a while."""
+        for _ in range(self.dice.randint(1, 3)):
+            if self.do("incref", g, s)[0] != "yes":
+                return (yield)
+            yield
+            for _ in range(self.dice.randrange(8)):
+                yield
+            if self.is_due(Bug.GONE):
+                return self.plant(s, g)
+            if self.is_due(Bug.IDLE):
+                self.plant(s, g)
+                self.stopped.add(g)
+                yield
+            yield from self.decref(g, s)
+
+    def cancel_reads(self, g: int, s: int) -> Turns:
+        """Ends the reads by a deadline in the past, and takes it back; the bug is not to wait in between."""
+        d = self.descriptors[s]
+        parked = [one for one in self.world.inside(d, "r") if self.world.goroutines[one][0] == "parked"]
+        if not (parked and self.is_due(Bug.TAKEN_BACK)):
+            yield from self.set_deadline(g, s, "r", -1)
+            while self.world.inside(d, "r"):
+                yield
+            return (yield from self.set_deadline(g, s, "r", 0))
+        if self.do("incref", g, s)[0] == "yes":
+            yield
+            parked = [one for one in self.world.inside(d, "r") if self.world.goroutines[one][0] == "parked"]
+            self.do("setdeadline", g, d, "r", -1)
+            if parked:
+                self.plant(s, parked[0], d)
+                self.muted.add(s)
+            self.do("setdeadline", g, d, "r", 0)
+            yield
+            yield from self.decref(g, s)
+
+    def close(self, g: int, s: int) -> Turns:
+        d = self.descriptors[s]
+        if self.do("increfclose", g, s)[0] != "yes":
+            return (yield)
+        yield
+        yield from self.releases(g)
+        if self.is_due(Bug.NOT_EVICTED) and self.world.inside(d, "r"):
+            self.plant(s, g, d)
+            self.stopped.add(g)
+            yield
+        self.do("evict", g, d)
+        yield
+        del self.busy[s]
+        yield from self.decref(g, s)
+
+
+class Count(NamedTuple):
+    """Of a bug: how often it was planted with a symptom, was named first, named at all; and suspects besides."""
+
+    shows: int = 0
+    first: int = 0
+    named: int = 0
+    besides: int = 0
+
+    def __add__(self, other: tuple[Any, ...]) -> "Count":
+        return Count(*(one + more for one, more in zip(self, other)))
+
+
+def judged(traffic: Traffic) -> Count:
+    """What the rules make of a recording."""
+    shown = [one for one in suspects_of(Recording(traffic.text())).suspects if one.is_shown]
+    right = [
+        traffic.bug is not None
+        and suspect.rule in RULES[traffic.bug]
+        and any(one.is_of(suspect) for one in traffic.planted)
+        for suspect in shown
+    ]
+    return Count(int(traffic.symptom()), int(right[:1] == [True]), int(any(right)), right.count(False))
+
+
+def counted(bug: Optional[Bug], seeds: range) -> Count:
+    """The counts of a bug over these seeds, of the recordings in which it shows, or of good ones."""
+    total = Count()
+    for seed in seeds:
+        traffic = Traffic(seed, bug).run()
+        if bug is None or traffic.symptom():
+            total += judged(traffic)
+    return total
+
+
+def main(words: list[str]) -> None:
+    """Prints the table."""
+    seeds = range(int(words[0]), int(words[1]))
+    print(f"{'planted':<50} {'shows':>6} {'first':>6} {'named':>6} {'besides':>8}")
+    for bug in (None, *Bug):
+        print(
+            f"{bug.value if bug else 'nothing':<50} {' '.join(f'{one:>6}' for one in counted(bug, seeds))}", flush=True
+        )
+
+
+if __name__ == "__main__":
+    main(sys.argv[1:])

@@ -1,0 +1,184 @@
+"""A little Go, to write recordings of: goroutines are generators that make Go's calls, by the control flow of internal/poll
+and runtime/netpoll, a step of the model's machine at each turn; a scheduler with dice takes them by turns."""
+
+import json
+import random
+from typing import Any, Callable, Generator
+
+from netrev_model.machine import Limits, Refused, World
+from netrev_model.steps import apply
+
+Turns = Generator[None, None, Any]  # a call: it yields behind each of its steps, and returns what Go's function does
+ASLEEP = ("parked", "queued")
+CLOSED, EOF = -1, 0  # what a read returns in place of a count; a code of the poller, negated, is one too
+
+
+class Program:
+    """A running program: the machine's state, the steps so far, and the goroutines with what each has still to do."""
+
+    def __init__(self, seed: int, limits: Limits):
+        self.dice = random.Random(seed)
+        self.limits, self.world = limits, World(limits)
+        self.steps: list[list[Any]] = []
+        self.running: dict[int, Turns] = {}
+        self.stopped: set[int] = set()  # goroutines that the scheduler doesn't take any more
+        self.descriptors: dict[int, int] = {}  # of the sockets
+
+    def do(self, kind: str, *arguments: Any) -> tuple[Any, ...]:
+        """Makes a step; its answer."""
+        self.world, answer = apply(self.world, (kind, *arguments))
+        self.steps.append([kind, *(one.hex() if isinstance(one, bytes) else one for one in arguments)])
+        return answer
+
+    def may(self, kind: str, *arguments: Any) -> tuple[Any, ...]:
+        """Makes a step, if it applies; its answer, or nothing."""
+        try:
+            return self.do(kind, *arguments)
+        except Refused:
+            return ()
+
+    def go(self, body: Callable[[int], Turns]) -> int:
+        """Starts a goroutine."""
+        goroutine = self.do("spawn")[1]
+        self.running[goroutine] = body(goroutine)
+        return goroutine
+
+    def turn(self, goroutine: int) -> None:
+        """Lets a goroutine make a step."""
+        try:
+            next(self.running[goroutine])
+        except StopIteration:
+            del self.running[goroutine]
+            self.do("exit", goroutine)
+
+    def ready(self) -> list[int]:
+        """The goroutines that can go on."""
+        statuses = self.world.goroutines
+        return [g for g in self.running if g not in self.stopped and statuses[g][0] not in ASLEEP]
+
+    def text(self) -> bytes:
+        """The recording."""
+        header = {"netrev": 1, **self.limits._asdict()}
+        lines = (json.dumps(line, separators=(",", ":")) for line in (header, *self.steps))
+        return "".join(f"{line}\n" for line in lines).encode()
+
+    # ---- Go's calls
+
+    def rwlock(self, g: int, s: int, side: str) -> Turns:
+        while True:
+            answer = self.do("rwlock", g, s, side)[0]
+            yield
+            if answer != "wait":
+                return answer == "yes"
+            while self.world.goroutines[g][0] in ("acquiring", "queued"):
+                if self.world.goroutines[g][0] == "acquiring":
+                    self.do("acquire", g)
+                yield
+
+    def releases(self, g: int) -> Turns:
+        while self.world.goroutines[g][0] == "owing":
+            self.do("release", g)
+            yield
+
+    def destroy(self, g: int, s: int, answer: str) -> Turns:
+        if answer == "last":
+            self.do("pollclose", g, self.descriptors[s])
+            yield
+
+    def rwunlock(self, g: int, s: int, side: str) -> Turns:
+        answer = self.do("rwunlock", g, s, side)[0]
+        yield
+        yield from self.releases(g)
+        yield from self.destroy(g, s, answer)
+
+    def reset(self, g: int, s: int, side: str) -> Turns:
+        code = self.do("pollreset", g, self.descriptors[s], side)[1]
+        yield
+        return code
+
+    def wait(self, g: int, s: int, side: str) -> Turns:
+        code = self.do("waitbegin", g, self.descriptors[s], side)[1]
+        yield
+        while code == 0:
+            answer = self.do("blockarm", g)
+            yield
+            if answer[0] == "code":
+                return 0
+            self.do("blockcheck", g)
+            yield
+            if self.world.goroutines[g][0] == "parking":
+                self.do("parkcommit", g)
+                yield
+            while self.world.goroutines[g][0] == "parked":
+                yield
+            answer = self.do("blockswap", g)
+            yield
+            if answer[0] == "yes":
+                return 0
+            code = self.do("waitcheck", g)[1]
+            yield
+        return code
+
+    def read(self, g: int, s: int, most: int) -> Turns:
+        if not (yield from self.rwlock(g, s, "r")):
+            return CLOSED
+        code: int = yield from self.reset(g, s, "r")
+        answer: tuple[Any, ...] = ("again",)
+        while code == 0 and answer[0] == "again":
+            answer = self.do("sysread", g, s, most)
+            yield
+            if answer[0] == "again":
+                code = yield from self.wait(g, s, "r")
+        yield from self.rwunlock(g, s, "r")
+        return -code if code else answer[1] if answer[0] == "got" else EOF
+
+    def write(self, g: int, s: int, data: bytes) -> Turns:
+        if not (yield from self.rwlock(g, s, "w")):
+            return CLOSED
+        code, left = (yield from self.reset(g, s, "w")), data
+        while code == 0 and left:
+            answer = self.do("syswrite", g, s, left)
+            yield
+            if answer[0] == "put":
+                left = left[answer[1] :]
+            else:
+                code = yield from self.wait(g, s, "w")
+        yield from self.rwunlock(g, s, "w")
+        return -code if code else len(data)
+
+    def set_deadline(self, g: int, s: int, mode: str, time: int) -> Turns:
+        if self.do("incref", g, s)[0] != "yes":
+            return (yield)
+        yield
+        self.do("setdeadline", g, self.descriptors[s], mode, time)
+        yield
+        yield from self.decref(g, s)
+
+    def decref(self, g: int, s: int) -> Turns:
+        answer = self.do("decref", g, s)[0]
+        yield
+        yield from self.destroy(g, s, answer)
+
+    # ---- the network and the clock
+
+    def arrive(self, s: int, data: bytes) -> None:
+        """Bytes come for a socket, with their event."""
+        if self.may("arrive", s, data):
+            d = self.descriptors[s]
+            self.do("pollevent", d, self.world.descs[d].fdseq, "r", 0)
+
+    def drain(self, s: int, count: int) -> None:
+        """The network takes bytes of a socket, with the event that there is room."""
+        if self.may("drain", s, count):
+            d = self.descriptors[s]
+            self.do("pollevent", d, self.world.descs[d].fdseq, "w", 0)
+
+    def pass_time(self, most: int) -> None:
+        """Runs a firing, takes a timer that is due, or lets up to so much time pass."""
+        world = self.world
+        if world.firings:
+            self.do("fire", self.dice.randrange(len(world.firings)))
+        elif world.timers and world.timers[0].when <= world.clock:
+            self.do("pop")
+        else:
+            self.do("tick", world.clock + self.dice.randint(1, most))

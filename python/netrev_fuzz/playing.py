@@ -1,0 +1,66 @@
+"""A case is played by the program and by the model, and what they print is compared."""
+
+import subprocess
+from pathlib import Path
+from typing import Optional
+
+from netrev_model.program import Printed, printed
+
+from . import companion
+from .cases import Case
+from .counts import Met
+
+Difference = tuple[Printed, Printed]  # what the program prints, and what the model
+
+TIMEOUT = 120
+
+
+def wanted(case: Case, met: Met) -> Optional[Printed]:
+    """What the model prints, or None where it has no opinion."""
+    want = printed(case.program, case.recording, case.script, met)
+    met.doubted += want is None
+    return want
+
+
+def told(netrev: str, case: Case, folder: Path) -> Printed:
+    """What the program prints."""
+    path = folder / "recording.jsonl"
+    path.write_bytes(case.recording)
+    try:
+        ended = subprocess.run(
+            [netrev, case.program, path], input=case.script, capture_output=True, timeout=TIMEOUT, check=False
+        )
+    except subprocess.TimeoutExpired as late:
+        return Printed(-1, late.stdout or b"", f"no end within {TIMEOUT} seconds")
+    wrong = f"standard error: {ended.stderr[:500]!r}" if ended.stderr else ""
+    return Printed(ended.returncode, ended.stdout, wrong)
+
+
+def difference(netrev: str, case: Case, folder: Path, met: Met) -> Optional[Difference]:
+    """What the program and the model print of a case, where that isn't the same; else None. Of a session of nrdb, what is
+    wrong with it."""
+    if case.program == "nrdb":
+        wrong = companion.played(netrev, case, folder, met)
+        return (Printed(0, b"", wrong), Printed(0, b"")) if wrong else None
+    want = wanted(case, met)
+    if want is None:
+        return None
+    tells = told(netrev, case, folder)
+    return None if tells == want else (tells, want)
+
+
+def first_difference(tells: Printed, want: Printed) -> str:
+    """In a few words, where they part."""
+    if tells.wrong or want.wrong:
+        return tells.wrong or want.wrong
+    lines = zip(tells.output.split(b"\n"), want.output.split(b"\n"))
+    for number, (one, other) in enumerate(lines, 1):
+        if one != other:
+            return f"reply {number} is {shortened(one)}, the model's {shortened(other)}"
+    return (
+        f"status {tells.status}, the model's {want.status}; {len(tells.output)} bytes, the model's {len(want.output)}"
+    )
+
+
+def shortened(line: bytes) -> str:
+    return repr(line.decode("latin-1"))[:120]

@@ -1,0 +1,216 @@
+"""What nrdb tells in a session, held against plain looks at the positions where it tells it: those of the model.
+
+A session has to be followed event by event, since it may stop anywhere: what is told up to there has to be right. `Judge` takes
+one event after the other, and says what is wrong with it."""
+
+import re
+from fnmatch import fnmatchcase
+from typing import Any, Callable, Iterable, Mapping, Optional, Sequence
+
+from netrev_model.cells import look
+from netrev_model.machine import Step, World
+from netrev_model.session import Session
+from netrev_model.vocabulary import cell_of
+from nrdb.words import LockWord, in_words
+
+Event = Mapping[str, Any]
+Rows = Sequence[Mapping[str, Any]]
+
+QUIET = ("idle", "gone")
+SOCKET_CELLS = ("lock", "rsem", "wsem", "in", "out", "shut")
+DESCRIPTOR_CELLS = ("info", "rg", "wg", "rd", "wd", "fdseq")
+PLACE = re.compile(r"place (\d+) of (\d+)")
+TAKEN = re.compile(r"goroutine (\d+) has the lock since step (\d+)")
+# what may be said wherever a session is disturbed
+DISTURBED = ("interrupted; the session goes on", "the netrev that looks at other positions has ended twice")
+
+
+class Judge:
+    """Follows a session over a recording, whose states are those of the model."""
+
+    def __init__(self, steps: Sequence[Step], worlds: Sequence[World], session: Session) -> None:
+        self.steps, self.worlds, self.session = steps, worlds, session
+        self.position = 0
+
+    def value(self, cell: str, position: Optional[int] = None) -> str:
+        """What `print` shows of a cell, here or at another position."""
+        world = self.worlds[self.position if position is None else position]
+        return look(world, f"print {cell}").partition(" = ")[2]
+
+    def queue(self, dump: str, socket: int) -> list[int]:
+        """The goroutines of a queue."""
+        shown = look(self.worlds[self.position], f"dump {dump} {socket}").partition(" = ")[2]
+        return [] if shown in ("-", "absent") else [int(word) for word in shown.split()]
+
+    def wrong(self, line: str, event: Event) -> str:
+        """What is wrong with an event that a line brought; empty where it is right."""
+        judge: Callable[[str, Any], str] = getattr(self, f"wrong_{event['event']}")
+        return judge(line, event)
+
+    def wrong_reply(self, line: str, event: Event) -> str:
+        """netrev's reply: that of the model; and behind `goto` and `until` the model goes there too."""
+        told, words = list(event["reply"]), line.split()
+        if (
+            words[0] in ("goto", "until", "reverse-until")
+            and not told[0].startswith(("rg", "wg"))
+            and "=" not in told[0]
+        ):
+            goal = int(words[1]) if words[0] == "goto" else self.found(words[0], *cell_and_rest(words[1:]))
+            self.session.state = self.session.state._replace(position=goal if goal is not None else -1)
+            right = [f"at {goal}"]
+        else:
+            right = list(self.session.answer(event["line"].encode()) or ())
+        self.position = self.session.state.position
+        return "" if told == right else f"{line} is answered {told}, the model's {right}"
+
+    def found(self, way: str, cell: str, value: str) -> Optional[int]:
+        """The nearest position that way behind a step that gave the cell this value."""
+        ways: Iterable[int] = range(self.position + 1, len(self.worlds))
+        if way == "reverse-until":
+            ways = range(self.position - 1, 0, -1)
+        for position in ways:
+            now = self.value(cell, position)
+            if now != self.value(cell, position - 1) and any(
+                fnmatchcase(said, value) for said in (now, in_words(cell, now))
+            ):
+                return position
+        return None
+
+    def wrong_place(self, line: str, event: Event) -> str:
+        """The position, and the steps beside it."""
+        numbers = [event[side] and event[side]["number"] for side in ("last", "next")]
+        length = len(self.steps)
+        right = [self.position or None, self.position + 1 if self.position < length else None]
+        if (event["position"], event["steps"], numbers) != (self.position, length, right):
+            return f"{line} tells the place {event}, and it is {self.position}"
+        return ""
+
+    def wrong_note(self, line: str, event: Event) -> str:
+        """Remarks: that a walk was stopped, or that nothing was found, where nothing is."""
+        text, words = event["text"], line.split()
+        if text in DISTURBED or text.startswith("at "):
+            return ""
+        if text.startswith("no ") and words[0] in ("until", "reverse-until"):
+            found = self.found(words[0], *cell_and_rest(words[1:]))
+            return "" if found is None else f"{line} finds nothing, and there is {found}"
+        return f"{line} says {text}"
+
+    def wrong_table(self, line: str, event: Event) -> str:
+        """A table, by its topic."""
+        judge: Callable[[str, Rows, str], str] = getattr(self, f"wrong_{event['topic']}")
+        return judge(line, event["rows"], event["rest"] or "")
+
+    def differs(self, line: str, told: Any, right: Any) -> str:
+        """What is told and what is right, where they differ."""
+        return "" if told == right else f"{line} at {self.position} tells {told}, and right is {right}"
+
+    def made(self, cell: str) -> list[int]:
+        """The numbers of which a cell is there."""
+        numbers: list[int] = []
+        while self.value(f"{cell} {len(numbers)}") != "absent":
+            numbers.append(len(numbers))
+        return numbers
+
+    def wrong_goroutines(self, line: str, rows: Rows, rest: str) -> str:
+        told = [(row["goroutine"], row["status"]) for row in rows]
+        right = [(number, self.value(f"gor {number}")) for number in self.made("gor")]
+        if not line.endswith("all"):
+            right = [(number, status) for number, status in right if status not in QUIET]
+        waits = (self.wrong_wait(row["goroutine"], row["status"], row["waits_for"]) for row in rows)
+        return self.differs(line, told, right) or next(filter(None, waits), "")
+
+    def wrong_wait(self, goroutine: int, status: str, words: str) -> str:
+        """A place in a queue, and who has the lock since when."""
+        name, *rest = status.split()
+        if name not in ("acquiring", "queued", "relock"):
+            return ""
+        socket, side = int(rest[0]), rest[1]
+        queue = self.queue({"r": "rq", "w": "wq"}[side], socket)
+        place = [queue.index(goroutine) + 1, len(queue)] if goroutine in queue else []
+        found = PLACE.search(words)
+        told = [int(found[1]), int(found[2])] if found else []
+        word = LockWord.of(int(self.value(f"lock {socket}")))
+        taken = TAKEN.search(words)
+        if bool(taken) != (word.read_locked if side == "r" else word.write_locked):
+            return f"goroutine {goroutine} at {self.position}: {words}"
+        if taken:
+            step = self.steps[int(taken[2]) - 1]
+            if step != ("rwlock", int(taken[1]), socket, side):
+                return f"goroutine {goroutine} at {self.position}: {words}, and that step is {step}"
+        return self.differs(f"goroutine {goroutine}", told, place)
+
+    def wrong_sockets(self, line: str, rows: Rows, rest: str) -> str:
+        right = [self.socket(number) for number in self.made("lock")]
+        if not line.endswith("all"):
+            right = [row for row in right if says_something(row)]
+        names = ("socket", *SOCKET_CELLS, "rq", "wq")
+        return self.differs(line, [{name: row[name] for name in names} for row in rows], right)
+
+    def socket(self, number: int) -> dict[str, Any]:
+        """What there is of a socket."""
+        cells = {name: self.value(f"{name} {number}") for name in SOCKET_CELLS}
+        return {"socket": number, **cells, **{dump: self.queue(dump, number) for dump in ("rq", "wq")}}
+
+    def wrong_descriptors(self, line: str, rows: Rows, rest: str) -> str:
+        world = self.worlds[self.position]
+        right: list[dict[str, Any]] = [
+            {"descriptor": number} | {name: self.value(f"{name} {number}") for name in DESCRIPTOR_CELLS}
+            for number in self.made("fdseq")
+            if line.endswith("all") or world.is_open(number)
+        ]
+        names = ("descriptor", *DESCRIPTOR_CELLS)
+        return self.differs(line, [{name: row[name] for name in names} for row in rows], right)
+
+    def wrong_timers(self, line: str, rows: Rows, rest: str) -> str:
+        right = {name: self.value(name) for name in ("clock", "timers", "least", "firings")}
+        world = self.worlds[self.position]
+        due = sorted(
+            (int(self.value(f"{side}d {number}")), number, side)
+            for number in self.made("fdseq")
+            for side in "rw"
+            if world.is_open(number)
+        )
+        told = [(row["deadline"], row["descriptor"], row["side"]) for row in rows[1:]]
+        return self.differs(line, [rows[0], told], [right, [one for one in due if one[0] > 0]])
+
+    def wrong_holders(self, line: str, rows: Rows, rest: str) -> str:
+        shown = self.value(f"lock {line.split()[-1]}")
+        right = 0 if shown == "absent" else LockWord.of(int(shown)).references
+        statuses = [row["status"] for row in rows]
+        now = [self.value(f"gor {row['goroutine']}") for row in rows]
+        if "take care" in rest:
+            return f"{line} at {self.position}: {rest}"
+        return self.differs(line, [len(rows), statuses], [right, now])
+
+    def wrong_history(self, line: str, rows: Rows, rest: str) -> str:
+        cell, rest = cell_and_rest(line.split()[1:])
+        most = rest or "40"
+        values = [self.value(cell, position) for position in range(self.position + 1)]
+        changes = [(at, values[at - 1], values[at]) for at in range(1, len(values)) if values[at - 1] != values[at]]
+        right = changes if most == "all" else changes[-int(most) :]
+        return self.differs(line, [(row["step"], row["old"], row["new"]) for row in rows], right)
+
+    def wrong_marks(self, line: str, rows: Rows, rest: str) -> str:
+        watched = [row for row in rows if row["sort"] == "watch"]
+        told = [(row["old"], row["new"]) for row in watched]
+        right = [(self.value(row["what"], self.position - 1), self.value(row["what"])) for row in watched]
+        return self.differs(line, told, right)
+
+    def wrong_display(self, line: str, rows: Rows, rest: str) -> str:
+        return self.differs(line, [row["value"] for row in rows], [self.value(row["cell"]) for row in rows])
+
+    def wrong_list(self, line: str, rows: Rows, rest: str) -> str:
+        told = [(row["step"], row["does"].split()[0]) for row in rows]
+        return self.differs(line, told, [(step, self.steps[step - 1][0]) for step, _ in told])
+
+
+def cell_and_rest(words: Sequence[str]) -> tuple[str, str]:
+    """The cell that these words begin with, and the words behind it."""
+    length = 2 if cell_of(list(words[:2])) else 1
+    return " ".join(words[:length]), " ".join(words[length:])
+
+
+def says_something(row: Mapping[str, Any]) -> bool:
+    """Whether a socket isn't at rest."""
+    word = LockWord.of(int(row["lock"]))
+    return word.references > 0 or bool(row["rq"] or row["wq"]) or (not word.closed and row["in"] != "0")

@@ -1,0 +1,123 @@
+package main
+
+// A point of Go's is an edit of one of its functions: of a call, a comparison or the function's name, found by syntax, so that
+// layout and comments don't matter.
+type edit struct {
+	how   how
+	find  string   // as gofmt prints it; "...)" at the end stands for any further arguments
+	times int      // how often it has to stand in the function
+	put   []string // for each time, or one for all; "" leaves it. $0 is what was found, $1 its first argument
+}
+
+type how string
+
+const (
+	replace how = "replace"
+	before  how = "before" // the statement that it is in
+	behind  how = "behind"
+	rename  how = "rename" // the function
+)
+
+// A variant is what a function's edits are in some releases. Those that were never run are marked.
+type variant struct {
+	releases string
+	tried    bool
+	edits    []edit
+}
+
+type rule struct {
+	file, function string
+	variants       []variant
+}
+
+const (
+	lockWords = "internal/poll/fd_mutex.go"
+	sockets   = "internal/poll/fd_unix.go"
+	shutting  = "internal/poll/fd_posix.go"
+	polling   = "runtime/netpoll.go"
+	epolling  = "runtime/netpoll_epoll.go"
+	queueing  = "runtime/sema.go"
+)
+
+// Which file gets which functions of ours.
+var appended = map[string]string{lockWords: "poll.go", polling: "runtime.go"}
+
+const swap = "atomic.CompareAndSwapUint64(&mu.state, old, new)"
+const isClosed = "old&mutexClosed != 0"
+
+// all is one variant for the release that was tried, and for those of which nothing else is known.
+func all(edits ...edit) []variant { return []variant{{"1.18 to 1.25", true, edits}} }
+
+// orLogged is what was found where there is no log, and else another expression.
+func orLogged(put string) string { return "(netrevOn == 0 && $0 || netrevOn != 0 && " + put + ")" }
+
+func one(how how, find string, put string) edit { return edit{how, find, 1, []string{put}} }
+
+var rules = []rule{
+	{lockWords, "incref", all(
+		one(replace, isClosed, "$0 && (netrevOn == 0 || netrevClosed(9, mu, false))"),
+		one(replace, swap, orLogged("netrevSwap(9, mu, old, new, true, false)")))},
+	{lockWords, "increfAndClose", all(
+		one(replace, isClosed, "$0 && (netrevOn == 0 || netrevClosed(10, mu, false))"),
+		one(replace, swap, orLogged("netrevSwap(10, mu, old, new, true, false)")),
+		one(replace, "runtime_Semrelease(&mu.rsema)", "netrevRelease($1, true)"),
+		one(replace, "runtime_Semrelease(&mu.wsema)", "netrevRelease($1, false)"))},
+	{lockWords, "decref", all(
+		one(replace, swap, orLogged("netrevSwap(11, mu, old, new, $return, false)")))},
+	{lockWords, "rwlock", all(
+		one(replace, isClosed, "$0 && (netrevOn == 0 || netrevClosed(12, mu, read))"),
+		one(replace, swap, orLogged("netrevSwap(12, mu, old, new, old&mutexBit == 0, read)")),
+		one(replace, "runtime_Semacquire(...)", "netrevAcquire($1, read)"))},
+	{lockWords, "rwunlock", all(
+		one(replace, swap, orLogged("netrevSwap(13, mu, old, new, $return, read)")),
+		one(replace, "runtime_Semrelease(...)", "netrevRelease($1, read)"))},
+	{sockets, "Init", all(
+		one(replace, "fd.pd.init(fd)", "fd.pd.init(netrevInit(fd))"))},
+	{sockets, "Read", all(
+		one(behind, "ignoringEINTRIO(syscall.Read, fd.Sysfd, ...)", "if netrevOn != 0 { netrevBytes(netrevReadKind, fd, len($3), n, err) }"))},
+	{sockets, "Write", all(
+		one(behind, "ignoringEINTRIO(syscall.Write, fd.Sysfd, ...)", "if netrevOn != 0 { netrevBytes(netrevWriteKind, fd, len($3), n, err) }"))},
+	{shutting, "Shutdown", all(
+		one(replace, "syscall.Shutdown(...)", "fd.netrevShutdown($1, $2)"))},
+	{polling, "poll_runtime_pollOpen", all(
+		one(behind, "pd.publishInfo()", "netrevOpened(pd, fd)"),
+		one(before, "pollcache.free(pd)", "netrevPollAlone(netrevOpenFailed, pd, int64(errno))"))},
+	{polling, "poll_runtime_pollClose", all(
+		one(before, "netpollclose(pd.fd)", "netrevPollAlone(netrevClose, pd, 0)"))},
+	{polling, "poll_runtime_pollReset", all(
+		edit{how: rename, times: 1, put: []string{"netrevGoPollReset"}})},
+	{polling, "poll_runtime_pollWait", all(
+		edit{replace, "netpollcheckerr(pd, int32(mode))", 2, []string{
+			"netrevCheck(netrevWaitBegin, $1, $2)", "netrevCheck(netrevWaitCheck, $1, $2)"}})},
+	{polling, "netpollblock", all(
+		edit{replace, "gpp.CompareAndSwap(...)", 2, []string{"netrevArmed(pd, gpp, mode, $1, $2)"}},
+		one(replace, "netpollcheckerr(pd, mode)", "netrevCheck(netrevCheckAgain, $1, $2)"),
+		one(replace, "gopark(netpollblockcommit, unsafe.Pointer(gpp), ...)", "gopark(netrevCommit(mode), unsafe.Pointer(pd), $3..)"),
+		one(replace, "gpp.Swap(...)", "netrevTaken(pd, gpp, mode)"))},
+	{polling, "poll_runtime_pollSetDeadline", all(
+		one(behind, "lock(&pd.lock)", "netrevNow := int64(0); if netrevOn != 0 { netrevNow = netrevDeadline(pd, mode, d) }"),
+		one(replace, "nanotime()", "netrevClock(netrevNow)"))},
+	{polling, "poll_runtime_pollUnblock", all(
+		one(behind, "pd.publishInfo()", "netrevPoll(netrevEvict, pd, 0, 0, 0)"))},
+	{polling, "netpolldeadlineimpl", all(
+		one(replace, "seq != currentSeq", "netrevFired(pd, seq, currentSeq, read, write)"))},
+	{epolling, "netpoll", []variant{
+		{"1.18 to 1.20", true, []edit{
+			one(before, "pd.setEventErr(ev.events == _EPOLLERR)", "netrevEvent(pd, mode, $1)"),
+			one(behind, "netpollready(&toRun, pd, mode)", "netrevEventDone(pd)")}},
+		{"1.20", false, []edit{
+			one(before, "pd.setEventErr(ev.Events == syscall.EPOLLERR)", "netrevEvent(pd, mode, $1)"),
+			one(behind, "netpollready(&toRun, pd, mode)", "netrevEventDone(pd)")}}}},
+	{queueing, "semacquire1", all(
+		edit{replace, "cansemacquire(addr)", 3, []string{
+			"netrevEasy(addr, profile)", "netrevTake(addr, profile)", "netrevEasy(addr, profile)"}})},
+	{queueing, "semrelease1", []variant{
+		{"1.18 and 1.19", true, []edit{
+			one(replace, "atomic.Xadd(addr, 1)", "netrev, skipframes := netrevMarked(skipframes); if netrev == 0 { $0 }"),
+			edit{replace, "atomic.Load(&root.nwait) == 0", 2, []string{"netrev == 0 && $0", ""}},
+			one(behind, "lockWithRank(&root.lock, lockRankRoot)", "netrevRaise(addr, netrev)")}},
+		{"1.20 to 1.25", false, []edit{
+			one(replace, "atomic.Xadd(addr, 1)", "netrev, skipframes := netrevMarked(skipframes); if netrev == 0 { $0 }"),
+			edit{replace, "root.nwait.Load() == 0", 2, []string{"netrev == 0 && $0", ""}},
+			one(behind, "lockWithRank(&root.lock, lockRankRoot)", "netrevRaise(addr, netrev)")}}}},
+}

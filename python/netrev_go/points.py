@@ -1,0 +1,81 @@
+"""What a log has: points in the order of one counter, and the stacks from which they were passed."""
+
+from __future__ import annotations
+
+from dataclasses import dataclass, field
+from enum import IntEnum
+from typing import NamedTuple
+
+
+class Kind(IntEnum):
+    """What a point is: the number of the step's kind, or above 100 what is no step of its own."""
+
+    INIT = 3
+    READ = 6
+    WRITE = 7
+    INCREF = 9
+    INCREF_CLOSE = 10
+    DECREF = 11
+    RW_LOCK = 12
+    RW_UNLOCK = 13
+    ACQUIRE = 14
+    RELEASE = 15
+    OPEN = 16
+    CLOSE = 17
+    RESET = 18
+    WAIT_BEGIN = 19
+    ARM = 20
+    CHECK = 21
+    PARK = 22
+    SWAP = 23
+    WAIT_CHECK = 24
+    SET_DEADLINE = 25
+    EVICT = 26
+    EVENT = 27
+    FIRE = 30
+    CLOSE_WRITE = 31
+    OPEN_FAILED = 116
+
+
+KINDS = frozenset(int(kind) for kind in Kind)
+LOCKING = frozenset({Kind.INCREF, Kind.INCREF_CLOSE, Kind.DECREF, Kind.RW_LOCK, Kind.RW_UNLOCK})
+# Points at a lock word's address. All others but INIT are at a descriptor's.
+AT_A_WORD = LOCKING | {Kind.READ, Kind.WRITE, Kind.ACQUIRE, Kind.RELEASE, Kind.CLOSE_WRITE}
+
+
+class Point(NamedTuple):
+    """A point that a goroutine passed (0: none did): at which address, what was seen there, a time of Go's clock where one
+    was read, and the number of the stack (0: none was taken)."""
+
+    number: int
+    kind: int
+    goroutine: int
+    at: int
+    a: int
+    b: int
+    c: int
+    time: int
+    stack: int
+
+
+class Stack(NamedTuple):
+    """Addresses behind the calls, from the innermost; the address behind the `go` statement that made the goroutine, and of
+    the function that it started."""
+
+    made: int
+    started: int
+    calls: tuple[int, ...]
+
+
+@dataclass
+class Log:
+    """A log as it was read."""
+
+    points: list[Point]
+    stacks: dict[int, Stack] = field(default_factory=dict)
+    begin: int = 0
+    process: int = 0
+    text: int = 0
+    program: str = ""
+    from_the_start: bool = True  # no point is missing before the first
+    notes: list[str] = field(default_factory=list)

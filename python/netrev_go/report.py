@@ -1,0 +1,105 @@
+"""What is said of a recording: netrev's words, who hangs and since which step, with the line of the program, and the line to
+type next. Text of the program's, as names of functions and files, is printed through `plain`."""
+
+from __future__ import annotations
+
+import pathlib
+import shlex
+import shutil
+
+from netrev_model.plain import plain
+
+from .asking import at_the_end, check, hanging, netrev_program, never_closed, suspects
+from .lines import Call, Calls
+from .making import Recording
+from .where import own_line
+
+MOST_TOLD, MOST_SUSPECTS = 20, 12
+WAITS = {"r": "waits to read", "w": "waits to write"}
+LOCKS = {"r": "waits for the lock of reading", "w": "waits for the lock of writing"}
+AT_THE_LOCK = ("acquiring", "queued", "relock")
+
+
+def in_words(status: str) -> str:
+    words = status.split()
+    side = words[-1]
+    if words[0] in AT_THE_LOCK:
+        return f"{LOCKS.get(side, 'waits for a lock')} of socket {words[1]}"
+    if words[0] == "owing":
+        return f"owes releases to those that wait for socket {words[1]}"
+    return WAITS.get(side, "waits")
+
+
+def short(call: Call) -> str:
+    """A call's file and line."""
+    return plain(f"{call.file}:{call.line}")
+
+
+def line_of(calls: Calls | None) -> tuple[str, str]:
+    """Where the program stands, and the function that it called there."""
+    own = own_line(calls) if calls else None
+    if own:
+        return short(own[0]), plain(own[1] or own[0].function)
+    if calls and calls.calls:
+        return "(no line of the program)", plain(calls.calls[0].function)
+    return "(no line known)", ""
+
+
+def told_of(g: int, status: str, step: int, calls: Calls | None) -> str:
+    line, function = line_of(calls)
+    made = f"; started at {short(calls.made)}" if calls and calls.made else ""
+    return f"  {line}: {function + ' ' if function else ''}{in_words(status)} (goroutine {g}, since step {step}{made})"
+
+
+def hang_lines(recording: Recording, calls: dict[int, Calls], waiting: dict[int, str]) -> list[str]:
+    """A line for each goroutine that hangs, those with a line of the program first."""
+
+    def calls_of(g: int) -> Calls | None:
+        step = recording.last_steps[g]
+        return calls.get(recording.stacks[step - 1]) if step else None
+
+    def order(g: int) -> tuple[bool, int]:
+        known = calls_of(g)
+        return (not (known and own_line(known)), -recording.last_steps[g])
+
+    told = [told_of(g, waiting[g], recording.last_steps[g], calls_of(g)) for g in sorted(waiting, key=order)]
+    rest = len(told) - MOST_TOLD
+    return told[:MOST_TOLD] + ([f"  and {rest} more"] if rest > 0 else [])
+
+
+def next_line(name: pathlib.Path, told: list[str]) -> str:
+    """The line to type next: nrdb, with what the first suspect says to look at, or with a look at who waits."""
+    looks = [line.strip().removeprefix("look:").split(";") for line in told if line.strip().startswith("look:")]
+    commands = [command.strip() for command in looks[0]] if looks else ["continue", "info goroutines"]
+    program = "nrdb" if shutil.which("nrdb") else "./nrdb"
+    words = [program, str(name), *(word for command in commands for word in ("-ex", command))]
+    return plain(f"next: {shlex.join(words)}")
+
+
+def report(recording: Recording, name: pathlib.Path, calls: dict[int, Calls]) -> tuple[bool, list[str]]:
+    """Whether netrev takes the recording, and the lines that say what it has."""
+    counts = f"{recording.goroutines} goroutines, {recording.sockets} sockets"
+    notes = [f"  ({note})" for note in recording.notes]
+    netrev = netrev_program()
+    if netrev is None:
+        return True, [
+            f"{plain(str(name))}: {len(recording.lines)} steps; {counts}", *notes,
+            "  not checked: no netrev is here (NETREV names one)",
+        ]  # fmt: skip
+    try:
+        taken, words = check(netrev, name)
+    except OSError as fault:
+        return False, [f"{plain(str(name))}: {counts}", *notes, f"  not checked: {plain(netrev)}: {fault.strerror}"]
+    lines = [f"{plain(str(name))}: {plain(words)}; {counts}", *notes]
+    if not taken:
+        return False, [*lines, "  netrev refuses it: that is a fault of netrev-go's. Please keep the log and report it"]
+    cells = [f"gor {g}" for g in range(recording.goroutines)] + [f"lock {s}" for s in range(recording.sockets)]
+    values = at_the_end(netrev, name, len(recording.lines), cells)
+    lines += hang_lines(recording, calls, hanging(values))
+    lines += [
+        f"  socket {s} is closed, and {left} of its references are held: info holders {s}"
+        for s, left in never_closed(values).items()
+    ]
+    told = suspects(netrev, name)
+    lines += ["  nrdb suspects:", *(f"    {plain(line)}" for line in told[:MOST_SUSPECTS])] if told else []
+    return True, [*lines, next_line(name, told)]

@@ -1,0 +1,136 @@
+"""Runs Go on the user's program with the overlay, waits for its end or brings it about, and finds the logs that it left."""
+
+from __future__ import annotations
+
+import contextlib
+import os
+import pathlib
+import re
+import shutil
+import signal
+import subprocess
+import tempfile
+import time
+from collections.abc import Callable
+from dataclasses import dataclass
+
+from .toolchain import Trouble
+
+MOST_POINTS = 2**20
+POINT_BYTES, STACK_BYTES, SPARE = 64, 4 * 2**20, 64 * 2**20
+LOG = re.compile(r"log\.(\d+)(?:\.\d+)?\Z")
+GRACE = 3.0
+LOOK = 0.05
+
+
+@dataclass(frozen=True)
+class Limits:
+    """How the program is to be run."""
+
+    seconds: float | None = None
+    processors: int | None = None
+    points: int = MOST_POINTS
+    lines: bool = True
+
+
+def logs_folder(points: int) -> pathlib.Path:
+    """A new folder with room for a log: in memory, where there is such a file system."""
+    wanted = points * POINT_BYTES + STACK_BYTES + SPARE
+    for place in ("/dev/shm", tempfile.gettempdir()):
+        if os.access(place, os.W_OK) and shutil.disk_usage(place).free >= wanted:
+            return pathlib.Path(tempfile.mkdtemp(prefix="netrev-go-", dir=place))
+    raise Trouble(
+        f"neither /dev/shm nor {tempfile.gettempdir()} has {wanted // 2**20} MB free for a log: "
+        "TMPDIR names another folder, --points makes the log smaller"
+    )
+
+
+def logs_in(folder: pathlib.Path) -> list[pathlib.Path]:
+    """The logs of a folder, in the order in which their processes began."""
+    logs = [path for path in folder.iterdir() if LOG.match(path.name)]
+    return sorted(logs, key=lambda path: path.stat().st_ino)
+
+
+def process_of(log: pathlib.Path) -> int:
+    found = LOG.match(log.name)
+    return int(found[1]) if found else 0
+
+
+def environment(folder: pathlib.Path, limits: Limits) -> dict[str, str]:
+    settings = {"NETREV_LOG": str(folder / "log"), "NETREV_POINTS": str(limits.points)}
+    if limits.processors:
+        settings["GOMAXPROCS"] = str(limits.processors)
+    if not limits.lines:
+        settings["NETREV_LINES"] = "0"
+    return os.environ | settings
+
+
+def writes(process: int, log: pathlib.Path) -> bool:
+    """Whether a process writes that log still: its number may be another's by now."""
+    try:
+        return os.path.realpath(log) in pathlib.Path(f"/proc/{process}/maps").read_text(errors="replace")
+    except OSError:
+        return False
+
+
+def send(log: pathlib.Path, number: signal.Signals) -> None:
+    """A signal to the process that writes a log, if it runs."""
+    if writes(process_of(log), log):
+        with contextlib.suppress(ProcessLookupError):
+            os.kill(process_of(log), number)
+
+
+def send_all(folder: pathlib.Path, number: signal.Signals) -> None:
+    for log in logs_in(folder):
+        send(log, number)
+
+
+class Runner:
+    """Go's command, and the programs that it starts."""
+
+    def __init__(self, command: list[str], folder: pathlib.Path, limits: Limits) -> None:
+        self.folder, self.limits = folder, limits
+        self.wanted = False  # that a recording is made of what is there so far
+        signal.signal(signal.SIGINT, lambda *_: None)  # a program at the terminal gets its own
+        signal.signal(signal.SIGTERM, lambda *_: send_all(folder, signal.SIGTERM))
+        signal.signal(signal.SIGUSR1, lambda *_: setattr(self, "wanted", True))
+        self.began: dict[pathlib.Path, float] = {}
+        self.told: set[pathlib.Path] = set()  # to quit
+        self.process = subprocess.Popen(command, env=environment(folder, limits))
+
+    def wait(self, so_far: Callable[[], None]) -> int:
+        """Go's exit status. `so_far` is called where a recording is asked for while the program runs."""
+        while self.process.poll() is None:
+            time.sleep(LOOK)
+            if self.wanted:
+                self.wanted = False
+                so_far()
+            if self.limits.seconds is not None:
+                self.end_the_old(time.monotonic(), self.limits.seconds)
+        return self.process.returncode
+
+    def end_the_old(self, now: float, seconds: float) -> None:
+        """Ends each process whose log is so old: first by SIGQUIT, which a program may take for something else."""
+        for log in logs_in(self.folder):
+            age = now - self.began.setdefault(log, now)
+            if age >= seconds and log not in self.told:
+                self.told.add(log)
+                send(log, signal.SIGQUIT)
+            elif age >= seconds + GRACE:
+                send(log, signal.SIGKILL)
+
+
+def log_of_process(process: int) -> pathlib.Path:
+    """The log that a running process writes."""
+    try:
+        maps = pathlib.Path(f"/proc/{process}/maps").read_text(errors="replace")
+    except OSError as fault:
+        raise Trouble(f"process {process} can't be looked at: {fault.strerror}") from None
+    for line in maps.splitlines():
+        path = line.split(maxsplit=5)[5:]
+        if path and re.search(rf"\.{process}(\.\d+)?\Z", path[0]):
+            return pathlib.Path(path[0])
+    raise Trouble(
+        f"process {process} has no log: it has to be built by `netrev-go build` and started with NETREV_LOG=PATH, "
+        "or run by `netrev-go run`"
+    )

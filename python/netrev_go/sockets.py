@@ -1,0 +1,167 @@
+"""Whose points these are, and which sockets a recording has room for.
+
+Steps of different sockets share nothing but the order of their goroutines, the clock and the list of firings. So the points of
+some sockets alone are a recording again. A socket is whole if the log has its opening: it is left out otherwise."""
+
+from __future__ import annotations
+
+from dataclasses import dataclass, field
+
+from .points import AT_A_WORD, LOCKING, Kind, Point
+
+BUFFER = 65_536
+OUTPUT = 4_096
+CLOSED = 1
+AGAIN = 1
+MOST_SOCKETS, MOST_GOROUTINES, MOST_STEPS = 256, 4_096, 1_000_000
+
+
+@dataclass(eq=False)
+class Socket:
+    """A socket from its opening on: what the log has of it, and what the converter keeps of it."""
+
+    opening: int
+    goroutines: set[int] = field(default_factory=set)
+    steps: int = 1  # at most
+    has_descriptor: bool = False
+    failed: bool = False  # the poller wouldn't have it, as a regular file
+    closed: bool = False  # the log has its end
+    sequences: tuple[int, int] = (0, 0)  # Go's, of reading and of writing, when it was opened
+    written: int = 0
+    largest: int = OUTPUT
+    full_at: int = 0
+    last_put: int = -1  # the number of the last point of a write that put bytes
+    number: int = -1
+    descriptor: int = -1
+    is_open: bool = False  # where the converter is
+    tag: int = 0
+    held: int = 0
+    peer_closed: bool = False
+    shut: bool = False
+
+    def capacity(self) -> int:
+        """How large its output is: so large that it was full where Go first found it so, else as large as the largest write."""
+        return self.full_at or self.largest
+
+
+class Owners:
+    """Finds the socket that each point is of."""
+
+    def __init__(self) -> None:
+        self.sockets: list[Socket] = []
+        self.words: dict[int, Socket] = {}
+        self.uses: dict[int, list[Socket]] = {}
+        self.opening: dict[int, Socket] = {}
+
+    def of(self, point: Point) -> Socket | None:
+        """The socket of the next point, if it is known."""
+        kind = point.kind
+        if kind in AT_A_WORD:
+            return self.at_a_word(point)
+        if kind == Kind.INIT:
+            socket = Socket(len(self.sockets))
+            self.sockets.append(socket)
+            self.words[point.at] = self.opening[point.goroutine] = socket
+            return socket
+        if kind == Kind.OPEN:
+            return self.opened(point)
+        if kind == Kind.FIRE:
+            return self.fired(point)
+        uses = self.uses.get(point.at)
+        if not uses:
+            return None
+        if kind == Kind.CLOSE:
+            uses[-1].closed = True
+        elif kind == Kind.OPEN_FAILED:
+            uses[-1].failed = True
+            return uses.pop()
+        return uses[-1]
+
+    def at_a_word(self, point: Point) -> Socket | None:
+        socket = self.words.get(point.at)
+        if socket and socket.closed and point.kind in LOCKING and not point.a & CLOSED:
+            del self.words[point.at]  # the address is another's now, whose opening isn't in the log
+            return None
+        return socket
+
+    def opened(self, point: Point) -> Socket | None:
+        socket = self.opening.pop(point.goroutine, None)
+        uses = self.uses.setdefault(point.at, [])
+        if socket is None:
+            uses.clear()
+            return None
+        socket.has_descriptor = True
+        socket.sequences = point.b, point.c
+        uses.append(socket)
+        return socket
+
+    def fired(self, point: Point) -> Socket | None:
+        """The use of the descriptor that armed the timer: an earlier one, where the firing is of an old sequence."""
+        side = 0 if point.b & 1 else 1
+        for socket in reversed(self.uses.get(point.at, ())):
+            if socket.sequences[side] <= point.a:
+                return socket
+        return None
+
+
+def count_bytes(socket: Socket, point: Point) -> None:
+    """Counts a read or a write at its socket: the steps that it may be, and how large the output is."""
+    got = max(point.b, 0)
+    if point.kind == Kind.READ:
+        socket.steps += 2 * (got // BUFFER)
+        return
+    socket.written += got
+    socket.largest = max(socket.largest, min(got, BUFFER))
+    socket.steps += 2 * (got // OUTPUT)
+    if got:
+        socket.last_put = point.number
+    if point.c == AGAIN and not socket.full_at:
+        socket.full_at = max(1, min(socket.written, BUFFER))
+
+
+@dataclass
+class Owned:
+    """Points with their sockets, and all sockets."""
+
+    points: list[tuple[Point, Socket]]
+    sockets: list[Socket]
+    unknown: int  # points of sockets whose opening isn't in the log
+
+
+def owned(points: list[Point]) -> Owned:
+    """Each point with its socket, of which the goroutines and the steps at most are counted."""
+    owners = Owners()
+    of, words = owners.of, owners.words
+    mine = []
+    for point in points:
+        kind, goroutine, at = point[1:4]
+        socket = words.get(at) if kind in AT_A_WORD else None
+        if socket is None or socket.closed:
+            socket = of(point)
+            if socket is None:
+                continue
+        if kind == Kind.READ or kind == Kind.WRITE:
+            count_bytes(socket, point)
+        socket.goroutines.add(goroutine)
+        socket.steps += 2
+        mine.append((point, socket))
+    known = [socket for socket in owners.sockets if socket.has_descriptor and not socket.failed]
+    for socket in known:
+        socket.goroutines.discard(0)
+    return Owned(mine, known, len(points) - len(mine))
+
+
+def chosen(sockets: list[Socket], most: int = MOST_SOCKETS) -> set[Socket]:
+    """The sockets that a recording has room for: the open ones first, and the newest of them and of the others."""
+    kept: set[Socket] = set()
+    goroutines: set[int] = set()
+    steps = 0
+    for socket in sorted(sockets, key=lambda socket: (socket.closed, -socket.opening)):
+        if len(kept) == min(most, MOST_SOCKETS):
+            break
+        together = goroutines | socket.goroutines
+        if len(together) <= MOST_GOROUTINES and steps + socket.steps + len(together) <= MOST_STEPS:
+            kept.add(socket)
+            goroutines = together
+            steps += socket.steps
+    return kept

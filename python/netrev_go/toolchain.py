@@ -1,0 +1,120 @@
+"""The installed Go, and the overlay that makes it record: a few of its files, changed, in a folder of the user's cache."""
+
+from __future__ import annotations
+
+import hashlib
+import json
+import os
+import pathlib
+import shutil
+import subprocess
+import tempfile
+from dataclasses import dataclass
+
+SOURCES = pathlib.Path(__file__).resolve().parent / "go"
+TRIED = "go1.19.8"
+HOW_TO_INSTALL = "Debian has it: apt-get install golang-go"
+
+
+class Trouble(Exception):
+    """Something that stands in the way, and what to do about it."""
+
+
+@dataclass(frozen=True)
+class Go:
+    """An installed Go."""
+
+    program: str
+    root: pathlib.Path
+    version: str
+    system: str
+    flags: str
+
+    def sources(self) -> pathlib.Path:
+        return self.root / "src"
+
+
+def find_go() -> Go:
+    program = shutil.which("go")
+    if not program:
+        raise Trouble(f"there is no `go` on the PATH. {HOW_TO_INSTALL}")
+    run = subprocess.run([program, "env", "-json"], capture_output=True, text=True, check=False)
+    if run.returncode != 0:
+        raise Trouble(f"`go env` failed: {run.stderr.strip()}")
+    told = json.loads(run.stdout)
+    go = Go(
+        program, pathlib.Path(told["GOROOT"]), told["GOVERSION"], f"{told['GOOS']}/{told['GOARCH']}", told["GOFLAGS"]
+    )
+    if go.system != "linux/amd64":
+        raise Trouble(f"Go builds for {go.system} here, and netrev-go records linux/amd64 alone: unset GOOS and GOARCH")
+    if not (go.sources() / "runtime/netpoll.go").exists():
+        raise Trouble(f"the sources of Go's library aren't in {go.sources()}. Debian: apt-get install golang-src")
+    return go
+
+
+def cache() -> pathlib.Path:
+    """Where overlays are kept."""
+    base = os.environ.get("XDG_CACHE_HOME") or os.path.expanduser("~/.cache")
+    return pathlib.Path(base) / "netrev-go"
+
+
+def key_of(go: Go) -> str:
+    """What an overlay depends on: Go's files below the two packages that are changed, and ours."""
+    digest = hashlib.sha256(f"{go.version} {go.root}".encode())
+    ours = sorted(SOURCES.glob("*/*.go"))
+    theirs = [path for name in ("runtime", "internal/poll") for path in sorted((go.sources() / name).glob("*.go"))]
+    for path in (*ours, *theirs):
+        digest.update(path.read_bytes() if path in ours else f"{path} {path.stat().st_mtime_ns}".encode())
+    return f"{go.version}-{digest.hexdigest()[:12]}"
+
+
+def quiet_go(go: Go, folder: pathlib.Path, *words: str) -> subprocess.CompletedProcess[str]:
+    """Runs Go on our own program, whatever the user's flags and modules are."""
+    environment = {name: value for name, value in os.environ.items() if name not in ("GOFLAGS", "NETREV_LOG")}
+    environment |= {"GO111MODULE": "off", "CGO_ENABLED": "0"}
+    return subprocess.run(
+        [go.program, *words], cwd=folder, env=environment, capture_output=True, text=True, check=False
+    )
+
+
+def points_program(go: Go, folder: pathlib.Path) -> pathlib.Path:
+    """The program that finds the points, built by the Go that it is for."""
+    program = folder / "points"
+    run = quiet_go(go, SOURCES / "points", "build", "-o", str(program), ".")
+    if run.returncode != 0:
+        raise Trouble(f"Go couldn't build netrev-go's own program: {run.stderr.strip()}")
+    return program
+
+
+def fit(go: Go) -> tuple[bool, list[str]]:
+    """Whether all rules fit this Go, and what is said of each."""
+    with tempfile.TemporaryDirectory() as folder:
+        program = points_program(go, pathlib.Path(folder))
+        run = subprocess.run([program, "fit", go.sources()], capture_output=True, text=True, check=False)
+    return run.returncode == 0, (run.stdout + run.stderr).splitlines()
+
+
+def overlay(go: Go) -> pathlib.Path:
+    """The overlay for this Go, made where it isn't there yet."""
+    made = cache() / key_of(go)
+    if not (made / "overlay.json").exists():
+        try:
+            make_overlay(go, made)
+        except OSError as fault:
+            raise Trouble(f"{made} can't be written ({fault.strerror}): XDG_CACHE_HOME names another folder") from None
+    return made / "overlay.json"
+
+
+def make_overlay(go: Go, made: pathlib.Path) -> None:
+    made.mkdir(parents=True, exist_ok=True)
+    program = points_program(go, made)
+    run = subprocess.run(
+        [program, "overlay", go.sources(), SOURCES / "log", made], capture_output=True, text=True, check=False
+    )
+    program.unlink()
+    if run.returncode != 0:
+        unfit = [line for line in run.stdout.splitlines() if line.startswith("unfit ")]
+        raise Trouble(
+            f"{go.version} isn't a release that netrev-go knows. These places of it are other than the rules say "
+            f"(`netrev-go doctor` has all; {TRIED} was tried):\n" + "\n".join([*unfit, run.stderr]).strip()
+        )

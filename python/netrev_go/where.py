@@ -1,0 +1,62 @@
+"""NAME.where, the file of lines beside a recording (docs/RECORDING.md has its form)."""
+
+from __future__ import annotations
+
+import json
+import pathlib
+
+from .lines import OF_A_LIBRARY, OF_THE_PROGRAM, Call, Calls
+
+STEPS_A_LINE = 1_000
+
+
+class Numbered:
+    """The lines of the file: each call and each stack once, numbered from 1 in the order of their first step."""
+
+    def __init__(self, calls: dict[int, Calls]) -> None:
+        self.stacks = calls
+        self.lines: list[str] = []
+        self.calls: dict[Call, int] = {}
+        self.numbers: dict[int, int] = {}
+
+    def add(self, value: object) -> None:
+        self.lines.append(json.dumps(value, separators=(",", ":")) + "\n")
+
+    def call(self, call: Call) -> int:
+        if call not in self.calls:
+            self.calls[call] = len(self.calls) + 1
+            self.add({"call": self.calls[call], **call._asdict()})
+        return self.calls[call]
+
+    def stack(self, key: int) -> int:
+        """The number of a stack; 0 for none."""
+        if key not in self.stacks or not self.stacks[key].calls:
+            return 0
+        if key not in self.numbers:
+            known = self.stacks[key]
+            calls = [self.call(call) for call in known.calls]
+            made = {"made": self.call(known.made)} if known.made else {}
+            self.numbers[key] = len(self.numbers) + 1
+            self.add({"stack": self.numbers[key], "calls": calls, **made})
+        return self.numbers[key]
+
+
+def write_where(name: pathlib.Path, stacks: list[int], calls: dict[int, Calls]) -> None:
+    """Writes the file of a recording whose steps have these stacks."""
+    numbered = Numbered(calls)
+    numbered.add({"where": 1, "steps": len(stacks)})
+    numbers = [numbered.stack(key) for key in stacks]
+    for first in range(0, len(stacks), STEPS_A_LINE):
+        numbered.add({"step": first + 1, "stacks": numbers[first : first + STEPS_A_LINE]})
+    name.write_text("".join(numbered.lines), encoding="ascii")
+
+
+def own_line(calls: Calls) -> tuple[Call, str] | None:
+    """The innermost line of the program, else of a library, and the function that is called there."""
+    for wanted in ((OF_THE_PROGRAM,), (OF_THE_PROGRAM, OF_A_LIBRARY)):
+        inner = ""
+        for call in calls.calls:
+            if call.of in wanted:
+                return call, inner
+            inner = call.function
+    return None

@@ -1,0 +1,54 @@
+"""The model in netrev's place:  python3 python netrev_model run|check|upgrade FILE
+
+It answers as the program should, as far as the model has an opinion, and is no netrev: nothing of it is proved, and it is slow
+where a recording is long. Tests of nrdb that need no built program are played with it.
+"""
+
+import sys
+from pathlib import Path
+
+from .observing import Observer
+from .program import printed, replay
+from .reading import Fault
+from .session import Session, recording_of
+
+
+def run(recording: bytes) -> int:
+    """Answers the lines of standard input as they come."""
+    try:
+        replayed = replay(recording, Observer(), keeps_answers=False)
+    except Fault as fault:
+        print(fault)
+        return 1
+    session = Session(recording_of(replayed.text.steps, replayed.worlds), Observer())
+    for line in sys.stdin.buffer:
+        for reply in session.answer(line.removesuffix(b"\n")) or ():
+            print(reply)
+        sys.stdout.flush()
+        if session.has_ended:
+            break
+    return 0
+
+
+def main(words: list[str]) -> int:
+    """Plays what the words ask for; the exit status."""
+    if len(words) != 2 or words[0] not in ("run", "check", "upgrade"):
+        print(__doc__, file=sys.stderr)
+        return 2
+    program, path = words
+    try:
+        recording = Path(path).read_bytes()
+    except OSError:
+        return 3
+    if program == "run":
+        return run(recording)
+    ended = printed(program, recording, b"", Observer())
+    if ended is None:
+        print("the model has no opinion on this recording", file=sys.stderr)
+        return 3
+    sys.stdout.buffer.write(ended.output)
+    return ended.status
+
+
+if __name__ == "__main__":
+    sys.exit(main(sys.argv[1:]))

@@ -1,0 +1,251 @@
+"""Finds one history for what all fronts of a session were answered, or that there is none.
+
+A history is an order of all lines in which each front's own order is kept, in which a line whose reply had been read
+before another line was sent comes before that one, and in which each reply is what the debugger of debugger.py answers
+in the state that the commands before it lead to. So a look shows a state between its sending and its reply, and none
+older than what its front was shown before; and once the session has placed as many commands as it has room for, each
+further one is answered so.
+
+The search goes from the beginning and asks which front's line is next. A look or a fault that fits is taken at once,
+which loses no history: it changes nothing, and could stand as early in any of them. Where several commands fit it tries
+those first whose reply tells where they began, as that of `stepi` does. It doesn't leave a position for which lines are
+left that can't be reached for all of them any more, nor take away a mark that another line is still to show. And what
+it has left once, which lines were taken and what state they led to, it doesn't enter again.
+"""
+
+from __future__ import annotations
+
+import re
+from collections import Counter
+from dataclasses import dataclass
+from itertools import accumulate
+from typing import Any, NamedTuple, Optional, Sequence
+
+from .debugger import CHECKPOINTS_FULL, FULL, MARKS_FULL, Asked, Recording, Reply, State, is_command
+
+AT = re.compile(r"at (\d+)( end| start)?( by [\d ]+)?$")
+CHECKPOINT = re.compile(r"checkpoint (\d+) at (\d+)$")
+POSITION = re.compile(r"at (\d+) of \d+ (forward|reverse)$")
+DELETED = re.compile(r"deleted (mark|checkpoint) (\d+)$")
+
+Name = tuple[str, int]  # a mark or a checkpoint, by its number
+Choice = tuple[int, State]  # a front, and the state behind its next line
+
+
+@dataclass
+class Exchange:
+    """A line and the lines that it was answered. Sending and reading are told by numbers that rise over all fronts."""
+
+    asked: Asked
+    line: bytes
+    sent: int
+    reply: Reply = ()
+    read: int = 0
+
+    def is_placed(self) -> bool:
+        """Whether the line is a command that found a place in the journal."""
+        return is_command(self.asked) and self.reply != (FULL,)
+
+    def is_calm(self) -> bool:
+        """Whether the line changes nothing, wherever it has this reply."""
+        return not is_command(self.asked) or self.reply[0].startswith("fault ")
+
+
+class Clue(NamedTuple):
+    """What a reply tells of its place in a history, whatever the lines before it are."""
+
+    leads_to: Optional[int] = None  # the position behind it
+    stands_at: frozenset[int] = frozenset()  # the positions at which it may have been answered, where few are
+    moves: bool = False  # from there to another
+    shows: frozenset[Name] = frozenset()  # marks and checkpoints that stand
+    takes_away: Optional[Name] = None  # a mark or a checkpoint
+
+    @staticmethod
+    def of(exchange: Exchange) -> Clue:
+        sort, what, first = exchange.asked.sort, exchange.asked.what, exchange.reply[0]
+        if moved := AT.match(first):
+            return Clue.of_move(sort, what, *moved.groups())
+        if made := CHECKPOINT.match(first):
+            return Clue(stands_at=frozenset([int(made[2])]))
+        if position := POSITION.match(first):
+            return Clue(stands_at=frozenset([int(position[1])]))
+        if deleted := DELETED.match(first):
+            return Clue(takes_away=(deleted[1], int(deleted[2])))
+        if sort == "info":
+            kind = "mark" if what == "breakpoints" else "checkpoint"
+            return Clue(shows=frozenset((kind, int(line.split(" ")[0])) for line in exchange.reply[1:]))
+        return Clue()
+
+    @staticmethod
+    def of_move(sort: str, what: Any, position: str, edge: Optional[str], numbers: Optional[str]) -> Clue:
+        there = int(position)
+        if sort == "step" and not edge:
+            count, backwards = what
+            begins = [there + count] if backwards else [there - count, there + count]
+            return Clue(there, frozenset(begins), moves=True)
+        if sort == "restart":
+            return Clue(there, shows=frozenset([("checkpoint", what)]))
+        if numbers:
+            return Clue(there, shows=frozenset(("mark", int(number)) for number in numbers.split()[1:]))
+        return Clue(there)
+
+
+def earliest(numbers: list[int]) -> list[int]:
+    """For each place the least of the numbers from there on."""
+    least: list[int] = list(accumulate(reversed(numbers), lambda one, other: min(one, other)))
+    return least[::-1]
+
+
+class GaveUp(Exception):
+    """The search tried too much."""
+
+
+class Search:
+    """A search for the history of what some fronts exchanged, each list in the order of that front's lines."""
+
+    def __init__(
+        self, recording: Recording, fronts: Sequence[Sequence[Exchange]], room: int, most: int = 1_000_000
+    ) -> None:
+        self.recording = recording
+        self.fronts = [list(front) for front in fronts]
+        self.left = most
+        # for each line, when a reply to it or to a later one of its front was first read
+        self.known = [earliest([one.read for one in front]) for front in self.fronts]
+        self.state = State()
+        self.order: list[int] = []
+        self.taken = [0] * len(fronts)
+        self.clues = self.read_clues()
+        # of the lines that are left: how many have to be placed; lead to a position, leave it, are answered there; and
+        # show a mark or checkpoint
+        self.unplaced = 0
+        self.entries: Counter[Optional[int]] = Counter()
+        self.leaves: Counter[int] = Counter()
+        self.stays: Counter[int] = Counter()
+        self.shown: Counter[Name] = Counter()
+        for front, exchanges in enumerate(self.fronts):
+            for at in range(len(exchanges)):
+                self.count(front, at, 1)
+        self.is_full = self.unplaced == room
+        self.fits_in = self.unplaced <= room
+        replies = {one.reply for front in self.fronts for one in front}
+        self.are_full = not replies.isdisjoint({(MARKS_FULL,), (CHECKPOINTS_FULL,)})
+
+    def read_clues(self) -> list[list[Clue]]:
+        """The clues of all lines, in which a line stands only at positions that some line leads to."""
+        clues = [[Clue.of(one) for one in front] for front in self.fronts]
+        reached = {0, *(clue.leads_to for front in clues for clue in front if clue.leads_to is not None)}
+        return [[clue._replace(stands_at=clue.stands_at & reached) for clue in front] for front in clues]
+
+    def count(self, front: int, at: int, more: int) -> None:
+        """Counts a line in or out of those that are left."""
+        clue = self.clues[front][at]
+        self.unplaced += more * self.fronts[front][at].is_placed()
+        if clue.leads_to is not None:
+            self.entries[clue.leads_to] += more
+        if len(clue.stands_at) == 1:
+            (place,) = clue.stands_at
+            (self.leaves if clue.moves else self.stays)[place] += more
+        for name in clue.shows:
+            self.shown[name] += more
+
+    def next_of(self, front: int) -> Exchange:
+        return self.fronts[front][self.taken[front]]
+
+    def clue_of(self, front: int) -> Clue:
+        return self.clues[front][self.taken[front]]
+
+    def open_fronts(self) -> list[int]:
+        """The fronts whose next line may come now: nobody had read a reply before it was sent whose line is to come."""
+        left = [front for front, at in enumerate(self.taken) if at < len(self.fronts[front])]
+        first: int = min((self.known[front][self.taken[front]] for front in left), default=0)
+        return [front for front in left if self.next_of(front).sent < first]
+
+    def behind(self, front: int) -> Optional[State]:
+        """The state behind the front's next line where it fits now, else None."""
+        self.left -= 1
+        if self.left < 0:
+            raise GaveUp
+        exchange = self.next_of(front)
+        if exchange.reply == (FULL,):
+            return self.state if is_command(exchange.asked) and self.is_full and not self.unplaced else None
+        state, reply = self.recording.answer(self.state, exchange.asked)
+        return state if reply == exchange.reply and self.may_leave(front, state) else None
+
+    def may_leave(self, front: int, state: State) -> bool:
+        """Whether the other lines that are left may still be answered behind the front's next line."""
+        clue = self.clue_of(front)
+        if clue.takes_away and self.shown[clue.takes_away]:
+            return False
+        if len(state.marks) < len(self.state.marks) and not clue.takes_away:
+            stopped = {("mark", number) for number, _ in set(self.state.marks) - set(state.marks)}
+            if any(self.shown[name] > (name in clue.shows) for name in stopped):
+                return False
+        here = self.state.position
+        if state.position == here:
+            return True
+        leaves = self.leaves[here] - (clue.moves and clue.stands_at == {here})
+        return leaves <= self.entries[here] and (self.entries[here] > 0 or not self.stays[here])
+
+    def take(self, front: int, state: State) -> None:
+        """Goes over a front's next line."""
+        self.count(front, self.taken[front], -1)
+        self.taken[front] += 1
+        self.order.append(front)
+        self.state = state
+
+    def back_to(self, length: int, state: State) -> None:
+        """Goes back to where so many lines were taken."""
+        while len(self.order) > length:
+            front = self.order.pop()
+            self.taken[front] -= 1
+            self.count(front, self.taken[front], 1)
+        self.state = state
+
+    def choices(self) -> list[Choice]:
+        """Takes all that fits and changes nothing, and gives what fits then, the best last."""
+        while True:
+            fitting = [(front, state) for front in self.open_fronts() if (state := self.behind(front)) is not None]
+            calm = [choice for choice in fitting if self.next_of(choice[0]).is_calm()]
+            free = [choice for choice in fitting if self.may_go_now(choice[0])]
+            if not calm and not free:
+                return sorted(fitting, key=self.worth)
+            for choice in calm or free[:1]:
+                self.take(*choice)
+
+    def may_go_now(self, front: int) -> bool:
+        """Whether the front's next line takes a mark or checkpoint away that no line which is left shows, and that none
+        needs for there to be no room: it may come as early as it fits."""
+        return bool(self.clue_of(front).takes_away) and not self.are_full
+
+    def worth(self, choice: Choice) -> tuple[bool, int]:
+        """How good it is to try a line first: those that tell where they began, of these the one read first."""
+        front, _ = choice
+        return bool(self.clue_of(front).stands_at), -self.next_of(front).read
+
+    def find(self) -> Optional[list[int]]:
+        """The fronts in the order of a history, or None where there is none."""
+        if not self.fits_in:
+            return None
+        seen = set()
+        # where it may go on: the count of lines taken, the state, and what is left to try, if that is known yet
+        forks: list[tuple[int, State, Optional[list[Choice]]]] = [(0, self.state, None)]
+        while forks:
+            length, state, choices = forks.pop()
+            self.back_to(length, state)
+            if choices is None:
+                choices = self.choices()
+                if len(self.order) == sum(map(len, self.fronts)):
+                    return self.order
+                here = (tuple(self.taken), self.state)
+                if here in seen:
+                    continue
+                seen.add(here)
+                length, state = len(self.order), self.state
+            if not choices:
+                continue
+            front, behind = choices.pop()
+            if choices:
+                forks.append((length, state, choices))
+            self.take(front, behind)
+            forks.append((len(self.order), self.state, None))
+        return None

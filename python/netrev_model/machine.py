@@ -1,0 +1,137 @@
+"""The machine's state, as docs/MACHINE.md tells it. A state is never changed: a step makes the next one of it.
+
+A status is a tuple of what `print gor` shows: ("idle",), ("acquiring", 0, "r"), ("owing", 0, 2, 1). What there is one of
+for each side is a pair, reading first.
+"""
+
+from __future__ import annotations
+
+from typing import Any, NamedTuple, TypeVar, Union
+
+Step = tuple[Any, ...]  # the kind, and the arguments behind it
+Answer = tuple[Any, ...]  # its name, and for some a number behind it
+Status = tuple[Any, ...]  # its name, and the numbers and the side that it has
+Word = Union[str, int]  # "nil", "ready", "wait" or a goroutine's number
+Item = TypeVar("Item")
+
+SIDES = "rw"
+IDLE: Status = ("idle",)
+GONE: Status = ("gone",)
+INSIDE = ("entering", "armed", "parking", "parked", "swapping", "checking")
+GREATEST_TIME = 2**63 - 1
+GREATEST_SEQUENCE = 2**64 - 1
+GREATEST_COUNT = 2**32 - 1
+
+
+class Refused(Exception):
+    """A step that is refused, and the number of the reason."""
+
+    def __init__(self, reason: int) -> None:
+        super().__init__(reason)
+        self.reason = reason
+
+
+class Limits(NamedTuple):
+    gor: int
+    sock: int
+    desc: int
+    buf: int
+
+
+class Lock(NamedTuple):
+    """The lock word of a socket, field by field."""
+
+    closed: bool = False
+    taken: tuple[bool, ...] = (False, False)
+    references: int = 0
+    waiting: tuple[int, ...] = (0, 0)
+
+    @property
+    def number(self) -> int:
+        low = self.closed + 2 * self.taken[0] + 4 * self.taken[1]
+        return low + (self.references << 3) + (self.waiting[0] << 23) + (self.waiting[1] << 43)
+
+
+class Socket(NamedTuple):
+    """A socket. Of the buffers the input is that of reading, the output that of writing."""
+
+    capacities: tuple[int, int]
+    lock: Lock = Lock()
+    counts: tuple[int, ...] = (0, 0)
+    queues: tuple[tuple[int, ...], ...] = ((), ())
+    buffers: tuple[bytes, bytes] = (b"", b"")
+    peer_closed: bool = False
+    shut: bool = False
+
+
+class Desc(NamedTuple):
+    """A poll descriptor. A word is "nil", "ready", "wait" or a goroutine's number."""
+
+    words: tuple[Word, ...] = ("nil", "nil")
+    closing: bool = False
+    error: bool = False
+    deadlines: tuple[int, ...] = (0, 0)
+    running: tuple[bool, ...] = (False, False)
+    sequences: tuple[int, ...] = (0, 0)
+    fdseq: int = 0
+    socket: int = 0
+
+
+class Timer(NamedTuple):
+    """An armed timer, or a firing. They are in order as Python orders tuples: by time, then by arming number."""
+
+    when: int
+    number: int
+    desc: int
+    side: str
+    function: str
+    sequence: int
+
+    @property
+    def covers(self) -> str:
+        """The sides whose deadlines its function sets."""
+        return {"both": "rw", "read": "r", "write": "w"}[self.function]
+
+
+class World(NamedTuple):
+    """The whole state. The free list's first is the descriptor that was freed last; the timers are in order."""
+
+    limits: Limits
+    clock: int = 0
+    waiters: int = 0
+    next_number: int = 1
+    goroutines: tuple[Status, ...] = (IDLE,)
+    sockets: tuple[Socket, ...] = ()
+    descs: tuple[Desc, ...] = ()
+    free: tuple[int, ...] = ()
+    timers: tuple[Timer, ...] = ()
+    firings: tuple[Timer, ...] = ()
+
+    def is_open(self, d: int) -> bool:
+        return d < len(self.descs) and d not in self.free
+
+    def inside(self, d: int, side: str) -> list[int]:
+        """The goroutines that are inside the wait of a descriptor and side."""
+        return [g for g, status in enumerate(self.goroutines) if status[0] in INSIDE and status[1:] == (d, side)]
+
+    def with_status(self, g: int, status: Status) -> World:
+        return self._replace(goroutines=put(self.goroutines, g, status))
+
+    def with_socket(self, s: int, **changes: Any) -> World:
+        return self._replace(sockets=put(self.sockets, s, self.sockets[s]._replace(**changes)))
+
+    def with_desc(self, d: int, **changes: Any) -> World:
+        return self._replace(descs=put(self.descs, d, self.descs[d]._replace(**changes)))
+
+
+def put(items: tuple[Item, ...], place: int, item: Item) -> tuple[Item, ...]:
+    """The tuple with another item at a place."""
+    return (*items[:place], item, *items[place + 1 :])
+
+
+Outcome = tuple[World, Answer]
+
+
+def at(side: str) -> int:
+    """The place of a side in a pair."""
+    return SIDES.index(side)

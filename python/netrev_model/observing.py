@@ -1,0 +1,28 @@
+"""Whoever wants to know what the model meets gives it one of these, with what it wants to know overridden."""
+
+from __future__ import annotations
+
+from typing import TYPE_CHECKING
+
+if TYPE_CHECKING:
+    from .debugger import Asked, Reply
+    from .machine import Answer
+
+
+class Observer:
+    """Is told of each step and of each line. This one doesn't care."""
+
+    def applied(self, kind: str, answer: Answer) -> None:
+        """A step of this kind applied, and had this answer."""
+
+    def refused(self, kind: str, reason: int) -> None:
+        """A step of this kind didn't apply, for this reason."""
+
+    def differed(self, kind: str, recorded: Answer, answer: Answer) -> None:
+        """The recorded answer of a step of this kind isn't the machine's."""
+
+    def printed(self, fault: str) -> None:
+        """A recording has this fault."""
+
+    def asked(self, asked: Asked, reply: Reply) -> None:
+        """A line asked for this, and was answered so."""

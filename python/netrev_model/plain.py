@@ -1,0 +1,18 @@
+"""Text of others, made fit to be shown: whatever reaches a terminal or a page goes through `plain`."""
+
+UNSAFE = {ord("\n"): "\\n", ord("\r"): "\\r", ord("\t"): "\\t"}
+
+
+def plain(text: str) -> str:
+    """The text with each character written out that a terminal obeys or that can't be seen: controls, those of the
+    upper half too, marks that turn the direction of writing, spaces that aren't, and bytes that are no UTF-8."""
+    return text if text.isprintable() else "".join(map(_shown, text))
+
+
+def _shown(character: str) -> str:
+    code = ord(character)
+    if character.isprintable():
+        return character
+    if 0xDC80 <= code <= 0xDCFF:  # a byte that was read with `surrogateescape`
+        return f"\\x{code - 0xDC00:02x}"
+    return UNSAFE.get(code) or (f"\\x{code:02x}" if code < 0x100 else character.encode("unicode_escape").decode())

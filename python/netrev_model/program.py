@@ -1,0 +1,77 @@
+"""netrev as the model plays it: what `run`, `check` and `upgrade` print over the bytes of a recording."""
+
+from typing import Iterable, NamedTuple, Optional
+
+from .jsontext import Doubtful
+from .machine import Answer, World
+from .observing import Observer
+from .reading import Fault, positions, read_text
+from .reading import Recording as Text
+from .session import Session, recording_of, replies_to
+from .wellformed import breaches
+from .writing import write_plain
+
+HELD = 500  # of so many positions the states are looked over
+
+
+class Printed(NamedTuple):
+    """A status and what went to standard output; and why else it can't be right, if it can't."""
+
+    status: int
+    output: bytes
+    wrong: str = ""
+
+
+class Broken(Exception):
+    """The model comes to a state that isn't well-formed."""
+
+
+class Replayed(NamedTuple):
+    """A recording whose steps all apply, the states of its positions, and the answers."""
+
+    text: Text
+    worlds: list[World]
+    answers: list[Answer]
+
+
+def replay(recording: bytes, observer: Observer, keeps_worlds: bool = True, keeps_answers: bool = True) -> Replayed:
+    """The recording, replayed; Fault where it is none, and Doubtful where the model has no opinion. States and answers are
+    kept where they are wanted."""
+    text = read_text(recording)
+    worlds, answers = held_together(positions(text, observer), keeps_worlds, keeps_answers)
+    return Replayed(text, worlds, answers)
+
+
+def held_together(
+    replayed: Iterable[tuple[World, Optional[Answer]]], keeps_worlds: bool, keeps_answers: bool
+) -> tuple[list[World], list[Answer]]:
+    """The states of all positions, the first of them well-formed, and the answers."""
+    worlds, answers = [], []
+    for position, (world, answer) in enumerate(replayed):
+        if position < HELD and (broken := breaches(world)):
+            raise Broken(f"the model's state at position {position} isn't well-formed: {broken}")
+        if keeps_worlds:
+            worlds.append(world)
+        if keeps_answers and answer is not None:
+            answers.append(answer)
+    return worlds, answers
+
+
+def printed(program: str, recording: bytes, script: bytes, observer: Observer) -> Optional[Printed]:
+    """What `netrev PROGRAM` prints over this recording, of `run` to this script; None where the model has no opinion."""
+    try:
+        replayed = replay(recording, observer, program == "run", program == "upgrade")
+    except Fault as fault:
+        observer.printed(str(fault))
+        return Printed(1, f"{fault}\n".encode())
+    except Doubtful:
+        return None
+    except Broken as broken:
+        return Printed(0, b"", str(broken))
+    text = replayed.text
+    if program == "check":
+        return Printed(0, f"ok {len(text.steps)} steps\n".encode())
+    if program == "upgrade":
+        return Printed(0, write_plain(text._replace(version=2, answers=replayed.answers)))
+    replies = replies_to(Session(recording_of(text.steps, replayed.worlds), observer), script)
+    return Printed(0, "".join(f"{line}\n" for line in replies).encode())

@@ -1,0 +1,166 @@
+"""A text of bytes as a recording, or its first fault, as docs/RECORDING.md tells it."""
+
+import re
+from functools import lru_cache
+from typing import Any, Iterator, NamedTuple, Optional, Sequence
+
+from .jsontext import NoJson, read_json
+from .machine import GREATEST_TIME, Answer, Limits, Refused, Step, World
+from .observing import Observer
+from .steps import apply
+from .vocabulary import HEADERS, VERSIONS, Kind, is_answer
+from .vocabulary import KINDS as OF_NRDB
+
+LONGEST_LINE = 200_000
+MOST_STEPS = 1_000_000
+MOST_DIGITS = 131_072
+# of each version the header's greatest limits
+RANGES = {
+    version: {key: limit.greatest for key, limit in header.items() if key != "netrev"}
+    for version, header in HEADERS.items()
+}
+
+
+def forms_of(kind: Kind) -> tuple[str, ...]:
+    """The forms of a kind's arguments. `n` is a capacity or a count of bytes; of times, those of a deadline have signs."""
+    of_time = "deadline" if kind.name == "setdeadline" else "clock"
+    return tuple({"rc": "n", "wc": "n", "time": of_time}.get(argument, argument) for argument in kind.arguments)
+
+
+ARGUMENTS = {kind.name: forms_of(kind) for kind in OF_NRDB.values()}
+# of each version the kinds that its recordings can have
+KINDS = {version: tuple(kind.name for kind in OF_NRDB.values() if kind.since <= version) for version in VERSIONS}
+
+
+class Recording(NamedTuple):
+    """What a text says: steps as tuples, and in version 2 the recorded answer of each, as the machine's answers are."""
+
+    version: int
+    limits: Limits
+    steps: Sequence[Step]
+    answers: Sequence[Optional[Answer]]
+
+
+class Fault(Exception):
+    """The first fault of a recording, as it is printed."""
+
+
+class LineFault(Exception):
+    """A fault of one line, without its number."""
+
+
+def is_whole(value: Any, least: int, greatest: int) -> bool:
+    return type(value) is int and least <= value <= greatest
+
+
+def is_argument(form: str, value: Any) -> bool:
+    """Whether a value is an argument of this form."""
+    if form == "side":
+        return value in ("r", "w")
+    if form == "mode":
+        return value in ("r", "w", "rw")
+    if form == "bytes":
+        return isinstance(value, str) and len(value) % 2 == 0 and len(value) <= MOST_DIGITS and is_hexadecimal(value)
+    ranges = {
+        "tag": (0, 2**64 - 1),
+        "err": (0, 1),
+        "deadline": (-GREATEST_TIME - 1, GREATEST_TIME),
+        "clock": (0, GREATEST_TIME),
+    }
+    return is_whole(value, *ranges.get(form, (0, 2**32 - 1)))
+
+
+def is_hexadecimal(text: str) -> bool:
+    return re.fullmatch("[0-9a-fA-F]*", text) is not None
+
+
+@lru_cache(maxsize=10_000)
+def value_of(line: bytes) -> Any:
+    """The value of a line that isn't too long. (It isn't changed by whoever gets it: the same line has the same one.)"""
+    try:
+        return read_json(line)
+    except NoJson as error:
+        raise LineFault("102 not JSON") from error
+
+
+def read_header(line: bytes) -> tuple[int, Limits]:
+    """The version and the limits."""
+    value = value_of(line)
+    if not isinstance(value, dict) or set(value) != {"netrev", *Limits._fields}:
+        raise LineFault("101 header")
+    if not all(is_whole(number, 0, 2**64 - 1) for number in value.values()) or value["netrev"] not in VERSIONS:
+        raise LineFault("101 header")
+    version, limits = value["netrev"], Limits(*(value[key] for key in Limits._fields))
+    if not all(1 <= getattr(limits, key) <= most for key, most in RANGES[version].items()):
+        raise LineFault("105 limit")
+    return version, limits
+
+
+def step_of(version: int, value: Any) -> tuple[Step, Optional[Answer]]:
+    """The step of a line, and its recorded answer, which is None in version 1."""
+    if not isinstance(value, list) or not value or not isinstance(value[0], str) or value[0] not in KINDS[version]:
+        raise LineFault("103 unknown step")
+    kind, *arguments = value
+    answer = arguments.pop() if version == 2 and arguments else None
+    if version == 2 and not is_answer(answer):
+        raise LineFault("104 arguments")
+    forms = ARGUMENTS[kind]
+    if len(forms) != len(arguments) or not all(map(is_argument, forms, arguments)):
+        raise LineFault("104 arguments")
+    step = (kind, *(bytes.fromhex(value) if form == "bytes" else value for form, value in zip(forms, arguments)))
+    return step, None if answer is None else answer_of(answer)
+
+
+def answer_of(value: Any) -> Answer:
+    """A recorded answer as the machine's are: a name, and for some a number behind it."""
+    return (value,) if isinstance(value, str) else tuple(value)
+
+
+def read_text(text: bytes) -> Recording:
+    """The Recording of a text, or the Fault of its first faulty line."""
+    version, limits = 0, None
+    steps: list[Step] = []
+    answers: list[Optional[Answer]] = []
+    for number, line in enumerate(text.split(b"\n"), 1):
+        try:
+            if len(line) > LONGEST_LINE:
+                raise LineFault("105 limit")
+            if not line.strip(b" \t\r"):
+                continue
+            if limits is None:
+                version, limits = read_header(line)
+                continue
+            value = value_of(line)
+            if len(steps) == MOST_STEPS:
+                raise LineFault("106 too many steps")
+            step, answer = step_of(version, value)
+            steps.append(step)
+            answers.append(answer)
+        except LineFault as fault:
+            raise Fault(f"line {number}: fault {fault}") from fault
+    if limits is None:
+        raise Fault(f"line {text.count(10) + 1}: fault 101 header")
+    return Recording(version, limits, steps, answers)
+
+
+def differs(recorded: Answer, answer: Answer) -> bool:
+    """Whether a recorded answer isn't the machine's."""
+    return recorded != answer
+
+
+def positions(recording: Recording, observer: Observer) -> Iterator[tuple[World, Optional[Answer]]]:
+    """The state of each position in turn with the answer that led to it, or the Fault of the first step that doesn't apply
+    or whose recorded answer is another. The observer is told what is met."""
+    world = World(recording.limits)
+    yield world, None
+    for number, (step, recorded) in enumerate(zip(recording.steps, recording.answers), 1):
+        try:
+            world, answer = apply(world, step)
+        except Refused as refused:
+            observer.refused(step[0], refused.reason)
+            raise Fault(f"step {number}: fault 107 reason {refused.reason}") from refused
+        if recorded is not None and differs(recorded, answer):
+            observer.differed(step[0], recorded, answer)
+            raise Fault(f"step {number}: fault 109 answer")
+        observer.applied(step[0], answer)
+        yield world, answer

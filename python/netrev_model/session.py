@@ -1,0 +1,82 @@
+"""A session of `netrev run` as the model plays it: the debugger of debugger.py over the states of the machine."""
+
+from typing import Optional, Sequence
+
+from .cells import look
+from .debugger import FULL, Recording, Reply, State, is_command, read_line
+from .machine import Step, World
+from .observing import Observer
+
+ROOM = 65_536
+
+
+class Looked:
+    """What one look shows, by position."""
+
+    def __init__(self, worlds: Sequence[World], asked: str) -> None:
+        self.worlds = worlds
+        self.asked = asked
+
+    def __getitem__(self, position: int) -> str:
+        return look(self.worlds[position], self.asked)
+
+
+class Shown(dict[str, Looked]):
+    """What each look shows; it is asked for by the line of the look."""
+
+    def __init__(self, worlds: Sequence[World]) -> None:
+        super().__init__()
+        self.worlds = worlds
+
+    def __missing__(self, asked: str) -> Looked:
+        self[asked] = Looked(self.worlds, asked)
+        return self[asked]
+
+
+def recording_of(steps: Sequence[Step], worlds: Sequence[World]) -> Recording:
+    """What the debugger knows of a recording with these steps, and these states at its positions."""
+    return Recording(None, tuple(step[0] for step in steps), Shown(worlds))
+
+
+class Session:
+    """Answers one line after the other."""
+
+    def __init__(self, recording: Recording, observer: Observer) -> None:
+        self.recording = recording
+        self.state, self.placed, self.has_ended = State(), 0, False
+        self._observer = observer
+
+    def answer(self, line: bytes) -> Optional[Reply]:
+        """The reply to a line; None where it has no words."""
+        asked = read_line(line)
+        if asked is None:
+            return None
+        reply: Reply = (FULL,)
+        if not is_command(asked) or self.placed < ROOM:
+            self.placed += is_command(asked)
+            self.state, reply = self.recording.answer(self.state, asked)
+        self._observer.asked(asked, reply)
+        self.has_ended = asked.sort == "quit"
+        return reply
+
+    def close(self) -> None:
+        """Forgets what was kept for the sake of speed."""
+        Recording.hits_of.cache_clear()
+        Recording.nearest.cache_clear()
+
+
+def lines_of(script: bytes) -> list[bytes]:
+    """The lines of a script, without their line feeds; the last one may lack it."""
+    lines = script.split(b"\n")
+    return lines if lines[-1] else lines[:-1]
+
+
+def replies_to(session: Session, script: bytes) -> list[str]:
+    """The lines that `netrev run` prints to this script."""
+    replies: list[str] = []
+    for line in lines_of(script):
+        replies += session.answer(line) or ()
+        if session.has_ended:
+            break
+    session.close()
+    return replies

@@ -1,0 +1,244 @@
+"""The words of recordings and commands, each table once: kinds of steps with their arguments, cells, dumps, reasons,
+faults and the header's keys. docs/MACHINE.md, docs/RECORDING.md and docs/COMMANDS.md tell what they mean."""
+
+from dataclasses import dataclass
+from enum import Enum
+from typing import Optional, Sequence
+
+MOST = 4_294_967_295
+MOST_LINE = 256
+MOST_STANDING = 64
+VERSIONS = (1, 2)
+
+
+class Of(Enum):
+    """What a cell is one of: there is one of the whole machine, or one for each goroutine, socket or descriptor."""
+
+    ALL = "machine"
+    GOROUTINE = "goroutine"
+    SOCKET = "socket"
+    DESCRIPTOR = "descriptor"
+
+
+@dataclass(frozen=True)
+class Kind:
+    """A kind of step: its name, the names of its arguments, the names of the answers that it can give, in a few words
+    what it records, and the first version whose recordings can have it."""
+
+    name: str
+    arguments: tuple[str, ...]
+    answers: tuple[str, ...]
+    says: str
+    since: int
+
+    @property
+    def usage(self) -> str:
+        return " ".join((self.name, *self.arguments))
+
+
+@dataclass(frozen=True)
+class Cell:
+    """A cell that `print` and `watch` know, what it is one of, and what its value says."""
+
+    name: str
+    of: Of
+    says: str
+
+
+def _kind(usage: str, answers: str, says: str, since: int = 1) -> Kind:
+    name, *arguments = usage.split()
+    return Kind(name, tuple(arguments), tuple(answers.split()), says, since)
+
+
+KINDS = {
+    kind.name: kind
+    for kind in (
+        _kind("spawn", "number", "a goroutine more"),
+        _kind("exit g", "done", "goroutine g ends"),
+        _kind("sockopen rc wc", "number", "a socket more, whose buffers hold rc and wc bytes"),
+        _kind("arrive s bytes", "done", "bytes come from the network"),
+        _kind("peerclose s", "done", "the peer closes"),
+        _kind("sysread g s n", "got eof again", "the system call that reads up to n bytes"),
+        _kind("syswrite g s bytes", "put again pipe", "the system call that writes"),
+        _kind("drain s n", "done", "the network takes n bytes"),
+        _kind("incref g s", "yes no", "fdMutex.incref"),
+        _kind("increfclose g s", "yes no", "fdMutex.increfAndClose: the socket is closed"),
+        _kind("decref g s", "last notlast", "fdMutex.decref"),
+        _kind("rwlock g s side", "yes no wait", "fdMutex.rwlock: the read or write lock is asked for"),
+        _kind("rwunlock g s side", "last notlast", "fdMutex.rwunlock"),
+        _kind("acquire g", "yes wait", "runtime_Semacquire"),
+        _kind("release g", "done", "runtime_Semrelease, one that g owes"),
+        _kind("pollopen g s", "number", "runtime_pollOpen: a descriptor for socket s"),
+        _kind("pollclose g d", "done", "runtime_pollClose: descriptor d is free"),
+        _kind("pollreset g d side", "code", "runtime_pollReset: prepareRead, prepareWrite"),
+        _kind("waitbegin g d side", "code", "runtime_pollWait begins"),
+        _kind("blockarm g", "wait code", "netpollblock arms the word"),
+        _kind("blockcheck g", "code", "netpollblock checks once more"),
+        _kind("parkcommit g", "yes no", "netpollblockcommit: it parks, or an event was faster"),
+        _kind("blockswap g", "yes no", "netpollblock goes on and takes the word"),
+        _kind("waitcheck g", "code", "runtime_pollWait checks why it was woken"),
+        _kind("setdeadline g d mode time", "done", "runtime_pollSetDeadline"),
+        _kind("evict g d", "done", "pd.evict: closing, and whoever waits is woken"),
+        _kind("pollevent d tag mode err", "done stale", "netpollready: the poller tells an event"),
+        _kind("tick time", "done", "the clock moves"),
+        _kind("pop", "done", "the first due timer's function is started"),
+        _kind("fire i", "done stale", "the started timer function at place i runs"),
+        _kind("closewrite g s", "done", "CloseWrite: the write side is shut, shutdown(SHUT_WR)", since=2),
+    )
+}
+
+# a recorded answer is one of these names, or an array of one of those with a number
+PLAIN_ANSWERS = ("done", "yes", "no", "wait", "last", "notlast", "eof", "again", "stale", "pipe")
+COUNTED_ANSWERS = ("number", "code", "got", "put")
+
+
+def is_answer(value: object) -> bool:
+    """Whether a value of a recording is an answer, be it one that the step's kind can give or not."""
+    if isinstance(value, str):
+        return value in PLAIN_ANSWERS
+    if not (isinstance(value, list) and len(value) == 2 and isinstance(value[0], str)):
+        return False
+    return value[0] in COUNTED_ANSWERS and type(value[1]) is int and 0 <= value[1] <= MOST
+
+
+CELLS = {
+    cell.name: cell
+    for cell in (
+        Cell("clock", Of.ALL, "the time, in nanoseconds"),
+        Cell("waiters", Of.ALL, "how many goroutines are parked"),
+        Cell("timers", Of.ALL, "how many timers are armed"),
+        Cell("firings", Of.ALL, "how many started timer functions haven't run"),
+        Cell("least", Of.ALL, "when the first timer is due"),
+        Cell("gor", Of.GOROUTINE, "where the goroutine is"),
+        Cell("lock", Of.SOCKET, "the lock word"),
+        Cell("rsem", Of.SOCKET, "the count of the semaphore for reading"),
+        Cell("wsem", Of.SOCKET, "the count of the semaphore for writing"),
+        Cell("in", Of.SOCKET, "how many bytes the input holds"),
+        Cell("out", Of.SOCKET, "how many bytes the output holds"),
+        Cell("rg", Of.DESCRIPTOR, "the word for reading"),
+        Cell("wg", Of.DESCRIPTOR, "the word for writing"),
+        Cell("rd", Of.DESCRIPTOR, "the deadline for reading"),
+        Cell("wd", Of.DESCRIPTOR, "the deadline for writing"),
+        Cell("rseq", Of.DESCRIPTOR, "the sequence of the timer for reading"),
+        Cell("wseq", Of.DESCRIPTOR, "the sequence of the timer for writing"),
+        Cell("fdseq", Of.DESCRIPTOR, "which use of the number this is"),
+        Cell("info", Of.DESCRIPTOR, "closing, event error and passed deadlines in one number"),
+        Cell("shut", Of.SOCKET, "1 where the write side is shut, else 0"),
+    )
+}
+
+DUMPS = {
+    "in": "the bytes in the input",
+    "out": "the bytes in the output",
+    "rq": "who is queued for the read lock",
+    "wq": "who is queued for the write lock",
+}
+
+
+class Written(Enum):
+    """How an argument is written in a recording."""
+
+    NUMBER = "a whole number from 0 to 4294967295"
+    TAG = "a whole number from 0 to 18446744073709551615"
+    SIDE = '"r" or "w"'
+    MODE = '"r", "w" or "rw"'
+    BIT = "0 or 1"
+    BYTES = "text of hexadecimal digits, two a byte, of at most 65536 bytes"
+    DEADLINE = "a whole number of nanoseconds from now, 0 for none"
+    CLOCK = "a whole number of nanoseconds, 0 or more"
+
+
+_WRITTEN = {
+    "tag": Written.TAG,
+    "side": Written.SIDE,
+    "mode": Written.MODE,
+    "err": Written.BIT,
+    "bytes": Written.BYTES,
+    "time": Written.CLOCK,
+}
+
+
+def written(kind: Kind, argument: str) -> Written:
+    """How this argument of this kind is written: the time of a deadline may be negative, that of the clock not."""
+    if kind.name == "setdeadline" and argument == "time":
+        return Written.DEADLINE
+    return _WRITTEN.get(argument, Written.NUMBER)
+
+
+@dataclass(frozen=True)
+class Limit:
+    """A key of the header, the least and the greatest value, and what it counts."""
+
+    least: int
+    greatest: int
+    says: str
+
+
+def _header(most_bytes: int) -> dict[str, Limit]:
+    return {
+        "netrev": Limit(VERSIONS[0], VERSIONS[-1], "the version"),
+        "gor": Limit(1, 4096, "goroutines"),
+        "sock": Limit(1, 256, "sockets"),
+        "desc": Limit(1, 256, "descriptors"),
+        "buf": Limit(1, most_bytes, "bytes a buffer holds"),
+    }
+
+
+# the header's keys by the version
+HEADERS = {1: _header(65_536), 2: _header(1_048_576)}
+HEADER_EXAMPLE = '{"netrev":1,"gor":4,"sock":2,"desc":2,"buf":16}'
+
+REASONS = (
+    "no memory",
+    "no such goroutine, or it is gone",
+    "the goroutine isn't at that place",
+    "all that the limits allow are made",
+    "no such socket",
+    "no such open descriptor",
+    "a field or a count is full",
+    "the lock word can't be right for this",
+    "another goroutine is in that wait",
+    "close without evict",
+    "already closing",
+    "a goroutine is inside a wait",
+    "the clock would go back",
+    "no timer is due",
+    "as many firings wait as may, twice the limit of descriptors",
+    "no firing at that place",
+    "no room for the bytes",
+    "fewer bytes are there",
+    "a sequence, fdseq or arming number is at its last value",
+    "a size out of range",
+    "the peer has closed",
+    "the descriptor contradicts itself",
+)
+
+
+def cell_of(words: Sequence[str]) -> Optional[str]:
+    """The cell that the words spell, as replies spell it, or None."""
+    cell = CELLS.get(words[0]) if words else None
+    if cell is None:
+        return None
+    if cell.of is Of.ALL:
+        return cell.name if len(words) == 1 else None
+    number = number_of(words[1]) if len(words) == 2 else None
+    return None if number is None else f"{cell.name} {number}"
+
+
+def number_of(word: str) -> Optional[int]:
+    """The number that a word spells, or None."""
+    if not (word.isascii() and word.isdigit()):
+        return None
+    number = int(word)
+    return number if number <= MOST else None
+
+
+def break_of(words: Sequence[str]) -> Optional[str]:
+    """What a break that the words spell stops at, as `info breakpoints` has it, or None: a kind, or `@` and a step."""
+    if len(words) != 1:
+        return None
+    word = words[0]
+    if word in KINDS:
+        return word
+    step = number_of(word[1:]) if word.startswith("@") else None
+    return f"@{step}" if step else None

@@ -1,0 +1,8 @@
+"""nrdb as a program: `./nrdb FILE` (docs/NRDB.md)."""
+
+import sys
+
+from .cli import main
+
+if __name__ == "__main__":
+    sys.exit(main())

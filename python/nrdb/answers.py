@@ -1,0 +1,226 @@
+"""What nrdb answers itself, a function for each of its commands. Each has the session and the words behind the command;
+Misused says what is wrong with them."""
+
+from fnmatch import fnmatchcase
+
+
+from netrev_model.vocabulary import CELLS, KINDS, REASONS, Of, cell_of, number_of
+
+from .changes import MOST, history_table
+from .commands import ALL_TOPICS, COMMANDS, OF_NETREV, OF_NRDB, TOPICS, Origin, whole_command
+from .holders import holders_table
+from .netrev import Reply
+from .output import Row, Table
+from .places import descriptors_table, sockets_table, timers_table
+from .recorded_answers import spelled
+from .session import Answering, Misused, Session
+from .shapes import MOVED, move_of
+from .suspects import suspects_table
+from .timeline import write_timeline
+from .waiting import goroutines_table
+from .where import stack_lines
+
+ROUND = 5
+
+
+def usage(name: str) -> str:
+    """How a command is called."""
+    return f"{COMMANDS[name].usage}: {COMMANDS[name].says}"
+
+
+def taken_number(name: str, words: list[str]) -> int:
+    """The one number that a command takes."""
+    number = number_of(words[0]) if len(words) == 1 else None
+    if number is None:
+        raise Misused(f"{usage(name)}; N is a number")
+    return number
+
+
+def taken_cell(name: str, words: list[str]) -> tuple[str, list[str]]:
+    """The cell that the words begin with, and the words behind it."""
+    for length in (2, 1):
+        if len(words) >= length and (cell := cell_of(words[:length])):
+            return cell, words[length:]
+    if not words:
+        raise Misused(f"{usage(name)}; the cells are {' '.join(CELLS)}")
+    if words[0] in CELLS:
+        raise Misused(f"{words[0]} wants the number of a {CELLS[words[0]].of.value}: {name} {words[0]} 0")
+    raise Misused(f"{words[0]} is no cell; the cells are {' '.join(CELLS)}")
+
+
+def answer_help(session: Session, words: list[str]) -> None:
+    if not words:
+        return session.printer.note("\n".join(all_help()))
+    word = " ".join(words)
+    reason = number_of(word)
+    if word in KINDS:
+        return session.printer.note(f"step {KINDS[word].usage}: {KINDS[word].says}; it answers {spelled(word)}")
+    if word in CELLS:
+        of = "" if CELLS[word].of is Of.ALL else f" of a {CELLS[word].of.value}"
+        return session.printer.note(f"cell {word}: {CELLS[word].says}{of}")
+    if reason is not None and reason < len(REASONS):
+        return session.printer.note(f"reason {reason}: {REASONS[reason]}")
+    name = whole_command(words[0])
+    if name not in COMMANDS:
+        raise Misused(f"{word} is no command, kind or cell; help alone lists them")
+    short = f" (short: {', '.join(COMMANDS[name].short)})" if COMMANDS[name].short else ""
+    session.printer.note(usage(name) + short)
+    if name == "info":
+        session.printer.note("\n".join(f"info {topic.usage}: {topic.says}" for topic in TOPICS.values()))
+
+
+def all_help() -> list[str]:
+    """The lines of `help`."""
+    lines = []
+    for origin, commands, title in (
+        (Origin.NETREV, OF_NETREV, "netrev answers:"),
+        (Origin.NRDB, OF_NRDB, "nrdb answers, unproved:"),
+    ):
+        lines.append(title)
+        lines += [f"  {command.usage:<34} {command.says}" for command in commands.values()]
+        topics = [topic for topic in TOPICS.values() if topic.origin is origin]
+        lines += [f"  info {topic.usage:<29} {topic.says}" for topic in topics]
+    return [*lines, f"kinds: {' '.join(KINDS)}", f"cells: {' '.join(CELLS)}"]
+
+
+def answer_where(session: Session, words: list[str]) -> None:
+    position, length, direction = session.stands()
+    session.printer.note(f"at {position} of {length} {direction}")
+    session.printer.place(session.place(position))
+    if session.recording and (lines := stack_lines(session.recording.lines.of(position))):
+        session.printer.note("\n".join(lines))
+
+
+def answer_list(session: Session, words: list[str]) -> None:
+    position = session.stands().position
+    middle = taken_number("list", words) if words else position + 1
+    text = session.text()
+    rows = []
+    for number in range(max(1, middle - ROUND), min(text.length, middle + ROUND) + 1):
+        step = text.step(number)
+        here = "=>" if number == position + 1 else "  "
+        at = text.lines.words(number)
+        told = {"step": number, "line": step.line, "does": str(step), "next": number == position + 1}
+        said = f"{here} {number:>7}  {str(step):<34} line {step.line}"
+        rows.append(Row(told | ({"at": at} if text.lines else {}), f"{said:<56} {at}".rstrip() if at else said))
+    session.printer.table(
+        Table("list", rows, "=> (end)" if position == text.length and middle + ROUND > position else "")
+    )
+
+
+def answer_goto(session: Session, words: list[str]) -> None:
+    number = taken_number("goto", words)
+    if number > session.length:
+        raise Misused(f"the recording has {session.length} steps")
+    arrive(session, f"goto {number}", session.go(number))
+
+
+def arrive(session: Session, line: str, reply: str) -> None:
+    """Shows netrev's reply to a move, and where the session stands then."""
+    session.printer.reply(line, Reply(reply), "")
+    if MOVED.fullmatch(reply):
+        session.arrive(move_of(line, reply).position)
+
+
+def answer_until(session: Session, words: list[str], name: str = "until") -> None:
+    if len(words) == 1 and number_of(words[0]) is not None:
+        raise Misused(f"{usage(name)}; goto {words[0]} goes to position {words[0]}")
+    cell, rest = taken_cell(name, words)
+    value = " ".join(word for word in rest if word not in ("=", "=="))
+    if not value:
+        raise Misused(f"{usage(name)}; which value of {cell}?")
+    is_back = name == "reverse-until"
+
+    def is_wanted(shown: str) -> bool:
+        return fnmatchcase(shown, value) or fnmatchcase(session.words_of(cell, shown), value)
+
+    found = session.looks().find(cell, is_wanted, session.stands().position, is_back)
+    if found is None:
+        session.printer.note(f"no {'earlier' if is_back else 'later'} step gives {cell} the value {value}")
+        return
+    arrive(session, f"{name} {cell} {value}", session.go(found))
+    session.show(f"print {cell}", session.netrev.ask(f"print {cell}"))
+
+
+def answer_reverse_until(session: Session, words: list[str]) -> None:
+    answer_until(session, words, "reverse-until")
+
+
+def answer_display(session: Session, words: list[str]) -> None:
+    if words:
+        cell, rest = taken_cell("display", words)
+        if rest:
+            raise Misused(f"display takes a cell alone: display {cell}")
+        if cell not in session.displays:
+            session.displays.append(cell)
+    session.show_displays()
+
+
+def answer_undisplay(session: Session, words: list[str]) -> None:
+    if not words:
+        session.displays.clear()
+        return
+    cell, _ = taken_cell("undisplay", words)
+    if cell not in session.displays:
+        raise Misused(f"{cell} isn't displayed")
+    session.displays.remove(cell)
+
+
+def answer_history(session: Session, words: list[str]) -> None:
+    cell, rest = taken_cell("history", words)
+    most = None if rest == ["all"] else number_of(rest[0]) if len(rest) == 1 else MOST
+    if len(rest) > 1 or most == 0 or (most is None and rest != ["all"]):
+        raise Misused(f"{usage('history')}; N is a number from 1")
+    table = history_table(session.looks(), session.text(), cell, session.stands().position, most)
+    session.printer.table(table)
+
+
+def answer_timeline(session: Session, words: list[str]) -> None:
+    numbers = [number_of(word) for word in words[1:]]
+    if len(words) not in (1, 3) or None in numbers:
+        raise Misused(usage("timeline"))
+    session.printer.note(write_timeline(session, words[0], *numbers))
+
+
+def answer_source(session: Session, words: list[str]) -> bool:
+    if len(words) != 1:
+        raise Misused(usage("source"))
+    try:
+        return session.source(words[0])
+    except OSError as error:
+        raise Misused(f"{words[0]}: {error.strerror}") from None
+
+
+def answer_info(session: Session, words: list[str]) -> None:
+    if not words:
+        raise Misused(f"info what? {ALL_TOPICS}")
+    topic, rest = words[0], words[1:]
+    if topic == "timers" and not rest:
+        return session.printer.table(timers_table(session.world()))
+    if topic == "suspects" and not rest:
+        return session.printer.table(suspects_table(session.looks(), session.text()))
+    number = number_of(rest[0]) if len(rest) == 1 else None
+    if topic == "holders" and number is not None:
+        return session.printer.table(holders_table(session.world(), number))
+    is_all = rest == ["all"]
+    if topic not in TABLES or (rest and not is_all and number is None):
+        raise Misused(f"info {TOPICS[topic].usage}: {TOPICS[topic].says}")
+    session.printer.table(TABLES[topic](session.world(), None if number is None else [number], is_all))
+
+
+TABLES = {"goroutines": goroutines_table, "sockets": sockets_table, "descriptors": descriptors_table}
+
+ANSWERS: dict[str, Answering] = {
+    "help": answer_help,
+    "where": answer_where,
+    "list": answer_list,
+    "goto": answer_goto,
+    "until": answer_until,
+    "reverse-until": answer_reverse_until,
+    "display": answer_display,
+    "undisplay": answer_undisplay,
+    "history": answer_history,
+    "timeline": answer_timeline,
+    "source": answer_source,
+    "info": answer_info,
+}

@@ -1,0 +1,221 @@
+"""How nrdb is called, and its exit status, which is netrev's: 0 done, 1 the recording was refused, 2 other words, 3 the
+file, the program or the connection failed; and 4 where --suspects prints some."""
+
+import argparse
+import io
+import os
+import shutil
+import sys
+from contextlib import closing
+from pathlib import Path
+from typing import Any, NoReturn, Optional, Sequence
+
+from netrev_model.plain import plain
+
+from .answers import ANSWERS
+from .interrupts import GivenUp, Interrupted, Interrupts
+from .netrev import Ended, Joined, Netrev, Own, Reply
+from .output import JsonPrinter, Printer, TextPrinter
+from .recording import Recording
+from .refusals import explained
+from .scout import Scout
+from .session import Mismatched, Misused, Session
+from .shapes import POSITION, Refused, Strange
+from .suspects import suspects_table
+from .terminal import Terminal
+from .timeline import write_timeline
+
+HERE = Path(__file__).resolve().parents
+BUILT = HERE[2] / "crates/netrev/out/netrev"
+INSTALLED = HERE[3] / "bin/netrev"  # by `make install`, which puts this module into lib/netrev/nrdb
+DONE, REFUSED, USAGE, FAILED, SUSPECTS = range(5)
+SILENT = "no reply yet: somebody else is at this front, or netrev goes through what all have searched; nrdb waits"
+
+
+class InOrder(argparse.Action):
+    """Keeps -x and -ex in the order in which they are given."""
+
+    def __call__(self, _parser: Any, space: argparse.Namespace, value: Any, _option: Optional[str] = None) -> None:
+        space.lines = [*(space.lines or []), (self.const, value)]
+
+
+def program() -> str:
+    """netrev's program where none is named: the one that is built here, one that is installed beside nrdb, or another."""
+    beside = Path(sys.argv[0]).resolve().with_name("netrev")
+    there = [str(path) for path in (BUILT, beside, INSTALLED) if path.is_file()]
+    return os.environ.get("NETREV") or next(iter(there), None) or shutil.which("netrev") or str(BUILT)
+
+
+class Words(argparse.ArgumentParser):
+    """Parses the words, and tells what is wrong with them."""
+
+    def error(self, message: str) -> NoReturn:
+        super().error(plain(message))
+
+
+def parser() -> Words:
+    """The words that nrdb takes."""
+    made = Words(
+        prog="nrdb",
+        description="The companion at netrev's prompt: what it adds to netrev's replies begins with | and is unproved.",
+    )
+    made.add_argument("file", nargs="?", metavar="FILE", help="the recording")
+    made.add_argument(
+        "-x", dest="lines", action=InOrder, const="source", metavar="FILE", help="takes lines from a file"
+    )
+    made.add_argument("-ex", dest="lines", action=InOrder, const="line", metavar="COMMAND", help="takes this line")
+    made.add_argument("--batch", action="store_true", help="ends behind -x and -ex, in place of a prompt")
+    made.add_argument("--json", action="store_true", help="prints a line of JSON for each event")
+    made.add_argument(
+        "--suspects", action="store_true", help="prints the suspects, behind -x and -ex, and ends: with status 4 if any"
+    )
+    made.add_argument("--timeline", metavar="OUT.html", help="writes the timeline, behind -x and -ex, and ends")
+    made.add_argument("--join", metavar="HOST:PORT", help="joins a session that `netrev serve` has")
+    made.add_argument("--netrev", default=program(), metavar="PROGRAM", help="netrev's program")
+    return made
+
+
+def main(words: Optional[Sequence[str]] = None) -> int:
+    """Runs nrdb with these words; its exit status."""
+    wanted = parser().parse_args(words)
+    if not wanted.file and not wanted.join:
+        parser().error("a recording has to be named, or a session to join")
+    for stream in (sys.stdin, sys.stdout):
+        if isinstance(stream, io.TextIOWrapper):
+            stream.reconfigure(errors="surrogateescape")  # bytes that are no UTF-8 go as they come
+    printer = (JsonPrinter if wanted.json else TextPrinter)()
+    try:
+        return run(wanted, printer)
+    except BrokenPipeError:  # whoever read what is printed has gone
+        sys.stdout = open(os.devnull, "w", encoding="utf-8")
+        return FAILED
+
+
+def run(wanted: argparse.Namespace, printer: Printer) -> int:
+    """Runs the session that is wanted, and tells how it ended; its exit status."""
+    try:
+        status = start(wanted, printer)
+    except Ended as ended:
+        printer.note("netrev has ended")
+        status = ended.status if ended.status and ended.status > 0 else FAILED
+    except (Mismatched, Strange) as wrong:
+        printer.note(str(wrong))
+        status = FAILED
+    except (GivenUp, KeyboardInterrupt):
+        printer.note("netrev didn't answer: the session is given up")
+        status = FAILED
+    except BrokenPipeError:
+        raise
+    except OSError as error:
+        printer.note(f"{error.filename or wanted.join or wanted.file}: {error.strerror or error}")
+        if error.filename == wanted.netrev:
+            printer.note("`make netrev` builds netrev; NETREV or --netrev names another one")
+        status = FAILED
+    printer.end(status)
+    return status
+
+
+def start(wanted: argparse.Namespace, printer: Printer) -> int:
+    """Opens the session that is wanted, and runs it to its end; the exit status."""
+    interrupts = Interrupts()
+    with closing(opened(wanted, interrupts, printer)) as netrev:
+        try:
+            return begun(wanted, netrev, interrupts, printer)
+        except (GivenUp, KeyboardInterrupt, Strange):
+            netrev.drop()
+            raise
+
+
+def begun(wanted: argparse.Namespace, netrev: Netrev, interrupts: Interrupts, printer: Printer) -> int:
+    """Runs a session with this netrev to its end; the exit status."""
+    recording = Recording.read(wanted.file) if wanted.file else None
+    scout = Scout(lambda: Own(wanted.netrev, wanted.file, interrupts)) if wanted.file else None
+    session = Session(netrev, recording, scout, printer, interrupts, ANSWERS)
+    first = session.ask("info position")
+    if not POSITION.fullmatch(first):
+        return refused(wanted, netrev, first, printer)
+    try:
+        session.begin(first)
+        status = played(session, wanted)
+    finally:
+        if scout:
+            scout.drop()
+    return netrev.close() or status
+
+
+def refused(wanted: argparse.Namespace, netrev: Netrev, first: str, printer: Printer) -> int:
+    """Tells that netrev's first reply is a fault, and of a recording why; the exit status."""
+    if wanted.join and not first.startswith("fault "):
+        raise Strange("info position", first)
+    printer.reply("", Reply(first), "")
+    for told in explained(wanted.netrev, wanted.file, first) if wanted.file else ():
+        printer.note(told)
+    return netrev.close() or REFUSED
+
+
+def opened(wanted: argparse.Namespace, interrupts: Interrupts, printer: Printer) -> Netrev:
+    """A netrev of one's own, or a front of a session that is shared."""
+    if wanted.join:
+        return Joined(address(wanted.join), interrupts, lambda: printer.note(SILENT))
+    return Own(wanted.netrev, wanted.file, interrupts)
+
+
+def played(session: Session, wanted: argparse.Namespace) -> int:
+    """Takes the lines of -x and -ex, and then prints the suspects, writes the timeline, or takes lines of the terminal or of
+    the input; the exit status."""
+    for sort, text in wanted.lines or ():
+        if sort == "line":
+            session.printer.echo(text)
+        if not (session.run if sort == "line" else session.play)(text):
+            return DONE
+    if wanted.suspects:
+        return suspected(session)
+    if wanted.timeline:
+        return drawn(session, wanted.timeline)
+    if not wanted.batch:
+        typed(session)
+    return DONE
+
+
+def suspected(session: Session) -> int:
+    """Prints the suspects; the exit status."""
+    try:
+        with session.interrupts.held():
+            table = suspects_table(session.looks(), session.text())
+    except (Interrupted, Misused, Refused) as stopped:
+        session.printer.note(str(stopped) or "interrupted")
+        return FAILED
+    session.printer.table(table)
+    return SUSPECTS if table.rows else DONE
+
+
+def drawn(session: Session, path: str) -> int:
+    """Writes the timeline; the exit status."""
+    try:
+        with session.interrupts.held():
+            session.printer.note(write_timeline(session, path))
+    except (Interrupted, Misused) as stopped:
+        session.printer.note(str(stopped) or "interrupted")
+        return FAILED
+    return DONE
+
+
+def typed(session: Session) -> None:
+    """Takes lines from the terminal, or from an input that is none."""
+    if sys.stdin.isatty():
+        if session.scout:
+            session.scout.prepare()
+        Terminal(session).run()
+        return
+    for line in map(str.rstrip, sys.stdin):
+        session.printer.echo(line)
+        if not session.run(line):
+            return
+
+
+def address(text: str) -> tuple[str, int]:
+    """The host and the port of an address."""
+    host, _, port = text.rpartition(":")
+    if not port.isdigit():
+        parser().error(f"{text} is no HOST:PORT")
+    return host.strip("[]") or "127.0.0.1", int(port)

@@ -1,0 +1,141 @@
+"""The commands, netrev's own and those that nrdb adds, each a row of one table; and how a word that is cut short, or
+that another debugger has, is read."""
+
+from dataclasses import dataclass
+from enum import Enum
+from typing import Collection, Mapping
+
+from netrev_model.commands import OF_NETREV, SHORT, command
+from netrev_model.vocabulary import DUMPS
+
+
+class Origin(Enum):
+    """Who answers a command."""
+
+    NETREV = "netrev"
+    NRDB = "nrdb"
+
+
+OF_NRDB = {
+    row.name: row
+    for row in (
+        command("help [COMMAND]", "lists the commands, or tells of one; of a kind, a cell and a reason's number too"),
+        command("where", "the position, the last step and the next one"),
+        command("list [N]", "the steps round the position, or round step N; => is the next one"),
+        command("goto N", "goes to position N, either way"),
+        command(
+            "until CELL VALUE",
+            "goes to the next step that gives the cell this value, or these words; * is any text",
+            steps=True,
+        ),
+        command("reverse-until CELL VALUE", "goes back to the last step that gave the cell this value", steps=True),
+        command("display [CELL]", "shows the cell at each stop; alone, all that are shown"),
+        command("undisplay [CELL]", "no longer; alone, none"),
+        command("history CELL [N|all]", "the changes of a cell up to the position, the last 40 if no number is given"),
+        command("timeline FILE [FROM TO]", "writes a page that shows all positions, or these, side by side"),
+        command("source FILE", "takes lines from a file"),
+    )
+}
+COMMANDS = {**OF_NETREV, **OF_NRDB}
+
+
+@dataclass(frozen=True)
+class Topic:
+    """What `info` tells about: who answers, how it is called and what it tells."""
+
+    origin: Origin
+    usage: str
+    says: str
+
+
+TOPICS = {
+    topic.usage.split()[0]: topic
+    for topic in (
+        Topic(Origin.NETREV, "position", "where it stands"),
+        Topic(Origin.NETREV, "breakpoints", "the marks"),
+        Topic(Origin.NETREV, "checkpoints", "the checkpoints"),
+        Topic(Origin.NRDB, "goroutines [all|G]", "what each does that is neither idle nor gone"),
+        Topic(Origin.NRDB, "sockets [all|S]", "those whose lock word, queue or input says something"),
+        Topic(Origin.NRDB, "descriptors [all|D]", "the open ones: whose socket, words and deadlines"),
+        Topic(Origin.NRDB, "timers", "the clock, and the deadlines to come"),
+        Topic(Origin.NRDB, "suspects", "what isn't as it should be in the whole recording, by rules, the worst first"),
+        Topic(Origin.NRDB, "holders S", "who holds the references of socket S, and since which step"),
+    )
+}
+ALL_TOPICS = "; ".join(f"info {topic.usage}" for topic in TOPICS.values())
+
+# Words of other debuggers, and what they come to here.
+SPELLINGS = {
+    "s": "stepi",
+    "step": "stepi",
+    "n": "stepi",
+    "next": "stepi",
+    "nexti": "stepi",
+    "ni": "stepi",
+    "rs": "reverse-stepi",
+    "reverse-step": "reverse-stepi",
+    "reverse-next": "reverse-stepi",
+    "rn": "reverse-stepi",
+    "i": "info",
+    "l": "list",
+    "h": "help",
+    "?": "help",
+    "d": "delete",
+    "bt": "where",
+    "backtrace": "where",
+    "exit": "quit",
+    "jump": "goto",
+    "advance": "goto",
+}
+TOPIC_SPELLINGS = {"threads": "goroutines", "fds": "descriptors", "b": "breakpoints"}
+
+DIRECTIONS = ("reverse", "forward")
+
+
+class Ambiguous(Exception):
+    """A word that begins several of those that could stand there."""
+
+    def __init__(self, word: str, could_be: list[str]):
+        super().__init__(f'"{word}" could be {", ".join(could_be)}')
+
+
+def whole(word: str, known: Collection[str], spellings: Mapping[str, str] = {}) -> str:
+    """The known word that this one spells, in another debugger's spelling too, or, where just one does, that begins
+    with it. Else the word itself."""
+    if word in known:
+        return word
+    if word in spellings:
+        return spellings[word]
+    near = sorted(name for name in known if name.startswith(word))
+    if len(near) > 1:
+        raise Ambiguous(word, near)
+    foreign = {spellings[name] for name in spellings if name.startswith(word)}
+    return near[0] if near else foreign.pop() if len(foreign) == 1 else word
+
+
+def whole_command(word: str) -> str:
+    """The command that a word spells, in short, in part or as another debugger does. Else the word itself."""
+    return whole(word, COMMANDS, {**SPELLINGS, **SHORT})
+
+
+def whole_words(words: list[str]) -> list[str]:
+    """The words of a line, those written out that were cut short: the command, a topic, a direction, a dump."""
+    first = whole_command(words[0])
+    rest = words[1:]
+    if first == "info" and rest:
+        rest[0] = whole(rest[0], TOPICS, TOPIC_SPELLINGS)
+    elif first == "dump" and len(rest) == 2:
+        rest[0] = whole(rest[0], DUMPS)
+    elif first == "delete" and len(rest) == 2:
+        rest[0] = whole(rest[0], ("checkpoint",), {"checkpoints": "checkpoint"})
+    elif first == "set" and len(rest) == 2:
+        rest = [whole(rest[0], ("exec-direction",)), whole(rest[1], DIRECTIONS)]
+    return [first, *rest]
+
+
+def is_answered_here(words: list[str]) -> bool:
+    """Whether nrdb answers a line of these words itself."""
+    first, *rest = words
+    if first == "info":
+        return not rest or (rest[0] in TOPICS and TOPICS[rest[0]].origin is Origin.NRDB)
+    return first in OF_NRDB

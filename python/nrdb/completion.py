@@ -1,0 +1,53 @@
+"""What a word at the prompt can be completed to: commands, topics, kinds, cells, and the numbers that are in use."""
+
+from typing import Callable
+
+from netrev_model.vocabulary import CELLS, DUMPS, KINDS, Of
+
+from .commands import COMMANDS, DIRECTIONS, TOPICS, Ambiguous, whole_words
+
+NUMBERED_TOPICS = {"goroutines": Of.GOROUTINE, "sockets": Of.SOCKET, "descriptors": Of.DESCRIPTOR, "holders": Of.SOCKET}
+OF_CELL = ("print", "watch", "display", "undisplay", "history", "until", "reverse-until")
+STATUSES = "idle gone acquiring queued relock owing entering armed parking parked swapping checking".split()
+VALUES = {"gor": STATUSES, "rg": ["nil", "ready", "wait"], "wg": ["nil", "ready", "wait"]}
+
+
+def candidates(before: list[str], numbers: Callable[[Of], list[str]]) -> list[str]:
+    """What can stand behind these words; `numbers` gives those that are in use."""
+    if not before:
+        return list(COMMANDS)
+    try:
+        first, *rest = whole_words(list(before))
+    except Ambiguous:
+        return []
+    if first in OF_CELL:
+        return of_cell(rest, numbers)
+    if len(rest) == 0:
+        return {
+            "break": list(KINDS),
+            "tbreak": list(KINDS),
+            "dump": list(DUMPS),
+            "info": list(TOPICS),
+            "set": ["exec-direction"],
+            "delete": ["checkpoint"],
+            "help": [*COMMANDS, *KINDS, *CELLS],
+        }.get(first, [])
+    if len(rest) == 1 and first == "dump":
+        return numbers(Of.SOCKET)
+    if len(rest) == 1 and first == "set":
+        return list(DIRECTIONS)
+    if len(rest) == 1 and first == "info" and rest[0] in NUMBERED_TOPICS:
+        return numbers(NUMBERED_TOPICS[rest[0]])
+    return []
+
+
+def of_cell(rest: list[str], numbers: Callable[[Of], list[str]]) -> list[str]:
+    """What can stand behind these words of a cell."""
+    if not rest:
+        return list(CELLS)
+    cell = CELLS.get(rest[0])
+    if cell is None:
+        return []
+    if len(rest) == 1 and cell.of is not Of.ALL:
+        return numbers(cell.of)
+    return VALUES.get(cell.name, []) if len(rest) == 2 else []

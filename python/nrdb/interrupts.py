@@ -1,0 +1,54 @@
+"""Ctrl-C. While netrev is asked it waits for the reply, which is never left half read; a long walk looks between two
+questions whether it came. A second one, while netrev doesn't answer, gives the session up."""
+
+import signal
+from contextlib import contextmanager
+from typing import Iterator
+
+
+class Interrupted(Exception):
+    """Ctrl-C was pressed in a walk, which stops here."""
+
+
+class GivenUp(Exception):
+    """Ctrl-C was pressed again while netrev didn't answer: a reply is left half read, and the session of no use."""
+
+
+class Interrupts:
+    """Holds Ctrl-C back while `held`."""
+
+    def __init__(self) -> None:
+        self._came = False
+        self._is_given_up = False
+
+    @contextmanager
+    def held(self) -> Iterator[None]:
+        """Within, Ctrl-C is remembered, and told by `check`; a second one raises GivenUp."""
+        self._came = False
+        before = signal.signal(signal.SIGINT, self._handle)
+        try:
+            yield
+        finally:
+            signal.signal(signal.SIGINT, before)
+
+    def came(self) -> None:
+        """Ctrl-C was pressed."""
+        if self._came:
+            self._is_given_up = True
+        self._came = True
+        self.check_given_up()
+
+    def _handle(self, *_: object) -> None:
+        self.came()
+
+    def check(self) -> None:
+        """Raises Interrupted where Ctrl-C came, and GivenUp where a second one did."""
+        self.check_given_up()
+        if self._came:
+            self._came = False
+            raise Interrupted
+
+    def check_given_up(self) -> None:
+        """Raises GivenUp where the session was given up: that stays so, whoever catches the first one."""
+        if self._is_given_up:
+            raise GivenUp

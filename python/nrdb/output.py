@@ -1,0 +1,153 @@
+"""What nrdb prints: events, as text for people or as a line of JSON each for editors and scripts. netrev's replies are
+printed as they are; all else begins with `|`."""
+
+import json
+import sys
+from abc import ABC, abstractmethod
+from dataclasses import dataclass
+from typing import Any, Optional, TextIO
+
+from netrev_model.plain import plain
+
+from .netrev import Reply
+from .recorded_answers import answer_text
+from .recording import Step
+
+Values = dict[str, Any]  # what a row says, by name, as JSON has it
+
+
+@dataclass(frozen=True)
+class Place:
+    """Where the session stands: the position, the number of steps, and the steps before and behind, where they are
+    known."""
+
+    position: int
+    steps: int
+    last: Optional[Step]
+    next: Optional[Step]
+
+    def __str__(self) -> str:
+        if self.position == 0:
+            last = "(start)"
+        else:
+            answered = (
+                f", answered {answer_text(self.last.answer)}"
+                if self.last and self.last.answer not in (None, "done")
+                else ""
+            )
+            last = f"last step {self.position}" + (f": {self.last}{answered}" if self.last else "")
+        if self.position == self.steps:
+            return f"{last}   (end)"
+        then = f"next step {self.position + 1}"
+        return f"{last}   {then}: {self.next}   (line {self.next.line})" if self.next else f"{last}   {then}"
+
+
+@dataclass(frozen=True)
+class Row:
+    """A row of a table: its values by name, and the line that shows it. One without values is a further line of the row
+    before."""
+
+    values: Values
+    text: str
+
+
+@dataclass(frozen=True)
+class Table:
+    """Rows about a topic, with a line for what is left out, or for none."""
+
+    topic: str
+    rows: list[Row]
+    rest: str = ""
+
+
+class Printer(ABC):
+    """Where events go. Each is out before the next line is read. All text goes through `write`, and there through `plain`,
+    so nothing of a recording or of a server is obeyed by a terminal."""
+
+    def __init__(self, out: Optional[TextIO] = None):
+        self.out = out if out is not None else sys.stdout
+
+    def write(self, text: str) -> None:
+        """Writes a line."""
+        print(plain(text), file=self.out, flush=True)
+
+    @abstractmethod
+    def echo(self, line: str) -> None:
+        """A line that nobody typed, as the prompt would show it."""
+
+    @abstractmethod
+    def reply(self, line: str, reply: Reply, words: str) -> None:
+        """netrev's reply to a line, and what its value says in words."""
+
+    @abstractmethod
+    def place(self, place: Place) -> None:
+        """Where the session stands."""
+
+    @abstractmethod
+    def note(self, text: str) -> None:
+        """A remark, of one line or several."""
+
+    @abstractmethod
+    def table(self, table: Table) -> None:
+        """A table."""
+
+    @abstractmethod
+    def end(self, status: int) -> None:
+        """The session has ended."""
+
+
+class TextPrinter(Printer):
+    """Events as text."""
+
+    def echo(self, line: str) -> None:
+        self.write(f"(netrev) {line}".rstrip())
+
+    def reply(self, line: str, reply: Reply, words: str) -> None:
+        self.write(f"{reply.first}   | {words}" if words else reply.first)
+        for entry in reply.entries:
+            self.write(entry)
+
+    def place(self, place: Place) -> None:
+        self.write(f"| {place}")
+
+    def note(self, text: str) -> None:
+        for line in text.split("\n"):
+            self.write(f"| {line}")
+
+    def table(self, table: Table) -> None:
+        for row in table.rows:
+            self.write(f"| {row.text}")
+        if table.rest:
+            self.write(f"| {table.rest}")
+
+    def end(self, status: int) -> None:
+        """The session has ended."""
+
+
+class JsonPrinter(Printer):
+    """Events as lines of JSON, each an object with the key `event`."""
+
+    def _event(self, event: str, **values: Any) -> None:
+        text = json.dumps({"event": event, **values}, separators=(",", ":"))
+        self.write(text.replace("\x7f", "\\u007f"))  # the one control that JSON leaves as it is
+
+    def echo(self, line: str) -> None:
+        """The reply tells its line."""
+
+    def reply(self, line: str, reply: Reply, words: str) -> None:
+        self._event("reply", line=line, reply=reply.lines, words=words or None)
+
+    def place(self, place: Place) -> None:
+        steps = {name: step and step._asdict() for name, step in (("last", place.last), ("next", place.next))}
+        self._event("place", position=place.position, steps=place.steps, **steps)
+
+    def note(self, text: str) -> None:
+        self._event("note", text=text)
+
+    def table(self, table: Table) -> None:
+        self._event(
+            "table", topic=table.topic, rows=[row.values for row in table.rows if row.values], rest=table.rest or None
+        )
+
+    def end(self, status: int) -> None:
+        self._event("end", status=status)

@@ -1,0 +1,98 @@
+"""Recorded answers in words: what a step of each kind can answer, what an answer says, and where to look if the program
+had another one than the machine."""
+
+import json
+from typing import Any, Optional
+
+from netrev_model.vocabulary import COUNTED_ANSWERS, KINDS
+
+from .words import counted
+
+OF_A_CHECK = (
+    "nothing was in the way",
+    "the descriptor was closing",
+    "the deadline had passed",
+    "there was an event error",
+)
+_OF_LOCKS = {"yes": "it took the reference", "no": "the socket was closed"}
+_OF_RELEASES = {
+    "last": "it gave up the last reference of a closed socket",
+    "notlast": "the socket isn't closed, or others hold references",
+}
+SAYS = {
+    "sysread": {"got": "it read {bytes}", "eof": "the peer had closed", "again": "EAGAIN: nothing was there"},
+    "syswrite": {
+        "put": "it wrote {bytes}",
+        "again": "EAGAIN: there was no room",
+        "pipe": "EPIPE: the write side was shut",
+    },
+    "incref": _OF_LOCKS,
+    "increfclose": _OF_LOCKS,
+    "rwlock": {"yes": "it took the lock", "no": "the socket was closed", "wait": "another had the lock"},
+    "decref": _OF_RELEASES,
+    "rwunlock": _OF_RELEASES,
+    "acquire": {"yes": "the semaphore's count was positive", "wait": "it joined the semaphore's queue"},
+    "blockarm": {"wait": "the word was nil", "code": "the word was ready: the wait is over"},
+    "parkcommit": {"yes": "it parked", "no": "something came first, and it didn't park"},
+    "blockswap": {"yes": "the word was ready", "no": "the word wasn't ready"},
+    "pollevent": {"done": "the event was for this use of the descriptor", "stale": "the event was for an earlier use"},
+    "fire": {"done": "the timer was current: the deadline has passed", "stale": "the timer was an old one"},
+    "spawn": {"number": "the new goroutine's number"},
+    "sockopen": {"number": "the new socket's number"},
+    "pollopen": {"number": "the descriptor's number"},
+}
+
+_OF_WORDS = "a pollevent, setdeadline, fire or evict came on the other side of it: history rg D, or wg D"
+_OF_CHECKS = "a setdeadline, fire, evict or pollevent is missing, or stands on the other side of it: history info D"
+_OF_LOCK_WORDS = "a step of this socket is missing, or two are in the wrong order: history lock S"
+MEANS = {
+    "sysread": "bytes came at another time: an arrive or peerclose is missing, or stands on the other side of it",
+    "syswrite": "there was other room: a drain or closewrite stands on the other side of it, or wc isn't the kernel's",
+    "acquire": "a release of this socket is missing, or stands on the other side of it: history rsem S, or wsem S",
+    "pollevent": "the tag is counted wrong, or a pollclose or pollopen stands on the other side of it: history fdseq D",
+    "fire": "a setdeadline or evict between pop and fire is missing, or the place is another firing's",
+    "spawn": "goroutines are numbered from 0 in the order of spawn, and 0 is there from the start",
+    "sockopen": "sockets are numbered from 0 in the order of sockopen",
+    "pollopen": "the descriptor that was freed last comes first: a pollclose is missing, or two are in the wrong order",
+    **dict.fromkeys(("incref", "increfclose", "decref", "rwlock", "rwunlock"), _OF_LOCK_WORDS),
+    **dict.fromkeys(("pollreset", "waitbegin", "blockcheck", "waitcheck"), _OF_CHECKS),
+    **dict.fromkeys(("blockarm", "parkcommit", "blockswap"), _OF_WORDS),
+}
+
+
+def answer_text(answer: Any) -> str:
+    """An answer in a few letters: `done`, `got 2`; or the JSON of what is none."""
+    if isinstance(answer, str):
+        return answer
+    if isinstance(answer, list) and len(answer) == 2 and answer[0] in COUNTED_ANSWERS:
+        return f"{answer[0]} {answer[1]}"
+    return json.dumps(answer)
+
+
+def name_of(answer: Any) -> str:
+    """The name of an answer, without its number."""
+    return answer if isinstance(answer, str) else answer[0]
+
+
+def answer_words(kind: str, answer: Any) -> str:
+    """What an answer says of a step; empty where it says nothing more than its name."""
+    name = name_of(answer)
+    said = SAYS.get(kind, {}).get(name, "")
+    if name in ("got", "put"):
+        return said.format(bytes=counted(answer[1], "byte"))
+    if name == "code" and not said and answer[1] < len(OF_A_CHECK):
+        return f"the check: {OF_A_CHECK[answer[1]]}"
+    return said
+
+
+def spelled(kind: str) -> str:
+    """The answers that a kind can give, as a recording has them."""
+    names = [f'["{name}",N]' if name in COUNTED_ANSWERS else f'"{name}"' for name in KINDS[kind].answers]
+    return names[0] if len(names) == 1 else f"{', '.join(names[:-1])} or {names[-1]}"
+
+
+def meaning(kind: str, recorded: Any) -> Optional[str]:
+    """What it means that the program had this answer and the machine another."""
+    if name_of(recorded) not in KINDS[kind].answers:
+        return f"{kind} answers {spelled(kind)}, and nothing else"
+    return MEANS.get(kind)

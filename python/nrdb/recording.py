@@ -1,0 +1,180 @@
+"""The text of a recording: its steps by their numbers, each with the line that it stands in. That the text is a
+recording, and that its steps apply, is for netrev to say."""
+
+import json
+import re
+from array import array
+from bisect import bisect_left, bisect_right
+from functools import cached_property
+from itertools import accumulate
+from os.path import commonprefix
+from typing import Any, Iterable, Iterator, NamedTuple, Optional, Sequence
+
+from netrev_model.vocabulary import KINDS
+
+from .where import Lines
+
+BLANK_LINE = re.compile(rb"^[ \t\r]*$", re.MULTILINE)
+SHOWN = 40
+PIECE = 1_024  # steps
+AT_ONCE = 16_384  # steps that are read together
+OF_A_GOROUTINE = [name for name, kind in KINDS.items() if kind.arguments[:1] == ("g",)]
+
+
+class Step(NamedTuple):
+    """A step: its number from 1, the line that it stands in, its kind, its arguments, and in version 2 the recorded
+    answer, as JSON has it: a text, or a list of a text and a number."""
+
+    number: int
+    line: int
+    kind: str
+    arguments: tuple[Any, ...]
+    answer: Any = None
+
+    def argument(self, name: str) -> Any:
+        """The argument of that name, or None where the kind has none."""
+        kind = KINDS.get(self.kind)
+        if kind is None or name not in kind.arguments:
+            return None
+        place = kind.arguments.index(name)
+        return self.arguments[place] if place < len(self.arguments) else None
+
+    def __str__(self) -> str:
+        return " ".join((self.kind, *(shortened(str(argument)) for argument in self.arguments)))
+
+
+def shortened(text: str) -> str:
+    """The text, or its beginning where it is long."""
+    return text if len(text) <= SHOWN else f"{text[: SHOWN - 2]}.."
+
+
+class Recording:
+    """A recording's text. Steps are read when they are asked for: there may be a million."""
+
+    def __init__(self, data: bytes):
+        self.data = data
+        lengths = map(len, data.split(b"\n"))
+        self._starts = array("q", accumulate(lengths, lambda start, length: start + length + 1, initial=0))
+        blank = {bisect_right(self._starts, found.start()) for found in BLANK_LINE.finditer(data)}
+        numbers = range(1, len(self._starts))
+        self._numbers: Sequence[int] = [number for number in numbers if number not in blank] if blank else numbers
+        self.header_line = self._numbers[0] if self._numbers else 1
+        self.lines = Lines()
+
+    @classmethod
+    def read(cls, path: str) -> "Recording":
+        """Reads the file; an OSError where it can't be read."""
+        with open(path, "rb") as file:
+            recording = cls(file.read())
+        recording.lines = Lines.beside(path, recording.length)
+        return recording
+
+    @property
+    def length(self) -> int:
+        """How many steps there are."""
+        return max(len(self._numbers) - 1, 0)
+
+    def line(self, number: int) -> bytes:
+        """The line of that number, from 1, without its line feed; empty where there is none."""
+        if not 1 <= number < len(self._starts):
+            return b""
+        return self.data[self._starts[number - 1] : self._starts[number] - 1]
+
+    def before_line(self, number: int) -> bytes:
+        """The lines before that one."""
+        return self.data[: self._starts[number - 1]]
+
+    def is_last(self, number: int) -> bool:
+        """Whether nothing but blanks stands behind that line."""
+        return not self.data[self._starts[number] :].strip(b" \t\r\n\0")
+
+    @cached_property
+    def limits(self) -> dict[str, Any]:
+        """The header's keys and values."""
+        header = json.loads(self.line(self.header_line))
+        return header if isinstance(header, dict) else {}
+
+    @property
+    def has_answers(self) -> bool:
+        """Whether each step's array ends with a recorded answer: in version 2."""
+        return self.limits.get("netrev") == 2
+
+    def step_or_none(self, number: int) -> Optional[Step]:
+        """The step of that number, from 1, or None where there is none."""
+        return self.step(number) if 1 <= number <= self.length else None
+
+    def step(self, number: int) -> Step:
+        """The step of that number, from 1 to the recording's length."""
+        return self._made(number, json.loads(self.line(self._numbers[number])))
+
+    def _made(self, number: int, values: list[Any]) -> Step:
+        """The step of that number, by the array in its line."""
+        kind, *arguments = values
+        answer = arguments.pop() if self.has_answers and arguments else None
+        return Step(number, self._numbers[number], kind, tuple(arguments), answer)
+
+    def last_step_of(self, goroutine: int, until: int) -> int:
+        """The number of a goroutine's last step among the first so many; 0 where it has none."""
+        spelled = re.compile(rb'"(?:%s)"\s*,\s*%d\b' % ("|".join(OF_A_GOROUTINE).encode(), goroutine))
+        for last in range(min(until, self.length), 0, -PIECE):
+            first = self._starts[self._numbers[max(last - PIECE, 0) + 1] - 1]
+            found = list(spelled.finditer(self.data, first, self._starts[self._numbers[last]]))
+            if found:
+                return bisect_left(self._numbers, bisect_right(self._starts, found[-1].start()))
+        return 0
+
+    def arrays(self) -> Iterator[list[Any]]:
+        """Each step's array as JSON has it, one after the other."""
+        for first in range(1, self.length + 1, AT_ONCE):
+            last = min(first + AT_ONCE, self.length + 1) - 1
+            text = self.data[self._starts[self._numbers[first] - 1] : self._starts[self._numbers[last]]]
+            yield from json.loads(b"[%s]" % b",".join(line for line in text.split(b"\n") if line.strip()))
+
+    def steps_of(self, kinds: tuple[str, ...], until: int, socket: Optional[int] = None) -> Iterator[Step]:
+        """The steps of these kinds among the first so many; and, where one is named, of this socket."""
+        return self._between(1, until, kinds, socket, None)
+
+    def steps_back(self, kinds: tuple[str, ...], until: int, socket: int, side: str) -> Iterator[Step]:
+        """The steps of these kinds, of this socket and side, among the first so many, the last one first. The text is
+        searched in pieces from there back, each twice as long as the one before."""
+        end, size = min(until, self.length), PIECE
+        while end > 0:
+            first = max(end - size, 0) + 1
+            yield from reversed(list(self._between(first, end, kinds, socket, side)))
+            end, size = first - 1, 2 * size
+
+    def _between(
+        self, first: int, until: int, kinds: tuple[str, ...], socket: Optional[int], side: Optional[str]
+    ) -> Iterator[Step]:
+        """The steps of these kinds from one number to another; where they are named, of this socket and this side."""
+        numbers = list(self._numbers_of(first, until, kinds, socket, side))
+        lines = [self.line(self._numbers[number]) for number in numbers]
+        for number, values in zip(numbers, json.loads(b"[%s]" % b",".join(lines))):
+            step = self._made(number, values)
+            if step.kind in kinds and socket in (None, step.argument("s")) and side in (None, step.argument("side")):
+                yield step
+
+    def _numbers_of(
+        self, first: int, until: int, kinds: tuple[str, ...], socket: Optional[int], side: Optional[str]
+    ) -> Iterable[int]:
+        """The numbers of such steps, and maybe of others. They are searched as text: but not where an escape stands, in
+        which a kind may be hidden."""
+        until = min(until, self.length)
+        if until < first or b"\\" in self.data:
+            return range(first, until + 1)
+        named = rb"" if socket is None else rb"\s*,\s*\d+\s*,\s*%d" % socket
+        if named:
+            named += rb"\b" if side is None else rb'\s*,\s*"%s"' % side.encode()
+        prefix = commonprefix(kinds)  # (a pattern is searched faster the longer it begins with letters)
+        rest = "|".join(kind[len(prefix) :] for kind in kinds)
+        spelled = re.compile(rb'"%s(?:%s)"%s' % (prefix.encode(), rest.encode(), named))
+        begin, end = self._starts[self._numbers[first] - 1], self._starts[self._numbers[until]]
+        places = (found.start() for found in spelled.finditer(self.data, begin, end))
+        return self._numbers_at(places, self._numbers[first], begin)
+
+    def _numbers_at(self, places: Iterable[int], line: int, begin: int) -> Iterator[int]:
+        """The numbers of the steps at these places of the text, which rise, behind the place at which a line begins."""
+        for place in places:
+            line += self.data.count(b"\n", begin, place)
+            begin = place
+            yield line - 1 if isinstance(self._numbers, range) else bisect_left(self._numbers, line)

@@ -1,0 +1,167 @@
+"""A recording that netrev refuses, explained: the line, what to mend in it, and of a step that doesn't apply, or whose
+recorded answer isn't the machine's, what stood just before it at the places that it names."""
+
+import json
+import os
+import re
+import subprocess
+import tempfile
+from typing import Any, Iterator
+
+from netrev_model.vocabulary import KINDS, REASONS
+
+from .recorded_answers import answer_text, answer_words, meaning
+from .recording import Recording, Step, shortened
+from .text_hints import text_hint
+from .words import in_words
+from .world import opened_by
+
+LINE = re.compile(r"line (\d+): fault (\d+)")
+STEP = re.compile(r"step (\d+): fault 107 reason (\d+)")
+ANSWER = re.compile(r"step (\d+): fault 109 answer")
+FAR = 4_294_967_295
+LONGEST = 100
+
+CAUSES = {
+    1: "was it spawned, or does it come after its exit? Numbers count from 0, and aren't Go's own",
+    2: "a step before it is missing: its status says what it still has to do",
+    3: "the header's limit is too low: it counts all that the run makes; of descriptors, those that are open at once",
+    4: "is its sockopen missing? Numbers count from 0; a kernel's file descriptor is no socket number",
+    5: "is its pollopen missing, or was it freed before?",
+    7: "a decref or rwunlock too many, or two steps in the wrong order",
+    8: "the other's wait has no end: a blockswap or waitcheck of it is missing",
+    9: "evict comes before pollclose",
+    10: "evict stands twice",
+    11: "a wait on it has no end: a blockswap or waitcheck is missing",
+    12: "a tick is missing before, or stands too late",
+    13: "a tick is missing: the clock hasn't reached the first timer",
+    15: "is its pop missing? Places count from 0",
+    16: "more bytes come than the input has room for: a larger rc of sockopen, or a sysread is missing",
+    17: "more is drained than was written",
+    19: "a capacity and n are from 1 to the header's buf, and bytes are at least one",
+    20: "nothing arrives after peerclose",
+}
+
+CELLS_OF = {
+    "g": ("gor",),
+    "s": ("lock", "in", "out", "shut"),
+    "d": ("info", "rg", "wg", "rd", "wd", "fdseq"),
+}
+OF_TIME = {"tick": ("clock",), "pop": ("clock", "least", "timers", "firings"), "fire": ("firings",)}
+
+
+def explained(program: str, path: str, fault: str) -> list[str]:
+    """The lines that explain a fault, which is netrev's whole reply to this file."""
+    recording = Recording.read(path)
+    if found := LINE.match(fault):
+        number = int(found[1])
+        line = recording.line(number)[:LONGEST].decode("utf-8", "replace").strip("\r")
+        hint = text_hint(recording, number, int(found[2]))
+        return [f"line {number}: {line}", hint] if line.isprintable() and line and "\ufffd" not in line else [hint]
+    if found := STEP.match(fault):
+        return step_explained(program, recording, int(found[1]), int(found[2]))
+    if found := ANSWER.match(fault):
+        return answer_explained(program, recording, int(found[1]))
+    return []
+
+
+def step_explained(program: str, recording: Recording, number: int, reason: int) -> list[str]:
+    """Why a step doesn't apply."""
+    step = recording.step(number)
+    said = [line_of(step), f"reason {reason}: {REASONS[reason]}"]
+    if reason in CAUSES:
+        said.append(CAUSES[reason])
+    return said + [f"just before: {told}" for told in before(program, recording, step)]
+
+
+def line_of(step: Step) -> str:
+    """The step, and how steps of its kind are written."""
+    return f"line {step.line}: {step}" + (f"   ({KINDS[step.kind].usage})" if step.arguments else "")
+
+
+def answer_explained(program: str, recording: Recording, number: int) -> list[str]:
+    """The recorded answer of a step and the machine's, side by side, and where to look."""
+    step = recording.step(number)
+    shown = before(program, recording, step)
+    said = [line_of(step), f"recorded: {with_meaning(step.kind, step.answer)}"]
+    said += [
+        f"machine:  {with_meaning(step.kind, answer)}"
+        for answer in likely(recording, step, shown)
+        if is_taken(program, recording, step, answer)
+    ]
+    if told := meaning(step.kind, step.answer):
+        said.append(told)
+    return said + [f"just before: {told}" for told in shown]
+
+
+def with_meaning(kind: str, answer: Any) -> str:
+    """An answer with what it says."""
+    words = answer_words(kind, answer)
+    return answer_text(answer) + (f"   ({words})" if words else "")
+
+
+def likely(recording: Recording, step: Step, shown: list[str]) -> Iterator[Any]:
+    """The answers that the machine may have to a step, by what is shown just before it: netrev decides which it is."""
+    for name in KINDS[step.kind].answers:
+        if name == "code":
+            yield from (["code", code] for code in range(4))
+        elif name in ("number", "got", "put"):
+            yield [name, count_of(recording, step, shown)]
+        else:
+            yield name
+
+
+def count_of(recording: Recording, step: Step, shown: list[str]) -> int:
+    """The number that the machine must answer to a step: one that is made, or how many bytes move."""
+    earlier = step.number - 1
+    if step.kind == "pollopen":
+        return opened_by(recording, earlier)[1]
+    if step.kind in ("spawn", "sockopen"):
+        return sum(1 for _ in recording.steps_of((step.kind,), earlier)) + (step.kind == "spawn")
+    if step.kind == "sysread":
+        return min(step.argument("n"), held(shown, "in"))
+    opened = list(recording.steps_of(("sockopen",), earlier))[step.argument("s")]
+    return min(len(step.argument("bytes")) // 2, opened.argument("wc") - held(shown, "out"))
+
+
+def held(shown: list[str], cell: str) -> int:
+    """How many bytes a buffer holds, by the values that are shown."""
+    return next(int(told.split()[3]) for told in shown if told.startswith(f"{cell} "))
+
+
+def is_taken(program: str, recording: Recording, step: Step, answer: Any) -> bool:
+    """Whether netrev takes the recording up to this step, with this for the step's answer."""
+    line = json.dumps([step.kind, *step.arguments, answer]).encode()
+    with tempfile.TemporaryDirectory(prefix="nrdb-") as folder:
+        cut = os.path.join(folder, "cut.jsonl")
+        with open(cut, "wb") as file:
+            file.write(recording.before_line(step.line) + line)
+        return subprocess.run([program, "check", cut], capture_output=True, check=False).returncode == 0
+
+
+def named_cells(step: Step) -> list[str]:
+    """The cells of what a step names."""
+    cells = []
+    for name, value in zip(KINDS[step.kind].arguments, step.arguments):
+        cells += [f"{cell} {value}" for cell in CELLS_OF.get(name, ())]
+    return cells + list(OF_TIME.get(step.kind, ()))
+
+
+def before(program: str, recording: Recording, step: Step) -> list[str]:
+    """What the cells that a step names show before it, by a run of the recording that is cut there."""
+    lines = [f"stepi {FAR}", *(f"print {cell}" for cell in named_cells(step))]
+    with tempfile.TemporaryDirectory(prefix="nrdb-") as folder:
+        cut = os.path.join(folder, "cut.jsonl")
+        with open(cut, "wb") as file:
+            file.write(recording.before_line(step.line))
+        asked = "".join(f"{line}\n" for line in lines).encode()
+        shown = subprocess.run([program, "run", cut], input=asked, capture_output=True, check=False).stdout
+    replies = shown.decode().splitlines()[1:]
+    return [with_words(reply) for reply in replies]
+
+
+def with_words(reply: str) -> str:
+    """A value with its words."""
+    cell, _, value = reply.partition(" = ")
+    words = in_words(cell, value)
+    return shortened(reply) + (f"   ({words})" if words else "")

@@ -1,0 +1,198 @@
+"""A second netrev over the same recording, which goes wherever something is to be seen: so the session's position,
+marks and checkpoints stay as they were typed, and those who share one don't notice.
+
+A walk that is left in the middle may leave marks behind, and replies that nobody read. So the netrev of such a walk is ended,
+and the next walk starts another; where it ended by itself the walk is begun anew, once.
+"""
+
+from contextlib import closing
+from dataclasses import dataclass
+from itertools import islice
+from typing import Callable, Generator, Iterator, NamedTuple, Optional, Sequence, TypeVar
+
+from .netrev import Ended, Netrev
+from .shapes import MARK, matched, move_of, value_of
+
+JOURNAL = 65_536  # commands that a session of `netrev run` has room for
+AT_ONCE = 256  # searches that are asked for before the first is waited for
+
+Seen = TypeVar("Seen")
+
+
+class Lost(Exception):
+    """The scout's netrev can't be had: what is wrong with it."""
+
+
+class Stop(NamedTuple):
+    """A position behind a change of a cell, and the value there."""
+
+    position: int
+    value: str
+
+
+@dataclass(frozen=True)
+class Change:
+    """A change of a cell: the step that made it, which is the position behind it, and the values before and after."""
+
+    step: int
+    old: str
+    new: str
+
+
+class Scout:
+    """Looks at any position. netrev is started when it is needed first, and anew when its journal is nearly full."""
+
+    def __init__(self, opened: Callable[[], Netrev]):
+        self._opened = opened
+        self._netrev: Optional[Netrev] = None
+        self._placed = 0
+        self._stands: Optional[int] = None  # where it is, as far as that is known
+
+    def prepare(self) -> None:
+        """Starts netrev, if it isn't there yet, and doesn't wait until it has read the recording."""
+        if self._netrev is None:
+            try:
+                self._netrev, self._placed, self._stands = self._opened(), 0, None
+            except OSError as error:
+                raise Lost(f"{error.filename}: {error.strerror}") from None
+
+    def drop(self) -> None:
+        """Ends netrev, whatever it does."""
+        if self._netrev is not None:
+            dropped, self._netrev = self._netrev, None
+            dropped.drop()
+
+    def look(self, position: int, looks: Callable[[Netrev], Seen]) -> Seen:
+        """What is seen at the position, by whom netrev is given there."""
+        return self._anew(lambda: looks(self._at(position)))
+
+    def values(self, position: int, cells: Sequence[str]) -> list[str]:
+        """The values of the cells at the position."""
+        return self.look(position, lambda netrev: netrev.values(cells))
+
+    def changes_before(self, cell: str, position: int, most: Optional[int] = None) -> tuple[list[Change], bool]:
+        """The last changes of the cell up to the position, at most so many, in the order of their steps; and whether
+        there are earlier ones."""
+        return self._anew(lambda: self._changes(cell, position, most))
+
+    def find(self, cell: str, is_wanted: Callable[[str], bool], position: int, backwards: bool) -> Optional[int]:
+        """The nearest position that way behind a step that gave the cell a value that is wanted, or None."""
+        way = "reverse-continue" if backwards else "continue"
+
+        def found() -> Optional[int]:
+            with closing(self._stops(cell, position, way)) as stops:
+                return next((stop for stop, value in stops if is_wanted(value)), None)
+
+        return self._anew(found)
+
+    def rows(self, first: int, last: int, looks: Sequence[str]) -> Iterator[list[str]]:
+        """What these looks show at each of the positions, one after the other."""
+        for position in range(first, last + 1):
+            yield self._anew(lambda: self._row(position, looks))
+
+    def _anew(self, walk: Callable[[], Seen]) -> Seen:
+        """What comes of a walk, that of a second one where netrev ended in the first."""
+        try:
+            return self._whole(walk)
+        except Ended:
+            pass
+        try:
+            return self._whole(walk)
+        except Ended:
+            raise Lost("the netrev that looks at other positions has ended twice") from None
+
+    def _whole(self, walk: Callable[[], Seen]) -> Seen:
+        """What comes of a walk. If it is left in the middle, for whatever reason, its netrev is ended."""
+        try:
+            return walk()
+        except BaseException:
+            self.drop()
+            raise
+
+    def _changes(self, cell: str, position: int, most: Optional[int]) -> tuple[list[Change], bool]:
+        wanted = None if most is None else most + 1
+        with closing(self._stops_up_to(cell, position)) as found:
+            stops = list(islice(found, wanted))
+        is_all = wanted is None or len(stops) < wanted
+        first = self._at(0).values([cell])[0] if is_all else stops.pop().value
+        stops.reverse()
+        olds = [first, *(stop.value for stop in stops)]
+        return [Change(stop.position, old, stop.value) for stop, old in zip(stops, olds)], not is_all
+
+    def _row(self, position: int, looks: Sequence[str]) -> list[str]:
+        *replies, moved = self._at(position).ask_all([*looks, "stepi"])
+        self._placed += 1
+        self._stands = move_of("stepi", moved).position
+        return [value_of(look, reply) for look, reply in zip(looks, replies)]
+
+    def _stops_up_to(self, cell: str, position: int) -> Generator[Stop, None, None]:
+        """The positions behind changes of the cell, backwards, from this position on, each with the value there."""
+        if position:
+            before, now = (self._at(place).values([cell])[0] for place in (position - 1, position))
+            if before != now:
+                yield Stop(position, now)
+        yield from self._stops(cell, position, "reverse-continue")
+
+    def _stops(self, cell: str, position: int, way: str) -> Generator[Stop, None, None]:
+        """The positions that way behind changes of the cell, each with the value there."""
+        mark, size = self._watch(cell, position), 1
+        while True:
+            if self._placed + 2 * size >= JOURNAL:
+                mark = self._watch(cell, position)
+            for stop in self._stops_at_once(cell, way, size):
+                if stop is None:
+                    return self._unwatch(mark)
+                position = stop.position
+                try:
+                    yield stop
+                except GeneratorExit:  # whoever asked has seen enough
+                    return self._unwatch(mark)
+            size = min(2 * size, AT_ONCE)
+
+    def _stops_at_once(self, cell: str, way: str, size: int) -> list[Optional[Stop]]:
+        """The next so many stops, and None behind the last where there are no more."""
+        look = f"print {cell}"
+        netrev = self._walker()
+        replies = netrev.ask_all([way, look] * size)
+        self._placed += size
+        stops: list[Optional[Stop]] = []
+        for moved, shown in zip(replies[::2], replies[1::2]):
+            move = move_of(way, moved)
+            if move.is_end:
+                return [*stops, None]
+            stops.append(Stop(move.position, value_of(look, shown)))
+        return stops
+
+    def _watch(self, cell: str, position: int) -> str:
+        """Goes to the position and watches the cell; the mark's number."""
+        reply = self._at(position).ask(f"watch {cell}").first
+        self._placed += 1
+        return matched(MARK, f"watch {cell}", reply)[1]
+
+    def _unwatch(self, mark: str) -> None:
+        """Takes the mark away. Ctrl-C isn't looked for: whoever walks has what was wanted, and the mark must not stay."""
+        netrev = self._walker()
+        self._placed += 1
+        if netrev.ask(f"delete {mark}").first != f"deleted mark {mark}":
+            self.drop()
+
+    def _walker(self) -> Netrev:
+        """The netrev that looks, which is about to go somewhere."""
+        self.prepare()
+        assert self._netrev
+        self._stands = None
+        return self._netrev
+
+    def _at(self, position: int) -> Netrev:
+        """netrev at the position, with room in the journal for what comes."""
+        if self._placed + 4 * AT_ONCE >= JOURNAL:
+            self.drop()
+        if self._netrev is not None and self._stands == position:
+            return self._netrev
+        netrev = self._walker()
+        lines = ["restart 0", f"stepi {position}"] if position else ["restart 0"]
+        for line, reply in zip(lines, netrev.ask_all(lines)):
+            move_of(line, reply)
+        self._placed += len(lines)
+        self._stands = position
+        return netrev

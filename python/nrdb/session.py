@@ -1,0 +1,225 @@
+"""A session: lines go to netrev, or are answered here; after each move it is told where the session stands."""
+
+from dataclasses import dataclass, field
+from pathlib import Path
+from typing import Callable, Mapping, Optional, Sequence
+
+from netrev_model.vocabulary import cell_of
+
+from .changes import marks_table
+from .commands import COMMANDS, Ambiguous, is_answered_here, whole_words
+from .interrupts import Interrupted, Interrupts
+from .line_hints import hint
+from .netrev import Joined, Netrev, Reply
+from .output import Place, Printer, Row, Table
+from .recording import Recording
+from .scout import Lost, Scout
+from .shapes import MOVED, OF_CELL, OF_DUMP, POSITION, VALUE, Listed, Position, Refused, move_of, position_of
+from .words import absent_words, dump_words, in_words
+from .world import World
+
+STOPPING = ("continue", "reverse-continue", "resume")
+NESTED = 8
+UNNAMED = "for this the recording has to be named: nrdb --join HOST:PORT FILE"
+
+
+Answering = Callable[["Session", list[str]], Optional[bool]]  # False where the session has ended
+
+
+class Misused(Exception):
+    """A command of nrdb with words that it doesn't take: what is wrong with them."""
+
+
+class Mismatched(Exception):
+    """A session was joined that has another recording."""
+
+
+@dataclass
+class Session:
+    """A netrev, the recording and the scout where they are there, and where what is said goes."""
+
+    netrev: Netrev
+    recording: Optional[Recording]
+    scout: Optional[Scout]
+    printer: Printer
+    interrupts: Interrupts
+    answers: Mapping[str, Answering]
+    displays: list[str] = field(default_factory=list)
+    stood: int = 0
+    length: int = 0
+    depth: int = 0
+
+    def begin(self, reply: str) -> None:
+        """Tells where the session stands, with netrev's first reply, to `info position`. Mismatched where the recording
+        isn't the session's."""
+        self.stood, self.length, _ = position_of(reply)
+        if self.recording and self.recording.length != self.length:
+            raise Mismatched(f"the recording has {self.recording.length} steps, and that of the session {self.length}")
+        self.printer.reply("info position", Reply(reply), "")
+        self.printer.place(self.place(self.stood))
+
+    def ask(self, line: str) -> str:
+        """The first line of netrev's reply."""
+        return self.netrev.ask(line).first
+
+    def stands(self) -> Position:
+        """The position, the number of steps and the direction."""
+        return position_of(self.ask("info position"))
+
+    def place(self, position: int) -> Place:
+        """The position with the steps round it."""
+        if self.recording is None:
+            return Place(position, self.length, None, None)
+        last, then = (self.recording.step_or_none(number) for number in (position, position + 1))
+        return Place(position, self.length, last, then)
+
+    def world(self) -> World:
+        """What is there at the position."""
+        return World(self.netrev, self.text(), self.stands().position)
+
+    def text(self) -> Recording:
+        """The recording; Misused where a session was joined without it."""
+        if self.recording is None:
+            raise Misused(UNNAMED)
+        return self.recording
+
+    def looks(self) -> Scout:
+        """The scout; Misused where a session was joined without the recording."""
+        if self.scout is None:
+            raise Misused(UNNAMED)
+        return self.scout
+
+    def run(self, line: str) -> bool:
+        """Answers a line. False where the session has ended."""
+        return self.guarded(self.attempt, line)
+
+    def play(self, path: str) -> bool:
+        """Answers the lines of a file; an OSError where it can't be read. False where the session has ended."""
+        return self.guarded(self.source, path)
+
+    def guarded(self, answer: Callable[[str], bool], what: str) -> bool:
+        """Answers, and stops where Ctrl-C comes. False where the session has ended."""
+        try:
+            with self.interrupts.held():
+                return answer(what)
+        except Interrupted:
+            self.printer.note("interrupted; the session goes on")
+            return True
+
+    def attempt(self, line: str) -> bool:
+        """Answers a line, or says what is wrong with it. False where the session has ended."""
+        if not line.split() or line.lstrip().startswith("#"):
+            return True
+        try:
+            self.tell_of_others()
+            return self.answer(line)
+        except (Ambiguous, Misused) as wrong:
+            self.printer.note(str(wrong))
+        except Refused as refused:
+            self.printer.note(f"netrev answered: {refused}")
+        except Lost as lost:
+            self.printer.note(str(lost))
+        return True
+
+    def answer(self, line: str) -> bool:
+        """Answers a line that has words."""
+        words = whole_words(line.split())
+        if is_answered_here(words):
+            return self.answers[words[0]](self, words[1:]) is not False
+        return self.pass_on(line, words)
+
+    def pass_on(self, line: str, words: list[str]) -> bool:
+        """Sends a line to netrev, and shows its reply. A line that netrev knows goes as it was typed."""
+        sent = " ".join(words) if words[0] in COMMANDS else line
+        # (a stop takes away the temporary breaks that it names, so what stands before it is asked for too)
+        stood = self.netrev.marks() if words[0] in STOPPING and self.scout else []
+        reply = self.netrev.ask(sent)
+        self.show(line, reply, words[0] == "dump")
+        if MOVED.fullmatch(reply.first):
+            move = move_of(sent, reply.first)
+            self.arrive(move.position, move.marks, stood)
+        elif reply.first.startswith("fault"):
+            self.printer.note(hint(words, reply.first))
+        return reply.first != "bye"
+
+    def show(self, line: str, reply: Reply, is_dump: bool = False) -> None:
+        """Shows a reply, a value with its words."""
+        value = None if reply.entries else VALUE.fullmatch(reply.first)
+        words = self.words_of_look(value[1], value[2], is_dump) if value else ""
+        self.printer.reply(line, reply, words)
+
+    def words_of_look(self, what: str, value: str, is_dump: bool) -> str:
+        """What a look shows in words; nothing where netrev doesn't show such a value."""
+        shape = (OF_DUMP if is_dump else OF_CELL).get(what.split()[0])
+        if shape is None or not shape.fullmatch(value):
+            return ""
+        return dump_words(what, value) if is_dump and value != "absent" else self.words_of(what, value)
+
+    def words_of(self, cell: str, value: str) -> str:
+        """What a value says in words."""
+        if value != "absent":
+            return in_words(cell, value) if cell_of(cell.split()) else ""
+        return absent_words(cell, self.recording.limits if self.recording else {})
+
+    def arrive(self, position: int, numbers: Sequence[str] = (), stood: Sequence[Listed] = ()) -> None:
+        """Tells where the session stands after a move, which marks hit there, and what is displayed. Before the move these
+        marks stood, of which some may be gone."""
+        self.stood = position
+        self.printer.place(self.place(position))
+        if numbers and self.scout:
+            listed = {mark.number: mark for mark in [*stood, *self.netrev.marks()]}
+            hit = [listed[number] for number in numbers if number in listed]
+            self.printer.table(marks_table(self.scout, hit, position))
+        self.show_displays()
+
+    def show_displays(self) -> None:
+        """Shows the cells that are displayed."""
+        rows = []
+        for cell, value in zip(self.displays, self.netrev.values(self.displays)):
+            words = self.words_of(cell, value)
+            told = f"{cell} = {value}" + (f"   ({words})" if words else "")
+            rows.append(Row({"cell": cell, "value": value, "words": words or None}, told))
+        if rows:
+            self.printer.table(Table("display", rows))
+
+    def tell_of_others(self) -> None:
+        """In a session that is shared, tells where it stands if somebody else has moved it."""
+        if not isinstance(self.netrev, Joined):
+            return
+        reply = self.ask("info position")
+        if POSITION.fullmatch(reply) and (now := position_of(reply).position) != self.stood:
+            self.printer.note(f"somebody has moved: from {self.stood} to {now}")
+            self.printer.place(self.place(now))
+            self.stood = now
+
+    def go(self, position: int) -> str:
+        """Goes to the position, whatever the direction; the reply to the last command."""
+        now, _, direction = self.stands()
+        if position == now:
+            return f"at {now}"
+        if position < now:
+            return self.ask(f"reverse-stepi {now - position}")
+        if direction == "forward":
+            return self.ask(f"stepi {position - now}")
+        self.ask("set exec-direction forward")
+        reply = self.ask(f"stepi {position - now}")
+        self.ask("set exec-direction reverse")
+        return reply
+
+    def source(self, path: str) -> bool:
+        """Answers the lines of a file, each shown first; an OSError where it can't be read. False where the session has
+        ended."""
+        if self.depth == NESTED:
+            raise Misused(f"files are {NESTED} deep in each other already")
+        lines = Path(path).read_text(encoding="utf-8", errors="surrogateescape").splitlines()
+        self.depth += 1
+        try:
+            return all(self.echoed(line) for line in lines)
+        finally:
+            self.depth -= 1
+
+    def echoed(self, line: str) -> bool:
+        """Answers a line that nobody typed, and shows it first. False where the session has ended."""
+        if line.split():
+            self.printer.echo(line)
+        return self.attempt(line)

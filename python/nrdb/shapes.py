@@ -1,0 +1,114 @@
+"""The shapes of netrev's replies, as docs/COMMANDS.md has them. Each reply is held against that of its question, so that none
+is taken for the reply to another; what has no such shape wasn't said by netrev."""
+
+import re
+from typing import Match, NamedTuple
+
+from netrev_model.vocabulary import CELLS, MOST_STANDING
+
+SHOWN = 60
+_SIDED = "acquiring|queued|relock|entering|armed|parking|parked|swapping|checking"
+_NUMBER = r"\d{1,20}"
+_WORD = rf"nil|ready|wait|g{_NUMBER}"
+_TIME = rf"-?{_NUMBER}"
+
+POSITION = re.compile(r"at (\d{1,7}) of (\d{1,7}) (forward|reverse)")
+MOVED = re.compile(r"at (\d{1,7})(?: (?:(end|start)|by((?: \d{1,10})+)))?")
+LISTING = re.compile(r"(?:marks|checkpoints) (\d{1,2})")
+LISTED = re.compile(r"(\d{1,10}) (break|tbreak|watch) (\S+(?: \d{1,10})?)")
+MARK = re.compile(r"mark (\d{1,10})")
+VALUE = re.compile(r"(\w+(?: \d{1,10})?) = (.*)", re.DOTALL)
+OF_CELL = {
+    **{name: re.compile(f"absent|{_NUMBER}") for name in CELLS},
+    "gor": re.compile(rf"absent|idle|gone|(?:{_SIDED}) {_NUMBER} [rw]|owing {_NUMBER} {_NUMBER} {_NUMBER}"),
+    **{name: re.compile(f"absent|{_WORD}") for name in ("rg", "wg")},
+    **{name: re.compile(f"absent|{_TIME}") for name in ("rd", "wd")},
+}
+OF_DUMP = {
+    **{name: re.compile("absent|-|(?:[0-9a-f]{2})+") for name in ("in", "out")},
+    **{name: re.compile(rf"absent|-|{_NUMBER}(?: {_NUMBER})*") for name in ("rq", "wq")},
+}
+
+
+class Refused(Exception):
+    """netrev refused what it was asked: its reply."""
+
+
+class Strange(Exception):
+    """A reply that netrev doesn't give: netrev isn't what answers."""
+
+    def __init__(self, line: str, reply: str):
+        shown = reply if len(reply) <= SHOWN else f"{reply[: SHOWN - 2]}.."
+        super().__init__(f'what answers isn\'t netrev: to "{line}" it said "{shown}"')
+
+
+class Position(NamedTuple):
+    """Where a session stands: the position, the number of steps, and the direction."""
+
+    position: int
+    steps: int
+    direction: str
+
+
+class Move(NamedTuple):
+    """Where a move led: the position, whether at an end of the recording, and the numbers of the marks that hit."""
+
+    position: int
+    is_end: bool
+    marks: tuple[str, ...]
+
+
+class Listed(NamedTuple):
+    """A mark of `info breakpoints`: its number, `break`, `tbreak` or `watch`, and what it marks."""
+
+    number: str
+    sort: str
+    what: str
+
+    def __str__(self) -> str:
+        return " ".join(self)
+
+
+def matched(shape: re.Pattern[str], line: str, reply: str) -> Match[str]:
+    """The parts of a reply to this line, which has to have this shape; Refused where it is a fault, else Strange."""
+    found = shape.fullmatch(reply)
+    if found is None:
+        raise Refused(reply) if reply.startswith("fault ") else Strange(line, reply)
+    return found
+
+
+def position_of(reply: str) -> Position:
+    """What `info position` is answered."""
+    found = matched(POSITION, "info position", reply)
+    return Position(int(found[1]), int(found[2]), found[3])
+
+
+def move_of(line: str, reply: str) -> Move:
+    """What a move is answered."""
+    found = matched(MOVED, line, reply)
+    return Move(int(found[1]), bool(found[2]), tuple((found[3] or "").split()))
+
+
+def mark_of(line: str) -> Listed:
+    """An entry of `info breakpoints`."""
+    return Listed(*matched(LISTED, "info breakpoints", line).groups())
+
+
+def entries_in(line: str, first: str) -> int:
+    """How many entries follow the first line of a reply."""
+    if not first.startswith(("marks ", "checkpoints ")):
+        return 0
+    count = int(matched(LISTING, line, first)[1])
+    if count > MOST_STANDING:
+        raise Strange(line, first)
+    return count
+
+
+def value_of(line: str, reply: str) -> str:
+    """What a look, `print CELL` or `dump WHAT S`, shows."""
+    verb, _, what = line.partition(" ")
+    found = matched(VALUE, line, reply)
+    shape = (OF_CELL if verb == "print" else OF_DUMP)[what.split()[0]]
+    if found[1] != what or not shape.fullmatch(found[2]):
+        raise Strange(line, reply)
+    return found[2]

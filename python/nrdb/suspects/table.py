@@ -1,0 +1,67 @@
+"""The table of `info suspects`."""
+
+from ..output import Row, Table, Values
+from ..recording import Recording
+from ..scout import Scout
+from ..words import counted
+from .found import Suspect
+from .ranking import suspects_of
+from .state import Timeout
+
+MOST = 12  # suspects that are shown
+
+
+def suspects_table(scout: Scout, recording: Recording) -> Table:
+    """The suspects, the worst first, each with netrev's answers at the positions in question."""
+    ranked = suspects_of(recording)
+    shown = [suspect for suspect in ranked.suspects if suspect.is_shown][:MOST]
+    rows = [row for at, suspect in enumerate(shown, 1) for row in _rows(scout, recording, at, suspect)]
+    return Table("suspects", rows, _rest(len(shown), len(ranked.suspects) - len(shown), ranked.timeouts))
+
+
+def _rows(scout: Scout, recording: Recording, at: int, suspect: Suspect) -> list[Row]:
+    """A suspect's rows: what is said of it, what netrev answers, the program's lines, and what to type next."""
+    evidence = _evidence(scout, suspect)
+    lines = _lines(recording, suspect)
+    values: Values = {
+        "rule": suspect.rule.value,
+        "weight": int(suspect.weight),
+        "step": suspect.step,
+        "says": suspect.sentence(),
+        "netrev": evidence,
+        "lines": lines,
+        "looks": suspect.looks,
+    }
+    further = [f"   netrev: {'; '.join(evidence)}", *(f"   Go:     {line}" for line in lines)]
+    further.append(f"   look:   {'; '.join(suspect.looks)}")
+    first = Row(values, f"{at}. {suspect.rule.value}: {suspect.sentence()}")
+    return [first, *(Row({}, line) for line in further)]
+
+
+def _evidence(scout: Scout, suspect: Suspect) -> list[str]:
+    """What netrev answers at the positions in question. What doesn't fit the rule's reckoning is marked."""
+    shown = []
+    for position, cell, value in suspect.evidence:
+        answer = scout.values(position, [cell])[0]
+        doubt = "" if value in (None, answer) else f" (take care: the rule reckons with {value})"
+        shown.append(f"at {position} {cell} = {answer}{doubt}")
+    return shown
+
+
+def _lines(recording: Recording, suspect: Suspect) -> list[str]:
+    """The lines of the program at the steps that it tells of, where they are known."""
+    told = []
+    for number in dict.fromkeys(suspect.steps):
+        if words := recording.lines.words(number):
+            told.append(f"step {number}, {recording.step(number).kind}: {words}")
+    return told
+
+
+def _rest(shown: int, others: int, timeouts: list[Timeout]) -> str:
+    """What else there is to say."""
+    rest = [] if shown else ["no suspect"]
+    if others:
+        rest.append(f"{others} of little weight left out")
+    if timeouts:
+        rest.append(f"{counted(len(timeouts), 'call')} ended with a timeout")
+    return "; ".join(rest)

@@ -1,0 +1,106 @@
+"""The prompt: line editing, a history that is kept in a file, completion, and an empty line that repeats a step."""
+
+import os
+from pathlib import Path
+from typing import Optional
+
+from netrev_model.vocabulary import Of
+
+from .commands import COMMANDS, Ambiguous, whole_words
+from .completion import candidates
+from .interrupts import Interrupted
+from .netrev import Ended
+from .session import Session
+from .world import made_at
+
+try:
+    import readline
+except ImportError:  # a Python without it has no line editing
+    readline = None  # type: ignore[assignment]
+
+PROMPT = "(netrev) "
+KEPT = 1000
+MOST_NUMBERS = 200
+
+
+def history_file() -> Path:
+    """Where the lines that were typed are kept: NETREV_HISTORY, or .netrev_history in the home folder."""
+    return Path(os.environ.get("NETREV_HISTORY") or Path.home() / ".netrev_history")
+
+
+class Terminal:
+    """Reads lines from a person, until one ends the session."""
+
+    def __init__(self, session: Session):
+        self.session = session
+        self._last = ""
+        self._found: list[str] = []
+
+    def run(self) -> None:
+        """Reads and answers lines until quit, or the end of the input."""
+        self._load()
+        try:
+            while self._turn():
+                pass
+        finally:
+            self._save()
+
+    def _turn(self) -> bool:
+        """Reads and answers one line. False where the session has ended."""
+        try:
+            line = input(PROMPT)
+            if line.split():
+                self._last = line if repeats(line) else ""
+            return self.session.run(line if line.split() else self._last)
+        except EOFError:
+            print()
+            return False
+        except KeyboardInterrupt:
+            print("^C")
+            return True
+
+    def _load(self) -> None:
+        if readline is None:
+            return
+        readline.set_completer(self._complete)
+        readline.set_completer_delims(" ")
+        readline.parse_and_bind("tab: complete")
+        readline.set_history_length(KEPT)
+        try:
+            readline.read_history_file(history_file())
+        except OSError:
+            pass
+
+    def _save(self) -> None:
+        if readline is None:
+            return
+        try:
+            readline.write_history_file(history_file())
+        except OSError:
+            pass
+
+    def _complete(self, text: str, at: int) -> Optional[str]:
+        """The candidate at this place, or None behind the last: readline's own rule."""
+        if at == 0:
+            before = readline.get_line_buffer()[: readline.get_begidx()].split()
+            with self.session.interrupts.held():
+                every = candidates(before, self._numbers)
+            self._found = [f"{word} " for word in every if word.startswith(text)]
+        return self._found[at] if at < len(self._found) else None
+
+    def _numbers(self, of: Of) -> list[str]:
+        """The numbers in use at the position."""
+        try:
+            made = made_at(self.session.netrev, of)
+        except (Ended, Interrupted):  # (readline would swallow it)
+            return []
+        return [str(number) for number in range(min(made, MOST_NUMBERS))]
+
+
+def repeats(line: str) -> bool:
+    """Whether an empty line behind this one repeats it: where it steps."""
+    try:
+        first = whole_words(line.split())[0]
+    except Ambiguous:
+        return False
+    return first in COMMANDS and COMMANDS[first].steps

@@ -1,0 +1,135 @@
+"""`info goroutines`: what each goroutine does that is neither idle nor gone, and what it waits for. It is the first
+look where something hangs, so a thousand that wait for one lock ask for that lock once."""
+
+from functools import cached_property
+from typing import Iterable, Mapping, Optional
+
+from netrev_model.vocabulary import Of
+
+from .holders import taken_by
+from .output import Row, Table
+from .recording import Step
+from .words import SIDES, LockWord, counted, status_words
+from .world import World
+
+QUIET = ("idle", "gone")
+QUEUES = {"r": "rq", "w": "wq"}
+
+
+class Queue:
+    """Those who wait for one side of a socket's lock, as they are seen for one table."""
+
+    def __init__(self, world: World, socket: int, side: str):
+        self._world, self._socket, self._side = world, socket, side
+
+    @cached_property
+    def places(self) -> dict[int, int]:
+        """The places in the semaphore's queue, from 1, by goroutine."""
+        queue = self._world.queue(QUEUES[self._side], self._socket)
+        return {goroutine: place for place, goroutine in enumerate(queue, 1)}
+
+    @cached_property
+    def word(self) -> LockWord:
+        """The socket's lock word."""
+        return LockWord.of(self._world.number(f"lock {self._socket}"))
+
+    @cached_property
+    def taking(self) -> Optional[Step]:
+        """The step that took the lock."""
+        return taken_by(self._world, self._socket, self._side)
+
+    @property
+    def is_taken(self) -> bool:
+        """Whether somebody has the lock."""
+        return self.word.read_locked if self._side == "r" else self.word.write_locked
+
+
+class Waits:
+    """What the goroutines of one table wait for; `statuses` are those of all that are looked at."""
+
+    def __init__(self, world: World, statuses: Mapping[int, str]):
+        self._world, self._statuses = world, statuses
+        self._queues: dict[tuple[int, str], Queue] = {}
+        self._sockets = world.sockets_of_open()
+
+    @cached_property
+    def _owing(self) -> dict[int, list[int]]:
+        """The goroutines that owe a release, by socket."""
+        found: dict[int, list[int]] = {}
+        for number, status in self._statuses.items():
+            if status.startswith("owing "):
+                found.setdefault(int(status.split()[1]), []).append(number)
+        return found
+
+    def of(self, goroutine: int) -> str:
+        """What a goroutine waits for, with what is known of that."""
+        status = self._statuses[goroutine]
+        name, *rest = status.split()
+        if name == "absent":
+            return "isn't made yet"
+        if name in ("acquiring", "queued", "relock"):
+            return f"{status_words(status)}; {self._queue_words(goroutine, int(rest[0]), rest[1])}"
+        if len(rest) == 2:
+            return "; ".join([status_words(status), *self._wait_words(int(rest[0]), rest[1])])
+        return status_words(status)
+
+    def _queue_words(self, goroutine: int, socket: int, side: str) -> str:
+        """Where it stands in the queue of that lock, and who has the lock."""
+        if (socket, side) not in self._queues:
+            self._queues[socket, side] = Queue(self._world, socket, side)
+        queue = self._queues[socket, side]
+        place = queue.places.get(goroutine)
+        said = f"place {place} of {len(queue.places)}, " if place else ""
+        if not queue.is_taken:
+            owed = "".join(f"; goroutine {number} owes a release there" for number in self._owing.get(socket, ()))
+            return f"{said}nobody has that lock{owed}" + ("; the socket is closed" if queue.word.closed else "")
+        taking = queue.taking
+        if taking is None:
+            return f"{said}the lock is taken"
+        return f"{said}goroutine {taking.argument('g')} has the lock since step {taking.number}"
+
+    def _wait_words(self, descriptor: int, side: str) -> list[str]:
+        """Of a wait: whose descriptor it is, what lies there unread or has room, and its deadline."""
+        world, said = self._world, []
+        if descriptor in self._sockets:
+            socket = self._sockets[descriptor]
+            said.append(f"socket {socket}")
+            if side == "r" and (unread := world.number(f"in {socket}")):
+                said[-1] += f", whose input holds {counted(unread, 'byte')} unread"
+        word, deadline = world.values([f"{side}g {descriptor}", f"{side}d {descriptor}"])
+        if word == "ready":
+            said.append("an event is there that it hasn't taken")
+        if deadline == "0":
+            return [*said, "no deadline"]
+        if deadline.startswith("-"):
+            return [*said, f"the {SIDES[side]} deadline has passed"]
+        return [*said, f"deadline at {deadline}, now it is {world.value('clock')}"]
+
+
+def goroutines_table(world: World, numbers: Optional[Iterable[int]] = None, is_all: bool = False) -> Table:
+    """The goroutines that do something, or all, or those of these numbers."""
+    every = list(range(world.made(Of.GOROUTINE)) if numbers is None else numbers)
+    statuses = {number: status for number, (status,) in world.of_each(every, "gor").items()}
+    shown = [number for number in every if is_all or numbers is not None or statuses[number] not in QUIET]
+    waits = Waits(world, statuses)
+    rows = [_row(number, statuses[number], waits.of(number)) for number in shown]
+    if world.recording.lines:
+        rows = [row if statuses[row.values["goroutine"]] in QUIET else _with_line(world, row) for row in rows]
+    left = len(statuses) - len(shown)
+    return Table("goroutines", rows, f"{left} idle or gone: info goroutines all" if left else "")
+
+
+def _row(number: int, status: str, why: str) -> Row:
+    values = {"goroutine": number, "status": status, "waits_for": why}
+    return Row(values, f"gor {number:<4} {status:<16} {why}".rstrip())
+
+
+def _with_line(world: World, row: Row) -> Row:
+    """The row with where the program stands: its line, since which step, and where the goroutine was started."""
+    step = world.recording.last_step_of(row.values["goroutine"], world.position)
+    stack = world.recording.lines.of(step)
+    if not stack.calls:
+        return row
+    started = f"; started at {stack.made.place()}" if stack.made else ""
+    at = f"{stack.words()} since step {step}{started}"
+    return Row(row.values | {"step": step, "at": at}, f"{row.text}; {at}")

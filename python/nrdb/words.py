@@ -1,0 +1,137 @@
+"""Values of cells in words: lock words, summaries, statuses, poll words and deadlines."""
+
+import json
+from dataclasses import dataclass
+from typing import Any, Mapping
+
+from netrev_model.vocabulary import CELLS, Of
+
+DUMPED = 80  # digits of a dump that are shown as text
+FIELD = 0xFFFFF  # references and waiters are counted in 20 bits each
+SIDES = {"r": "read", "w": "write"}
+DOING = {"r": "reading", "w": "writing"}
+
+
+@dataclass(frozen=True)
+class LockWord:
+    """A socket's lock word, the fdMutex of Go's internal/poll, by its fields."""
+
+    closed: bool
+    read_locked: bool
+    write_locked: bool
+    references: int
+    readers: int
+    writers: int
+
+    @classmethod
+    def of(cls, word: int) -> "LockWord":
+        """The fields of the word."""
+        counts = (word >> shift & FIELD for shift in (3, 23, 43))
+        return cls(bool(word & 1), bool(word & 2), bool(word & 4), *counts)
+
+    def __str__(self) -> str:
+        said = [
+            "closed" if self.closed else "",
+            "read lock" if self.read_locked else "",
+            "write lock" if self.write_locked else "",
+            counted(self.references, "reference"),
+            f"{self.readers} waiting to read" if self.readers else "",
+            f"{self.writers} waiting to write" if self.writers else "",
+        ]
+        return ", ".join(filter(None, said))
+
+
+def counted(number: int, name: str) -> str:
+    """So many of what has this name: `1 reference`, `2 references`."""
+    return f"{number} {name}" if number == 1 else f"{number} {name}s"
+
+
+def lock_words(value: str) -> str:
+    """A lock word in words."""
+    return str(LockWord.of(int(value)))
+
+
+def info_words(value: str) -> str:
+    """The summary of a descriptor in words."""
+    bits = {1: "closing", 2: "event error", 4: "read deadline passed", 8: "write deadline passed"}
+    said = [words for bit, words in bits.items() if int(value) & bit]
+    return ", ".join(said) or "nothing is set"
+
+
+def _owing(socket: str, reads: str, writes: str) -> str:
+    owed = ((reads, "readers"), (writes, "writers"))
+    said = [f"{counted(int(number), 'release')} to {who}" for number, who in owed if number != "0"]
+    return f"owes {' and '.join(said)} of socket {socket}"
+
+
+STATUSES = {
+    "acquiring": "waits for socket {0}'s {lock} lock: about to acquire the semaphore",
+    "queued": "waits for socket {0}'s {lock} lock: sleeps in the semaphore's queue",
+    "relock": "has the semaphore: about to try socket {0}'s {lock} lock again",
+    "entering": "waits for {doing} on descriptor {0}: about to arm the word",
+    "armed": "waits for {doing} on descriptor {0}: about to check once more",
+    "parking": "waits for {doing} on descriptor {0}: about to park",
+    "parked": "waits for {doing} on descriptor {0}: parked",
+    "swapping": "goes on from its wait for {doing} on descriptor {0}: about to take the word",
+    "checking": "goes on from its wait for {doing} on descriptor {0}: about to check why",
+}
+
+
+def status_words(value: str) -> str:
+    """A goroutine's status in words, but for `idle` and `gone`."""
+    name, *rest = value.split()
+    if name == "owing":
+        return _owing(*rest)
+    side = rest[1] if len(rest) == 2 else "r"
+    return STATUSES.get(name, "").format(*rest, lock=SIDES[side], doing=DOING[side])
+
+
+def poll_words(value: str) -> str:
+    """A descriptor's word in words, but for `nil`."""
+    said = {
+        "nil": "",
+        "ready": "an event came that nobody has taken",
+        "wait": "somebody is about to park",
+    }
+    return said.get(value, f"goroutine {value[1:]} is parked")
+
+
+def deadline_words(value: str) -> str:
+    """A deadline in words."""
+    return "no deadline" if value == "0" else "has passed" if value.startswith("-") else ""
+
+
+WORDS = {
+    "gor": status_words,
+    "lock": lock_words,
+    "info": info_words,
+    "rg": poll_words,
+    "wg": poll_words,
+    "rd": deadline_words,
+    "wd": deadline_words,
+}
+
+
+def in_words(cell: str, value: str) -> str:
+    """The value of a cell in words; empty where the value says it all. Of `absent` the caller knows more."""
+    words = WORDS.get(cell.split()[0])
+    return words(value) if words and value != "absent" else ""
+
+
+def dump_words(what: str, value: str) -> str:
+    """What a dump shows in words: bytes as text."""
+    if not what.startswith(("in", "out")) or value == "-":
+        return ""
+    return json.dumps(bytes.fromhex(value[:DUMPED]).decode("latin-1")) + (" .." if len(value) > DUMPED else "")
+
+
+def absent_words(cell: str, limits: Mapping[str, Any]) -> str:
+    """Why a cell is absent: nothing of that number yet, or never, by the limits of the recording's header."""
+    name, *number = cell.split()
+    of = CELLS[name].of if name in CELLS else Of.SOCKET
+    if of is Of.ALL:
+        return "no timer is armed"
+    room = limits.get({Of.GOROUTINE: "gor", Of.SOCKET: "sock", Of.DESCRIPTOR: "desc"}[of])
+    if isinstance(room, int) and int(number[0]) >= room:
+        return f"the recording has room for {counted(room, of.value)}, from 0 to {room - 1}"
+    return f"{of.value} {number[0]} isn't made yet"

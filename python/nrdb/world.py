@@ -1,0 +1,80 @@
+"""What is there at the session's position, by netrev's replies, and what the recording's steps tell of it besides:
+which descriptors are open, and whose they are."""
+
+from typing import Iterable, Sequence
+
+from netrev_model.vocabulary import Of
+
+from .netrev import Netrev
+from .recording import Recording
+
+COUNTED_BY = {Of.GOROUTINE: "gor", Of.SOCKET: "lock", Of.DESCRIPTOR: "fdseq"}
+AT_FIRST = 64
+
+
+class World:
+    """Looks at the position at which a session stands."""
+
+    def __init__(self, netrev: Netrev, recording: Recording, position: int):
+        self.netrev, self.recording, self.position = netrev, recording, position
+
+    def values(self, cells: Sequence[str]) -> list[str]:
+        """The values of the cells."""
+        return self.netrev.values(cells)
+
+    def value(self, cell: str) -> str:
+        """The value of a cell."""
+        return self.values([cell])[0]
+
+    def number(self, cell: str) -> int:
+        """The value of a cell that holds a number."""
+        return int(self.value(cell))
+
+    def of_each(self, numbers: Iterable[int], *names: str) -> dict[int, list[str]]:
+        """Of each number the values of the cells with these names, in their order."""
+        numbers = list(numbers)
+        values = self.values([f"{name} {number}" for number in numbers for name in names])
+        return {number: values[at * len(names) : (at + 1) * len(names)] for at, number in enumerate(numbers)}
+
+    def queue(self, dump: str, socket: int) -> list[int]:
+        """The goroutines in a queue of a socket, front first."""
+        (shown,) = self.netrev.looks([f"dump {dump} {socket}"])
+        return [] if shown in ("-", "absent") else [int(word) for word in shown.split()]
+
+    def made(self, of: Of) -> int:
+        """How many goroutines, sockets or descriptors were made: those are the numbers below."""
+        return made_at(self.netrev, of)
+
+    def sockets_of_open(self) -> dict[int, int]:
+        """The open descriptors, each with its socket."""
+        return opened_by(self.recording, self.position)[0]
+
+
+def opened_by(recording: Recording, position: int) -> tuple[dict[int, int], int]:
+    """The descriptors that are open behind so many steps, each with its socket, and the number that `pollopen` takes
+    next: the one that was freed last, else the next new one."""
+    free: list[int] = []
+    made, open_now = 0, dict[int, int]()
+    for step in recording.steps_of(("pollopen", "pollclose"), position):
+        if step.kind == "pollclose":
+            free.append(step.argument("d"))
+            del open_now[free[-1]]
+            continue
+        if free:
+            descriptor = free.pop()
+        else:
+            descriptor, made = made, made + 1
+        open_now[descriptor] = step.argument("s")
+    return open_now, free[-1] if free else made
+
+
+def made_at(netrev: Netrev, of: Of) -> int:
+    """How many goroutines, sockets or descriptors are made where netrev stands."""
+    count, size = 0, AT_FIRST
+    while True:
+        values = netrev.values([f"{COUNTED_BY[of]} {number}" for number in range(count, count + size)])
+        there = values.index("absent") if "absent" in values else size
+        count += there
+        if there < size:
+            return count
+        size *= 2

@@ -1,0 +1,266 @@
+"""netrev-go with a real Go: programs of all sorts, and each thing that can go wrong. It needs Go (Debian's golang-go) and
+netrev, and is run by `make real`:  python3 python unittest tests.go_tool"""
+
+import os
+import pathlib
+import re
+import signal
+import subprocess
+import sys
+import tempfile
+import time
+import unittest
+from typing import Callable
+
+from netrev_go.asking import netrev_program
+from netrev_go.toolchain import SOURCES, find_go, points_program
+
+ROOT = pathlib.Path(__file__).resolve().parents[2]
+SAMPLES = ROOT / "tools/go/samples"
+TOOL = ROOT / "tools/go/netrev-go"
+
+PAIR = """
+func pair() (net.Conn, net.Conn) {
+	l, err := net.Listen("tcp", "127.0.0.1:0")
+	if err != nil {
+		panic(err)
+	}
+	a, err := net.Dial("tcp", l.Addr().String())
+	if err != nil {
+		panic(err)
+	}
+	b, _ := l.Accept()
+	return a, b
+}
+"""
+
+
+def program(body: str, *imports: str) -> str:
+    """A program whose main has this body."""
+    names = "".join(f'\t"{name}"\n' for name in sorted({"net", *imports}))
+    return f"package main\n\nimport (\n{names})\n{PAIR}\nfunc main() {{\n\ta, b := pair()\n{body}\n\t_, _ = a, b\n}}\n"
+
+
+HANGS = program("\tb.Read(make([]byte, 1))")
+READ_LINE = HANGS[: HANGS.index("b.Read")].count("\n") + 1
+ENDS = program('\ta.Write([]byte("x"))\n\tb.Read(make([]byte, 1))')
+TEST = HANGS.replace("package main", "package p").replace('"net"', '"net"\n\t"testing"')
+TEST = TEST.replace("func main()", "func TestHang(t *testing.T)")
+CHILD = program(
+    '\tif len(os.Args) == 1 {\n\t\texec.Command(os.Args[0], "child").Run()\n\t}', "os", "os/exec"
+)  # fmt: skip
+RACING = program(
+    "\tvar done sync.WaitGroup\n\tfor i := 0; i < 4; i++ {\n\t\tdone.Add(1)\n\t\tgo func() {\n\t\t\tdefer done.Done()\n"
+    '\t\t\tfor j := 0; j < 50; j++ {\n\t\t\t\tv := net.Buffers{[]byte("a"), []byte("b")}\n\t\t\t\tv.WriteTo(a)\n\t\t\t}\n'
+    "\t\t}()\n\t}\n\tdone.Wait()",
+    "sync",
+)
+
+
+class Tool(unittest.TestCase):
+    """A folder with a program, and netrev-go called in it."""
+
+    def setUp(self) -> None:
+        folder = tempfile.TemporaryDirectory()
+        self.addCleanup(folder.cleanup)
+        self.folder = pathlib.Path(folder.name)
+
+    def written(self, text: str, name: str = "main.go") -> None:
+        (self.folder / name).write_text(text)
+
+    def environment(self, **settings: str) -> dict[str, str]:
+        return os.environ | {"NETREV": netrev_program() or "", "GO111MODULE": "off", "GOFLAGS": ""} | settings
+
+    def called(self, *words: str, **settings: str) -> tuple[int, str]:
+        """netrev-go's status, and all that it and the program say."""
+        run = subprocess.run(
+            [TOOL, *words], cwd=self.folder, env=self.environment(**settings), stdin=subprocess.DEVNULL,
+            stdout=subprocess.PIPE, stderr=subprocess.STDOUT, text=True, errors="replace", timeout=300, check=False,
+        )  # fmt: skip
+        return run.returncode, run.stdout
+
+    def recorded(self, said: str, name: str = "recording") -> None:
+        self.assertRegex(said, rf"{name}\.jsonl: ok \d+ steps; \d+ goroutines, \d+ sockets")
+
+
+class Programs(Tool):
+    def test_a_program_that_hangs_ends_with_its_line(self) -> None:
+        self.written(HANGS)
+        status, said = self.called("-n", "1", "run", "main.go")
+        self.assertEqual(status, 0, said)
+        self.recorded(said)
+        self.assertRegex(
+            said, rf"  main\.go:{READ_LINE}: net\.\(\*conn\)\.Read waits to read \(goroutine 0, since step \d+\)"
+        )
+        self.assertIn("recording.jsonl -ex continue -ex 'info goroutines'", said)
+
+    def test_a_test_that_hangs_ends_with_its_line(self) -> None:
+        self.written(TEST, "p_test.go")
+        status, said = self.called("-o", "t", "test", ".", "-run", "Hang", "-timeout", "1s")
+        self.recorded(said, "t")
+        self.assertRegex(said, rf"  p_test\.go:{READ_LINE + 1}: net\.\(\*conn\)\.Read waits to read")
+        self.assertNotIn("vet:", said)
+
+    def test_lines_are_told_however_it_was_built(self) -> None:
+        self.written(HANGS)
+        for flag in (["-ldflags=-s -w"], ["-trimpath"], ["-race"], ["-gcflags=-N"]):
+            with self.subTest(flag):
+                _, said = self.called("-n", "1", "run", *flag, "main.go")
+                self.recorded(said)
+                self.assertRegex(said, rf"main\.go:{READ_LINE}: ")
+
+    def test_a_program_of_which_go_reads_no_lines(self) -> None:
+        self.written(HANGS)
+        _, said = self.called("-n", "1", "run", "-buildmode=pie", "main.go")
+        self.recorded(said)
+        self.assertIn("Go reads no lines of it (-buildmode=pie)", said)
+
+    def test_a_cgo_program(self) -> None:
+        self.written(HANGS.replace("import (\n", '// int one(void) { return 1; }\nimport "C"\n\nimport (\n'))
+        _, said = self.called("-n", "1", "run", "main.go")
+        self.recorded(said)
+        self.assertIn(f"main.go:{READ_LINE + 3}: ", said)
+
+    def test_a_vendored_module(self) -> None:
+        self.written(HANGS.replace('"net"\n', '"net"\n\t_ "example.org/dep"\n'))
+        self.written("module example.org/mine\n\ngo 1.19\n\nrequire example.org/dep v1.0.0\n", "go.mod")
+        (self.folder / "vendor/example.org/dep").mkdir(parents=True)
+        self.written("package dep\n", "vendor/example.org/dep/dep.go")
+        self.written("# example.org/dep v1.0.0\n## explicit; go 1.19\nexample.org/dep\n", "vendor/modules.txt")
+        _, said = self.called("-n", "1", "run", ".", GO111MODULE="on")
+        self.recorded(said)
+        self.assertIn(f"main.go:{READ_LINE + 1}: ", said)
+
+    def test_the_race_detector_sees_no_race_of_ours(self) -> None:
+        self.written(RACING)
+        _, said = self.called("run", "-race", "main.go")
+        self.recorded(said)
+        self.assertNotIn("DATA RACE", said)
+
+    def test_whatever_way_it_ends(self) -> None:
+        for body, imports in (
+            ("\tos.Exit(3)", ("os",)),
+            ('\tpanic("now")', ()),
+            ("\tsyscall.Kill(syscall.Getpid(), syscall.SIGKILL)", ("syscall",)),
+            ("\tselect {}", ()),
+        ):
+            with self.subTest(body):
+                self.written(program(body, *imports))
+                _, said = self.called("-n", "2", "run", "main.go")
+                self.recorded(said)
+
+    def test_children_have_recordings_of_their_own(self) -> None:
+        self.written(CHILD)
+        _, said = self.called("-o", "c", "run", "main.go")
+        self.recorded(said, "c")
+        self.recorded(said, "c-2")
+
+
+class RunningOn(Tool):
+    def start(self, *words: str, **settings: str) -> subprocess.Popen[str]:
+        process = subprocess.Popen(
+            words, cwd=self.folder, env=self.environment(**settings), text=True, stdin=subprocess.DEVNULL,
+            stdout=subprocess.PIPE, stderr=subprocess.STDOUT,
+        )  # fmt: skip
+        self.addCleanup(process.communicate)
+        self.addCleanup(process.kill)
+        return process
+
+    def test_a_process_that_runs_on(self) -> None:
+        self.written(HANGS)
+        self.assertEqual(self.called("build", "-o", "prog", "main.go")[0], 0)
+        process = self.start("./prog", NETREV_LOG=str(self.folder / "mine"))
+        log = self.folder / f"mine.{process.pid}"
+        self.assertTrue(self.waited(log.exists))
+        time.sleep(0.5)
+        for words in (("--pid", str(process.pid), "convert"), ("convert", log.name)):
+            status, said = self.called("-o", "on", *words)
+            self.recorded(said, "on")
+            self.assertIn(f"main.go:{READ_LINE}: ", said)
+        self.assertIsNone(process.poll())
+        text = log.read_bytes()
+        log.write_bytes(text[: 4096 + 2**22 + 64 * 20 + 5])
+        self.assertIn("the log is cut short or damaged", self.called("convert", log.name)[1])
+        log.write_bytes(b"other")
+        self.assertIn("it is too short for a log", self.called("convert", log.name)[1])
+
+    def test_a_signal_makes_a_recording_of_what_is_there(self) -> None:
+        self.written(HANGS)
+        process = self.start(str(TOOL), "-o", "s", "-n", "4", "run", "main.go")
+        time.sleep(3)
+        os.kill(process.pid, signal.SIGUSR1)
+        said, _ = process.communicate(timeout=60)
+        self.recorded(said, "s-so-far-1")
+        self.recorded(said, "s")
+
+    def test_two_variables_make_any_go_record(self) -> None:
+        self.written(ENDS)
+        script = f'eval "$({TOOL} env)"; export NETREV_LOG=$PWD/e; go run main.go; exec {TOOL} convert e.[0-9]*'
+        run = self.start("sh", "-c", script)
+        said, _ = run.communicate(timeout=120)
+        self.assertRegex(said, r"e\.\d+\.jsonl: ok \d+ steps")
+
+    def waited(self, is_so: Callable[[], bool]) -> bool:
+        for _ in range(100):
+            if is_so():
+                return True
+            time.sleep(0.1)
+        return False
+
+
+class Sentences(Tool):
+    def test_what_stands_in_the_way_is_said(self) -> None:
+        self.written(program("\t_ = a"))
+        self.written("package main\n\nfunc main() {}\n", "none.go")
+        python = str(pathlib.Path(sys.executable).parent)
+        ways: tuple[tuple[tuple[str, ...], dict[str, str], str], ...] = (
+            (("run", "none.go"), {}, "no socket was opened"),
+            (("run", "missing.go"), {}, "nothing was recorded: Go failed before it ran"),
+            (("run", "main.go"), {"PATH": f"{python}:/nowhere:{self.tools()}"}, "apt-get install golang-go"),
+            (("run", "-overlay=x.json", "main.go"), {}, "leave yours out"),
+            (("run", "main.go"), {"GOFLAGS": "-overlay=x.json"}, "leave yours out"),
+            (("run", "main.go"), {"GOARCH": "arm64"}, "records linux/amd64 alone"),
+            (("run", "main.go"), {"XDG_CACHE_HOME": "/proc/none"}, "XDG_CACHE_HOME names another folder"),
+            (("--points", "5", "run", "main.go"), {}, "--points is from 16384 to 16777216"),
+            (("--pid", "1", "convert"), {}, "process 1"),
+            (("convert", "nothing.1"), {}, "it can't be read: No such file or directory"),
+        )
+        for words, settings, said in ways:
+            with self.subTest(words=words, **settings):
+                status, told = self.called(*words, **settings)
+                self.assertNotEqual(status, 0)
+                self.assertIn(said, told)
+                self.assertNotIn("Traceback", told)
+
+    def tools(self) -> str:
+        """A folder with what the launcher needs, and without Go."""
+        folder = self.folder / "tools"
+        folder.mkdir(exist_ok=True)
+        for name in ("dirname", "readlink", "python3", "env", "sh"):
+            path = subprocess.check_output(["which", name], text=True).strip()
+            if not (folder / name).exists():
+                (folder / name).symlink_to(path)
+        return str(folder)
+
+    def test_another_release_is_named_by_function_and_call(self) -> None:
+        go = find_go()
+        points = points_program(go, self.folder)
+        for name in ("runtime", "internal/poll"):
+            (self.folder / name).mkdir(parents=True)
+            for path in (go.sources() / name).glob("*.go"):
+                (self.folder / name / path.name).write_bytes(path.read_bytes())
+        changed = self.folder / "runtime/netpoll.go"
+        changed.write_text(re.sub(r"\bgpp\.Swap\(", "gpp.Exchange(", changed.read_text()))
+        run = subprocess.run([points, "fit", self.folder], capture_output=True, text=True, check=False)
+        self.assertEqual(run.returncode, 1)
+        unfit = [line for line in run.stdout.splitlines() if line.startswith("unfit")]
+        self.assertEqual(unfit, ["unfit runtime/netpoll.go netpollblock: gpp.Swap(...) stands there 0 times, not 1"])
+
+    def test_the_doctor_says_that_all_is_well(self) -> None:
+        status, said = self.called("doctor")
+        self.assertEqual(status, 0)
+        self.assertIn("rules: all fit", said)
+
+
+if __name__ == "__main__":
+    unittest.main()

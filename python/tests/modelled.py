@@ -1,0 +1,44 @@
+"""A netrev that the model plays, within the process of the test, and to which things happen."""
+
+from collections import deque
+from pathlib import Path
+from typing import Callable, Optional
+
+from netrev_model.debugger import Recording
+from netrev_model.observing import Observer
+from netrev_model.program import replay
+from netrev_model.session import Session, recording_of
+from nrdb.interrupts import Interrupts
+from nrdb.netrev import Netrev
+
+Happens = Callable[["Modelled"], None]
+
+
+def recording_at(path: Path) -> Recording:
+    """What the model's debugger knows of the recording."""
+    replayed = replay(path.read_bytes(), Observer())
+    return recording_of(replayed.text.steps, replayed.worlds)
+
+
+class Modelled(Netrev):
+    """Answers as netrev would. `happens` is called before lines are sent, and before each line that is read."""
+
+    def __init__(self, recording: Recording, interrupts: Interrupts, happens: Happens):
+        super().__init__(interrupts)
+        self._session = Session(recording, Observer())
+        self._happens = happens
+        self._said: deque[str] = deque()
+        self.has_ended = False
+
+    def _send(self, text: bytes) -> None:
+        self._happens(self)
+        for line in text.split(b"\n")[:-1]:
+            self._said.extend(self._session.answer(line) or ())
+
+    def _next(self, asked: str) -> Optional[str]:
+        self._happens(self)
+        return None if self.has_ended else self._said.popleft()
+
+    def close(self) -> Optional[int]:
+        self.has_ended = True
+        return None

@@ -1,0 +1,1 @@
+"""The built program, played from outside: what no contract says of it. `NETREV` names another program."""

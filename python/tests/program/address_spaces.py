@@ -1,0 +1,231 @@
+"""A netrev that has little memory: what python/tests/program/system.py plays with address spaces of many sizes."""
+
+import errno
+import os
+import resource
+import signal
+import subprocess
+
+from netrev_model.debugger import State, is_command, read_line
+
+from .sharing import NETREV, PATIENCE, Server, Wrong, expect, talk
+
+MEGABYTE = 1 << 20
+NO_MEMORY = b"fault 108 memory\n"
+MOST = 1 << 30
+LOADS: list[int] = []
+WALK = """stepi 4
+print lock 0
+dump in 0
+stepi 258
+dump in 0
+break @3
+tbreak @3
+watch in 0
+reverse-continue
+resume
+print in 0
+dump rq 0
+continue
+resume
+continue
+resume
+resume
+dump in 0
+stepi 9
+print clock
+reverse-continue
+resume
+reverse-continue
+resume
+info position
+reverse-stepi 1
+print in 0
+dump out 255
+"""
+LOOKS = [line for line in WALK.splitlines() if line.startswith(("print", "dump"))]
+
+
+def ended(process, given=None):
+    """Waits for the end of a process, and gives its status, its output and its errors."""
+    try:
+        output, errors = process.communicate(given, timeout=PATIENCE)
+    except subprocess.TimeoutExpired:
+        process.kill()
+        process.communicate()
+        raise Wrong(f"netrev didn't end within {PATIENCE} s") from None
+    return process.returncode, output or b"", errors or b""
+
+
+def limit_memory(size):
+    """For what is about to be started: so many bytes of address space, and no file of it where it ends by a signal."""
+    resource.setrlimit(resource.RLIMIT_CORE, (0, 0))
+    resource.setrlimit(resource.RLIMIT_AS, (size, size))
+
+
+def loader_in(size):
+    """The status of the system's loader with so much address space: it maps the program, and doesn't start it."""
+    traced = {**os.environ, "LD_TRACE_LOADED_OBJECTS": "1"}
+    null = subprocess.DEVNULL
+    limit = lambda: limit_memory(size)  # noqa: E731
+    try:
+        return subprocess.run(
+            [NETREV], env=traced, stdout=null, stderr=null, preexec_fn=limit, timeout=PATIENCE
+        ).returncode
+    except OSError as failed:
+        return refused_start(failed)
+
+
+def refused_start(failed):
+    """A status for what the system refused to start, where it did so for memory."""
+    if failed.errno in (errno.ENOMEM, errno.E2BIG):
+        return 127
+    raise failed
+
+
+def loads_in():
+    """The least size, to 4 KB, that the system can load the program in."""
+    if not LOADS:
+        low, high = 0, 256 * MEGABYTE
+        expect("status of the system's loader", 0, loader_in(high))
+        while high - low > 4096:
+            middle = (low + high) // 2 // 4096 * 4096
+            low, high = (low, middle) if loader_in(middle) == 0 else (middle, high)
+        LOADS.append(high)
+    return LOADS[0]
+
+
+def expect_walk(recording, replies):
+    """Sees that each reply is the right one, or that memory ran out for it as docs/COMMANDS.md says: of a look, which
+    may be asked again, or of a search, whose reply is owed then and given once by `resume`. Gives how many commands were
+    placed, and what is shown of the position then."""
+    state, placed, owed = State(), 0, None
+    expect("how many replies", WALK.count("\n"), len(replies))
+    for line, came in zip(WALK.splitlines(), replies):
+        asked = read_line(line.encode())
+        assert asked, line
+        memory = f"fault 302 memory, placed {placed}"
+        if owed and line == "resume" and came != memory:
+            expect("the reply that was owed", owed, came)
+            owed = None
+        elif owed:
+            expect(f"{line} while a reply is owed", memory, came)
+        else:
+            state, (right,) = recording.answer(state, asked)
+            placed += is_command(asked)
+            if asked.sort == "seek" and came == f"fault 302 memory, placed {placed}":
+                owed = right
+            elif not (asked.sort == "look" and came == "fault 301 memory"):
+                expect(line, right, came)
+    return placed, recording.answer(state, read_line(b"info position"))[1][0]
+
+
+def expect_begun(right, output):
+    """Sees that the first lines of the right text went out, all whole, and then that memory ran out."""
+    lines = right.splitlines(keepends=True)[: output.count(b"\n") - 1]
+    expect("output", b"".join(lines) + NO_MEMORY, output)
+
+
+def ended_in(size, words, text):
+    """Starts netrev with so much address space, and gives its status, output and errors."""
+    pipe = subprocess.PIPE
+    limit = lambda: limit_memory(size)  # noqa: E731
+    try:
+        process = subprocess.Popen([NETREV, *words], stdin=pipe, stdout=pipe, stderr=pipe, preexec_fn=limit)
+    except OSError as failed:
+        return refused_start(failed), b"", b""
+    return ended(process, text)
+
+
+def play_memory(word, recording, upgraded=b""):
+    """A hundred sizes up to twice what the right replies take, and those about the least that the program loads in. With
+    `upgrade` the right text has to be named."""
+
+    def play(size):
+        try:
+            return judge(size, *ended_in(size, [word, recording.path], WALK.encode() if word == "run" else b""))
+        except Wrong as wrong:
+            raise Wrong(f"with {size // 1024} KB: {wrong}") from None
+
+    def judge(size, status, output, errors):
+        if size < loads_in():
+            # (the system ends what it can't map by a signal, and its loader says what it can't load by status 127)
+            refused = status in (127, -signal.SIGSEGV, -signal.SIGKILL) and output == b""
+            expect("whether the system refused to start it", True, refused)
+            return "unloaded"
+        expect("errors", b"", errors)
+        if (status, output) == (1, NO_MEMORY):
+            return "unstarted"
+        if word == "upgrade" and status == 1:
+            expect_begun(upgraded, output)
+            return "unstarted"
+        expect("status", 0, status)
+        if word == "upgrade":
+            expect("output", upgraded, output)
+            return "whole"
+        if word == "check":
+            expect("output", f"ok {recording.length} steps\n".encode(), output)
+            return "whole"
+        expect_walk(recording, output.decode().splitlines())
+        return "short" if b" memory" in output else "whole"
+
+    wanted = {"unloaded", "unstarted", "whole"}
+    if word == "run" and recording.length > 10:
+        wanted.add("short")
+    expect("what was met", wanted, {play(size) for size in a_hundred_sizes(play)})
+
+
+def a_hundred_sizes(play):
+    """Eighty up to what is ample, which is looked for, and those about the least that the program loads in."""
+    least = loads_in()
+    ample = least
+    while play(ample) != "whole":
+        ample *= 2
+        expect("whether 1 GB is ample", True, ample <= MOST)
+    spread = [ample * part // 80 for part in range(1, 81)]
+    near = [least + step * 4096 for step in range(-4, 16)]
+    return spread + near
+
+
+def play_memory_of_serve(recording):
+    """A hundred sizes of a session that two callers share, one after the other."""
+
+    def play(size):
+        try:
+            return start(size)
+        except Wrong as wrong:
+            raise Wrong(f"with {size // 1024} KB: {wrong}") from None
+
+    def start(size):
+        through = ["sh", "-c", f'ulimit -c 0; ulimit -v {size // 1024}; exec "$@"', "sh"]
+        with Server(recording.path, fronts=2, workers=3, through=through) as server:
+            replies = said(server.call(0), [*WALK.splitlines(), "quit"])
+            shown = said(server.call(1), ["info position", "quit"])
+            return judge(size, replies, shown, *server.ended())
+
+    def said(caller, lines):
+        """What a caller is told, or nothing where netrev ended before it served."""
+        try:
+            return talk(caller, lines) if caller else []
+        except ConnectionError:
+            return []
+
+    def judge(size, replies, shown, status, output, errors):
+        if size < loads_in():
+            expect(
+                "whether the system refused to start it", True, status in (126, 127, 139, 137, -11, -9) and not output
+            )
+            return "unloaded"
+        expect("errors", "", errors)
+        if not replies:
+            expect("status and output where nobody was served", (1, NO_MEMORY.decode()), (status, output))
+            return "unstarted"
+        placed, position = expect_walk(recording, replies[:-1])
+        expect("replies to the other", True, shown in ([position, "bye"], ["fault 301 memory", "bye"]))
+        if (status, output) != (1, NO_MEMORY.decode()):
+            expect("status and output", (0, f"placed {placed}\n"), (status, output))
+        return "short" if any(" memory" in line for line in [*replies, *shown, output]) else "whole"
+
+    expect(
+        "what was met", {"unloaded", "unstarted", "whole"}, {play(size) for size in a_hundred_sizes(play)} - {"short"}
+    )

@@ -1,0 +1,136 @@
+"""The callers of system.py: who reset, say nothing, send a byte now and then, or are too many for the system."""
+
+import socket
+import time
+
+from .given import ARRIVED, FIRST, LARGE, LAST, POSITION, Function, file_of, rest_of
+from .loopback import reset
+from .sharing import LOOPBACK, PATIENCE, Server, expect, read_to_end, talk
+
+
+def callers():
+    yield Function("callers: two reset in the middle of replies", play_reset)
+    yield Function("callers: silent, slow and resetting ones at 64 fronts", play_crowd)
+    yield Function("callers: one for whom there is no descriptor", play_no_descriptor)
+    yield Function("callers: gone before they are answered, with lines to read", play_gone_with_lines)
+    yield Function("callers: a web page's request, whose body is run", play_request_of_a_page)
+
+
+def ask_much(caller):
+    """Asks for 12 MB of replies, of which it reads the first bytes: so netrev is in the middle of them."""
+    caller.sendall(b"dump in 0\n" * 100)
+    expect("a reply's beginning", b"in 0 = ab", caller.recv(9))
+
+
+def end_and_reset(caller):
+    """Netrev has read the end of the lines when the reset comes: then its write fails as one to a closed pipe does."""
+    caller.shutdown(socket.SHUT_WR)
+    reset(caller)
+
+
+def play_reset(folder):
+    """Front 1 is served all the while, and so is the next at front 0."""
+    with Server(file_of("large", LARGE.encode())(folder).decode(), fronts=2, connections=3) as server:
+        expect("the replies", [f"at {ARRIVED}", "bye"], talk(server.call(1), [f"stepi {ARRIVED}", "quit"]))
+        other = server.call(1)
+        for turn, leave in enumerate((reset, end_and_reset)):
+            leaves = server.call(0, SO_RCVBUF=4096)
+            ask_much(leaves)
+            leave(leaves)
+            other.sendall(b"checkpoint\n")
+            expect("a reply", f"checkpoint {turn + 1} at {ARRIVED}\n".encode(), other.recv(100))
+        expect("the replies", [f"at {ARRIVED + 1}", "bye"], talk(other, ["stepi", "quit"]))
+        expect("the replies", [f"at {ARRIVED}", "bye"], talk(server.call(0), ["rsi", "quit"]))
+        expect("the replies", ["bye"], talk(server.call(1), ["quit"]))
+        server.expect_end(3, "placed 5\n")
+
+
+def play_no_descriptor(_folder):
+    """Four fronts that wait for callers take eleven of them. With room for nine some front finds none, and ends as one that
+    failed; the others are served."""
+    through = ["sh", "-c", 'ulimit -n 9; exec "$@"', "sh"]
+    with Server(FIRST, fronts=4, through=through) as server:
+        served = [caller for front in range(4) if (caller := answered(server.port + front)) is not None]
+        expect("whether some fronts were served, and not all", True, 0 < len(served) < 4)
+        for caller in served:
+            expect("the replies", ["bye"], talk(caller, ["quit"]))
+        server.expect_end(3, f"placed {len(served)}\n")
+
+
+def answered(port):
+    """A caller who has the reply to a step; None where the port isn't there, or not any more."""
+    for _ in range(50):
+        try:
+            caller = socket.create_connection((LOOPBACK, port), timeout=PATIENCE)
+            caller.sendall(b"stepi\n")
+            if caller.recv(100):
+                return caller
+            caller.close()
+            return None
+        except ConnectionRefusedError:
+            time.sleep(0.02)
+        except ConnectionError:
+            return None
+    return None
+
+
+def play_gone_with_lines(_folder):
+    """A caller who resets while another is served: its lines are still read, and its first replies can't be written. Then
+    no more of its lines are run."""
+    lines = 2000
+    with Server(FIRST, fronts=1, connections=3) as server:
+        with server.call(0) as first:
+            first.sendall(b"info position\n")
+            expect("a reply", POSITION, first.recv(100))
+            leaves = server.call(0)
+            leaves.sendall(b"checkpoint\ndelete checkpoint 1\n" + b"stepi\n" * lines)
+            reset(leaves)
+            first.sendall(b"quit\n")
+            expect("the replies", b"bye\n", rest_of(first))
+        expect("the replies to the next", "bye", talk(server.call(0), ["info checkpoints", "quit"])[-1])
+        status, output, errors = server.ended()
+    expect("status and errors", (3, ""), (status, errors))
+    placed = int(output.removeprefix("placed "))
+    expect("whether some of its lines were run, and by far not all", True, 0 < placed < lines // 2)
+
+
+def play_request_of_a_page(_folder):
+    """What docs/SERVING.md warns of: a request's lines are no commands, and those of its body are."""
+    body = "\nstepi 3\nwatch lock 0\nquit\n"
+    lines = ["POST / HTTP/1.1", "Host: 127.0.0.1", f"Content-Length: {len(body)}", "Origin: https://example.org", ""]
+    with Server(FIRST, connections=2) as server:
+        caller = server.call(0)
+        caller.sendall(("\r\n".join(lines) + "\r\n" + body).encode())
+        unknown = ["fault 201 unknown command"] * 4
+        expect("the replies", [*unknown, "at 3", "mark 1", "bye"], read_to_end(caller))
+        expect(
+            "the replies to the next", ["at 3 of 10 forward", "bye"], talk(server.call(0), ["info position", "quit"])
+        )
+        server.expect_end(0, "placed 2\n")
+
+
+def play_crowd(folder):
+    """Of 64 fronts a third each: the slow are answered right, and so are the silent when they speak."""
+    with Server(file_of("large", LARGE.encode())(folder).decode(), fronts=64) as server:
+        connected = [server.call(front, SO_RCVBUF=4096) for front in range(64)]
+        silent, slow, leaves = (connected[first::3] for first in range(3))
+        silent[0].sendall(f"stepi {ARRIVED}\n".encode())
+        expect("a reply", f"at {ARRIVED}\n".encode(), silent[0].recv(100))
+        for caller in leaves:
+            ask_much(caller)
+        for byte in b"stepi\ninfo position\nquit\n":
+            for caller in slow:
+                caller.sendall(bytes([byte]))
+            if leaves:
+                (reset, end_and_reset)[len(leaves) % 2](leaves.pop())
+            time.sleep(0.003)
+        came = [read_to_end(caller) for caller in slow]
+        places = range(ARRIVED + 1, ARRIVED + 1 + len(slow))
+        expect("replies to a step", [f"at {place}" for place in places], sorted(one[0] for one in came))
+        shown = {f"at {place} of {LAST} forward" for place in places}
+        expect("whether all looks were right", True, all(one[1] in shown and one[2:] == ["bye"] for one in came))
+        expect("netrev serve ended while some were connected", False, server.has_ended())
+        for caller in silent:
+            said = [f"at {places[-1]} of {LAST} forward", "bye"]
+            expect("the replies to the silent", said, talk(caller, ["info position", "quit"]))
+        server.expect_end(3, f"placed {len(slow) + 1}\n")

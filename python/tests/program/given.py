@@ -1,0 +1,56 @@
+"""What the cases of system.py are given: recordings and files; and what both of its modules do with them."""
+
+import os
+import socket
+from dataclasses import dataclass
+from pathlib import Path
+from typing import Callable, Union
+
+from .sharing import ROOT
+from .upgrades import upgrade_of
+
+FIRST = str(ROOT / "examples/first.jsonl")
+TEXT = Path(FIRST).read_bytes()
+UPGRADED = upgrade_of(TEXT)
+ROOM = '{"netrev":1,"gor":4096,"sock":256,"desc":256,"buf":65536}\n'
+TICKS = ROOM + "".join(f'["tick",{time}]\n' for time in range(1, 50_001))
+LARGE = ROOM + '["spawn"]\n' * 5 + '["sockopen",65536,65536]\n' * 256
+LARGE += f'["arrive",0,"{"ab" * 60_000}"]\n["arrive",255,"6869"]\n' + '["tick",1]\n' * 40 + '["sysread",0,0,60000]\n'
+ARRIVED, LAST = 262, 304  # where LARGE has the bytes, and its last position
+UPGRADED_TICKS = b'{"buf":65536,"desc":256,"gor":4096,"netrev":2,"sock":256}\n' + b"".join(
+    b'["tick",%d,"done"]\n' % time for time in range(1, 50_001)
+)
+POSITION = b"at 0 of 10 forward\n"
+
+
+@dataclass
+class Function:
+    """A case that a function plays."""
+
+    name: str
+    play: Callable[[Path], None]
+    skipped: bool = False
+
+
+def file_of(name: Union[str, bytes], text: bytes) -> Callable[[Path], bytes]:
+    """A file of this name, which may be bytes, with this text."""
+
+    def make(folder: Path) -> bytes:
+        path = os.path.join(os.fsencode(folder), name if isinstance(name, bytes) else name.encode())
+        with open(path, "wb") as file:
+            file.write(text)
+        return path
+
+    return make
+
+
+def rest_of(caller: socket.socket) -> bytes:
+    """What a caller reads before netrev has gone, or resets."""
+    came = b""
+    with caller:
+        try:
+            while more := caller.recv(65_536):
+                came += more
+        except ConnectionResetError:
+            pass
+    return came

@@ -1,0 +1,137 @@
+"""Plays the built program past the sizes that a body could have in mind:  python3 python tests.program.lengths [--list] [NAME ..]
+
+Each case has a name in plain words; --list prints them all, and of those given only the ones that begin so are played.
+
+    walk      recordings longer than the way back that is kept and than copies lie apart, walked both ways
+    dump      a buffer larger than what goes out at once
+    text      recordings of more than a megabyte, and steps with as many bytes as may be
+    limit     as many marks and checkpoints as there may be, and one more; no number is given again
+    journal   as many commands as `run` has room for, and one more
+
+Ends with status 1 at the first that isn't as it has to be, and prints the name of that case.
+"""
+
+import argparse
+import subprocess
+import sys
+import tempfile
+from dataclasses import dataclass
+from pathlib import Path
+
+from .sharing import NETREV, PATIENCE, Wrong, expect
+
+HEADER = '{"netrev":1,"gor":4,"sock":2,"desc":2,"buf":16}\n'
+LARGE = '{"netrev":1,"gor":1,"sock":1,"desc":1,"buf":65536}\n["sockopen",65536,1]\n'
+WIDE = '{"netrev":1,"gor":4,"sock":2,"desc":2,"buf":512}\n["sockopen",512,512]\n'
+BYTES = "68690a" * 100
+
+
+def ticks(first: int, last: int) -> str:
+    """Steps that set the clock to each of these times."""
+    return HEADER + "".join(f'["tick",{time}]\n' for time in range(first, last + 1))
+
+
+@dataclass
+class Case:
+    """A recording, the lines that it is sent, if it is not just checked, and what is printed."""
+
+    name: str
+    recording: str
+    script: str | None
+    output: str
+
+    def play(self, folder: str) -> None:
+        path = Path(folder) / "recording.jsonl"
+        path.write_text(self.recording, encoding="utf-8")
+        ran = subprocess.run(
+            [NETREV, "check" if self.script is None else "run", path],
+            input=(self.script or "").encode(),
+            capture_output=True,
+            timeout=PATIENCE,
+            check=False,
+        )
+        expect("status, output and errors", (0, self.output, b""), (ran.returncode, ran.stdout.decode(), ran.stderr))
+
+
+CASES = (
+    Case(
+        "walk: 1,200 steps, to the end and the start at once and in parts",
+        ticks(1, 1_200),
+        "si 1001\np clock\nsi 4294967295\np clock\nrsi 499\np clock\nrsi 200\np clock\nrsi 100000\np clock\nsi 1200\np clock\n",
+        "at 1001\nclock = 1001\nat 1200 end\nclock = 1200\nat 701\nclock = 701\nat 501\nclock = 501\nat 0 start\nclock = 0\n"
+        "at 1200\nclock = 1200\n",
+    ),
+    Case(
+        "walk: 5,000 steps, by checkpoints, a break and a watch",
+        ticks(0, 4_999),
+        "c\np clock\ncheckpoint\nrestart 0\np clock\nsi 2000\np clock\nrestart 1\np clock\nrsi 4500\np clock\n"
+        "b @4999\nc\np clock\nwatch clock\nrc\np clock\n",
+        "at 5000 end\nclock = 4999\ncheckpoint 1 at 5000\nat 0\nclock = 0\nat 2000\nclock = 1999\nat 5000\nclock = 4999\n"
+        "at 500\nclock = 499\nmark 1\nat 4998 by 1\nclock = 4997\nmark 2\nat 4997 by 2\nclock = 4996\n",
+    ),
+    Case(
+        "dump: 300 bytes",
+        f'{WIDE}["arrive",0,"{BYTES}"]\n',
+        "si 2\ndump in 0\np in 0\n",
+        f"at 2\nin 0 = {BYTES}\nin 0 = 300\n",
+    ),
+    Case("text: more than a megabyte, in 100,000 steps", ticks(1, 100_000), None, "ok 100000 steps\n"),
+    Case(
+        "text: more than a megabyte, in nine steps of 65,536 bytes",
+        LARGE + (f'["arrive",0,"{"6a" * 65_536}"]\n' + '["sysread",0,0,65536]\n') * 9,
+        None,
+        "ok 19 steps\n",
+    ),
+    Case(
+        "limit: 64 marks, and one more",
+        HEADER,
+        "watch clock\n" * 65 + "tbreak rwlock\ndelete 1\ndelete 1\nwatch clock\nbreak rwlock\n",
+        "".join(f"mark {number}\n" for number in range(1, 65))
+        + "fault 402 marks full\n" * 2
+        + "deleted mark 1\nfault 401 no such mark\nmark 65\nfault 402 marks full\n",
+    ),
+    Case(
+        "limit: 64 checkpoints, and one more",
+        HEADER,
+        "checkpoint\n" * 65 + "delete checkpoint 1\ndelete checkpoint 1\nrestart 1\ncheckpoint\ncheckpoint\n",
+        "".join(f"checkpoint {number} at 0\n" for number in range(1, 65))
+        + "fault 404 checkpoints full\n"
+        + "deleted checkpoint 1\n"
+        + "fault 403 no such checkpoint\n" * 2
+        + "checkpoint 65 at 0\nfault 404 checkpoints full\n",
+    ),
+    Case(
+        "journal: 65,536 commands, and one more",
+        HEADER,
+        "delete 1\n" * 65_537,
+        "fault 401 no such mark\n" * 65_536 + "fault 303 journal full\n",
+    ),
+)
+
+
+def main() -> int:
+    parser = argparse.ArgumentParser(description=__doc__, formatter_class=argparse.RawDescriptionHelpFormatter)
+    parser.add_argument("--list", action="store_true", help="print the names of the cases")
+    parser.add_argument("names", nargs="*", metavar="NAME", help="how the names of those to play begin")
+    given = parser.parse_args()
+    played = 0
+    with tempfile.TemporaryDirectory() as folder:
+        for case in CASES:
+            if given.names and not case.name.startswith(tuple(given.names)):
+                continue
+            if given.list:
+                print(case.name)
+                continue
+            try:
+                case.play(folder)
+            except (Wrong, subprocess.TimeoutExpired) as error:
+                print(f"{case.name}: {error}")
+                return 1
+            played += 1
+    if not given.list:
+        print(f"lengths: {played} cases as they have to be")
+    return 0
+
+
+if __name__ == "__main__":
+    sys.exit(main())

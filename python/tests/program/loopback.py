@@ -1,0 +1,497 @@
+"""Plays sessions of the built program over the loopback:  python3 python tests.program.loopback [--seed N] [NAME ..]
+
+    table     two callers one after the other, whose replies are known, with journals of one word and of four
+    turns     three callers at each of two fronts, one after the other
+    stopped   one who is to serve without end is stopped by a signal; then another serves at the same ports
+    elsewhere nobody is served at this machine's other addresses
+    crowded   eight callers at the same time, with room for seven commands; two with a hundred commands each
+    silent    a caller who says nothing and reads nothing holds up nobody at the sixteen other fronts
+    hostile   callers who leave in the middle, send no end of a line, don't read, go on or stay behind `quit`, and a
+              port that is taken: the next caller is served as ever, netrev ends by itself, and its status says whether
+              a connection failed
+    histories callers at 64 fronts, two at each, send random lines. All replies have to be right by one order of all
+              lines (history.py), and `placed K` has to tell their number. Where all sorts of lines are sent, eight of
+              the fronts talk at the same time and the others' callers wait, since of more the search takes too long;
+              where steps forwards and looks are, all 64 do. Of two fronts, some fill the journal
+    altered   the search for that order can fail: each reply of one session, and each of a command in another, is altered
+              in turn, and none is believed
+
+Ends with status 1 at the first that isn't as it has to be, and says what was expected, what came, and the seed.
+"""
+
+import argparse
+import errno
+import random
+import signal
+import socket
+import struct
+import subprocess
+import sys
+import tempfile
+from dataclasses import replace
+from pathlib import Path
+from typing import Callable
+
+from netrev_model.debugger import FULL, Recording, is_command, read_line  # (it tells Python where nrdb is)
+from netrev_model.history import GaveUp, Search
+from netrev_model.vocabulary import CELLS, DUMPS, KINDS, MOST, Of
+
+from .sharing import NETREV, PATIENCE, ROOT, Server, Talker, Wrong, converse, expect, read_to_end, talk
+
+# a reader parks and is woken by bytes: twelve steps
+PARKED = """{"netrev":1,"gor":4,"sock":2,"desc":2,"buf":16}
+["sockopen",16,16]
+["pollopen",0,0]
+["rwlock",0,0,"r"]
+["waitbegin",0,0,"r"]
+["blockarm",0]
+["blockcheck",0]
+["parkcommit",0]
+["arrive",0,"6869"]
+["pollevent",0,1,"r",0]
+["blockswap",0]
+["sysread",0,0,8]
+["rwunlock",0,0,"r"]
+"""
+SHOWN = [cell.name for cell in CELLS.values() if cell.of is Of.ALL]
+SHOWN += [f"{cell.name} {number}" for cell in CELLS.values() if cell.of is not Of.ALL for number in (0, 1)]
+LOOKS = [f"print {cell}" for cell in SHOWN] + [f"dump {dump} {number}" for dump in DUMPS for number in (0, 1)]
+NONSENSE = [b"frob", b"stepi 0", b"print", b"watch clock 1", b"quit now", b"break @0", b"\tstepi", b"stepi 4294967296"]
+NOTHING = [b"", b"   ", b"\r"]
+TOO_LONG = [b"x" * 257, b"stepi" + b" " * 300, b"checkpoint" + b" " * 246 + b"\r"]
+RESET = struct.pack("ii", 1, 0)
+
+
+def make_recordings(folder):
+    """Writes the two recordings of these sessions, and reads them with what their positions show."""
+    parked, lives = folder / "parked.jsonl", folder / "lives.jsonl"
+    parked.write_text(PARKED, encoding="ascii")
+    shapes = ROOT / "bench/shapes.awk"
+    with open(lives, "wb") as out:
+        subprocess.run(["awk", "-v", "shape=mix", "-v", "n=3000", "-f", shapes], stdout=out, timeout=60, check=True)
+    return Recording.read(NETREV, parked, LOOKS), Recording.read(NETREV, lives, LOOKS)
+
+
+class Lines:
+    """Random lines over a recording. Most commands are such that their replies tell where they began; else too many
+    orders would have to be tried."""
+
+    def __init__(self, dice, recording):
+        self.dice = dice
+        self.most = recording.length
+        self.kinds = sorted(set(recording.kinds)) + list(KINDS)[:2]
+
+    def number(self):
+        """That of a mark or checkpoint, which may stand or not."""
+        return self.dice.randint(0, self.dice.choice([12, 120]))
+
+    def step(self):
+        word = self.dice.choice(["stepi", "si", "reverse-stepi", "rsi"])
+        return word + self.dice.choice(["", " 1", " 02"] + [f" {self.dice.randint(1, 1 + self.most // 10)}"] * 7)
+
+    def seek(self):
+        return self.dice.choice(["continue", "c", "reverse-continue", "rc"])
+
+    def far(self):
+        restart = f"restart {self.number()}"
+        word = self.dice.choice(["stepi", "rsi"])
+        return self.dice.choice([restart, restart, f"{word} {self.most}", f"{word} {MOST}"])
+
+    def mark(self):
+        word = self.dice.choice(["break", "b", "tbreak", "tb"])
+        step = self.dice.randint(1, self.most + 2)
+        watch = f"watch {self.dice.choice(SHOWN)}"
+        return self.dice.choice([f"{word} {self.dice.choice(self.kinds)}", f"{word} @{step}", f"{word} @{step}", watch])
+
+    def checkpoint(self):
+        return "checkpoint"
+
+    def take_away(self):
+        return f"delete{self.dice.choice(['', ' checkpoint'])} {self.number()}"
+
+    def turn(self):
+        return f"set exec-direction {self.dice.choice(['forward', 'reverse'])}"
+
+    def look(self):
+        print_cell = self.dice.choice(LOOKS).replace("print", self.dice.choice(["print", "p"]))
+        asked = ["info position", "info breakpoints", "info checkpoints", "resume"]
+        return self.dice.choice([print_cell] * 3 + ["info position"] * 2 + asked)
+
+    def command(self):
+        sorts = {
+            self.step: 50,
+            self.seek: 10,
+            self.mark: 6,
+            self.checkpoint: 6,
+            self.take_away: 6,
+            self.far: 3,
+            self.turn: 1,
+        }
+        return self.dice.choices(list(sorts), sorts.values())[0]()
+
+    def line(self):
+        sort = self.dice.random()
+        if sort < 0.1:
+            return self.dice.choice(self.dice.choice([NONSENSE, NOTHING, TOO_LONG]))
+        text = self.look() if sort < 0.35 else self.command()
+        spaced = text.replace(" ", self.dice.choice([" ", " ", "  "]))
+        return (spaced + self.dice.choice(["", "", " ", "\r"])).encode()
+
+    def opening(self):
+        """Lines that lead to the middle, with marks and checkpoints along the way, and `quit`."""
+        lines = [f"stepi {self.most // 30}\ncheckpoint\n{self.mark()}" for _ in range(15)]
+        return "\n".join([*lines, "quit"]).encode().split(b"\n")
+
+    def some(self, count):
+        """So many lines, and `quit`."""
+        return [self.line() for _ in range(count)] + [b"quit"]
+
+    def some_forwards(self, count):
+        """So many steps forwards and looks, and `quit`."""
+        lines = [self.dice.choice(["stepi", "si 2", self.look(), "info position"]) for _ in range(count)]
+        return [line.encode() for line in lines] + [b"quit"]
+
+
+def commands_in(lines):
+    """How many of the lines are commands."""
+    return sum(is_command(read_line(line)) for line in lines)
+
+
+def share_lines(recording, fronts, journal=4096, workers=1, windows=(1,), at_once=None):
+    """Plays the lines of each front's connections, each caller with one of the windows, and gives what each front
+    exchanged. All callers are connected from the beginning. The first one talks alone; then as many fronts as are said
+    do so at the same time, or all."""
+    at_once = at_once or len(fronts)
+    with Server(recording.path, len(fronts), len(fronts[0]), journal, workers) as server:
+        talkers = [
+            [Talker(server.call(at), lines, windows[(at + turn) % len(windows)]) for turn, lines in enumerate(front)]
+            for at, front in enumerate(fronts)
+        ]
+        converse(talkers[0][:1])
+        for first in range(0, len(fronts), at_once):
+            batch = [talker for front in talkers[first : first + at_once] for talker in front]
+            converse([talker for talker in batch if not talker.ended])
+        placed = min(journal, sum(commands_in(lines) for front in fronts for lines in front))
+        server.expect_end(0, f"placed {placed}\n")
+    return [[exchange for talker in front for exchange in talker.exchanges] for front in talkers]
+
+
+def history_of(recording, exchanged, journal=4096):
+    """The order of a history that gives all replies."""
+    order = Search(recording, exchanged, journal).find()
+    if order is None:
+        raise Wrong(f"no history gives the replies of these fronts:\n{as_text(exchanged)}")
+    return order
+
+
+def as_text(exchanged):
+    """What the fronts exchanged, a line each."""
+    return "\n".join(
+        f"  front {front}: {one.line!r} (sent {one.sent}) {' / '.join(one.reply)} (read {one.read})"
+        for front, exchanges in enumerate(exchanged)
+        for one in exchanges
+    )
+
+
+# ---- the sessions ----
+
+
+def play_table(parked, _lives, _dice):
+    """Replies that are known: with room for one command, and for four."""
+    for journal, placed, moved in (
+        (1, 1, ["fault 303 journal full", "at 3 of 12 forward"]),
+        (4, 2, ["at 2", "at 2 of 12 forward"]),
+    ):
+        with Server(parked.path, fronts=2, journal=journal) as server:
+            expect("the replies of front 0", ["at 3", "bye"], talk(server.call(0), ["stepi 3", "quit"]))
+            came = talk(server.call(1), ["reverse-stepi", "info position", "quit"])
+            expect("the replies of front 1", [*moved, "bye"], came)
+            server.expect_end(0, f"placed {placed}\n")
+
+
+def play_turns(parked, _lives, _dice):
+    """Three callers a front, each of whom finds the session where the one before left it."""
+    turns = (
+        (0, ["stepi 3", "quit"], ["at 3", "bye"]),
+        (0, ["info position", "break @5", "quit"], ["at 3 of 12 forward", "mark 1", "bye"]),
+        (1, ["continue", "quit"], ["at 4 by 1", "bye"]),
+        (1, ["stepi", "checkpoint", "quit"], ["at 5", "checkpoint 1 at 5", "bye"]),
+        (0, ["reverse-stepi 2", "quit"], ["at 3", "bye"]),
+        (1, ["info position", "quit"], ["at 3 of 12 forward", "bye"]),
+    )
+    with Server(parked.path, fronts=2, connections=3) as server:
+        for front, lines, replies in turns:
+            expect(f"the replies of front {front}", replies, talk(server.call(front), lines))
+        server.expect_end(0, "placed 6\n")
+
+
+def play_stopped(parked, _lives, _dice):
+    """A signal ends one that serves without end, while one is connected too, and leaves no port taken."""
+    for stop in (signal.SIGTERM, signal.SIGKILL):
+        with Server(parked.path, fronts=2, connections=None) as server:
+            for _ in range(3):
+                expect("the replies", ["bye"], talk(server.call(1), ["quit"]))
+            with server.call(0) as silent:
+                expect("netrev serve ended by itself", False, server.has_ended())
+                server.process.send_signal(stop)
+                expect("the end of netrev serve: status, output and errors", (-stop, "", ""), server.ended())
+                with Server(parked.path, fronts=2, port=server.port) as next_one:
+                    for front, place in ((0, 1), (1, 2)):
+                        came = talk(next_one.call(front), ["stepi", "quit"])
+                        expect(f"the replies of front {front}", [f"at {place}", "bye"], came)
+                    next_one.expect_end(0, "placed 2\n")
+
+
+def play_elsewhere(parked, _lives, _dice):
+    """Each port is one of 127.0.0.1 alone."""
+    with Server(parked.path, fronts=2) as server:
+        callers = [server.call(front) for front in range(2)]
+        for front in range(2):
+            for family, address in other_addresses():
+                with socket.socket(family) as one:
+                    one.settimeout(PATIENCE)
+                    refused = one.connect_ex((address, server.port + front))
+                expect(f"what a caller at {address} was told", errno.ECONNREFUSED, refused)
+        for caller in callers:
+            expect("the replies", ["bye"], talk(caller, ["quit"]))
+        server.expect_end(0, "placed 0\n")
+
+
+def other_addresses():
+    """Addresses of this machine that aren't 127.0.0.1: each of 127.0.0.0/8 is, and those that it has besides."""
+    found = [(socket.AF_INET, "127.0.0.2"), (socket.AF_INET, "127.255.255.254")]
+    # nothing is sent: these only ask from where it would be
+    for family, far in ((socket.AF_INET, "192.0.2.1"), (socket.AF_INET6, "2001:db8::1"), (socket.AF_INET6, "::1")):
+        try:
+            with socket.socket(family, socket.SOCK_DGRAM) as one:
+                one.connect((far, 9))
+                found.append((family, one.getsockname()[0]))
+        except OSError:  # it has none
+            continue
+    return found
+
+
+def play_crowded(_parked, lives, _dice):
+    """Callers who step forwards at the same time: each place up to the journal's room is one command's."""
+    for fronts, each, journal in ((8, 1, 7), (2, 100, 4096)):
+        exchanged = share_lines(lives, [[[b"stepi"] * each + [b"quit"]]] * fronts, journal, windows=(1000,))
+        replies = [one.reply for front in exchanged for one in front if is_command(one.asked)]
+        placed = min(journal, fronts * each)
+        places = [(f"at {place}",) for place in range(1, placed + 1)]
+        expect("the replies", sorted(places + [(FULL,)] * (fronts * each - placed)), sorted(replies))
+
+
+def play_silent(parked, _lives, dice):
+    """Sixteen work to their end beside one who says nothing."""
+    for leave, status in ((socket.socket.close, 0), (reset, 3)):
+        with Server(parked.path, fronts=17) as server:
+            silent = server.call(0)
+            lines = [Lines(dice, parked).some(10) for _ in range(16)]
+            talkers = [Talker(server.call(front + 1), some, 1) for front, some in enumerate(lines)]
+            converse(talkers)
+            expect("netrev serve ended while one was connected", False, server.has_ended())
+            leave(silent)
+            server.expect_end(status, f"placed {sum(map(commands_in, lines))}\n")
+
+
+def reset(caller):
+    """Leaves so that the other side's reads and writes fail."""
+    caller.setsockopt(socket.SOL_SOCKET, socket.SO_LINGER, RESET)
+    caller.close()
+
+
+def half_a_line(caller):
+    """The last line may lack its end: so this is a command, whose reply nobody takes."""
+    caller.sendall(b"stepi 2\n")
+    expect("a reply", b"at 2\n", caller.recv(100))
+    caller.sendall(b"stepi")
+    caller.close()
+
+
+def half_a_line_and_reset(caller):
+    """What isn't a whole line when the read fails isn't a line."""
+    caller.sendall(b"stepi 3\n")
+    expect("a reply", b"at 3\n", caller.recv(100))
+    caller.sendall(b"stepi 3")
+    reset(caller)
+
+
+def line_without_end(caller):
+    """Ten million bytes and no end of the line, which is one fault."""
+    caller.sendall(b"x" * 10_000_000)
+    caller.shutdown(socket.SHUT_WR)
+    expect("the reply", ["fault 203 line too long"], read_to_end(caller))
+
+
+def reads_nothing(caller):
+    """Sends until nothing goes any more, since it takes no replies, and resets."""
+    caller.sendall(b"stepi 3\n")
+    expect("a reply", b"at 3\n", caller.recv(100))
+    caller.settimeout(0.5)
+    lines = b"info breakpoints\n" * 4096
+    for _ in range(1000):
+        try:
+            caller.sendall(lines)
+        except TimeoutError:
+            return reset(caller)
+    raise Wrong("64 MB of lines were taken from one who reads no reply")
+
+
+def more_behind_quit(caller):
+    """What comes behind `quit` isn't answered, and doesn't cost the caller the last reply."""
+    caller.sendall(b"quit\n" + b"stepi\n" * 1000)
+    expect("the replies", ["bye"], read_to_end(caller))
+
+
+def no_end_behind_quit(caller):
+    """Netrev takes some of it, and closes."""
+    caller.sendall(b"quit\n")
+    expect("the reply", b"bye\n", caller.recv(100))
+    try:
+        for _ in range(1000):
+            caller.sendall(b"x" * 65_536)
+    except ConnectionError:
+        return caller.close()
+    raise Wrong("64 MB behind quit were taken")
+
+
+def stays_behind_quit(caller):
+    """One who reads the end of the replies and neither closes nor says anything is left alone."""
+    caller.sendall(b"quit\n")
+    expect("the reply", b"bye\n", caller.recv(100))
+    expect("the end of the replies", b"", caller.recv(100))
+    return caller
+
+
+def play_hostile(parked, _lives, _dice):
+    """After each of these the next caller of the front is served where the front stands, and then it ends."""
+    for leave, status, position, placed in (
+        (half_a_line, 0, 3, 2),
+        (half_a_line_and_reset, 3, 3, 1),
+        (line_without_end, 0, 0, 0),
+        (reads_nothing, 3, 3, 1),
+        (more_behind_quit, 0, 0, 0),
+        (no_end_behind_quit, 0, 0, 0),
+        (stays_behind_quit, 0, 0, 0),
+    ):
+        with Server(parked.path, connections=2) as server:
+            _staying = leave(server.call(0, SO_RCVBUF=4096))
+            came = talk(server.call(0), ["info position", "stepi", "quit"])
+            shown = [f"at {position} of 12 forward", f"at {position + 1}", "bye"]
+            expect(f"the replies after {leave.__name__}", shown, came)
+            server.expect_end(status, f"placed {placed + 1}\n")
+    play_taken_port(parked)
+
+
+def play_taken_port(parked):
+    """The middle one of three ports is taken: the others are served."""
+    taken = socket.socket()
+
+    def take(first):
+        taken.bind(("127.0.0.1", first + 1))
+        taken.listen()
+
+    with taken, Server(parked.path, fronts=3, before=take) as server:
+        expect("the replies of front 0", ["at 3", "bye"], talk(server.call(0), ["stepi 3", "quit"]))
+        expect("the replies of front 2", ["at 2", "bye"], talk(server.call(2), ["reverse-stepi", "quit"]))
+        server.expect_end(3, "placed 2\n")
+
+
+def race_forwards(lives, dice, fronts, connections):
+    """What so many fronts exchange that go forwards at the same time, with looks."""
+    lines = Lines(dice, lives)
+    some = [[lines.some_forwards(10) for _ in range(connections)] for _ in range(fronts)]
+    return share_lines(lives, some, windows=(1, 4, 1000))
+
+
+def play_mixed(lives, dice, windows, workers):
+    """Lines of all sorts at 64 fronts, whose `continue` has so many workers. Where the search for a history gives up it is
+    done again with other lines, twice at most."""
+    lines = Lines(dice, lives)
+    for left in (2, 1, 0):
+        mixed = [[lines.some(15) for _ in range(2)] for _ in range(64)]
+        mixed[0][0] = lines.opening()
+        try:
+            return history_of(lives, share_lines(lives, mixed, workers=workers, windows=windows, at_once=8))
+        except GaveUp:
+            if not left:
+                raise
+
+
+def play_histories(parked, lives, dice):
+    """Random lines at many fronts: one history."""
+    history_of(lives, race_forwards(lives, dice, fronts=64, connections=2))
+    for windows, workers in ((1,), 1), ((1, 4), 3):
+        play_mixed(lives, dice, windows, workers)
+    for _ in range(10):
+        two = [[Lines(dice, parked).some(30)] for _ in range(2)]
+        for journal in (7, sum(commands_in(front[0]) for front in two)):
+            history_of(parked, share_lines(parked, two, journal, windows=(1, 4)), journal)
+
+
+def other_reply(reply):
+    """A reply with its last number raised, or where it has none with one more word."""
+    *front, last = reply
+    words = last.split(" ")
+    numbers = [at for at, word in enumerate(words) if word.isdigit()]
+    if numbers:
+        words[numbers[-1]] = str(int(words[numbers[-1]]) + 1)
+    else:
+        words.append("more")
+    return (*front, " ".join(words))
+
+
+def play_altered(parked, lives, dice):
+    """Of two who talk one after the other there is one history alone: so there is none where a reply is altered. Of
+    commands whose positions rise there is one order alone, whoever comes first: so there is none where a command's reply
+    is altered. A look that was shown something else may have come earlier or later."""
+    two = [[Lines(dice, parked).some(20)] for _ in range(2)]
+    expect_no_other(parked, share_lines(parked, two, at_once=1), lambda one: True)
+    expect_no_other(lives, race_forwards(lives, dice, fronts=8, connections=1), lambda one: is_command(one.asked))
+
+
+def expect_no_other(recording, exchanged, has_one_place):
+    """Sees that there is a history, and none with the reply of any one line altered that has one place alone."""
+    history_of(recording, exchanged)
+    for front, exchanges in enumerate(exchanged):
+        for at, one in enumerate(exchanges):
+            if not has_one_place(one):
+                continue
+            altered = [list(each) for each in exchanged]
+            altered[front][at] = replace(one, reply=other_reply(one.reply))
+            if Search(recording, altered, 4096).find():
+                raise Wrong(f"a history was found, with {one.line!r} altered:\n{as_text(altered)}")
+
+
+SESSIONS: dict[str, Callable[..., None]] = {
+    "table": play_table,
+    "turns": play_turns,
+    "stopped": play_stopped,
+    "elsewhere": play_elsewhere,
+    "crowded": play_crowded,
+    "silent": play_silent,
+    "hostile": play_hostile,
+    "histories": play_histories,
+    "altered": play_altered,
+}
+
+
+def main():
+    arguments = argparse.ArgumentParser(description=__doc__.split("\n", 1)[0])
+    arguments.add_argument("--seed", type=int, default=1)
+    arguments.add_argument("names", nargs="*", metavar="NAME", help=", ".join(SESSIONS))
+    given = arguments.parse_args()
+    with tempfile.TemporaryDirectory() as folder:
+        recordings = make_recordings(Path(folder))
+        for name in given.names or SESSIONS:
+            try:
+                SESSIONS[name](*recordings, random.Random(given.seed))
+            except (Wrong, GaveUp, OSError) as wrong:
+                print(f"loopback.py {name}, seed {given.seed}: {wrong or 'the search gave up'}", file=sys.stderr)
+                return 1
+    print("Sessions over the loopback: all replies are right.")
+    return 0
+
+
+if __name__ == "__main__":
+    sys.exit(main())

@@ -1,0 +1,1 @@
+"""nrdb over the built program: its views against plain `print`s, its hints, its terminal, the sessions of docs/."""

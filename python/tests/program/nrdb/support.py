@@ -1,0 +1,124 @@
+"""What the tests of nrdb share: where things are, nrdb played with lines, and what netrev itself shows at each position
+of a recording, by plain `print`s."""
+
+import contextlib
+import io
+import json
+import subprocess
+import sys
+from functools import lru_cache
+
+from netrev_model.vocabulary import CELLS, DUMPS, Of
+from nrdb.cli import main
+from nrdb.recording import Recording
+from tests.program.sharing import NETREV, ROOT
+
+EXAMPLES = ROOT / "examples"
+HUNTS = EXAMPLES / "hunts"
+NRDB = str(ROOT / "nrdb")
+DIFFERING = ("other-answer", "early-arrival")
+PATIENCE = 60  # seconds
+
+LIMIT_OF = {Of.GOROUTINE: "gor", Of.SOCKET: "sock", Of.DESCRIPTOR: "desc"}
+
+
+def nrdb(*words, lines=(), status=0):
+    """What nrdb prints with these words, and these lines for its input; its exit status has to be this. It is called
+    here, which takes less time than a process of its own."""
+    said, input_before = io.StringIO(), sys.stdin
+    sys.stdin = io.StringIO("".join(f"{line}\n" for line in lines))
+    try:
+        with contextlib.redirect_stdout(said):
+            ended = main(["--netrev", NETREV, *map(str, words)])
+    finally:
+        sys.stdin = input_before
+    assert ended == status, (words, ended, said.getvalue())
+    return said.getvalue()
+
+
+def nrdb_process(*words, lines=()):
+    """The same by a process: what it prints, what it says on standard error, and its exit status."""
+    ended = subprocess.run(
+        [NRDB, "--netrev", NETREV, *map(str, words)],
+        input="".join(f"{line}\n" for line in lines),
+        capture_output=True,
+        text=True,
+        timeout=PATIENCE,
+        check=False,
+    )
+    return ended.stdout, ended.stderr, ended.returncode
+
+
+def events(path, lines):
+    """The events of nrdb on this recording with these lines, without those of its start and its end."""
+    told = [json.loads(line) for line in nrdb("--json", path, lines=lines).splitlines()]
+    assert [event["event"] for event in told[:2] + told[-1:]] == ["reply", "place", "end"], told[:2]
+    return told[2:-1]
+
+
+def netrev(path, lines):
+    """The replies of netrev itself."""
+    ended = subprocess.run(
+        [NETREV, "run", str(path)],
+        input="".join(f"{line}\n" for line in lines),
+        capture_output=True,
+        text=True,
+        timeout=PATIENCE,
+        check=True,
+    )
+    return ended.stdout.splitlines()
+
+
+class Shown:
+    """What netrev shows of a recording, by plain looks."""
+
+    def __init__(self, path):
+        self.path, self.recording = path, Recording.read(path)
+        limits = self.recording.limits
+        self.cells = [cell.name for cell in CELLS.values() if cell.of is Of.ALL]
+        for cell in CELLS.values():
+            if cell.of is not Of.ALL:
+                self.cells += [f"{cell.name} {number}" for number in range(limits[LIMIT_OF[cell.of]])]
+        self.queues = [f"{dump} {number}" for dump in DUMPS if dump not in CELLS for number in range(limits["sock"])]
+        self.seen = {}
+
+    @property
+    def length(self):
+        return self.recording.length
+
+    def at(self, position):
+        """The values of all cells and queues at a position."""
+        if position not in self.seen:
+            looks = [f"print {cell}" for cell in self.cells] + [f"dump {queue}" for queue in self.queues]
+            moves = [f"stepi {position}"] if position else []
+            replies = netrev(self.path, [*moves, *looks])[len(moves) :]
+            self.seen[position] = dict(reply.split(" = ") for reply in replies)
+        return self.seen[position]
+
+    def series(self, cells):
+        """Of each of these cells the values at all positions."""
+        replies = netrev(self.path, [*(f"print {cell}" for cell in cells), "stepi"] * (self.length + 1))
+        values = [reply.partition(" = ")[2] for reply in replies]
+        return {cell: values[at :: len(cells) + 1] for at, cell in enumerate(cells)}
+
+    def made(self, cell, position):
+        """The numbers of which that cell isn't absent there."""
+        values = self.at(position)
+        numbers = (int(name.split()[1]) for name in values if name.startswith(f"{cell} "))
+        return [number for number in numbers if values[f"{cell} {number}"] != "absent"]
+
+    def made_cells(self):
+        """The cells of all that is made by the end."""
+        return [cell for cell in self.cells if self.at(self.length)[cell] != "absent"]
+
+
+@lru_cache(maxsize=None)
+def shown(path):
+    """What netrev shows of a recording; what was looked at is kept."""
+    return Shown(path)
+
+
+def recordings():
+    """The recordings of examples/ and its folders that netrev takes: those with an answer that differs are left out."""
+    found = sorted(EXAMPLES.glob("**/*.jsonl"))
+    return [path for path in found if path.stem not in DIFFERING]

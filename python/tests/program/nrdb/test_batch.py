@@ -1,0 +1,109 @@
+"""nrdb without a terminal: lines from -x, -ex and the input, lines of JSON, and exit statuses, which are netrev's."""
+
+import json
+import subprocess
+import tempfile
+import unittest
+from pathlib import Path
+
+from .support import EXAMPLES, NETREV, NRDB, events, netrev, nrdb, nrdb_process, recordings
+
+FIRST = EXAMPLES / "first.jsonl"
+
+
+class Batch(unittest.TestCase):
+    def test_replies_are_those_of_netrev(self):
+        for path in recordings():
+            script = path.with_suffix(".script")
+            if not script.exists():
+                continue
+            lines = script.read_text().splitlines()
+            told = [event for event in events(path, lines) if event["event"] == "reply"]
+            with self.subTest(path.stem):
+                self.assertEqual([event["line"] for event in told], lines)
+                self.assertEqual([line for event in told for line in event["reply"]], netrev(path, lines))
+
+    def test_what_is_added_begins_with_a_bar(self):
+        for path in recordings():
+            script = path.with_suffix(".script")
+            if script.exists():
+                said = nrdb("--batch", "-x", script, path).splitlines()
+                plain = [line.split("   | ")[0] for line in said if not line.startswith(("| ", "(netrev) "))]
+                with self.subTest(path.stem):
+                    self.assertEqual(
+                        plain, [*netrev(path, ["info position"]), *netrev(path, script.read_text().splitlines())]
+                    )
+
+    def test_files_and_lines_are_taken_in_order(self):
+        with tempfile.TemporaryDirectory() as folder:
+            file = Path(folder) / "lines"
+            file.write_text("stepi 2\n\n# not a command\nstepi\n")
+            said = nrdb("--batch", "-ex", "stepi", "-x", file, "-ex", f"source {file}", FIRST)
+        replies = [line for line in said.splitlines() if line.startswith("at ")]
+        self.assertEqual(replies, ["at 0 of 10 forward", "at 1", "at 3", "at 4", "at 6", "at 7"])
+
+    def test_a_file_that_takes_itself_ends(self):
+        with tempfile.TemporaryDirectory() as folder:
+            file = Path(folder) / "lines"
+            file.write_text(f"source {file}\nstepi\n")
+            said = nrdb("--batch", "-x", file, FIRST)
+        self.assertIn("deep in each other", said)
+        self.assertIn("at 8\n", said)
+
+    def test_quit_ends_it_wherever_it_stands(self):
+        with tempfile.TemporaryDirectory() as folder:
+            file = Path(folder) / "lines"
+            file.write_text("stepi\nquit\nstepi\n")
+            said = nrdb("-x", file, "-ex", "stepi", FIRST, lines=["stepi"])
+        self.assertEqual(
+            [line for line in said.splitlines() if not line.startswith(("|", "(netrev)"))][1:], ["at 1", "bye"]
+        )
+
+    def test_lines_of_json(self):
+        told = [json.loads(line) for line in nrdb("--json", FIRST, lines=["si 4", "list 2", "nonsense"]).splitlines()]
+        self.assertEqual(
+            [event["event"] for event in told], ["reply", "place", "reply", "place", "table", "reply", "note", "end"]
+        )
+        last = {"number": 4, "line": 5, "kind": "incref", "arguments": [0, 0], "answer": None}
+        following = {"number": 5, "line": 6, "kind": "rwlock", "arguments": [0, 0, "r"], "answer": None}
+        self.assertEqual(told[3], {"event": "place", "position": 4, "steps": 10, "last": last, "next": following})
+        self.assertEqual(told[4]["rows"][0], {"step": 1, "line": 2, "does": "spawn", "next": False})
+        self.assertEqual(told[-1], {"event": "end", "status": 0})
+
+    def test_other_words_have_status_2(self):
+        for words in ((), ("--nonsense",), (FIRST, FIRST), ("--join", "nonsense")):
+            said, error, status = nrdb_process(*words)
+            self.assertEqual((said, status), ("", 2), words)
+            self.assertIn("usage: nrdb", error)
+
+    def test_statuses_and_streams_of_the_process(self):
+        self.assertEqual(nrdb_process(FIRST, lines=["quit"])[1:], ("", 0))
+        with tempfile.TemporaryDirectory() as folder:
+            bad = Path(folder) / "bad.jsonl"
+            bad.write_text("[]\n")
+            said, error, status = nrdb_process(bad)
+            self.assertEqual((said.splitlines()[0], error, status), ("line 1: fault 101 header", "", 1))
+            self.assertEqual(nrdb_process(f"{bad}.none")[1:], ("", 3))
+
+    def test_bytes_that_are_no_text_are_written_out(self):
+        words = [NRDB, "--netrev", NETREV, str(FIRST)]
+        ended = subprocess.run(words, input=b"print \xff\n\xff\n", capture_output=True, timeout=60, check=True)
+        self.assertEqual(ended.stderr, b"")
+        self.assertEqual(
+            [line for line in ended.stdout.split(b"\n") if line.startswith(b"(")],
+            [rb"(netrev) print \xff", rb"(netrev) \xff"],
+        )
+        self.assertEqual(ended.stdout.count(b"fault 20"), 2)
+
+    def test_an_output_that_nobody_reads_ends_it(self):
+        words = [NRDB, "--netrev", NETREV, str(FIRST)]
+        with subprocess.Popen(words, stdin=subprocess.PIPE, stdout=subprocess.PIPE, stderr=subprocess.PIPE) as process:
+            assert process.stdin and process.stdout and process.stderr
+            process.stdout.close()
+            process.stdin.write(b"help\n" * 10)
+            process.stdin.close()
+            self.assertEqual((process.wait(60), process.stderr.read()), (3, b""))
+
+
+if __name__ == "__main__":
+    unittest.main()

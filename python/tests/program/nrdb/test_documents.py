@@ -1,0 +1,54 @@
+"""The sessions that docs/ shows: each is what nrdb prints, and so is what it says of a recording that is refused."""
+
+import re
+import unittest
+
+from .support import ROOT, nrdb
+
+PROMPT = "(netrev) "
+RECORDING = re.compile(r"examples/[\w/-]+\.jsonl")
+
+
+def sessions(text):
+    """The blocks of a page that begin with a prompt, each with the recording that was named last before it."""
+    for block in re.finditer(r"(?:^    .*\n)+", text, re.MULTILINE):
+        lines = [line[4:] for line in block[0].splitlines()]
+        if lines[0].startswith(PROMPT):
+            yield RECORDING.findall(text[: block.start()])[-1], lines
+
+
+def refusals(text):
+    """The blocks of a page that begin with a call of nrdb on a recording of examples/: that one, and the lines shown, up to
+    `...` where they end so."""
+    for block in re.finditer(r"^    \$ ./nrdb (examples/\S+)\n((?:    .*\n)+)", text, re.MULTILINE):
+        yield block[1], [line[4:] for line in block[2].splitlines()]
+
+
+class Documents(unittest.TestCase):
+    def test_sessions_are_what_is_printed(self):
+        count = 0
+        for page in sorted((ROOT / "docs").glob("*.md")):
+            for recording, lines in sessions(page.read_text(encoding="utf-8")):
+                asked = [line[len(PROMPT) :] for line in lines if line.startswith(PROMPT)]
+                words = [word for line in asked for word in ("-ex", line)]
+                with self.subTest(page.name, recording=recording):
+                    said = nrdb("--batch", *words, ROOT / recording).splitlines()
+                    self.assertEqual(said[2:], lines)
+                count += 1
+        self.assertGreaterEqual(count, 5)
+
+    def test_refused_recordings_are_explained_as_is_shown(self):
+        count = 0
+        for page in sorted((ROOT / "docs").glob("*.md")):
+            for recording, lines in refusals(page.read_text(encoding="utf-8")):
+                with self.subTest(page.name, recording=recording):
+                    said = nrdb("--batch", ROOT / recording, status=1).splitlines()
+                    shown = lines[:-1] if lines[-1] == "..." else lines
+                    self.assertEqual(said[: len(shown)], shown)
+                    self.assertEqual(len(said) == len(shown), lines[-1] != "...")
+                count += 1
+        self.assertGreaterEqual(count, 3)
+
+
+if __name__ == "__main__":
+    unittest.main()

@@ -1,0 +1,131 @@
+"""nrdb in a session that `netrev serve` shares with somebody else."""
+
+import json
+import subprocess
+import unittest
+from typing import Any
+
+from tests.program.sharing import Server
+
+from .support import EXAMPLES, NRDB, PATIENCE, nrdb
+
+FIRST = EXAMPLES / "first.jsonl"
+DONE = "cell clock: the time, in nanoseconds"
+
+
+class Joined:
+    """nrdb at a front, which is asked line by line, and tells by lines of JSON."""
+
+    def __init__(self, port, *words):
+        called = [NRDB, "--json", "--join", f"127.0.0.1:{port}", *map(str, words)]
+        self.process = subprocess.Popen(called, stdin=subprocess.PIPE, stdout=subprocess.PIPE, text=True)
+        assert self.process.stdin and self.process.stdout
+        self.lines, self.events = self.process.stdin, self.process.stdout
+        self.ask()
+
+    def __enter__(self):
+        return self
+
+    def __exit__(self, *_):
+        self.process.kill()
+        if not self.events.closed:
+            self.process.communicate()
+
+    def ask(self, *lines):
+        """The events that these lines bring, and that were there before."""
+        self.lines.write("".join(f"{line}\n" for line in (*lines, "help clock")))
+        self.lines.flush()
+        told: list[dict[str, Any]] = []
+        while True:
+            event = json.loads(self.events.readline())
+            if event == {"event": "note", "text": DONE}:
+                return told
+            told.append(event)
+
+    def ends(self):
+        """What is told when the input ends, and the exit status."""
+        rest, _ = self.process.communicate(timeout=PATIENCE)
+        return [json.loads(line) for line in rest.splitlines()], self.process.returncode
+
+
+class Other:
+    """Somebody else, at a front of their own."""
+
+    def __init__(self, caller):
+        self.caller, self.lines = caller, caller.makefile("rw")
+
+    def ask(self, line):
+        """The reply to a line."""
+        self.lines.write(f"{line}\n")
+        self.lines.flush()
+        return self.lines.readline().rstrip("\n")
+
+    def leaves(self):
+        """Ends the connection."""
+        self.lines.close()
+        self.caller.close()
+
+
+def replies(told):
+    """The replies among the events."""
+    return [line for event in told if event["event"] == "reply" for line in event["reply"]]
+
+
+def serving(fronts=1):
+    """A server of so many fronts that are there, and have one connection left each."""
+    server = Server(FIRST, fronts=fronts, connections=2)
+    for front in range(fronts):
+        server.call(front).close()
+    return server
+
+
+class Join(unittest.TestCase):
+    def test_a_session_is_shared(self):
+        with serving(fronts=2) as server:
+            other = Other(server.call(1))
+            with Joined(server.port, FIRST) as person:
+                self.assertEqual(replies(person.ask("stepi 6")), ["at 6"])
+                self.assertEqual(other.ask("info position"), "at 6 of 10 forward")
+                self.assertEqual(other.ask("watch lock 0"), "mark 1")
+                self.assertEqual(other.ask("stepi 3"), "at 9")
+                told = person.ask("print lock 0")
+                self.assertEqual(told[0], {"event": "note", "text": "somebody has moved: from 6 to 9"})
+                self.assertEqual(told[1]["position"], 9)
+                self.assertEqual(replies(told), ["lock 0 = 9"])
+                self.assertEqual([event["event"] for event in person.ask("print lock 0")], ["reply"])
+                changes = [event["rows"] for event in person.ask("history lock 0") if event["event"] == "table"]
+                self.assertEqual([row["step"] for row in changes[0]], [3, 4, 5, 6, 7, 8, 9])
+                self.assertEqual(other.ask("info position"), "at 9 of 10 forward")
+                self.assertEqual(replies(person.ask("reverse-until lock 0 18")), ["at 5", "lock 0 = 18"])
+                self.assertEqual(other.ask("info position"), "at 5 of 10 forward")
+                self.assertEqual(person.ends(), ([{"event": "end", "status": 0}], 0))
+            other.leaves()
+            server.expect_end(0, "placed 4\n")
+
+    def test_without_the_recording_replies_are_all(self):
+        with serving() as server:
+            with Joined(server.port) as person:
+                told = person.ask("stepi 6", "history lock 0", "info goroutines", "where")
+                self.assertEqual(replies(told), ["at 6"])
+                notes = [event["text"] for event in told if event["event"] == "note"]
+                self.assertEqual(notes[:2], ["for this the recording has to be named: nrdb --join HOST:PORT FILE"] * 2)
+                self.assertEqual(notes[2], "at 6 of 10 forward")
+                self.assertEqual(person.ends()[1], 0)
+            server.expect_end(0, "placed 1\n")
+
+    def test_another_recording_than_the_session_has(self):
+        with serving() as server:
+            other = EXAMPLES / "lost-wakeup.jsonl"
+            said = nrdb("--batch", "--join", f"127.0.0.1:{server.port}", other, status=3)
+            self.assertEqual(said, "| the recording has 22 steps, and that of the session 10\n")
+
+    def test_nobody_serves(self):
+        with serving() as server:
+            server.call(0).close()
+            server.ended()
+        said = nrdb("--join", f"127.0.0.1:{server.port}", status=3)
+        self.assertEqual(said, f"| 127.0.0.1:{server.port}: Connection refused\n")
+
+
+if __name__ == "__main__":
+    unittest.main()

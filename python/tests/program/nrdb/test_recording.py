@@ -1,0 +1,98 @@
+"""The text of recordings: steps by their numbers, whatever lines stand between them; and who holds references, by
+recordings that are written for it."""
+
+import json
+import tempfile
+import unittest
+from pathlib import Path
+
+from nrdb.recording import Recording
+
+from .support import events, recordings
+
+HEADER = '{"netrev":1,"gor":4,"sock":2,"desc":2,"buf":16}'
+
+
+def by_reading(data):
+    """The steps by reading each line: number, line, kind, arguments and the answer, which version 1 hasn't."""
+    lines = [(number, line) for number, line in enumerate(data.split(b"\n"), 1) if line.strip(b" \t\r")]
+    is_second = json.loads(lines[0][1])["netrev"] == 2
+    for step, (line, text) in enumerate(lines[1:], 1):
+        kind, *arguments = json.loads(text)
+        answer = arguments.pop() if is_second else None
+        yield step, line, kind, tuple(arguments), answer
+
+
+def spellings(data):
+    """The same recording with other blanks and spellings."""
+    yield data
+    yield data.rstrip(b"\n")
+    yield b"\n \n" + data.replace(b"]\n", b"]\r\n\n \t\n")
+    yield data.replace(b",", b" , ").replace(b"[", b" [ ")
+    yield data.replace(b'"rwlock"', b'"\\u0072wlock"')
+
+
+class Text(unittest.TestCase):
+    def test_steps_by_number_kind_and_socket(self):
+        for path in recordings():
+            for way, data in enumerate(spellings(path.read_bytes())):
+                recording, steps = Recording(data), list(by_reading(data))
+                with self.subTest(path.stem, way=way):
+                    self.assertEqual(recording.length, len(steps))
+                    for step in steps:
+                        self.assertEqual(recording.step(step[0]), step)
+                    for until in (0, 1, 5, len(steps), len(steps) + 9):
+                        for socket in (None, 0, 1, 3):
+                            told = [step.number for step in recording.steps_of(("rwlock", "incref"), until, socket)]
+                            wanted = [
+                                number
+                                for number, _, kind, arguments, _ in steps[:until]
+                                if kind in ("rwlock", "incref") and socket in (None, arguments[1])
+                            ]
+                            self.assertEqual(told, wanted)
+
+    def test_without_steps(self):
+        for data in (b"", b"\n\n", HEADER.encode()):
+            recording = Recording(data)
+            self.assertEqual((recording.length, recording.step_or_none(1)), (0, None))
+            self.assertEqual(list(recording.steps_of(("spawn",), 9)), [])
+
+
+class Holders(unittest.TestCase):
+    def holders(self, *steps):
+        """Who holds socket 0 behind these steps, and since which, three goroutines and the socket being there."""
+        made = ['["spawn"]', '["spawn"]', '["sockopen",16,16]']
+        with tempfile.TemporaryDirectory() as folder:
+            file = Path(folder) / "steps.jsonl"
+            file.write_text("\n".join([HEADER, *made, *steps]) + "\n")
+            told = events(file, ["stepi 99", "info holders 0"])[-1]
+        self.assertEqual(told["topic"], "holders")
+        return [(row["goroutine"], row["step"] - len(made)) for row in told["rows"]], told["rest"]
+
+    def test_a_reference_is_given_up_by_whom_took_it(self):
+        held, rest = self.holders('["incref",0,0]', '["incref",1,0]', '["incref",0,0]', '["decref",0,0]')
+        self.assertEqual(held, [(0, 1), (1, 2)])
+        self.assertEqual(rest, "lock 0 = 16: 2 references; 2 holders")
+        held, _ = self.holders('["incref",0,0]', '["incref",1,0]', '["decref",0,0]')
+        self.assertEqual(held, [(1, 2)])
+
+    def test_one_who_took_none_gives_up_another_s(self):
+        held, rest = self.holders('["incref",0,0]', '["incref",1,0]', '["decref",2,0]')
+        self.assertEqual(held, [(0, 1)])
+        self.assertEqual(rest, "lock 0 = 8: 1 reference; 1 holder")
+
+    def test_locks_and_closing(self):
+        lock, unlock = '["rwlock",{},0,"r"]', '["rwunlock",{},0,"r"]'
+        held, rest = self.holders(lock.format(0), lock.format(1), '["incref",2,0]')
+        self.assertEqual(
+            (held, rest), ([(0, 1), (2, 3)], "lock 0 = 8388626: read lock, 2 references, 1 waiting to read; 2 holders")
+        )
+        closed = ['["increfclose",2,0]', '["release",2]', '["incref",2,0]']
+        held, rest = self.holders(lock.format(0), lock.format(1), *closed)
+        self.assertEqual((held, rest), ([(0, 1), (2, 3)], "lock 0 = 19: closed, read lock, 2 references; 2 holders"))
+        held, rest = self.holders(lock.format(0), '["increfclose",2,0]', unlock.format(0), '["decref",2,0]')
+        self.assertEqual((held, rest), ([], "lock 0 = 1: closed, 0 references; 0 holders"))
+
+
+if __name__ == "__main__":
+    unittest.main()

@@ -1,0 +1,86 @@
+"""`info suspects` with netrev: its answers are what the rules reckon with, over the examples and over traffic with planted bugs,
+which netrev accepts; and `--suspects`, whose exit status says whether there are any."""
+
+import json
+import subprocess
+import tempfile
+import unittest
+from pathlib import Path
+
+from netrev_fuzz.injections import Bug, Traffic
+from tests.program.sharing import NETREV
+from tests.test_suspects import KNOWN, PAIRS, REFUSED, recording_of
+
+from .support import EXAMPLES, nrdb, nrdb_process
+
+DOUBT = "take care"
+SOME = 4
+SEED = 100
+
+
+def checked(path: Path) -> str:
+    """What `netrev check` prints of a file."""
+    return subprocess.run([NETREV, "check", path], capture_output=True, text=True, timeout=60, check=False).stdout
+
+
+class Suspects(unittest.TestCase):
+    def setUp(self) -> None:
+        folder = tempfile.TemporaryDirectory()
+        self.addCleanup(folder.cleanup)
+        self.path = Path(folder.name) / "recording.jsonl"
+
+    def test_netrev_answers_what_the_rules_reckon_with(self) -> None:
+        for name, rule in KNOWN.items():
+            with self.subTest(name):
+                said = nrdb("--suspects", EXAMPLES / f"{name}.jsonl", status=SOME)
+                self.assertIn(f"| 1. {rule.value}: ", said)
+                self.assertIn("|    netrev: at ", said)
+                self.assertNotIn(DOUBT, said)
+
+    def test_recordings_of_a_rule_are_accepted_and_answered_so(self) -> None:
+        for rule, pair in PAIRS.items():
+            for steps, status in ((pair.bad, SOME), (pair.good, 0)):
+                with self.subTest(rule.value, status=status):
+                    self.path.write_bytes(recording_of(steps).data)
+                    self.assertEqual(checked(self.path), f"ok {len(steps)} steps\n")
+                    self.assertNotIn(DOUBT, nrdb("--suspects", self.path, status=status))
+
+    def test_planted_bugs_are_runs_of_the_machine(self) -> None:
+        for bug in (None, *Bug):
+            traffic = Traffic(SEED, bug).run()
+            with self.subTest(bug.value if bug else "nothing"):
+                self.path.write_bytes(traffic.text())
+                self.assertEqual(checked(self.path), f"ok {len(traffic.steps)} steps\n")
+                said = nrdb("--suspects", self.path, status=SOME if traffic.symptom() else 0)
+                self.assertNotIn(DOUBT, said)
+
+    def test_is_one_object_each_in_json(self) -> None:
+        said = nrdb("--json", "-ex", "info suspects", "--batch", EXAMPLES / "lost-wakeup.jsonl")
+        table = next(event for event in map(json.loads, said.splitlines()) if event["event"] == "table")
+        (suspect,) = table["rows"]
+        self.assertEqual((suspect["rule"], suspect["step"]), ("lost wake-up", 18))
+        self.assertEqual(suspect["netrev"], ["at 17 rg 0 = ready", "at 18 rg 0 = nil"])
+        self.assertEqual(suspect["looks"], ["goto 17", "history rg 0"])
+
+    def test_the_session_stays_where_it_is(self) -> None:
+        said = nrdb(
+            "-ex",
+            "stepi 5",
+            "-ex",
+            "info suspects",
+            "-ex",
+            "info position",
+            "--batch",
+            EXAMPLES / "past-deadline.jsonl",
+        )
+        self.assertIn("at 5 of 21 forward", said.splitlines()[-1])
+
+    def test_says_so_where_there_is_none_or_no_recording(self) -> None:
+        self.assertIn("| no suspect\n", nrdb("--suspects", EXAMPLES / "first.jsonl"))
+        for name in REFUSED:
+            said, errors, status = nrdb_process("--suspects", EXAMPLES / f"{name}.jsonl")
+            self.assertEqual((errors, status), ("", 1), said)
+
+
+if __name__ == "__main__":
+    unittest.main()

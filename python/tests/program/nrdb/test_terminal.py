@@ -1,0 +1,200 @@
+"""The prompt, on a terminal of the system (a pty): line editing, the history, completion, repetition and Ctrl-C."""
+
+import os
+import pty
+import select
+import signal
+import tempfile
+import time
+import unittest
+from pathlib import Path
+
+from .support import EXAMPLES, NETREV, NRDB, PATIENCE
+
+PROMPT = "(netrev) "
+INTERRUPT = "\x03"
+END = "\x04"
+UP = "\x1b[A"
+
+
+class Typist:
+    """Types at nrdb, and reads what is on its screen."""
+
+    def __init__(self, recording, home, program=NETREV):
+        words = [NRDB, "--netrev", str(program), str(recording)]
+        environment = {**os.environ, "HOME": home, "TERM": "dumb", "INPUTRC": "/dev/null", "COLUMNS": "200"}
+        environment.pop("NETREV_HISTORY", None)
+        self.process, self.terminal = pty.fork()
+        if self.process == 0:
+            signal.signal(signal.SIGINT, signal.SIG_DFL)  # a shell's background has it ignored
+            os.execve(NRDB, words, environment)
+        self.screen = ""
+
+    def __enter__(self):
+        self.until(PROMPT)
+        return self
+
+    def __exit__(self, *_):
+        os.close(self.terminal)
+        if self.process:
+            os.kill(self.process, signal.SIGKILL)
+            os.waitpid(self.process, 0)
+
+    def type(self, text):
+        """Presses keys."""
+        os.write(self.terminal, text.encode())
+
+    def interrupt(self, text):
+        """Presses Ctrl-C until this text comes: one between two keys, Python may tell at the next key only."""
+        for _ in range(PATIENCE):
+            self.type(INTERRUPT)
+            if self.reads_until([text], 1):
+                break
+        self.until(text)
+
+    def reads_until(self, texts, patience):
+        """Reads until one of these texts is on the screen; whether it came in time."""
+        limit = time.monotonic() + patience
+        while not any(text in self.screen for text in texts):
+            left = limit - time.monotonic()
+            if left < 0 or not select.select([self.terminal], [], [], left)[0]:
+                return False
+            try:
+                came = os.read(self.terminal, 65536).decode()
+            except OSError:  # nrdb has ended
+                return False
+            self.screen = (self.screen + came).replace("\r\n", "\n")
+        return True
+
+    def until(self, *texts):
+        """Reads until one of these texts is on the screen, and gives what came up to its end."""
+        if not self.reads_until(texts, PATIENCE):
+            raise AssertionError(f"wanted {texts}, and the screen shows {self.screen!r}")
+        end = min(self.screen.index(text) + len(text) for text in texts if text in self.screen)
+        seen, self.screen = self.screen[:end], self.screen[end:]
+        return seen
+
+    def ask(self, line):
+        """What is said of a line: all up to the next prompt."""
+        self.type(f"{line}\r")
+        self.until("\n")
+        return self.until(PROMPT)[: -len(PROMPT)]
+
+    def ends(self):
+        """The exit status, when nrdb has ended."""
+        _, status = os.waitpid(self.process, 0)
+        self.process = 0
+        return os.waitstatus_to_exitcode(status)
+
+
+def pairs_of_locks(path, steps):
+    """Writes a recording of a lock that is taken and given up again and again."""
+    lines = ['{"netrev":1,"gor":1,"sock":1,"desc":1,"buf":1}', '["sockopen",1,1]']
+    lines += ['["rwlock",0,0,"r"]', '["rwunlock",0,0,"r"]'] * (steps // 2)
+    path.write_text("\n".join(lines) + "\n")
+
+
+class Terminal(unittest.TestCase):
+    def setUp(self):
+        folder = tempfile.TemporaryDirectory()
+        self.addCleanup(folder.cleanup)
+        self.home = folder.name
+
+    def typist(self, recording=EXAMPLES / "first.jsonl"):
+        return Typist(recording, self.home)
+
+    def test_an_empty_line_repeats_the_last_step(self):
+        with self.typist() as person:
+            self.assertTrue(person.ask("stepi 2").startswith("at 2\n"))
+            self.assertTrue(person.ask("").startswith("at 4\n"))
+            self.assertTrue(person.ask("").startswith("at 6\n"))
+            self.assertTrue(person.ask("rsi").startswith("at 5\n"))
+            self.assertTrue(person.ask("").startswith("at 4\n"))
+            self.assertTrue(person.ask("print lock 0").startswith("lock 0 = 8 "))
+            self.assertEqual(person.ask(""), "")
+            person.type("quit\r")
+            person.until("bye\n")
+            self.assertEqual(person.ends(), 0)
+
+    def test_tab_completes_commands_kinds_cells_and_numbers(self):
+        with self.typist() as person:
+            for typed, whole in (
+                ("dis\t", "display "),
+                ("break rwu\t", "break rwunlock "),
+                ("watch wai\t", "watch waiters "),
+                ("info gor\t", "info goroutines "),
+                ("set \tre\t", "set exec-direction reverse "),
+            ):
+                person.type(typed)
+                self.assertTrue(person.until(whole).endswith(whole))
+                person.type("\r")
+                person.until(PROMPT)
+            person.ask("set exec-direction forward")
+            person.ask("stepi 3")
+            person.type("print loc\t\t")
+            person.until("print lock 0 ")
+            person.type("\r")
+            self.assertIn("lock 0 = 0   | 0 references\n", person.until(PROMPT))
+
+    def test_lines_are_kept_for_the_next_session(self):
+        with self.typist() as person:
+            person.ask("print clock")
+            person.ask("print waiters")
+            person.type(END)
+            self.assertEqual(person.ends(), 0)
+        self.assertEqual(
+            (Path(self.home) / ".netrev_history").read_text().split("\n")[-3:-1], ["print clock", "print waiters"]
+        )
+        with self.typist() as person:
+            person.type(UP)
+            person.until("print waiters")
+            person.type(UP + "\r")
+            self.assertIn("clock = 0\n", person.until(PROMPT))
+
+    def test_ctrl_c_at_the_prompt_drops_the_line(self):
+        with self.typist() as person:
+            person.type("stepi 3")
+            person.until("stepi 3")
+            person.interrupt("^C\n" + PROMPT)
+            person.type("info position\r")
+            self.assertNotIn("\nat 3", person.until("at 0 of 10 forward\n"))
+
+    def test_a_second_ctrl_c_gives_up_a_netrev_that_does_not_answer(self):
+        silent = Path(self.home) / "silent"
+        silent.write_text("#!/bin/sh\nread line\necho at 0 of 10 forward\nexec sleep 1000\n")
+        silent.chmod(0o755)
+        with Typist(EXAMPLES / "first.jsonl", self.home, silent) as person:
+            given_up = "| netrev didn't answer: the session is given up\n"
+            for _ in range(PATIENCE):  # one that comes before the line is sent drops it
+                person.type("stepi\r")
+                for _ in range(2):
+                    time.sleep(0.2)
+                    person.type(INTERRUPT)
+                if person.reads_until([given_up], 1):
+                    break
+            person.until(given_up)
+            self.assertEqual(person.ends(), 3)
+
+    def test_ctrl_c_stops_a_walk_and_keeps_the_session(self):
+        recording = Path(self.home) / "long.jsonl"
+        pairs_of_locks(recording, 200_000)
+        with self.typist(recording) as person:
+            person.ask("watch lock 0")
+            person.ask("continue")
+            stopped = False
+            while not stopped:  # one that comes before the walk has begun just drops the line
+                person.type("until lock 0 nonsense\r")
+                person.until("nonsense\n")
+                time.sleep(0.2)
+                person.type(INTERRUPT)
+                stopped = "interrupted" in person.until("interrupted; the session goes on\n", "^C\n" + PROMPT)
+            person.until(PROMPT)
+            self.assertIn("at 1 of 200001 forward\n", person.ask("info position"))
+            self.assertIn("at 2 by 1\n", person.ask("continue"))
+            person.type("quit\r")
+            person.until("bye\n")
+            self.assertEqual(person.ends(), 0)
+
+
+if __name__ == "__main__":
+    unittest.main()

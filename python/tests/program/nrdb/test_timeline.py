@@ -1,0 +1,101 @@
+"""The timeline's page: what it holds is what plain looks show, and it needs nothing from outside."""
+
+import json
+import random
+import re
+import tempfile
+import unittest
+from pathlib import Path
+
+from .support import EXAMPLES, HUNTS, nrdb, recordings, shown
+
+SEED = 20261125
+
+
+def page_of(path, *words):
+    """The text of the page of a recording, and the data in it."""
+    with tempfile.TemporaryDirectory() as folder:
+        file = Path(folder) / "page.html"
+        nrdb(*words, "--timeline", file, path)
+        text = file.read_text()
+    return text, data_in(text)
+
+
+def data_in(text):
+    """The data of a page."""
+    found = re.search(r'<script type="application/json" id="data">(.*?)</script>', text, re.DOTALL)
+    assert found, text
+    return json.loads(found[1])
+
+
+def value_at(runs, position):
+    """The value of the last run that begins at the position or before."""
+    return [value for start, value in runs if start <= position][-1]
+
+
+class Timeline(unittest.TestCase):
+    def test_each_position_shows_what_looks_show(self):
+        choose = random.Random(SEED)
+        for path in recordings():
+            world = shown(path)
+            text, data = page_of(path)
+            self.assertEqual((data["first"], data["last"], data["length"]), (0, world.length, world.length))
+            self.assertNotRegex(text, r"(src|href)=|https?://|@import|url\(")
+            self.assertEqual(data["steps"][1:-1], [str(world.recording.step(n)) for n in range(1, world.length + 1)])
+            for at in {0, world.length, choose.randint(0, world.length), choose.randint(0, world.length)}:
+                values = world.at(at)
+                with self.subTest(path.stem, position=at):
+                    told = {cell: value_at(runs, at) for cell, runs in data["cells"].items()}
+                    self.assertEqual(told, {cell: values[cell] for cell in told})
+                    left = set(values) - set(told)
+                    self.assertEqual({values[cell] for cell in left}, {"absent"} if left else set())
+            for row in data["rows"]:
+                runs = data["cells"][row["cell"]]
+                self.assertEqual(len(row["shades"]), len(runs))
+                self.assertTrue(all(shade in data["shades"] or shade == "" for shade in row["shades"]))
+                self.assertTrue(all(before[1] != after[1] for before, after in zip(runs, runs[1:])))
+
+    def test_marks_stand_where_they_hit(self):
+        path = HUNTS / "missed-release.jsonl"
+        marks = ["watch gor 14", "break release", "break @262"]
+        _, data = page_of(path, *(word for mark in marks for word in ("-ex", mark)))
+        self.assertEqual([mark["what"] for mark in data["marks"]], marks)
+        self.assertEqual(data["marks"][0]["hits"], [26, 109, 110, 182, 188, 262])
+        recording = shown(path).recording
+        releases = [n - 1 for n in range(1, recording.length + 1) if recording.step(n).kind == "release"]
+        self.assertEqual(data["marks"][1]["hits"], releases)
+        self.assertEqual(data["marks"][2]["hits"], [261])
+
+    def test_a_part_of_the_positions(self):
+        path = HUNTS / "blocked-control.jsonl"
+        with tempfile.TemporaryDirectory() as folder:
+            file = Path(folder) / "page.html"
+            said = nrdb("--batch", "-ex", f"timeline {file} 990 1000", "-ex", f"timeline {file} 5 3", path)
+            data = data_in(file.read_text())
+        self.assertIn("the recording's positions are 0 to 2088", said)
+        self.assertEqual((data["first"], data["last"]), (990, 1000))
+        values = shown(path).at(995)
+        told = {cell: value_at(runs, 995) for cell, runs in data["cells"].items()}
+        self.assertEqual(told, {cell: values[cell] for cell in told})
+
+    def test_a_page_that_cannot_be_written(self):
+        with tempfile.TemporaryDirectory() as folder:
+            said = nrdb("--timeline", f"{folder}/none/page.html", recordings()[0], status=3)
+        self.assertIn("none/page.html: No such file or directory", said)
+
+    def test_shades_of_one_kind_differ_in_brightness(self):
+        _, data = page_of(EXAMPLES / "first.jsonl")
+        for of in ("goroutine", "descriptor", "socket"):
+            colours = [shade["colour"] for shade in data["shades"].values() if shade["of"] == of]
+            lights = sorted(brightness(colour) for colour in colours)
+            self.assertTrue(all(after - before >= 4 for before, after in zip(lights, lights[1:])), (of, lights))
+
+
+def brightness(colour):
+    """How bright a colour is, from 0 to 255."""
+    red, green, blue = (int(colour[at : at + 2], 16) for at in (1, 3, 5))
+    return 0.299 * red + 0.587 * green + 0.114 * blue
+
+
+if __name__ == "__main__":
+    unittest.main()

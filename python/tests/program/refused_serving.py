@@ -1,0 +1,241 @@
+"""Plays `serve` of the built program with each of its allocations refused in turn:  python3 python tests.program.refused_serving
+
+Two callers, at a front each, send fixed lines one after the other, so the right replies are known: first over a short
+recording, which one worker searches, then over one of more than three thousand steps, which three do; of that the
+allocations are refused behind which callers are served, since those that load a recording are alike. The order of the
+allocations is the same each time but for those of the threads that start; so each number is refused until there are as
+many as sessions at a time that no allocation has. A refused allocation is told once, and of nothing else:
+
+- before a caller is served as `fault 108 memory`, with status 1;
+- in place of a reply: of a look, or of a line before which another's search is to be made, as `fault 301 memory`, and
+  the line is sent again; of a search as `fault 302 memory, placed N`, whose reply `resume` gives, and no other line;
+- at the end in place of `placed K`, as `fault 108 memory` with status 1.
+
+Then all other replies are the right ones, and so they all are where netrev could do without. So no command is lost or
+placed twice. Last, no thread can be started: then each front is served in its turn, and searches for itself.
+"""
+
+import subprocess
+import sys
+import tempfile
+from bisect import bisect_left
+from concurrent.futures import ThreadPoolExecutor
+from dataclasses import dataclass
+from pathlib import Path
+from typing import NamedTuple
+
+from netrev_model.debugger import is_command, read_line
+
+from .loopback import PARKED
+from .sharing import ROOT, Server, Wrong, expect
+
+
+class Played(NamedTuple):
+    """What came of a session: whether anything was refused, how often that was told, whether callers were served, and
+    whether how many commands they placed was told."""
+
+    refused: bool
+    told: int
+    served: bool
+    counted: bool
+
+
+@dataclass
+class Script:
+    """A recording, the workers of a search, the lines of two callers with the right replies, and whether the allocations
+    that load the recording are refused too."""
+
+    name: str
+    text: str
+    workers: int
+    callers: tuple
+    loading: bool
+
+    def commands(self):
+        """How many of the lines are commands."""
+        return sum(is_command(read_line(line.encode())) for lines in self.callers for line, _ in lines)
+
+
+SHORT = (
+    (
+        ("watch rg 0", "mark 1"),
+        ("continue", "at 2 by 1"),
+        ("stepi 6", "at 8"),
+        ("dump in 0", "in 0 = 6869"),
+        ("stepi 3", "at 11"),
+        ("dump in 0", "in 0 = -"),
+        ("reverse-continue", "at 10 by 1"),
+        ("print in 0", "in 0 = 2"),
+        ("resume", "nothing owed"),
+        ("quit", "bye"),
+    ),
+    (
+        ("stepi", "at 11"),
+        ("info position", "at 11 of 12 forward"),
+        ("reverse-continue", "at 10 by 1"),
+        ("dump in 0", "in 0 = 6869"),
+        ("continue", "at 12 end"),
+        ("dump rq 0", "rq 0 = -"),
+        ("resume", "nothing owed"),
+        ("quit", "bye"),
+    ),
+)
+LONG = (
+    (
+        ("watch rg 0", "mark 1"),
+        ("stepi 9999", "at 3612 end"),
+        ("reverse-continue", "at 10 by 1"),
+        ("break @3000", "mark 2"),
+        ("continue", "at 2999 by 2"),
+        ("info position", "at 2999 of 3612 forward"),
+        ("quit", "bye"),
+    ),
+    (
+        ("info position", "at 2999 of 3612 forward"),
+        ("continue", "at 3612 end"),
+        ("reverse-continue", "at 2999 by 2"),
+        ("reverse-continue", "at 10 by 1"),
+        ("dump in 0", "in 0 = 6869"),
+        ("quit", "bye"),
+    ),
+)
+TICKS = "".join(f'["tick",{time}]\n' for time in range(1, 3601))
+SCRIPTS = (Script("short", PARKED, 1, SHORT, loading=True), Script("long", PARKED + TICKS, 3, LONG, loading=False))
+NO_MEMORY = "fault 108 memory"
+AT_A_TIME = 16
+
+
+@dataclass
+class Session:
+    """The callers of a session, and what they were told of memory."""
+
+    server: Server
+    callers: tuple
+    placed: int = 0
+    told: int = 0
+
+    def talk(self, front):
+        """Plays a caller's lines, and says whether it was served."""
+        lines = self.callers[front]
+        caller = self.server.call(front)
+        if caller is None:
+            return False
+        with caller, caller.makefile("r", encoding="ascii", newline="\n") as replies:
+            for at, (line, right) in enumerate(lines):
+                came = self.ask(caller, replies, line)
+                if came is None and front == 0 and at == 0:
+                    return False
+                self.placed += is_command(read_line(line.encode()))
+                self.expect_reply(caller, replies, front, at, line, right, came)
+            expect(f"what comes behind {line}", "", replies.read())
+        return True
+
+    @staticmethod
+    def ask(caller, replies, line):
+        """A line's reply, or None where the connection ended."""
+        try:
+            caller.sendall(f"{line}\n".encode())
+            return replies.readline().removesuffix("\n") or None
+        except ConnectionError:
+            return None
+
+    def expect_reply(self, caller, replies, front, at, line, right, came):
+        """Sees that a line was answered right, at once or when it was asked again."""
+        asked = read_line(line.encode())
+        assert asked, line
+        placed = f"fault 302 memory, placed {self.placed}"
+        if came == "fault 301 memory" and (asked.sort in ("look", "info") or (front > 0 and at == 0)):
+            self.told += 1
+            came = self.ask(caller, replies, line)
+        elif came == placed and asked.sort == "seek":
+            self.told += 1
+            expect("a further line while a reply is owed", placed, self.ask(caller, replies, "stepi"))
+            came = self.ask(caller, replies, "resume")
+        expect(f"the reply to {line} at front {front}", right, came)
+
+
+def play(folder, script, words):
+    """A session of a netrev that is started by the command `env` with these words, its allocations told in a file."""
+    told = folder / "-".join([script.name, *words[1:]]).replace("=", "-")
+    through = ["sh", "-c", 'told=$1; shift; exec env "$@" 9> "$told"', "sh", str(told), *words]
+    recording = folder / f"{script.name}.jsonl"
+    with Server(recording, fronts=2, journal=16, workers=script.workers, through=through) as server:
+        session = Session(server, script.callers)
+        served = session.talk(0) and session.talk(1)
+        ended = server.ended()
+    refused = told.stat().st_size > 0
+    right = (0, f"placed {session.placed}\n", "")
+    if refused and session.told == 0 and ended == (1, f"{NO_MEMORY}\n", ""):
+        session.told = 1
+        if not served:
+            expect("commands that were placed by callers who weren't served", 0, session.placed)
+            return Played(refused, session.told, served, counted=False)
+    else:
+        expect("the end of netrev serve: status, output and errors", right, ended)
+    expect("whether each caller was served", True, served)
+    expect("commands that were placed", script.commands(), session.placed)
+    expect("how often memory was told of is at most once where it was refused", True, session.told <= refused)
+    return Played(refused, session.told, served, counted=ended[0] == 0)
+
+
+def first_served(play_number):
+    """The number of the first allocation behind which callers are served: netrev loads before."""
+    most = 1
+    while not play_number(most).served:
+        most *= 2
+    return bisect_left(range(most), True, lo=most // 2, key=lambda number: play_number(number).served)
+
+
+def play_script(folder, preload, script):
+    """Refuses each allocation in turn, several sessions at the same time."""
+    (folder / f"{script.name}.jsonl").write_text(script.text, encoding="ascii")
+
+    def play_number(number):
+        try:
+            return play(folder, script, [preload, f"REFUSED={number}"])
+        except Wrong as wrong:
+            raise Wrong(f"with allocation {number} refused: {wrong}") from None
+
+    first = 1 if script.loading else first_served(play_number)
+    played: list[Played] = []
+    with ThreadPoolExecutor(4) as pool:
+        while not played or any(one.refused for one in played[-AT_A_TIME:]):
+            begin = first + len(played)
+            played += pool.map(play_number, range(begin, begin + AT_A_TIME))
+    expect(f"{script.name}: whether the first allocation was refused", True, played[0].refused)
+    threadless = play(folder, script, [preload, "THREADS=0"])
+    expect("with no thread: refused, told of memory, served, counted", Played(True, 0, True, True), threadless)
+    if script.workers == 1:
+        # (several workers take memory now more, now less often, so of theirs the last allocation may be missed)
+        uncounted = any(one.served and not one.counted for one in played)
+        expect(f"{script.name}: whether memory was refused for the history once", True, uncounted)
+    return played
+
+
+def play_all(folder):
+    """Plays all scripts, and says how many allocations were refused, and told."""
+    library = folder / "refused.so"
+    subprocess.run(
+        ["cc", "-O2", "-fPIC", "-shared", "-o", library, ROOT / "scripts/refused.c", "-ldl"], timeout=60, check=True
+    )
+    played = [one for script in SCRIPTS for one in play_script(folder, f"LD_PRELOAD={library}", script)]
+    return sum(one.refused for one in played), sum(one.told for one in played)
+
+
+def main():
+    with tempfile.TemporaryDirectory() as name:
+        folder = Path(name)
+        try:
+            refused, told = play_all(folder)
+        except (Wrong, OSError) as wrong:
+            print(f"refused_serving.py: {wrong}", file=sys.stderr)
+            return 1
+    print(
+        f"Of {refused} refused allocations of serve {told} were told, as they have to be, "
+        f"and {refused - told} could be done without."
+    )
+    return 0
+
+
+if __name__ == "__main__":
+    sys.exit(main())

@@ -1,0 +1,254 @@
+"""A netrev that serves, and callers who talk to it at the same time: what the scripts share that play `netrev serve`.
+
+Nobody here waits by sleeping: for a port by connecting until it is there, for replies by the socket, for the end by the
+process; and each wait has a limit.
+"""
+
+import os
+import random
+import selectors
+import socket
+import subprocess
+import sys
+import tempfile
+import threading
+import time
+from dataclasses import dataclass, field
+from itertools import count
+from pathlib import Path
+
+from netrev_model.debugger import read_line
+from netrev_model.history import Exchange
+
+ROOT = Path(__file__).resolve().parents[3]
+NETREV = os.environ.get("NETREV", str(ROOT / "crates/netrev/out/netrev"))
+PATIENCE = 30  # seconds
+LOOPBACK = "127.0.0.1"
+
+
+class Wrong(Exception):
+    """What came isn't what was expected."""
+
+
+def expect(what, expected, came):
+    """Says what was expected and what came, where they differ."""
+    if expected != came:
+        raise Wrong(f"{what}\n  expected: {expected!r}\n  came:     {came!r}")
+
+
+class Ports:
+    """Ports that nobody has, none given twice. They lie below those that the system gives to callers. They come from
+    blocks whose first port is held as long as this script runs, so that two scripts don't take the same ones. No
+    process may be started while a port is tried, since it would hold that port for a moment: `lock` is for both."""
+
+    BLOCK = 256
+
+    def __init__(self):
+        self.lock = threading.Lock()
+        self.held = []
+        self.left = range(0)
+
+    def take(self, wanted):
+        """The first of so many free ports in a row."""
+        while True:
+            while len(self.left) >= wanted:
+                first, self.left = self.left[0], self.left[1:]
+                if all(map(self.is_free, range(first, first + wanted))):
+                    self.left = self.left[wanted - 1 :]
+                    return first
+            self.take_block()
+
+    def take_block(self):
+        """Holds the first port of another block."""
+        blocks = list(range(10_240, 32_000 - self.BLOCK, self.BLOCK))
+        random.shuffle(blocks)
+        for first in blocks:
+            marker = socket.socket()
+            try:
+                marker.bind((LOOPBACK, first))
+            except OSError:
+                marker.close()
+                continue
+            self.held.append(marker)
+            self.left = range(first + 1, first + self.BLOCK)
+            return
+        raise Wrong("there are no free ports")
+
+    @staticmethod
+    def is_free(port):
+        with socket.socket() as one:
+            try:
+                one.bind((LOOPBACK, port))
+            except OSError:
+                return False
+            return True
+
+
+PORTS = Ports()
+
+
+class Server:
+    """A netrev that serves a recording, at ports of its own, or from `port` on. `before` is called with the first one
+    before it is started, which is done by the words of `through`, if any. Each search of it has so many workers. With
+    no number of connections it serves until it is stopped."""
+
+    def __init__(self, recording, fronts=1, connections=1, journal=4096, workers=1, through=(), before=None, port=None):
+        self.errors = tempfile.TemporaryFile()
+        with PORTS.lock:
+            self.port = port or PORTS.take(fronts)
+            if before:
+                before(self.port)
+            words = [*through, NETREV, "serve", str(recording), "--port", str(self.port), "--fronts", str(fronts)]
+            words += ["--journal", str(journal), "--workers", str(workers)]
+            if connections:
+                words += ["--connections", str(connections)]
+            self.process = subprocess.Popen(words, stdin=subprocess.DEVNULL, stdout=subprocess.PIPE, stderr=self.errors)
+
+    def __enter__(self):
+        return self
+
+    def __exit__(self, *_):
+        if self.process.poll() is None:
+            self.process.kill()
+        self.process.communicate()
+        self.errors.close()
+
+    def has_ended(self):
+        return self.process.poll() is not None
+
+    def call(self, front, **options):
+        """A socket that is connected with the front, as soon as it listens; None where netrev ended before."""
+        limit = time.monotonic() + PATIENCE
+        while time.monotonic() < limit:
+            caller = socket.socket()
+            for option, value in options.items():
+                caller.setsockopt(socket.SOL_SOCKET, getattr(socket, option), value)
+            try:
+                caller.connect((LOOPBACK, self.port + front))
+                caller.setsockopt(socket.IPPROTO_TCP, socket.TCP_NODELAY, 1)
+                caller.settimeout(PATIENCE)
+                return caller
+            except ConnectionError:  # refused before it listens; reset where it ends while this connects
+                caller.close()
+            if self.has_ended():
+                return None
+            time.sleep(0.002)
+        raise Wrong(f"front {front} didn't listen within {PATIENCE} s")
+
+    def ended(self):
+        """Waits for its end, and gives its status, its output and its errors."""
+        try:
+            output, _ = self.process.communicate(timeout=PATIENCE)
+        except subprocess.TimeoutExpired:
+            raise Wrong(f"netrev serve didn't end within {PATIENCE} s") from None
+        self.errors.seek(0)
+        return self.process.returncode, output.decode(), self.errors.read().decode()
+
+    def expect_end(self, status, output):
+        """Sees that it ends by itself with this status and this output, and nothing on standard error."""
+        expect("the end of netrev serve: status, output and errors", (status, output, ""), self.ended())
+
+
+def talk(caller, lines):
+    """Sends the lines, reads to the end, and gives the lines that came."""
+    caller.sendall("".join(f"{line}\n" for line in lines).encode())
+    return read_to_end(caller)
+
+
+def read_to_end(caller):
+    """Reads up to the end that netrev makes, and gives the lines that came."""
+    with caller, caller.makefile("r", encoding="ascii", newline="\n") as replies:
+        return replies.read().splitlines()
+
+
+CLOCK = count(1)
+
+
+@dataclass
+class Talker:
+    """A caller that has at most so many lines unanswered at a time, and notes when each was sent and answered."""
+
+    caller: socket.socket
+    lines: list
+    window: int
+    exchanges: list = field(default_factory=list)
+    answered: int = 0
+    unsent: bytes = b""
+    unread: bytes = b""
+    reply: list = field(default_factory=list)
+    missing: int = 0
+    sent: int = 0
+    ended: bool = False
+
+    def wants_to_send(self):
+        """Takes up lines to be sent, as far as the window goes, and says whether any are."""
+        while self.sent < len(self.lines) and len(self.exchanges) - self.answered < self.window:
+            line = self.lines[self.sent]
+            self.sent += 1
+            self.unsent += line + b"\n"
+            asked = read_line(line)
+            if asked:
+                self.exchanges.append(Exchange(asked, line, next(CLOCK)))
+        return bool(self.unsent)
+
+    def send(self):
+        self.unsent = self.unsent[self.caller.send(self.unsent) :]
+
+    def receive(self):
+        """Takes what came; at the end of it this talker has ended."""
+        came = self.caller.recv(1 << 16)
+        self.ended = not came
+        *whole, self.unread = (self.unread + came).split(b"\n")
+        for line in whole:
+            self.take(line.decode("ascii"))
+
+    def take(self, line):
+        """Takes a line of a reply; the two lists say how many more there are of it."""
+        if self.answered == len(self.exchanges):
+            raise Wrong(f"a reply to nothing: {line!r}")
+        if not self.reply:
+            first, _, number = line.partition(" ")
+            self.missing = 1 + (int(number) if first in ("marks", "checkpoints") else 0)
+        self.reply.append(line)
+        self.missing -= 1
+        if self.missing == 0:
+            exchange = self.exchanges[self.answered]
+            exchange.reply, exchange.read = tuple(self.reply), next(CLOCK)
+            self.answered += 1
+            self.reply = []
+
+    def expect_whole(self):
+        """Sees that each line was answered and nothing came besides."""
+        expect("how many lines were answered", len(self.exchanges), self.answered)
+        expect("lines sent", len(self.lines), self.sent)
+        expect("what came behind the last reply", (b"", []), (self.unread, self.reply))
+
+
+def converse(talkers):
+    """Lets all talk at the same time, each until netrev ends its connection."""
+    with selectors.DefaultSelector() as selector:
+        for talker in talkers:
+            talker.caller.setblocking(False)
+            selector.register(talker.caller, selectors.EVENT_READ, talker)
+        while selector.get_map():
+            for key in list(selector.get_map().values()):
+                wanted = selectors.EVENT_READ | (selectors.EVENT_WRITE if key.data.wants_to_send() else 0)
+                if wanted != key.events:
+                    selector.modify(key.fileobj, wanted, key.data)
+            ready = selector.select(PATIENCE)
+            if not ready:
+                raise Wrong(f"nothing came within {PATIENCE} s, with {len(selector.get_map())} callers unanswered")
+            for key, events in ready:
+                talker = key.data
+                if events & selectors.EVENT_WRITE:
+                    talker.send()
+                if events & selectors.EVENT_READ:
+                    talker.receive()
+                if talker.ended:
+                    selector.unregister(talker.caller)
+                    talker.caller.close()
+                    talker.expect_whole()
+
+
+if __name__ == "__main__":
+    print(PORTS.take(int(sys.argv[1])))  # so many free ports in a row: the first

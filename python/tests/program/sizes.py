@@ -1,0 +1,285 @@
+"""Plays the built program at the greatest sizes that a recording and a session may have:  python3 python tests.program.sizes [--list] [NAME ..]
+
+A call may report that memory ran out, and a proof can't tell whether it was right to. So each is played here with ample memory
+and as much of everything as docs/RECORDING.md allows: none may say that memory ran out, and all replies have to be right.
+Each case has a name in plain words; of those given only the ones that begin so are played. Ends with status 1 at the first that
+isn't as it has to be. It takes 1 GB of memory.
+"""
+
+import argparse
+import socket
+import subprocess
+import sys
+import tempfile
+import threading
+from pathlib import Path
+from typing import Callable, Iterable, Sequence
+
+from .sharing import NETREV, PATIENCE, Server, Wrong, expect
+
+STEPS = 1_000_000
+GOROUTINES, SOCKETS, DESCRIPTORS, BUFFER, PIECE = 4096, 256, 256, 1_048_576, 65_536
+COMMANDS = 1_000_000
+WORKERS = 16
+WAITS = 8 * PATIENCE  # seconds
+HEADER = '{"netrev":%d,"gor":%d,"sock":%d,"desc":%d,"buf":%d}'
+Case = Callable[[Path], None]
+
+
+def written(path: Path, header: str, steps: Iterable[str]) -> Path:
+    """Writes a recording."""
+    with open(path, "w", encoding="ascii") as file:
+        file.write(f"{header}\n")
+        file.writelines(f"{step}\n" for step in steps)
+    return path
+
+
+def ticking(folder: Path, more: Sequence[str] = ()) -> Path:
+    """As many steps as a recording may have, under the greatest limits of version 1: a file of 16 MB. The clock shows the
+    position."""
+    path = folder / f"ticking{len(more)}.jsonl"
+    if not path.exists():
+        header = HEADER % (1, GOROUTINES, SOCKETS, DESCRIPTORS, PIECE)
+        written(path, header, (*(f'["tick",{time}]' for time in range(1, STEPS + 1)), *more))
+    return path
+
+
+def printed(words: Sequence[object], script: str = "") -> tuple[int, str, str]:
+    """The status of netrev, its output and its errors."""
+    ran = subprocess.run(
+        [NETREV, *map(str, words)], input=script.encode(), capture_output=True, timeout=WAITS, check=False
+    )
+    return ran.returncode, ran.stdout.decode(), ran.stderr.decode()
+
+
+def same(what: str, right: str, came: str) -> None:
+    """Sees that a text is right, which may be long: where they part is said."""
+    if right != came:
+        at = next((at for at, (one, other) in enumerate(zip(right, came)) if one != other), min(len(right), len(came)))
+        raise Wrong(f"{what}, from character {at}: expected {right[at : at + 60]!r}, came {came[at : at + 60]!r}")
+
+
+def play_replies(path: Path, exchange: Sequence[tuple[str, str]]) -> None:
+    """Plays lines with `run`, each with its reply."""
+    status, output, errors = printed(["run", path], "".join(f"{line}\n" for line, _ in exchange))
+    same("replies", "".join(f"{reply}\n" for _, reply in exchange), output)
+    expect("status and errors", (0, ""), (status, errors))
+
+
+def play_check(folder: Path) -> None:
+    expect("what is printed", (0, f"ok {STEPS} steps\n", ""), printed(["check", ticking(folder)]))
+
+
+def play_one_more(folder: Path) -> None:
+    path = ticking(folder, ['["tick",0]'])
+    expect("what is printed", (1, f"line {STEPS + 2}: fault 106 too many steps\n", ""), printed(["check", path]))
+
+
+def play_walk(folder: Path) -> None:
+    last = STEPS - 1
+    moves: tuple[tuple[str, int], ...] = (
+        (f"si {STEPS}", STEPS),
+        ("rsi", last),
+        (f"rsi {STEPS}", 0),
+        (f"si {last}", last),
+    )
+    moves += ((f"rsi {STEPS // 2 + 1}", STEPS // 2 - 2), ("restart 1", last), ("restart 0", 0))
+    exchange = [(f"si {last}", f"at {last}"), ("checkpoint", f"checkpoint 1 at {last}"), ("restart 0", "at 0")]
+    for line, there in moves:
+        is_start = line.startswith("rsi") and there == 0
+        exchange += [(line, f"at {there}{' start' if is_start else ''}"), ("p clock", f"clock = {there}")]
+    play_replies(ticking(folder), exchange)
+
+
+def play_search(folder: Path) -> None:
+    last = STEPS - 1
+    exchange = (
+        *(("watch timers", "mark 1"), ("c", f"at {STEPS} end"), ("rc", "at 0 start"), ("watch clock", "mark 2")),
+        *((f"si {last - 1}", f"at {last - 1}"), ("c", f"at {last} by 2"), ("c", f"at {STEPS} by 2")),
+        *(("rc", f"at {last} by 2"), (f"b @{STEPS}", "mark 3"), ("restart 0", "at 0"), ("delete 2", "deleted mark 2")),
+        *(("c", f"at {last} by 3"), ("c", f"at {STEPS} end"), ("b pop", "mark 4"), ("rc", f"at {last} by 3")),
+    )
+    play_replies(ticking(folder), exchange)
+
+
+def play_upgrade(folder: Path) -> None:
+    header = HEADER % (1, 1, 1, 1, 1)
+    right = '{"buf":1,"desc":1,"gor":1,"netrev":2,"sock":1}\n'
+    right += "".join(f'["tick",{time},"done"]\n' for time in range(1, STEPS + 1))
+    path = written(folder / "small.jsonl", header, (f'["tick",{time}]' for time in range(1, STEPS + 1)))
+    status, output, errors = printed(["upgrade", path])
+    same("upgrade", right, output)
+    expect("status and errors", (0, ""), (status, errors))
+
+
+def play_buffer(folder: Path) -> None:
+    pieces = BUFFER // PIECE
+    steps = [f'["sockopen",{BUFFER},{BUFFER},["number",0]]']
+    steps += [f'["arrive",0,"{"ab" * PIECE}","done"]'] * pieces + [f'["sysread",0,0,{BUFFER},["got",{BUFFER}]]']
+    steps += [f'["syswrite",0,0,"{"cd" * PIECE}",["put",{PIECE}]]'] * pieces + [f'["drain",0,{BUFFER},"done"]']
+    path = written(folder / "buffer.jsonl", HEADER % (2, 2, 2, 2, BUFFER), steps)
+    full, last = pieces + 1, 2 * pieces + 3
+    exchange = (
+        *((f"si {full}", f"at {full}"), ("dump in 0", f"in 0 = {'ab' * BUFFER}"), ("si", f"at {full + 1}")),
+        *(("p in 0", "in 0 = 0"), ("rsi", f"at {full}"), ("dump in 0", f"in 0 = {'ab' * BUFFER}")),
+        *((f"si {last}", f"at {last} end"), ("p out 0", "out 0 = 0"), ("rsi", f"at {last - 1}")),
+        *(("p out 0", f"out 0 = {BUFFER}"), ("dump out 0", f"out 0 = {'cd' * BUFFER}")),
+    )
+    play_replies(path, exchange)
+
+
+def crowd() -> tuple[list[str], int]:
+    """All goroutines, sockets, descriptors with both timers armed, a waiter at each side of a descriptor, and the rest queued
+    for one lock; and who has that lock."""
+    steps = ['["spawn"]'] * (GOROUTINES - 1) + ['["sockopen",16,16]'] * SOCKETS
+    steps += [f'["pollopen",0,{number}]' for number in range(DESCRIPTORS)]
+    for number in range(DESCRIPTORS):
+        steps += [f'["setdeadline",0,{number},"{side}",{when * 10**9 + number}]' for when, side in enumerate("rw", 1)]
+    waits = [(number, side) for number in range(DESCRIPTORS) for side in "rw"]
+    for goroutine, (number, side) in enumerate(waits, 1):
+        steps += [f'["waitbegin",{goroutine},{number},"{side}"]', f'["blockarm",{goroutine}]']
+        steps += [f'["blockcheck",{goroutine}]', f'["parkcommit",{goroutine}]']
+    having = len(waits) + 1
+    steps.append(f'["rwlock",{having},0,"r"]')
+    for goroutine in range(having + 1, GOROUTINES):
+        steps += [f'["rwlock",{goroutine},0,"r"]', f'["acquire",{goroutine}]']
+    return steps, having
+
+
+def crowded(folder: Path) -> tuple[Path, int, int]:
+    """A recording of that: behind it ticks, so that there are copies of it, and all timers fire. Where the crowd is there, and
+    the last position."""
+    steps, _ = crowd()
+    timers = 2 * DESCRIPTORS
+    more = [f'["tick",{time}]' for time in range(1, 3001)] + [f'["tick",{3 * 10**9}]'] + ['["pop"]'] * timers
+    path = written(folder / "crowd.jsonl", HEADER % (1, GOROUTINES, SOCKETS, DESCRIPTORS, 16), [*steps, *more])
+    return path, len(steps), len(steps) + len(more)
+
+
+def play_crowd(folder: Path) -> None:
+    path, there, last = crowded(folder)
+    waiters = 2 * DESCRIPTORS
+    _, having = crowd()
+    queue = f"rq 0 = {' '.join(map(str, range(having + 1, GOROUTINES)))}"
+    exchange = (
+        *((f"si {last}", f"at {last}"), ("p firings", f"firings = {waiters}"), ("p waiters", f"waiters = {waiters}")),
+        *(("rsi 600", f"at {last - 600}"), ("p timers", f"timers = {waiters}"), ("restart 0", "at 0")),
+        *((f"si {there}", f"at {there}"), ("p timers", f"timers = {waiters}"), ("dump rq 0", queue)),
+        *(("watch firings", "mark 1"), ("c", f"at {last - waiters + 1} by 1"), ("rc", "at 0 start")),
+        *((f"si {there + 2500}", f"at {there + 2500}"), ("dump rq 0", queue), ("rsi", f"at {there + 2499}")),
+    )
+    play_replies(path, exchange)
+
+
+def play_upgraded_crowd(folder: Path) -> None:
+    path, _, last = crowded(folder)
+    status, output, errors = printed(["upgrade", path])
+    expect("status, lines and errors", (0, last + 1, ""), (status, output.count("\n"), errors))
+    with open(folder / "upgraded.jsonl", "w", encoding="ascii") as file:
+        file.write(output)
+    expect("its check", (0, f"ok {last} steps\n", ""), printed(["check", folder / "upgraded.jsonl"]))
+
+
+def asked(caller: socket.socket, lines: str) -> str:
+    """All that is replied to these lines, which are sent while it is read."""
+    caller.settimeout(WAITS)
+
+    def send() -> None:
+        caller.sendall(lines.encode())
+        caller.shutdown(socket.SHUT_WR)
+
+    sender = threading.Thread(target=send, daemon=True)
+    sender.start()
+    with caller, caller.makefile("r", encoding="ascii", newline="\n") as replies:
+        came = replies.read()
+    sender.join(PATIENCE)
+    return came
+
+
+def play_workers(folder: Path) -> None:
+    with Server(ticking(folder), workers=WORKERS) as server:
+        same("replies", f"mark 1\nat {STEPS} end\nat 0 start\n", asked(server.call(0), "watch timers\nc\nrc\n"))
+        server.expect_end(0, "placed 3\n")
+
+
+def seconds_of(process: int) -> dict[str, int]:
+    """Of each thread of a process how long it has run, in the system's ticks; the whole process by the key "all"."""
+    found = {"all": ticks_in(Path(f"/proc/{process}/stat"))}
+    for thread in Path(f"/proc/{process}/task").iterdir():
+        found[thread.name] = ticks_in(thread / "stat")
+    return found
+
+
+def ticks_in(file: Path) -> int:
+    user, system = file.read_text().rpartition(")")[2].split()[11:13]
+    return int(user) + int(system)
+
+
+def play_idle_caller(folder: Path) -> None:
+    """Where each worker's report finds room, the front's own thread searches nothing that they have searched. It may be one of
+    the workers; so it takes no more of the whole time than one of them does, and not as much as all together."""
+    with Server(ticking(folder), workers=WORKERS) as server, server.call(0) as caller:
+        caller.settimeout(WAITS)
+        replies = caller.makefile("r", encoding="ascii", newline="\n")
+        caller.sendall(b"watch timers\n")
+        expect("a reply", "mark 1\n", replies.readline())
+        before = seconds_of(server.process.pid)
+        for line, reply in ((b"c\n", f"at {STEPS} end\n"), (b"rc\n", "at 0 start\n")) * 2:
+            caller.sendall(line)
+            expect("a reply", reply, replies.readline())
+        after = seconds_of(server.process.pid)
+        caller.sendall(b"quit\n")
+        expect("a reply", "bye\n", replies.readline())
+        replies.close()
+    took = {name: ticks - before.get(name, 0) for name, ticks in after.items()}
+    whole = took.pop("all")
+    most = max(took.values())
+    if most > whole / 3:
+        raise Wrong(f"the front's own thread took {most} of the {whole} ticks that all its workers took")
+
+
+def play_commands(folder: Path) -> None:
+    path = written(folder / "few.jsonl", HEADER % (1, 1, 1, 1, 1), [f'["tick",{time}]' for time in range(1, 11)])
+    with Server(path, journal=COMMANDS) as server:
+        came = asked(server.call(0), "delete 1\n" * (COMMANDS + 1))
+        same("replies", "fault 401 no such mark\n" * COMMANDS + "fault 303 journal full\n", came)
+        server.expect_end(0, f"placed {COMMANDS}\n")
+
+
+CASES: dict[str, Case] = {
+    "check of 1,000,000 steps, a file of 16 MB": play_check,
+    "check of a step more": play_one_more,
+    "walk to both ends of 1,000,000 steps": play_walk,
+    "search over 1,000,000 steps, both ways": play_search,
+    "upgrade of 1,000,000 steps": play_upgrade,
+    "buffers of 1,048,576 bytes: dumped, read, drained, and back": play_buffer,
+    "crowd of all goroutines, sockets, descriptors and timers, with copies on the way": play_crowd,
+    "crowd upgraded": play_upgraded_crowd,
+    "workers: 16 over 1,000,000 steps, both ways": play_workers,
+    "workers: the front's own thread searches nothing again": play_idle_caller,
+    "commands: 1,000,000 and one more": play_commands,
+}
+
+
+def main() -> int:
+    arguments = argparse.ArgumentParser(description=(__doc__ or "").split("\n", 1)[0])
+    arguments.add_argument("--list", action="store_true", help="print the cases' names")
+    arguments.add_argument("names", nargs="*", metavar="NAME", help="how the names of cases begin")
+    given = arguments.parse_args()
+    names = [name for name in CASES if not given.names or name.startswith(tuple(given.names))]
+    if given.list:
+        print("\n".join(names))
+        return 0
+    with tempfile.TemporaryDirectory() as folder:
+        for name in names:
+            try:
+                CASES[name](Path(folder))
+            except (Wrong, OSError, subprocess.SubprocessError) as wrong:
+                print(f"sizes.py: {name}: {wrong}", file=sys.stderr)
+                return 1
+    print(f"sizes: {len(names)} cases")
+    return 0
+
+
+if __name__ == "__main__":
+    sys.exit(main())

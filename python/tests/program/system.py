@@ -1,0 +1,691 @@
+"""Plays the built program against the operating system:  python3 python tests.program.system [--list] [NAME ..]
+
+Each case has a name in plain words; --list prints them all, and of those given only the ones that begin so are played.
+
+    output    standard output closed, full, or a pipe whose reader has gone: status 3, no signal, nothing on standard error
+    input     standard input closed, a folder, empty, not there yet
+    words     what netrev is called with: words that ask for a program, and those that are bad usage
+    file      what else FILE may be: a folder, a pipe that comes in pieces, a name with spaces, nothing
+    lines     commands and recordings without a line feed, at their greatest length and one byte above, with bytes that
+              are no text. Some have less memory than they have bytes, so what is read isn't kept
+    signals   a signal ends `run` and `serve` with whole lines out and no port taken; a stop is none
+    callers   callers who reset, say nothing or send a byte now and then: the others are served; a request of a web page
+    memory    address spaces of a hundred sizes, from too small for any program to ample: the right replies, or that memory
+              ran out, and below the size that the system can load the program in, the system's own message
+    upgrade   `upgrade` in all of these: its text goes out whole, or its first lines and what went wrong
+
+Ends with status 1 at the first that isn't as it has to be, and prints the name of that case.
+"""
+
+import argparse
+import os
+import pty
+import signal
+import socket
+import subprocess
+import sys
+import tempfile
+import threading
+import time
+from contextlib import contextmanager
+from dataclasses import dataclass
+from functools import partial
+from pathlib import Path
+
+from netrev_model.debugger import Recording
+
+from .address_spaces import LOOKS, MEGABYTE, NO_MEMORY, ended, limit_memory, loads_in, play_memory, play_memory_of_serve
+from .callers import callers
+from .given import ARRIVED, FIRST, LARGE, POSITION, TEXT, TICKS, UPGRADED, UPGRADED_TICKS, Function, file_of, rest_of
+from .sharing import NETREV, PATIENCE, Server, Wrong, expect, talk
+from .upgrades import upgrade_of
+
+USAGE = b"""usage: netrev run FILE
+       netrev check FILE
+       netrev upgrade FILE
+       netrev serve FILE --port P [--fronts N] [--workers W] [--journal H] [--connections C]
+"""
+GOOD = b"ok 10 steps\n"
+EMPTY = b"line 1: fault 101 header\n"
+POSITIONS = b"info position\n" * 50_000
+
+
+# ---- what standard input and output may be, and what FILE may be: each gives a file descriptor or a name ----
+
+
+def opened(path, flags):
+    return lambda folder: os.open(folder / path, flags)
+
+
+def gone(_folder):
+    """A pipe whose reader has gone."""
+    reader, writer = os.pipe()
+    os.close(reader)
+    return writer
+
+
+def full_pipe_that_never_waits(_folder):
+    """A pipe that is full, and whose writes fail where others wait. Its reader stays."""
+    reader, writer = os.pipe()
+    os.set_blocking(writer, False)
+    KEPT.append(reader)
+    os.write(writer, b"x" * MEGABYTE)
+    return writer
+
+
+def empty_pipe_that_never_waits(_folder):
+    """A pipe in which nothing is yet, and whose reads fail where others wait. Its writer stays."""
+    reader, writer = os.pipe()
+    os.set_blocking(reader, False)
+    KEPT.append(writer)
+    return reader
+
+
+def pipe_of(size, pause, text):
+    """A named pipe whose writer sends the text in pieces of this size."""
+
+    def make(folder):
+        path = folder / "pipe"
+        path.unlink(missing_ok=True)
+        os.mkfifo(path)
+        threading.Thread(target=send, args=(path,), daemon=True).start()
+        return path
+
+    def send(path):
+        with open(path, "wb", buffering=0) as pipe:
+            for at in range(0, len(text), size):
+                pipe.write(text[at : at + size])
+                time.sleep(pause)
+
+    return make
+
+
+def unreadable(folder):
+    path = file_of("unreadable", TEXT)(folder)
+    os.chmod(path, 0)
+    return path
+
+
+def sparse(folder):
+    """A file of 64 GB, of which nothing is on the disk."""
+    path = file_of("sparse", b"")(folder)
+    os.truncate(path, 64 << 30)
+    return path
+
+
+def endless_link(folder):
+    """A link to itself."""
+    path = folder / "link"
+    path.symlink_to(path)
+    return path
+
+
+def bound_socket(folder):
+    with socket.socket(socket.AF_UNIX) as one:
+        one.bind(str(folder / "socket"))
+    return folder / "socket"
+
+
+KEPT: list[int] = []  # the other ends of pipes
+CLOSED = object()
+FULL = opened("/dev/full", os.O_WRONLY)
+
+
+# ---- cases of `run` and `check` with known replies ----
+
+
+@dataclass
+class Case:
+    """netrev with `word` and FILE; its standard input, as bytes, as one of the above or CLOSED; its standard output, which
+    is read where none is named; the memory that it may have; and how it has to end."""
+
+    name: str
+    word: str
+    file: object
+    status: int
+    output: bytes = b""
+    errors: bytes = b""
+    input: object = b""
+    into: object = None
+    memory: int = 0
+    skipped: bool = False
+
+    def play(self, folder):
+        files = []
+
+        def stream(what, otherwise):
+            if what is CLOSED or what is None or isinstance(what, bytes):
+                return otherwise
+            files.append(what(folder))
+            return files[-1]
+
+        def begin():
+            for number, what in ((0, self.input), (1, self.into)):
+                if what is CLOSED:
+                    os.close(number)
+            if self.memory:
+                limit_memory(self.memory)
+
+        file = self.file(folder) if callable(self.file) else self.file
+        words = [NETREV, self.word, file] if self.word else [NETREV]
+        taken = subprocess.PIPE if isinstance(self.input, bytes) else None
+        process = subprocess.Popen(
+            words,
+            stdin=stream(self.input, taken),
+            stdout=stream(self.into, subprocess.PIPE),
+            stderr=subprocess.PIPE,
+            preexec_fn=begin if self.memory or CLOSED in (self.input, self.into) else None,
+        )
+        for number in files:
+            os.close(number)
+        came = ended(process, self.input if taken else None)
+        while KEPT:
+            os.close(KEPT.pop())
+        expect("status, output and errors", (self.status, self.output, self.errors), came)
+
+
+def outputs():
+    for into, what in ((CLOSED, "closed"), (FULL, "full"), (gone, "without a reader")):
+        yield Case(f"output {what}: run", "run", FIRST, 3, input=b"stepi\n", into=into)
+        yield Case(f"output {what}: run with nothing to print", "run", FIRST, 0, input=b"  \n", into=into)
+        yield Case(f"output {what}: check", "check", FIRST, 3, into=into)
+        yield Case(f"output {what}: check of a refused recording", "check", "/dev/null", 3, into=into)
+        yield Case(f"output {what}: check without memory", "check", FIRST, 3, into=into, memory=loads_in() + 8192)
+        yield Case(f"output {what}: no words", "", None, 2, errors=USAGE, into=into)
+        yield Function(f"output {what}: serve", partial(play_output_of_serve, into))
+    yield Case("output full, and never waits: run", "run", FIRST, 3, input=b"si\n", into=full_pipe_that_never_waits)
+    yield Function("output whose reader goes in the middle of many replies: run", play_reader_goes)
+    yield Function("output whose reader goes in the middle of one reply: run", play_reader_goes_in_a_reply)
+    yield Function("output for errors closed, full or without a reader: no words", play_errors)
+
+
+def inputs():
+    folder = opened("/", os.O_RDONLY)
+    for what, given in (
+        ("closed", CLOSED),
+        ("that is a folder", folder),
+        ("for writing only", opened("/dev/null", os.O_WRONLY)),
+        ("that never waits", empty_pipe_that_never_waits),
+    ):
+        yield Case(f"input {what}: run", "run", FIRST, 3, input=given)
+        yield Case(f"input {what}: run of a refused recording", "run", "/dev/null", 1, EMPTY, input=given)
+        yield Case(f"input {what}: check", "check", FIRST, 0, GOOD, input=given)
+    yield Case("input empty: run", "run", FIRST, 0, input=opened("/dev/null", os.O_RDONLY))
+    yield Case("input and output closed: run", "run", FIRST, 3, input=CLOSED, into=CLOSED)
+    yield Function("input, output and errors closed: serve", play_nothing_open)
+    yield Function("input that is a terminal: run", play_terminal)
+    yield Function("input that is a terminal, which is gone: run", play_terminal_gone)
+    yield Function("output that is a terminal, which is gone: run", play_output_terminal_gone)
+
+
+# words that ask for a program, whose file isn't there; and words that ask for none
+GREATEST = ["--fronts=64", "--port", "65472", "--workers=16", "--journal", "1000000"]
+ASKING: tuple[tuple[str, list[str]], ...] = (
+    ("a name without letters", ["check", ""]),
+    ("a name like an option's behind --", ["run", "--", "-x"]),
+    ("serve with its port alone", ["serve", "a", "--port", "47200"]),
+    ("serve with the greatest numbers", ["serve", *GREATEST, "a", "--connections", "4294967295", "--"]),
+    ("serve with the least numbers", "serve a --port 1 --fronts 1 --workers 1 --journal 1 --connections 0".split()),
+)
+BAD_USAGE: tuple[tuple[str, list[str]], ...] = (
+    ("none", []),
+    ("run without a file", ["run"]),
+    ("two files", ["check", "a", "b"]),
+    ("another program's name", ["walk", "a"]),
+    ("a program's beginning", ["ru", "a"]),
+    ("--help", ["--help"]),
+    ("help", ["help"]),
+    ("a name like an option's", ["run", "-x"]),
+    ("serve without a port", ["serve", "a"]),
+    ("serve with an option twice", "serve a --port 1 --port 2".split()),
+    ("run with an option of serve", "run a --port 1".split()),
+    *(
+        (f"serve with {' '.join(words)}", ["serve", "a", *words])
+        for words in (
+            ["--port", "0"],
+            ["--port", "65536"],
+            ["--port", "65473", "--fronts", "64"],
+            ["--port", "1", "--fronts", "0"],
+            ["--port", "1", "--fronts", "65"],
+            ["--port", "1", "--workers", "0"],
+            ["--port", "1", "--workers", "17"],
+            ["--port", "1", "--journal", "0"],
+            ["--port", "1", "--journal", "1000001"],
+            ["--port", "1", "--connections", "4294967296"],
+            ["--port", "1", "--fronts", "x"],
+            ["--port", ""],
+        )
+    ),
+)
+
+
+def words():
+    for what, given in ASKING:
+        yield Function(f"words: {what}", partial(play_words, given, 3, b""))
+    for what, given in BAD_USAGE:
+        yield Function(f"words that are bad usage: {what}", partial(play_words, given, 2, USAGE))
+    yield Function("words: a file whose name is like an option's", play_hyphen)
+
+
+def play_words(given, status, errors, folder, output=b""):
+    """Calls netrev in the folder with these words."""
+    ran = subprocess.run([NETREV, *given], cwd=folder, input=b"", capture_output=True, timeout=PATIENCE, check=False)
+    expect("status, output and errors", (status, output, errors), (ran.returncode, ran.stdout, ran.stderr))
+
+
+def play_hyphen(folder):
+    file_of("-x", TEXT)(folder)
+    play_words(["check", "--", "-x"], 0, b"", folder, GOOD)
+
+
+def files():
+    spoken = {"check": b"", "run": b"info position\n"}
+    for word in ("check", "run"):
+        good = GOOD if word == "check" else POSITION
+        for what, file in (
+            ("that isn't there", "no such file"),
+            ("that is a folder", "/"),
+            ("without a name", ""),
+            ("with a name too long", "x" * 5000),
+            ("behind what is no folder", "/dev/null/first.jsonl"),
+            ("that is a link to itself", endless_link),
+            ("that is a socket", bound_socket),
+            ("whose reads fail", "/proc/self/mem"),
+        ):
+            yield Case(f"file {what}: {word}", word, file, 3)
+        yield Case(f"file that may not be read: {word}", word, unreadable, 3, skipped=os.geteuid() == 0)
+        yield Case(f"file with a name that is no text: {word}", word, file_of(b"\xff.jsonl", TEXT), 2, errors=USAGE)
+        yield Case(f"file that is empty: {word}", word, "/dev/null", 1, EMPTY)
+        yield Case(f"file that is a pipe, which ends at once: {word}", word, pipe_of(1, 0, b""), 1, EMPTY)
+        for what, file in (
+            ("that is a pipe, in pieces of 3 bytes", pipe_of(3, 0.002, TEXT)),
+            ("with spaces in its name", file_of(" two  words ", TEXT)),
+            ("with letters above 127 in its name", file_of("größe 日本", TEXT)),
+            ("with a line feed in its name", file_of("two\nlines", TEXT)),
+        ):
+            yield Case(f"file {what}: {word}", word, file, 0, good, input=spoken[word])
+    pieces = pipe_of(60_000, 0.01, TICKS.encode())
+    yield Case("file that is a pipe, in pieces of 60000 bytes: check", "check", pieces, 0, b"ok 50000 steps\n")
+    yield Case("file that is standard input: check", "check", "/dev/stdin", 0, GOOD, input=TEXT)
+    yield Case("file of 64 GB, with 64 MB of memory: check", "check", sparse, 1, NO_MEMORY, memory=64 * MEGABYTE)
+    yield Case(
+        "file without an end, with 64 MB of memory: check", "check", "/dev/zero", 1, NO_MEMORY, memory=64 * MEGABYTE
+    )
+
+
+UNKNOWN, BAD, TOO_LONG = b"fault 201 unknown command\n", b"fault 202 bad argument\n", b"fault 203 line too long\n"
+COMMANDS = (
+    ("of 10 MB without a line feed", b"x" * 10_000_000, TOO_LONG),
+    ("of 10 MB, and one behind it", b"stepi " * 1_700_000 + b"\nstepi\n", TOO_LONG + b"at 1\n"),
+    ("of 10 MB of NUL bytes", bytes(10_000_000), TOO_LONG),
+    ("of 256 bytes", b"stepi" + b" " * 251 + b"\n", b"at 1\n"),
+    ("of 257 bytes", b"stepi" + b" " * 252 + b"\nstepi\n", TOO_LONG + b"at 1\n"),
+    ("of 256 bytes, a carriage return the last", b"stepi" + b" " * 250 + b"\r\n", b"at 1\n"),
+    ("of 257 bytes, a carriage return the last", b"stepi" + b" " * 251 + b"\r\n", TOO_LONG),
+    ("of 256 bytes and no line feed", b"stepi" + b" " * 251, b"at 1\n"),
+    ("of 257 bytes and no line feed", b"stepi" + b" " * 252, TOO_LONG),
+    ("of 256 spaces", b" " * 256 + b"\n", b""),
+    ("of 257 spaces", b" " * 257 + b"\n", TOO_LONG),
+    ("of 256 bytes above 127", b"\x80" * 256 + b"\n", UNKNOWN),
+    ("of 257 bytes above 127", b"\x80" * 257 + b"\n", TOO_LONG),
+    ("without a line feed", b"stepi\nstepi", b"at 1\nat 2\n"),
+    ("without a line feed, but with a carriage return", b"stepi\r", b"at 1\n"),
+    ("of a carriage return", b"\r\n", b""),
+    ("with two carriage returns", b"stepi\r\r\n", UNKNOWN),
+    ("with a carriage return in the middle", b"stepi\r1\n", UNKNOWN),
+    ("of a NUL byte", b"\0\n", UNKNOWN),
+    ("with a NUL byte behind the word", b"stepi\0\nstepi\n", UNKNOWN + b"at 1\n"),
+    ("with a NUL byte in the argument", b"stepi 1\0\n", BAD),
+    ("of a NUL byte and no line feed", b"stepi\n\0", b"at 1\n" + UNKNOWN),
+    ("with a byte that is no text", b"\xffstepi\n", UNKNOWN),
+    ("with a byte in the argument that is no text", b"stepi \xff\n", BAD),
+    ("with a letter above 127", "stepi é\n".encode(), BAD),
+    ("with a space that isn't ASCII's", "stepi\u00a01\n".encode(), UNKNOWN),
+    ("with a byte order mark", b"\xef\xbb\xbfstepi\n", UNKNOWN),
+)
+STEP = b'["spawn"]'
+RECORDINGS = (
+    ("of 10 MB without a line feed", b"x" * 10_000_000, b"line 1: fault 105 limit\n"),
+    ("with a line of 10 MB of spaces", TEXT + b" " * 10_000_000 + b"\n", b"line 12: fault 105 limit\n"),
+    ("with 200000 spaces", TEXT + b" " * 200_000 + b"\n", GOOD),
+    ("with 200001 spaces", TEXT + b" " * 200_001 + b"\n", b"line 12: fault 105 limit\n"),
+    ("with 200000 spaces and no line feed", TEXT + b" " * 200_000, GOOD),
+    ("with 200001 spaces and no line feed", TEXT + b" " * 200_001, b"line 12: fault 105 limit\n"),
+    ("with a step of 200000 bytes", TEXT + STEP + b" " * 199_991 + b"\n", b"ok 11 steps\n"),
+    ("with a step of 200001 bytes", TEXT + STEP + b" " * 199_992 + b"\n", b"line 12: fault 105 limit\n"),
+    ("with 200000 bytes, a carriage return the last", TEXT + STEP + b" " * 199_990 + b"\r\n", b"ok 11 steps\n"),
+    (
+        "with 200001 bytes, a carriage return the last",
+        TEXT + STEP + b" " * 199_991 + b"\r\n",
+        b"line 12: fault 105 limit\n",
+    ),
+    ("with carriage returns", TEXT.replace(b"\n", b"\r\n"), GOOD),
+    ("without its last line feed", TEXT.rstrip(b"\n"), GOOD),
+    ("without its last line feed, but with a carriage return", TEXT.rstrip(b"\n") + b"\r", GOOD),
+    ("of a NUL byte", b"\0", b"line 1: fault 102 not JSON\n"),
+    ("with a NUL byte", TEXT + STEP + b"\0\n", b"line 12: fault 102 not JSON\n"),
+    ("with a byte that is no text", TEXT + b'["\xff"]\n', b"line 12: fault 102 not JSON\n"),
+    ("with a letter above 127", TEXT + '["é"]\n'.encode(), b"line 12: fault 103 unknown step\n"),
+    ("with a byte order mark", b"\xef\xbb\xbf" + TEXT, b"line 1: fault 102 not JSON\n"),
+    ("of line feeds", b"\n" * 1000, b"line 1001: fault 101 header\n"),
+)
+
+
+def lines():
+    little = loads_in() + 6 * MEGABYTE  # as much as loading the example takes; less than the 10 MB
+    for what, text, output in COMMANDS:
+        yield Case(f"lines: a command {what}", "run", FIRST, 0, output, input=text, memory=little)
+    many = POSITIONS * 4
+    yield Case("lines: 200000 commands", "run", FIRST, 0, POSITION * 200_000, input=many, memory=little)
+    for what, text, output in RECORDINGS:
+        status = 0 if output.startswith(b"ok") else 1
+        yield Case(f"lines: a recording {what}", "check", file_of("lines", text), status, output, memory=40 * MEGABYTE)
+
+
+# ---- cases that are played by a function ----
+
+
+@contextmanager
+def started(words, **options):
+    """A process whose output and errors are read, and which doesn't stay."""
+    process = subprocess.Popen(words, stdout=subprocess.PIPE, stderr=subprocess.PIPE, **options)
+    try:
+        yield process
+    finally:
+        process.kill()
+        process.wait()
+        for stream in (process.stdin, process.stdout, process.stderr):
+            if stream:
+                stream.close()
+
+
+def upgrades():
+    for into, what in ((CLOSED, "closed"), (FULL, "full"), (gone, "without a reader")):
+        yield Case(f"upgrade: output {what}", "upgrade", FIRST, 3, into=into)
+        yield Case(f"upgrade: output {what}, a refused recording", "upgrade", "/dev/null", 3, into=into)
+        yield Case(f"upgrade: output {what}, no memory", "upgrade", FIRST, 3, into=into, memory=loads_in() + 8192)
+        yield Case(f"upgrade: output {what}, no such file", "upgrade", "no such file", 3, into=into)
+    yield Case("upgrade: output full, and never waits", "upgrade", FIRST, 3, into=full_pipe_that_never_waits)
+    yield Function("upgrade: output whose reader goes in the middle", play_reader_goes_in_an_upgrade)
+    for what, given in (("closed", CLOSED), ("that is a folder", opened("/", os.O_RDONLY)), ("empty", b"")):
+        yield Case(f"upgrade: input {what}", "upgrade", FIRST, 0, UPGRADED, input=given)
+    ticks = TICKS.encode()
+    for what, file, right in (
+        ("that is a pipe, in pieces of 3 bytes", pipe_of(3, 0.002, TEXT), UPGRADED),
+        ("that is a pipe, in pieces of 60000 bytes", pipe_of(60_000, 0.01, ticks), UPGRADED_TICKS),
+        ("that is upgraded already, and a pipe", pipe_of(60_000, 0.01, UPGRADED_TICKS), UPGRADED_TICKS),
+        ("with spaces in its name", file_of(" two  words ", TEXT), UPGRADED),
+    ):
+        yield Case(f"upgrade: file {what}", "upgrade", file, 0, right)
+    yield Case("upgrade: file that is standard input", "upgrade", "/dev/stdin", 0, UPGRADED, input=TEXT)
+    yield Case("upgrade: file that is a pipe, which ends at once", "upgrade", pipe_of(1, 0, b""), 1, EMPTY)
+    for what, file in (("isn't there", "no such file"), ("is a folder", "/"), ("can't be read", "/proc/self/mem")):
+        yield Case(f"upgrade: file that {what}", "upgrade", file, 3)
+    yield Case("upgrade: file of 64 GB, with 64 MB of memory", "upgrade", sparse, 1, NO_MEMORY, memory=64 * MEGABYTE)
+    yield Function("upgrade: memory of a hundred sizes", play_memory_of_upgrade)
+
+
+def play_memory_of_upgrade(folder):
+    text = LARGE.encode()
+    path = Path(os.fsdecode(file_of("recording", text)(folder)))
+    play_memory("upgrade", Recording.read(NETREV, path, LOOKS), upgrade_of(text))
+
+
+def play_reader_goes_in_an_upgrade(folder):
+    """Reads the first lines of an upgrade that is longer than a pipe's room, and goes."""
+    file_of("ticks", TICKS.encode())(folder)
+    file_of("positions", b"")(folder)
+    leave_pipe(folder, UPGRADED_TICKS[:100], False, "ticks", "upgrade")
+
+
+def play_output_of_serve(into, _folder):
+    """Two are served, though nothing can be printed in the end."""
+    redirected = {CLOSED: '"$@" >&-', FULL: '"$@" > /dev/full', gone: '"$@"'}[into]
+    with Server(FIRST, fronts=2, through=["sh", "-c", f"exec {redirected}", "sh"]) as server:
+        if into is gone:
+            server.process.stdout.close()
+        expect("the replies of front 0", ["at 3", "bye"], talk(server.call(0), ["stepi 3", "quit"]))
+        expect("the replies of front 1", ["at 2", "bye"], talk(server.call(1), ["rsi", "quit"]))
+        server.expect_end(3, "")
+
+
+def play_nothing_open(_folder):
+    """Its ports and callers have the numbers of the streams then, and none is written to for a stream."""
+    with Server(FIRST, fronts=2, through=["sh", "-c", 'exec "$@" <&- >&- 2>&-', "sh"]) as server:
+        first, second = server.call(0), server.call(1)
+        expect("the replies of front 0", ["at 3", "bye"], talk(first, ["stepi 3", "quit"]))
+        expect("the replies of front 1", ["at 2", "bye"], talk(second, ["rsi", "quit"]))
+        server.expect_end(3, "")
+
+
+@contextmanager
+def terminal():
+    """The two ends of a terminal, which are closed in the end: who types, and who reads what is typed."""
+    ends = list(pty.openpty())
+    try:
+        yield ends
+    finally:
+        for one in ends:
+            if one is not None:
+                os.close(one)
+
+
+def play_terminal(_folder):
+    """A line is answered when it is typed, and Ctrl-D ends the input."""
+    with terminal() as (typist, typed), started([NETREV, "run", FIRST], stdin=typed, bufsize=0) as process:
+        os.write(typist, b"stepi\n")
+        expect("the reply", b"at 1\n", process.stdout.readline())
+        os.write(typist, b"info position\n\x04")
+        expect("status, output and errors", (0, b"at 1 of 10 forward\n", b""), ended(process))
+
+
+def play_terminal_gone(_folder):
+    """Who typed has gone: that is a failed read."""
+    with terminal() as ends, started([NETREV, "run", FIRST], stdin=ends[1], bufsize=0) as process:
+        os.write(ends[0], b"stepi\n")
+        expect("the reply", b"at 1\n", process.stdout.readline())
+        os.close(ends[0])
+        ends[0] = None
+        status, output, errors = ended(process)
+        # to who was reading already the system says that the read failed, to others that the input has ended
+        expect("the status is 0 or 3", True, status in (0, 3))
+        expect("output and errors", (b"", b""), (output, errors))
+
+
+def play_output_terminal_gone(_folder):
+    """Who reads has gone: that is a failed write."""
+    with terminal() as ends:
+        words = [NETREV, "run", FIRST]
+        pipe = subprocess.PIPE
+        process = subprocess.Popen(words, stdin=pipe, stdout=ends[1], stderr=pipe)
+        os.close(ends[0])
+        ends[0] = None
+        expect("status, output and errors", (3, b"", b""), ended(process, b"stepi\n"))
+
+
+def play_reader_goes(folder):
+    """Reads the first of many replies, and goes."""
+    file_of("positions", POSITIONS)(folder)
+    for ignored in (False, True):
+        leave_pipe(folder, POSITION, ignored)
+
+
+def play_reader_goes_in_a_reply(folder):
+    """Reads some of a reply that is longer than a pipe's room, and goes."""
+    file_of("large", LARGE.encode())(folder)
+    file_of("positions", f"stepi {ARRIVED}\ndump in 0\ninfo position\n".encode())(folder)
+    leave_pipe(folder, f"at {ARRIVED}\nin 0 = abab".encode(), False, "large")
+
+
+def leave_pipe(folder, first, ignored, recording=FIRST, word="run"):
+    """Reads the first bytes that are printed, and no more; with SIGPIPE ignored by who starts it, or as a shell has it."""
+    words = [NETREV, word, folder / recording]
+    with open(folder / "positions", "rb") as commands:
+        with started(words, stdin=commands, bufsize=0, restore_signals=not ignored) as process:
+            came = b""
+            while len(came) < len(first) and (more := process.stdout.read(len(first) - len(came))):
+                came += more
+            process.stdout.close()
+            expect("the first bytes", first, came)
+            expect("status", 3, process.wait(PATIENCE))
+            expect("errors", b"", process.stderr.read())
+
+
+def play_errors(folder):
+    """How netrev is called can't be printed: the status says it."""
+    for into in (CLOSED, FULL, gone):
+        stream = None if into is CLOSED else into(folder)
+        close = (lambda: os.close(2)) if into is CLOSED else None
+        process = subprocess.Popen([NETREV], stdout=subprocess.PIPE, stderr=stream, preexec_fn=close)
+        if stream is not None:
+            os.close(stream)
+        expect("status, output and errors", (2, b"", b""), ended(process))
+
+
+SIGNALS = (signal.SIGINT, signal.SIGTERM, signal.SIGHUP)
+
+
+def signals():
+    for stop in SIGNALS:
+        name = stop.name
+        yield Function(f"signals: {name} while run waits", partial(play_stopped_run, stop))
+        yield Function(f"signals: {name} while serve serves three", partial(play_stopped_serve, stop))
+    yield Function("signals: run is stopped and goes on", play_held_run)
+    yield Function("signals: serve is stopped and goes on", play_held_serve)
+
+
+@contextmanager
+def answered_run():
+    """A `run` that has answered a line and waits for the next."""
+    with started([NETREV, "run", FIRST], stdin=subprocess.PIPE, bufsize=0) as process:
+        process.stdin.write(b"stepi\n")
+        expect("the reply", b"at 1\n", process.stdout.readline())
+        yield process
+
+
+def play_stopped_run(stop, _folder):
+    """What was answered is out, and nothing is said of the signal."""
+    with answered_run() as process:
+        process.stdin.write(b"info posi")
+        process.send_signal(stop)
+        expect("status, output and errors", (-stop, b"", b""), ended(process))
+
+
+def play_stopped_serve(stop, _folder):
+    """One who has its reply, one who is silent and one who doesn't read are left; another serves at once at the ports."""
+    with Server(FIRST, fronts=3, connections=None) as server:
+        answered, silent, busy = (server.call(front) for front in range(3))
+        answered.sendall(b"stepi\n")
+        expect("a reply", b"at 1\n", answered.recv(100))
+        busy.sendall(b"info position\n" * 2000)
+        begun = busy.recv(100)
+        server.process.send_signal(stop)
+        expect("status, output and errors", (-stop, "", ""), server.ended())
+        expect("what comes behind it", (b"", b""), (rest_of(answered), rest_of(silent)))
+        came = begun + rest_of(busy)
+        expect("replies so far", (b"at 1 of 10 forward\n" * 2000)[: len(came)], came)
+        with Server(FIRST, fronts=3, port=server.port) as next_one:
+            for front in range(3):
+                expect("the replies", [f"at {front + 1}", "bye"], talk(next_one.call(front), ["stepi", "quit"]))
+            next_one.expect_end(0, "placed 3\n")
+
+
+def hold(process):
+    """Stops a process, as Ctrl-Z does, sees it stopped, and lets it go on."""
+    process.send_signal(signal.SIGSTOP)
+    os.waitid(os.P_PID, process.pid, os.WSTOPPED)
+    process.send_signal(signal.SIGCONT)
+
+
+def play_held_run(_folder):
+    with answered_run() as process:
+        hold(process)
+        expect("status, output and errors", (0, b"at 2\n", b""), ended(process, b"stepi\n"))
+
+
+def play_held_serve(_folder):
+    """While one front waits for its caller, one for a line, and one for its caller to close."""
+    with Server(FIRST, fronts=3) as server:
+        first, last = server.call(0), server.call(2)
+        last.sendall(b"quit\n")
+        expect("a reply", b"bye\n", last.recv(100))
+        hold(server.process)
+        last.close()
+        expect("the replies", ["at 1", "bye"], talk(first, ["stepi", "quit"]))
+        expect("the replies", ["at 2", "bye"], talk(server.call(1), ["stepi", "quit"]))
+        server.expect_end(0, "placed 2\n")
+
+
+def memory():
+    for what, text in (("the first example", TEXT), ("a recording with large limits", LARGE.encode())):
+        for word in ("check", "run"):
+
+            def play(folder, word=word, text=text):
+                path = Path(os.fsdecode(file_of("recording", text)(folder)))
+                play_memory(word, Recording.read(NETREV, path, LOOKS))
+
+            yield Function(f"memory of a hundred sizes: {word} of {what}", play)
+
+        def share(folder, text=text):
+            path = Path(os.fsdecode(file_of("recording", text)(folder)))
+            play_memory_of_serve(Recording.read(NETREV, path, LOOKS))
+
+        yield Function(f"memory of a hundred sizes: serve of {what}", share)
+
+
+def cases():
+    for group in (outputs, inputs, words, files, lines, signals, callers, memory, upgrades):
+        yield from group()
+
+
+def play(case):
+    """Plays a case in a folder of its own. All that goes wrong in it is said with its name."""
+    signal.signal(signal.SIGALRM, stop_waiting)
+    signal.alarm(4 * PATIENCE)
+    try:
+        with tempfile.TemporaryDirectory() as folder:
+            case.play(Path(folder))
+    except (Wrong, OSError, subprocess.SubprocessError) as wrong:
+        raise Wrong(f"{case.name}: {wrong}") from None
+    finally:
+        signal.alarm(0)
+
+
+def stop_waiting(*_):
+    raise Wrong(f"it took more than {4 * PATIENCE} s")
+
+
+def play_all(names, listed):
+    """Plays the cases whose names begin as one of these do, or lists them, and says how many were played."""
+    played = 0
+    for case in cases():
+        if names and not case.name.startswith(tuple(names)):
+            continue
+        if listed:
+            print(case.name)
+        elif not case.skipped:
+            play(case)
+            played += 1
+    return played
+
+
+def main():
+    arguments = argparse.ArgumentParser(description=__doc__.split("\n", 1)[0])
+    arguments.add_argument("--list", action="store_true", help="print the cases' names")
+    arguments.add_argument("names", nargs="*", metavar="NAME", help="how the names of cases begin")
+    given = arguments.parse_args()
+    # (netrev has these as a terminal gives them, however this script was started)
+    for one in SIGNALS:
+        signal.signal(one, signal.SIG_DFL)
+    try:
+        played = play_all(given.names, given.list)
+    except (Wrong, OSError) as wrong:
+        print(f"system.py: {wrong}", file=sys.stderr)
+        return 1
+    if not given.list:
+        print(f"system: {played} cases")
+    return 0
+
+
+if __name__ == "__main__":
+    sys.exit(main())

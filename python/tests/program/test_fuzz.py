@@ -1,0 +1,142 @@
+"""The fuzzer finds what differs, keeps it small, and finds nothing where nothing does."""
+
+import io
+import tempfile
+import unittest
+from contextlib import contextmanager, redirect_stdout
+from pathlib import Path
+from typing import Callable, ContextManager
+from unittest import mock
+
+from netrev_fuzz.__main__ import main, play, seeds
+from netrev_fuzz.cases import make
+from netrev_fuzz.companion import played, visit
+from netrev_fuzz.counts import Met
+from netrev_fuzz.keeping import kept
+from netrev_fuzz.playing import difference
+from netrev_model import polling, reading, steps
+from netrev_model.machine import Refused
+from nrdb.scout import Scout
+
+from .sharing import NETREV
+
+
+def quietly(call, *arguments, **more):
+    """What a call gives, and what it printed."""
+    with redirect_stdout(io.StringIO()) as printed:
+        return call(*arguments, **more), printed.getvalue()
+
+
+def reason_exchanged(world, g, s):
+    """`decref` with another reason where there is no reference."""
+    try:
+        return steps.decref(world, g, s)
+    except Refused as refused:
+        raise Refused(6 if refused.reason == 7 else refused.reason) from refused
+
+
+def error_stays(world, d, mode, error):
+    """An event that sets the event error and never clears it."""
+    return EVENT(world, d, mode, error or world.descs[d].error)
+
+
+def sorts_compared(recorded, answer):
+    """Recorded answers of which the sort alone is compared, and not the number."""
+    return recorded[0] != answer[0]
+
+
+def shut_for_nothing(world, g, s, data):
+    """`syswrite` of which a shut socket takes bytes as any does."""
+    shut = s < len(world.sockets) and world.sockets[s].shut
+    after, answer = WRITE(world.with_socket(s, shut=False) if shut else world, g, s, data)
+    return (after.with_socket(s, shut=True) if shut else after), answer
+
+
+EVENT, WRITE = polling.event, steps.syswrite
+# what is planted in the model, and a seed whose first cases show it (a change of how cases are made wants other seeds)
+PLANTED: dict[str, tuple[str, Callable[[], ContextManager[object]]]] = {
+    "a reason exchanged": ("86", lambda: mock.patch.dict(steps.OF_KIND, decref=reason_exchanged)),
+    "a mark that stays": ("17", lambda: mock.patch.object(polling, "event", error_stays)),
+    "a command line shorter by one": ("4", lambda: mock.patch("netrev_model.debugger.MOST_LINE", 255)),
+    "a temporary break that stays": (
+        "127",
+        lambda: mock.patch("netrev_model.debugger.left_standing", lambda marks, hitting: marks),
+    ),
+    "answers compared by their sort": ("100", lambda: mock.patch.object(reading, "differs", sorts_compared)),
+    "a shut socket that takes bytes": ("98", lambda: mock.patch.dict(steps.OF_KIND, syswrite=shut_for_nothing)),
+}
+WITHIN = 15
+REFUSED = b"step 11: fault 109 answer\n"
+
+
+@contextmanager
+def planted(name, out):
+    """The model with something planted; the folder of the one case that is found to differ and kept."""
+    seed, plant = PLANTED[name]
+    with plant(), mock.patch("netrev_fuzz.__main__.MOST_DIFFERENCES", 1):
+        found, printed = quietly(play, NETREV, seed, Met(), cases=WITHIN, out=out)
+        assert found == 1 and "the model's" in printed, f"{name}: {found} found, {printed}"
+        (folder,) = out.iterdir()
+        yield folder
+
+
+class Finding(unittest.TestCase):
+    def setUp(self):
+        self.folder = tempfile.TemporaryDirectory()
+        self.addCleanup(self.folder.cleanup)
+        self.out = Path(self.folder.name)
+
+    def test_twenty_seeds_show_no_difference(self):
+        met = Met()
+        found, printed = quietly(play, NETREV, "twenty", met, cases=20, out=self.out)
+        self.assertEqual((found, printed, sum(met.cases.values())), (0, "", 20))
+        self.assertGreater(len(met.answers), 10)
+
+    def test_what_is_planted_is_found(self):
+        for name in PLANTED:
+            with self.subTest(name), planted(name, self.out / name) as folder:
+                self.assertNotEqual((folder / "told").read_bytes(), (folder / "wanted").read_bytes())
+
+    def test_what_is_kept_can_be_played_again(self):
+        with planted("a reason exchanged", self.out) as folder:
+            again, said = quietly(main, ["--again", str(folder)])
+        self.assertIn("reason 7', the model's", said)
+        self.assertEqual((again, quietly(main, ["--again", str(folder)])[0]), (1, 0))
+        self.assertEqual((folder / "whole-recording.jsonl").read_bytes(), make(kept(folder).seed).recording)
+
+    def test_what_is_kept_has_no_line_too_many(self):
+        with planted("a reason exchanged", self.out) as folder:
+            small = kept(folder)
+            lines = small.recording.split(b"\n")
+            for at in range(len(lines)):
+                fewer = small._replace(recording=b"\n".join(lines[:at] + lines[at + 1 :]))
+                self.assertIsNone(difference(NETREV, fewer, self.out, Met()), lines[at])
+
+    def test_a_seed_makes_one_case(self):
+        for seed in seeds("same", 30):
+            self.assertEqual(make(seed), make(seed))
+
+
+class Companion(unittest.TestCase):
+    """Sessions of nrdb, disturbed."""
+
+    def played(self, count):
+        """What is wrong with so many sessions, and what they met."""
+        met = Met()
+        with tempfile.TemporaryDirectory() as folder:
+            cases = map(visit, seeds("tested-nrdb", count))
+            return [wrong for case in cases if (wrong := played(NETREV, case, Path(folder), met))], met.nrdb
+
+    def test_sessions_show_no_difference(self):
+        wrong, met = self.played(12)
+        self.assertEqual(wrong, [])
+        self.assertGreater(met["events"], 100)
+        self.assertGreater(met["ctrl-c"] + met["slow ctrl-c"], 3)
+
+    def test_a_mark_that_a_walk_leaves_is_found(self):
+        with mock.patch.object(Scout, "_unwatch", lambda scout, mark: None):
+            self.assertNotEqual(self.played(12)[0], [])
+
+
+if __name__ == "__main__":
+    unittest.main()

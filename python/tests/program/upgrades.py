@@ -1,0 +1,173 @@
+"""Plays `netrev upgrade` with the built program:  python3 python tests.program.upgrades [--list] [--text FILE] [NAME ..]
+
+Each case has a name in plain words; --list prints them all, and of those given only the ones that begin so are played.
+
+    stored     what is upgraded, and the text that is stored for it; with a recorded answer that isn't the machine's
+    written    one way of writing, whatever the recording's was: compact, keys in alphabetical order, digits in lower case
+    refused    faults, other words, a file that isn't there: the statuses are those of `check`
+    recording  each recording that is here: its upgrade is the text that the fuzzer's model writes (python/netrev_model), `check`
+               takes it, it has the same bytes when it is upgraded again, and `run` answers as it does over the recording
+
+--text prints what the model writes of a recording, and plays nothing. Ends with status 1 at the first that isn't as it has
+to be, and prints the name of that case.
+"""
+
+import argparse
+import subprocess
+import sys
+import tempfile
+from functools import partial
+from pathlib import Path
+from typing import Union
+
+from netrev_model.observing import Observer
+from netrev_model.program import printed
+
+from .sharing import NETREV, PATIENCE, ROOT, Wrong, expect
+
+WOKEN = ROOT / "scripts/recordings/woken-by-an-event.jsonl"
+ANSWERS, OTHER, SHUT = (ROOT / f"examples/{name}.jsonl" for name in ("answers", "other-answer", "shut-write-side"))
+DIFFERS = b"step 11: fault 109 answer\n"
+
+# a program and its file, the status, and what is printed: a text, or what is in a file
+STORED: tuple[tuple[str, Path, int, Union[bytes, Path]], ...] = (
+    ("check", ANSWERS, 0, b"ok 12 steps\n"),
+    ("upgrade", WOKEN, 0, ANSWERS),
+    ("upgrade", ANSWERS, 0, ANSWERS),
+    ("check", OTHER, 1, DIFFERS),
+    ("upgrade", OTHER, 1, DIFFERS),
+    ("run", OTHER, 1, DIFFERS),
+    ("check", SHUT, 0, b"ok 5 steps\n"),
+    ("upgrade", SHUT, 0, SHUT),
+)
+
+HEADER = b'{"buf":16,"desc":1,"gor":2,"netrev":%d,"sock":1}\n'
+PLAIN = (
+    HEADER % 2 + b'["sockopen",16,4,["number",0]]\n["arrive",0,"abcd","done"]\n["syswrite",0,0,"abcdef",["put",3]]\n'
+)
+SPELLED = b"""
+ { "sock" : 1 , "gor":2, "desc":1,"buf":9,"buf":16 ,"netrev":%d}\t
+[ "sockopen" , 16 , 4 %s ]\r
+\t \r
+["arrive",0,"AbCd"%s]
+["\\u0073yswrite",0,0,"ABcdEF"%s]"""
+# how it is written, and what is written of it
+WRITTEN = (
+    ("version 1 with blanks, an escape and upper case", SPELLED % (1, b"", b"", b""), PLAIN),
+    (
+        "version 2 with blanks, escapes and upper case",
+        SPELLED % (2, b', [ "number", 0 ]', b',"\\u0064one"', b',["put",3]'),
+        PLAIN,
+    ),
+    ("version 1 without steps", HEADER % 1, HEADER % 2),
+    ("version 2 without steps, and without a line feed", (HEADER % 2).rstrip(), HEADER % 2),
+    (
+        "the least and the greatest numbers",
+        HEADER % 1
+        + b'["sockopen",1,16]\n["pollopen",0,0]\n["setdeadline",0,0,"rw",-9223372036854775808]\n'
+        + b'["pollevent",0,18446744073709551615,"rw",1]\n["tick",9223372036854775807]\n',
+        HEADER % 2
+        + b'["sockopen",1,16,["number",0]]\n["pollopen",0,0,["number",0]]\n'
+        + b'["setdeadline",0,0,"rw",-9223372036854775808,"done"]\n'
+        + b'["pollevent",0,18446744073709551615,"rw",1,"stale"]\n["tick",9223372036854775807,"done"]\n',
+    ),
+)
+
+USAGE = b"""usage: netrev run FILE
+       netrev check FILE
+       netrev upgrade FILE
+       netrev serve FILE --port P [--fronts N] [--workers W] [--journal H] [--connections C]
+"""
+# the words, the status, what is printed, and what is said on standard error
+REFUSED = (
+    ("no file named", ["upgrade"], 2, b"", USAGE),
+    ("two files", ["upgrade", ANSWERS, ANSWERS], 2, b"", USAGE),
+    ("an option of serve", ["upgrade", ANSWERS, "--port"], 2, b"", USAGE),
+    ("a capital", ["Upgrade", ANSWERS], 2, b"", USAGE),
+    ("no such file", ["upgrade", "no such file"], 3, b"", b""),
+    ("a folder", ["upgrade", "/"], 3, b"", b""),
+    ("nothing in it", ["upgrade", "/dev/null"], 1, b"line 1: fault 101 header\n", b""),
+)
+
+RECORDINGS = sorted([*ROOT.glob("examples/**/*.jsonl"), *ROOT.glob("scripts/recordings/*.jsonl")])
+LOOKS = b"".join(
+    b"print %s\nstepi 3\n" % cell for cell in (b"lock 0", b"gor 0", b"rg 0", b"out 0", b"clock", b"info 0")
+)
+
+
+def ended(words, given=b""):
+    """The status, the output and the errors of netrev with these words."""
+    ran = subprocess.run([NETREV, *words], input=given, capture_output=True, timeout=PATIENCE, check=False)
+    return ran.returncode, ran.stdout, ran.stderr
+
+
+def played(words, status, output, errors=b""):
+    """Plays the words, and sees that they end so."""
+    expect("status, output and errors", (status, output, errors), ended(words))
+
+
+def play_written(folder, text, right):
+    (folder / "given.jsonl").write_bytes(text)
+    played(["upgrade", folder / "given.jsonl"], 0, right)
+
+
+def upgrade_of(text):
+    """The text that the model writes of a recording's, or its fault."""
+    upgraded = printed("upgrade", text, b"", Observer())
+    assert upgraded, "the model has an opinion on each recording that is here"
+    return upgraded.output
+
+
+def play_recording(folder, path):
+    """The upgrade of a recording, and of that again; a recording that is refused has its fault in both programs."""
+    right = upgrade_of(path.read_bytes())
+    if right.startswith(b"step "):
+        played(["upgrade", path], 1, right)
+        return played(["check", path], 1, right)
+    played(["upgrade", path], 0, right)
+    again = folder / "again.jsonl"
+    again.write_bytes(right)
+    played(["check", again], 0, b"ok %d steps\n" % (right.count(b"\n") - 1))
+    played(["upgrade", again], 0, right)
+    expect("run over the upgrade", ended(["run", path], LOOKS), ended(["run", again], LOOKS))
+
+
+def cases(folder):
+    for word, name, status, right in STORED:
+        output = right.read_bytes() if isinstance(right, Path) else right
+        yield f"stored: {word} {name.stem}", partial(played, [word, name], status, output)
+    for what, text, written in WRITTEN:
+        yield f"written: {what}", partial(play_written, folder, text, written)
+    for what, *row in REFUSED:
+        yield f"refused: {what}", partial(played, *row)
+    for path in RECORDINGS:
+        yield f"recording {path.relative_to(ROOT)}", partial(play_recording, folder, path)
+
+
+def main():
+    parser = argparse.ArgumentParser(description=__doc__, formatter_class=argparse.RawDescriptionHelpFormatter)
+    parser.add_argument("--list", action="store_true", help="print the names of the cases")
+    parser.add_argument("--text", metavar="FILE", help="print what the model writes of this recording")
+    parser.add_argument("names", nargs="*", metavar="NAME", help="how the names of those to play begin")
+    given = parser.parse_args()
+    if given.text:
+        sys.stdout.buffer.write(upgrade_of(Path(given.text).read_bytes()))
+        return 0
+    count = 0
+    with tempfile.TemporaryDirectory() as folder:
+        for name, play in cases(Path(folder)):
+            if given.names and not name.startswith(tuple(given.names)):
+                continue
+            count += 1
+            try:
+                print(name) if given.list else play()
+            except (Wrong, subprocess.TimeoutExpired) as error:
+                print(f"{name}: {error}")
+                return 1
+    if not given.list:
+        print(f"upgrades: {count} cases as they have to be")
+    return 0
+
+
+if __name__ == "__main__":
+    sys.exit(main())

@@ -1,0 +1,236 @@
+"""The recorder's logs are read whatever was done to them, and the stored ones give the stored recordings and lines."""
+
+import pathlib
+import random
+import struct
+import tempfile
+import unittest
+from unittest import mock
+
+from netrev_go import asking, converting, lines
+from netrev_go.converting import Wish, convert
+from netrev_go.lines import Call, Calls, Roots, lines_of, looked_up
+from netrev_go.logfile import HEADER_BYTES, NoLog, read_log
+from netrev_go.making import Nothing, Unconvertible, make, write
+from netrev_go.points import Kind, Log, Point
+from netrev_go.report import next_line, told_of
+from netrev_go.where import own_line, write_where
+from nrdb.where import Lines
+
+from .golog import STACKS, binary, from_text, packed
+
+REAL = pathlib.Path(__file__).resolve().parents[2] / "examples/real"
+NAMES = ("half", "hijacked", "hung", "leak", "lost", "past")
+SOURCES = pathlib.Path("/usr/lib/go-1.19/src")
+DAMAGED = 2_000
+SEED = 20_261_127
+
+
+def read(data: bytes) -> Log:
+    with tempfile.TemporaryDirectory() as folder:
+        path = pathlib.Path(folder, "log.1")
+        path.write_bytes(data)
+        return read_log(path)
+
+
+def opened(count: int) -> list[Point]:
+    """Points of sockets that are opened one behind the other."""
+    points = []
+    for i in range(count):
+        points.append(Point(2 * i, Kind.INIT, 1, 1000 + 16 * i, 4, 0, 0, 0, 0))
+        points.append(Point(2 * i + 1, Kind.OPEN, 1, 9000 + 300 * i, 4, 1, 1, 0, 0))
+    return points
+
+
+class Stored(unittest.TestCase):
+    def test_stored_logs_give_the_stored_recordings(self) -> None:
+        self.assertEqual(tuple(sorted(path.stem for path in REAL.glob("*.log"))), NAMES)
+        for name in NAMES:
+            with self.subTest(name), tempfile.TemporaryDirectory() as folder:
+                data, _ = from_text((REAL / f"{name}.log").read_text())
+                log = pathlib.Path(folder, "log.1")
+                log.write_bytes(data)
+                made = pathlib.Path(folder, "made.jsonl")
+                write(make(read_log(log)), made)
+                self.assertEqual(made.read_text(), (REAL / f"{name}.jsonl").read_text())
+
+    def test_stored_logs_give_the_stored_lines(self) -> None:
+        for name in NAMES:
+            with self.subTest(name), tempfile.TemporaryDirectory() as folder:
+                data, symbols = from_text((REAL / f"{name}.log").read_text())
+                log = read(data)
+                recording = make(log)
+                here = pathlib.Path("/samples") / (name if name in ("hung", "hijacked") else "")
+                with mock.patch.object(lines, "shift", return_value=0), mock.patch.object(
+                    lines, "looked_up", return_value=symbols
+                ):
+                    calls = lines_of(log, set(recording.stacks), pathlib.Path("none"), "go", Roots(SOURCES, here))
+                made = pathlib.Path(folder, "made.where")
+                write_where(made, recording.stacks, calls)
+                self.assertEqual(made.read_text(), (REAL / f"{name}.where").read_text())
+
+
+class Reading(unittest.TestCase):
+    def test_what_is_no_log_is_said(self) -> None:
+        whole = binary(opened(3))
+        for data, said in (
+            (b"", "too short"),
+            (b"\0" * 5000, "isn't a log"),
+            (b"NR 3 1 7 4 0 0\n" * 400, "isn't a log"),
+            (whole[:16] + b"\xff" * 8 + whole[24:], "header can't be a log's"),
+        ):
+            with self.assertRaisesRegex(NoLog, said):
+                read(data)
+        with self.assertRaisesRegex(NoLog, "can't be read"):
+            read_log(pathlib.Path("/nowhere/log.1"))
+
+    def test_a_log_that_is_cut_short_gives_what_is_whole(self) -> None:
+        data = binary(opened(200))
+        ring = HEADER_BYTES + STACKS * 256
+        log = read(data[: ring + 64 * 100 + 30])
+        self.assertEqual([point.number for point in log.points], list(range(100)))
+        self.assertIn("the log is cut short or damaged: 100 of its 400 points can be used", log.notes)
+        self.assertEqual(make(log).sockets, 50)
+
+    def test_points_under_way_are_left_out_and_said(self) -> None:
+        points = opened(20)
+        log = read(binary(points[:30] + points[31:]))
+        self.assertEqual(len(log.points), 39)
+        self.assertIn("1 points were under way when the log ended, and are left out", log.notes)
+
+    def test_a_ring_keeps_the_newest_and_the_sockets_that_were_opened_since(self) -> None:
+        log = read(binary(opened(100), room=65))
+        self.assertEqual([point.number for point in log.points], list(range(135, 200)))
+        self.assertIn("the log keeps the newest 65 points of 200", log.notes)
+        self.assertEqual(make(log).sockets, 32)
+        later = [point._replace(number=point.number + 100, kind=Kind.INCREF) for point in opened(3)]
+        with self.assertRaisesRegex(Nothing, "before the oldest point that the log kept"):
+            make(read(binary(later, room=3)))
+
+    def test_points_that_were_overwritten_in_part_are_left_out(self) -> None:
+        data = bytearray(binary(opened(20)))
+        at = HEADER_BYTES + STACKS * 256 + 64 * 7 + 16
+        data[at] ^= 1
+        self.assertNotIn(7, [point.number for point in read(bytes(data)).points])
+
+    def test_no_damage_is_more_than_a_sentence(self) -> None:
+        whole = from_text((REAL / "hijacked.log").read_text())[0]
+        chance = random.Random(SEED)
+        for number in range(DAMAGED):
+            data = damaged(whole, chance)
+            try:
+                make(read(data))
+            except (NoLog, Nothing, Unconvertible) as fault:
+                self.assertTrue(str(fault))
+            except Exception as fault:
+                self.fail(f"damaged log {number} of seed {SEED}: {fault!r}")
+
+
+def damaged(whole: bytes, chance: random.Random) -> bytes:
+    """A log that is cut, or has other bytes, or points that were taken away, moved or put together from others."""
+    data = bytearray(whole)
+    ring = HEADER_BYTES + STACKS * 256
+    sort = chance.randrange(5)
+    if sort == 0:
+        return bytes(data[: chance.randrange(len(data))])
+    for _ in range(chance.randrange(1, 6)):
+        here = ring + 64 * chance.randrange((len(data) - ring) // 64)
+        if sort == 1:
+            data[chance.choice([chance.randrange(88), here + chance.randrange(64)])] = chance.randrange(256)
+        elif sort == 2:
+            data[here : here + 64] = bytes(64)
+        else:
+            changed(data, here, chance, sort == 4)
+    return bytes(data)
+
+
+def changed(data: bytearray, at: int, chance: random.Random, is_kind: bool) -> None:
+    """A point that says something else, and whose sum is right."""
+    word, goroutine, place, a, b, c, time, last = struct.unpack_from("<Q6qQ", data, at)
+    point = Point((word >> 8) - 1, word & 255, goroutine, place, a, b, c, time, last & 2**32 - 1)
+    name = "kind" if is_kind else chance.choice(["goroutine", "at", "a", "b", "c", "time"])
+    values = list(map(int, Kind)) if is_kind else [0, -1, 1, 5, 2**62, -(2**63), getattr(point, name) + 8]
+    data[at : at + 64] = packed(point._replace(**{name: chance.choice(values)}))
+
+
+class Told(unittest.TestCase):
+    CALLS = (
+        Call("io.ReadAll", "io/io.go", 661, "go"),
+        Call("ext.Read", "/m/pkg/mod/ext@v1/e.go", 5, "library"),
+        Call("main.f", "main.go", 14, "program"),
+        Call("main.main", "main.go", 20, "program"),
+    )
+
+    def test_the_programs_line_comes_before_a_librarys(self) -> None:
+        self.assertEqual(own_line(Calls(self.CALLS, None)), (self.CALLS[2], "ext.Read"))
+        self.assertEqual(own_line(Calls(self.CALLS[:2], None)), (self.CALLS[1], "io.ReadAll"))
+        self.assertIsNone(own_line(Calls(self.CALLS[:1], None)))
+
+    def test_nrdb_reads_the_lines_that_were_written(self) -> None:
+        made = Call("main.main", "main.go", 18, "program")
+        with tempfile.TemporaryDirectory() as folder:
+            name = pathlib.Path(folder, "a.where")
+            write_where(name, [7, 0, 9, 7] * 600, {7: Calls(self.CALLS, made), 9: Calls((), None)})
+            told = Lines.beside(str(name.with_suffix(".jsonl")), 2_400)
+            self.assertFalse(Lines.beside(str(name.with_suffix(".jsonl")), 2_399))
+            self.assertEqual(told.words(1), "main.go:14 ext.Read")
+            self.assertEqual((told.words(2), told.words(3), told.words(2_400)), ("", "", "main.go:14 ext.Read"))
+            made_at = told.of(1).made
+            self.assertEqual(made_at and made_at.place(), "main.go:18")
+
+    def test_lines_of_another_form_are_none(self) -> None:
+        for text in (
+            "",
+            "{",
+            "[]",
+            '{"where":2,"steps":1}',
+            '{"where":1,"steps":1}\n{"call":1}',
+            '{"where":1,"steps":1}\n7',
+        ):
+            self.assertFalse(Lines(text, 1))
+
+    def test_a_programs_words_are_not_obeyed_by_a_terminal(self) -> None:
+        calls = Calls((Call("main.\x1b[2Jf", "m\u202e.go", 3, "program"),), None)
+        self.assertEqual(
+            told_of(1, "parked 0 r", 9, calls),
+            "  m\\u202e.go:3: main.\\x1b[2Jf waits to read (goroutine 1, since step 9)",
+        )
+
+    def test_suspects_are_told_where_nrdb_has_them(self) -> None:
+        for printed, told in (
+            ("(netrev) continue\nat 9 end\n(netrev) info suspects\n| 1. late\n|    at 7\n", ["1. late", "   at 7"]),
+            ("(netrev) continue\nat 9 end\n(netrev) info suspects\nfault 202 bad argument\n| info wants\n", []),
+            ("", []),
+        ):
+            with mock.patch.object(asking.subprocess, "run", return_value=mock.Mock(stdout=printed)):
+                self.assertEqual(asking.suspects("netrev", pathlib.Path("a.jsonl")), told)
+
+    def test_the_next_line_looks_at_the_first_suspect(self) -> None:
+        none: list[str] = []
+        for told, words in (
+            (none, "a.jsonl -ex continue -ex 'info goroutines'"),
+            (
+                ["1. late", "   look:   goto 7; history wd 2", "   look: goto 9"],
+                "a.jsonl -ex 'goto 7' -ex 'history wd 2'",
+            ),
+        ):
+            self.assertTrue(next_line(pathlib.Path("a.jsonl"), told).endswith(f"nrdb {words}"))
+
+    def test_addresses_become_lines(self) -> None:
+        told = "main.f\n/p/main.go:14\n?\n?:0\n"
+        with mock.patch.object(lines.subprocess, "run", return_value=mock.Mock(stdout=told)):
+            self.assertEqual(looked_up(pathlib.Path("p"), "go", [5, 4], 0), {4: ("main.f", "/p/main.go", 14)})
+
+    def test_without_go_there_is_a_recording_without_lines(self) -> None:
+        with tempfile.TemporaryDirectory() as folder, mock.patch.object(
+            converting, "report", lambda *told: (True, list(told[:1]))
+        ):
+            log, name = pathlib.Path(folder, "log.1"), pathlib.Path(folder, "made.jsonl")
+            log.write_bytes(from_text((REAL / "past.log").read_text())[0])
+            self.assertTrue(convert(log, name, None, Wish()).taken)
+            self.assertTrue(name.exists())
+            self.assertFalse(name.with_suffix(".where").exists())
+
+
+if __name__ == "__main__":
+    unittest.main()

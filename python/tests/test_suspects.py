@@ -1,0 +1,155 @@
+"""The rules of `info suspects`: each finds its bug in a small recording and not in one that nearly has it; the bugs of the
+examples are named first; bugs that are planted at random are, and traffic without one has no suspect."""
+
+import json
+import unittest
+from pathlib import Path
+from typing import Any, NamedTuple
+
+from netrev_fuzz.injections import Bug, Count, counted
+from netrev_model.machine import Limits, World
+from netrev_model.steps import apply
+from nrdb.recording import Recording
+from nrdb.suspects import suspects_of
+from nrdb.suspects.found import Rule, Suspect
+
+EXAMPLES = Path(__file__).resolve().parents[2] / "examples"
+LIMITS = Limits(gor=4, sock=2, desc=2, buf=16)
+Steps = list[list[Any]]
+
+OPEN: Steps = [["spawn"], ["sockopen", 16, 16], ["pollopen", 0, 0]]
+READ: Steps = [["rwlock", 1, 0, "r"], ["pollreset", 1, 0, "r"], ["sysread", 1, 0, 16]]
+PARK: Steps = [["waitbegin", 1, 0, "r"], ["blockarm", 1], ["blockcheck", 1], ["parkcommit", 1]]
+COMES: Steps = [["arrive", 0, "6869"], ["pollevent", 0, 1, "r", 0]]
+WHILE: Steps = [["tick", time] for time in range(1, 13)]
+QUEUED: Steps = [["rwlock", 0, 0, "r"], ["rwlock", 1, 0, "r"], ["acquire", 1]]
+BOTH: Steps = [["incref", 0, 0], ["setdeadline", 0, 0, "rw", 5], ["setdeadline", 0, 0, "r", 0]]
+PASSES: Steps = [["decref", 0, 0], ["tick", 9], ["pop"], ["fire", 0]]
+PAST: Steps = [["incref", 0, 0], ["setdeadline", 0, 0, "r", -1]]
+BACK: Steps = [["setdeadline", 0, 0, "r", 0], ["decref", 0, 0]]
+LOOKS: Steps = [["blockswap", 1], ["waitcheck", 1]]
+USED_AGAIN: Steps = [
+    ["increfclose", 0, 0],
+    ["evict", 0, 0],
+    ["decref", 0, 0],
+    ["pollclose", 0, 0],
+    ["sockopen", 16, 16],
+    ["pollopen", 0, 1],
+]
+
+
+class Pair(NamedTuple):
+    """A recording with a bug, and one that nearly has it."""
+
+    bad: Steps
+    good: Steps
+
+
+PAIRS = {
+    Rule.LOST_WAKE_UP: Pair(
+        OPEN + COMES + READ[:2] + PARK,
+        OPEN + COMES + READ[:2] + [["sysread", 1, 0, 16]] + PARK,
+    ),
+    Rule.NO_EVENT: Pair(OPEN + READ + PARK + COMES[:1] + WHILE, OPEN + READ + PARK + COMES + WHILE),
+    Rule.STALE_EVENT: Pair(
+        OPEN + READ + PARK + COMES[:1] + [["pollevent", 0, 7, "r", 0]],
+        OPEN + READ + PARK + [["pollevent", 0, 7, "r", 0]] + COMES,
+    ),
+    Rule.TAKEN_BACK: Pair(
+        OPEN + READ + PARK + PAST + BACK + LOOKS + PARK[1:],
+        OPEN + READ + PARK + PAST + LOOKS + BACK,
+    ),
+    Rule.LEFT_BEHIND: Pair(OPEN + BOTH + PASSES, OPEN + BOTH + [["setdeadline", 0, 0, "w", 0]] + PASSES[:2]),
+    Rule.MISSED_RELEASE: Pair(
+        OPEN + QUEUED + [["rwunlock", 0, 0, "r"]] + WHILE,
+        OPEN + QUEUED + [["rwunlock", 0, 0, "r"], ["release", 0]] + WHILE,
+    ),
+    Rule.LEAKED_REFERENCE: Pair(
+        OPEN + [["incref", 1, 0]] + WHILE,
+        OPEN + [["incref", 1, 0]] + WHILE[:6] + [["decref", 1, 0]] + WHILE[6:],
+    ),
+    Rule.LOCK_HELD: Pair(
+        OPEN + QUEUED + WHILE,
+        OPEN + QUEUED + WHILE[:9] + [["sysread", 0, 0, 16]] + WHILE[9:],
+    ),
+    Rule.NOT_EVICTED: Pair(
+        OPEN + [["increfclose", 0, 0]] + WHILE,
+        OPEN + [["increfclose", 0, 0], ["evict", 0, 0], ["decref", 0, 0]] + WHILE,
+    ),
+    Rule.WRITE_BEHIND_SHUT: Pair(
+        OPEN + [["closewrite", 0, 0], ["syswrite", 1, 0, "6869"]],
+        OPEN + [["syswrite", 1, 0, "6869"], ["closewrite", 0, 0]],
+    ),
+    Rule.ERROR_EVENT: Pair(
+        OPEN + USED_AGAIN + [["pollevent", 0, 2, "rw", 1]],
+        OPEN + USED_AGAIN + [["pollevent", 0, 2, "rw", 0], ["pollevent", 0, 1, "rw", 1]],
+    ),
+}
+# the bugs of the recordings that are kept, by folder; those that aren't here have none that a rule can find
+KNOWN = {
+    "lost-wakeup": Rule.LOST_WAKE_UP,
+    "past-deadline": Rule.TAKEN_BACK,
+    "reused-descriptor": Rule.ERROR_EVENT,
+    "leaked-reference": Rule.LEAKED_REFERENCE,
+    "shut-write-side": Rule.WRITE_BEHIND_SHUT,
+    "hunts/blocked-control": Rule.LEAKED_REFERENCE,
+    "hunts/extended-deadline": Rule.TAKEN_BACK,
+    "hunts/hijacked-deadline": Rule.LEFT_BEHIND,
+    "hunts/missed-release": Rule.MISSED_RELEASE,
+    "real/past": Rule.TAKEN_BACK,
+    "real/lost": Rule.LOST_WAKE_UP,
+    "real/leak": Rule.LEAKED_REFERENCE,
+    "real/half": Rule.WRITE_BEHIND_SHUT,
+    "real/hijacked": Rule.LEFT_BEHIND,
+}
+REFUSED = ("other-answer", "hunts/early-arrival")  # by netrev, so that there is nothing to look at
+
+
+def recording_of(steps: Steps) -> Recording:
+    """A recording of these steps with the model's answers; all of them have to apply."""
+    world = World(LIMITS)
+    lines: list[Any] = [{"netrev": 2, **LIMITS._asdict()}]
+    for kind, *rest in steps:
+        of_bytes = kind in ("arrive", "syswrite")
+        arguments = [*rest[:-1], bytes.fromhex(rest[-1])] if of_bytes else rest
+        world, answer = apply(world, (kind, *arguments))
+        lines.append([kind, *rest, answer if len(answer) > 1 else answer[0]])
+    return Recording("".join(f"{json.dumps(line)}\n" for line in lines).encode())
+
+
+def shown(recording: Recording) -> list[Suspect]:
+    """The suspects of a recording that are shown."""
+    return [suspect for suspect in suspects_of(recording).suspects if suspect.is_shown]
+
+
+class Rules(unittest.TestCase):
+    def test_each_finds_its_bug_and_not_one_that_nearly_is(self) -> None:
+        self.assertEqual(set(PAIRS), set(Rule))
+        for rule, pair in PAIRS.items():
+            with self.subTest(rule.value):
+                self.assertEqual([suspect.rule for suspect in shown(recording_of(pair.bad))], [rule])
+                self.assertEqual([suspect.sentence() for suspect in shown(recording_of(pair.good))], [])
+
+    def test_the_bug_of_each_example_is_named_first(self) -> None:
+        files = sorted(EXAMPLES.glob("**/*.jsonl"))
+        names = {str(file.relative_to(EXAMPLES).with_suffix("")): file for file in files}
+        self.assertLessEqual({*KNOWN, *REFUSED}, set(names))
+        for name in set(names) - set(REFUSED):
+            with self.subTest(name):
+                found = [suspect.rule for suspect in shown(Recording.read(str(names[name])))]
+                self.assertEqual(found[:1], [KNOWN[name]] if name in KNOWN else [])
+
+    def test_planted_bugs_are_named_first_and_good_traffic_has_no_suspect(self) -> None:
+        self.assertEqual(counted(None, range(100, 106)), Count())
+        total = Count()
+        for bug in Bug:
+            with self.subTest(bug.value):
+                count = counted(bug, range(100, 103))
+                self.assertEqual((count.named, count.besides), (count.first, 0))
+                total += count
+        self.assertGreaterEqual(total.shows, 18)
+        self.assertGreaterEqual(total.first, total.shows - 1)
+
+
+if __name__ == "__main__":
+    unittest.main()

@@ -1,0 +1,246 @@
+#!/usr/bin/env python3
+"""Tries many wrong bodies of a crate in one check:  scripts/mutants.py [--plant FILE] [--list] CRATE [NAME ..]
+
+The gate tries each edit of crates/CRATE/must-fail alone, over the whole crate. Here those of different functions go into one
+copy of the repository, and just their functions are checked, each for itself: what a function is proved of doesn't rest on
+another's body. So all edits of a crate are tried in minutes while one writes. It is for the desk and no part of the gate.
+
+An edit is refused where a function that it changes isn't proved by a goal of its own; that it calls another one which isn't
+proved doesn't count. An edit that changes more than bodies (a constant, a type, a definition) is named and left to
+`rt must-fail`, which tries it alone.
+
+--plant FILE tries further mistakes in place of the crate's: a file of edits as those of must-fail/, each behind a line
+`name: NAME`. With --list nothing is checked: it prints which function each edit changes, and in which check it is tried.
+
+The status is 0 where each edit is refused, else 1.
+"""
+
+import argparse
+import re
+import shutil
+import subprocess
+import sys
+import tempfile
+from dataclasses import dataclass, field
+from pathlib import Path
+
+ROOT = Path(__file__).resolve().parent.parent
+PARTS = ("src", "specs", "proofs")
+FUNCTION = re.compile(r"^( *)(?:pub(?:\([^)]*\))? )?(?:const )?fn (\w+)", re.M)
+IMPL = re.compile(r"^impl(?:<.*?>)? (?:([\w:]+)(?:<.*?>)? for )?&?(?:'\w+ )?([\w:]+)", re.M)
+UNPROVED = re.compile(r"not proved$|.*did not prove|.*could not tell")
+
+
+class Wrong(Exception):
+    """An edit or a check that can't be used."""
+
+
+@dataclass
+class Change:
+    """One line's text and what stands in its place."""
+
+    file: str
+    old: str
+    new: str
+
+
+@dataclass
+class Edit:
+    """A mistake: its changes, and the functions whose bodies they are in."""
+
+    name: str
+    changes: list = field(default_factory=list)
+    functions: set = field(default_factory=set)
+
+
+def read_edits(text, name):
+    """The edits of a text, which are named in it or, if it has one alone, by the file."""
+    edits, file, old = [], "", ""
+    for line in text.split("\n"):
+        key, _, rest = line.partition(":")
+        rest = rest[1:] if rest.startswith(" ") else rest
+        if key == "name":
+            edits.append(Edit(rest.strip()))
+        elif key == "file":
+            file = rest.strip()
+        elif key == "old":
+            old = rest
+        elif key == "new":
+            if not edits:
+                edits.append(Edit(name))
+            edits[-1].changes.append(Change(file, old, rest))
+    return edits
+
+
+def name_of_impl(head):
+    """What the printed name of a method begins with: its type's name, behind it that of the trait, if there is one."""
+    impls = list(IMPL.finditer(head))
+    if not impls:
+        return None
+    trait, type_ = impls[-1][1] or "", impls[-1][2]
+    name = type_.split("::")[-1]
+    return name[0].upper() + name[1:] + trait.split("::")[-1]
+
+
+def function_at(crate, file, text, place):
+    """The end of the name that the prover prints for the function whose body a place of a source is in, or None where it
+    is in none. A method's name goes by its type, wherever its block stands."""
+    if not file.startswith("src/"):
+        return None
+    head = text[:place]
+    found = list(FUNCTION.finditer(head))
+    if not found:
+        return None
+    indent, name = found[-1][1], found[-1][2]
+    body = head[found[-1].end() :]
+    # (the item has ended where a line of its indentation closes it, and begins behind its clauses)
+    if re.search(rf"^{indent}}}$", body, re.M) or not re.search(rf"(?:^{indent}|\) |> |\w ){{$", body, re.M):
+        return None
+    module = [part for part in Path(file).with_suffix("").parts[1:] if part not in ("lib", "main", "mod")]
+    owner = [name_of_impl(head[: found[-1].start()])] if indent else []
+    if None in owner:
+        return None
+    return "::".join([*owner, name] if owner else [crate, *module, name])
+
+
+def place_functions(crate, folder, edit):
+    """Notes whose bodies the edit changes; none where it changes something else too."""
+    for change in edit.changes:
+        path = folder / change.file
+        text = path.read_text(encoding="utf-8") if path.is_file() else ""
+        if text.count(change.old) != 1:
+            raise Wrong(f"{edit.name}: its text stands in {change.file} {text.count(change.old)} times, and not once")
+        place = text.index(change.old) + len(change.old) - len(change.old.lstrip())
+        function = function_at(crate, change.file, text, place)
+        if function is None:
+            edit.functions = set()
+            return
+        edit.functions.add(function)
+
+
+def batches_of(edits):
+    """Edits in as few checks as do, no two of one function in the same."""
+    batches: list[list[Edit]] = []
+    for edit in edits:
+        for batch in batches:
+            if not any(edit.functions & other.functions for other in batch):
+                batch.append(edit)
+                break
+        else:
+            batches.append([edit])
+    return batches
+
+
+def copied(room, crate, edits):
+    """A copy of the repository's crates with these edits."""
+    shutil.copy(ROOT / "crates.txt", room)
+    if (ROOT / "HANDLES").is_file():
+        shutil.copy(ROOT / "HANDLES", room)
+    for one in sorted((ROOT / "crates").iterdir()):
+        for part in PARTS:
+            if (one / part).is_dir():
+                shutil.copytree(one / part, room / "crates" / one.name / part)
+    for edit in edits:
+        for change in edit.changes:
+            path = room / "crates" / crate / change.file
+            text = path.read_text(encoding="utf-8")
+            path.write_text(text.replace(change.old, change.new), encoding="utf-8")
+    return room / "crates" / crate
+
+
+def check(folder, functions, jobs):
+    """What the prover says of each of the functions, by name, and all that it said."""
+    words = ["rt", "check", "--jobs", str(jobs)]
+    for function in sorted(functions):
+        words += ["--only", function]
+    ran = subprocess.run(words, cwd=folder, stdout=subprocess.PIPE, stderr=subprocess.STDOUT, text=True, check=False)
+    said: dict[str, list[str]] = {}
+    for line in ran.stdout.splitlines():
+        told = re.match(r"fn (\S+?): (.*)", line)
+        if told:
+            said.setdefault(told[1], []).append(told[2])
+    return said, ran.stdout
+
+
+def is_own(function, line, output):
+    """Whether the function isn't proved for a goal of its own, and not just for what it calls."""
+    answers = "/".join(["proofs", *function.split("::")[1:], "Answers.antt"])
+    return bool(
+        UNPROVED.match(line) or line.startswith("not proved;") and re.search(rf"{answers}:\d+:\d+: error", output)
+    )
+
+
+def verdict(edit, said, output):
+    """Whether an edit was refused, and what was said of it."""
+    told = [
+        (name, line)
+        for name, lines in said.items()
+        if any(f"::{name}".endswith(f"::{function}") for function in edit.functions)
+        for line in lines
+    ]
+    return any(is_own(name, line, output) for name, line in told), [f"{name}: {line}" for name, line in told]
+
+
+def try_batch(crate, batch, jobs):
+    """Tries some edits in one check, and returns the names of those that weren't refused."""
+    functions = set().union(*(edit.functions for edit in batch))
+    with tempfile.TemporaryDirectory(prefix="mutants-") as room:
+        said, output = check(copied(Path(room), crate, batch), functions, jobs)
+    missed = []
+    for edit in batch:
+        is_refused, lines = verdict(edit, said, output)
+        print(f"{'refused' if is_refused else 'NOT REFUSED'}: {edit.name}", flush=True)
+        for line in lines or ["nothing was said of it: " + ", ".join(sorted(edit.functions))]:
+            print(f"    {line[:200]}")
+        if not is_refused:
+            missed.append(edit.name)
+    if not said:
+        print(output[-2000:])
+    return missed
+
+
+def edits_of(crate, plant, names):
+    """The edits to be tried, each with the functions that it changes."""
+    folder = ROOT / "crates" / crate
+    if plant:
+        edits = read_edits(Path(plant).read_text(encoding="utf-8"), Path(plant).stem)
+    else:
+        files = sorted((folder / "must-fail").glob("*.edit"))
+        edits = [edit for path in files for edit in read_edits(path.read_text(encoding="utf-8"), path.stem)]
+    for edit in edits:
+        place_functions(crate, folder, edit)
+    return [edit for edit in edits if not names or edit.name in names]
+
+
+def main():
+    parser = argparse.ArgumentParser(description=__doc__, formatter_class=argparse.RawDescriptionHelpFormatter)
+    parser.add_argument("--plant", metavar="FILE", help="try the mistakes of this file")
+    parser.add_argument("--list", action="store_true", help="print what would be tried")
+    parser.add_argument("--jobs", type=int, default=2, help="how many processors a check uses (2)")
+    parser.add_argument("crate")
+    parser.add_argument("names", nargs="*", metavar="NAME")
+    given = parser.parse_args()
+    try:
+        edits = edits_of(given.crate, given.plant, given.names)
+    except (Wrong, OSError) as wrong:
+        print(f"mutants.py: {wrong}", file=sys.stderr)
+        return 1
+    alone = [edit.name for edit in edits if not edit.functions]
+    batches = batches_of([edit for edit in edits if edit.functions])
+    missed = []
+    for number, batch in enumerate(batches, 1):
+        print(f"check {number} of {len(batches)}: {len(batch)} edits", flush=True)
+        if given.list:
+            for edit in batch:
+                print(f"    {edit.name}: {', '.join(sorted(edit.functions))}")
+        else:
+            missed += try_batch(given.crate, batch, given.jobs)
+    if alone:
+        print(f"left to `rt must-fail {given.crate}`: {' '.join(alone)}")
+    if missed:
+        print(f"not refused: {' '.join(missed)}")
+    return 1 if missed else 0
+
+
+if __name__ == "__main__":
+    sys.exit(main())

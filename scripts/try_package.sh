@@ -1,0 +1,26 @@
+#!/bin/sh
+# Tries an archive as somebody would who has nothing else of netrev:  scripts/try_package.sh ARCHIVE
+#
+# Unpacks it in an empty folder and, with no toolchain on the PATH and no variable that names anything of this checkout, looks
+# at the sums, plays all examples, and a hunt with nrdb.
+set -eu
+archive=$(readlink -f -- "$1")
+room=$(mktemp -d)
+trap 'rm -rf "$room"' EXIT
+cd "$room"
+tar -xzf "$archive"
+cd netrev-*
+if PATH=/usr/bin:/bin command -v rt > /dev/null; then
+	echo "try_package.sh: the toolchain is on /usr/bin or /bin, so this shows nothing." >&2
+	exit 1
+fi
+alone() {
+	env -i PATH=/usr/bin:/bin HOME="$room" LANG=C.UTF-8 NETREV="$PWD/bin/netrev" "$@"
+}
+sha256sum --quiet -c SHA256SUMS
+alone sh examples/play_all.sh
+hunt=examples/hunts/missed-release
+alone bin/nrdb --batch -x "$hunt.nrdb" "$hunt.jsonl" > "$room/session"
+cmp "$room/session" "$hunt.session"
+[ -s share/man/man1/netrev.1 ]
+echo "The package plays all examples and a hunt, without a toolchain."
