@@ -69,8 +69,8 @@ pub record Quitted (d : FrontState) (lines : List (List ℕ)) (out : List ℕ) (
 
 -- The lines before one were answered whole, `whole` texts of them not empty; of that line's text
 -- the first n bytes were written, and not all of it. The line was run.
-pub record Part (d : FrontState) (lines : List (List ℕ)) (whole part : ℕ) (out : List ℕ)
-    (d' : FrontState) : Type 0 where
+pub record WrittenInPart (d : FrontState) (lines : List (List ℕ)) (whole part : ℕ)
+    (out : List ℕ) (d' : FrontState) : Type 0 where
   pub front : List (List ℕ)
   pub line : List ℕ
   pub back : List (List ℕ)
@@ -94,7 +94,7 @@ abbrev pub Ends : Result End LineEnd → Bool → FrontState → List (List ℕ)
 Ends (Ok Closed) ended d lines out d' = (ended ≡ true) × Answered d lines out d'
 Ends (Ok Quit) ended d lines out d' = Quitted d lines out d'
 Ends (Err Read) ended d lines out d' = (ended ≡ false) × Answered d lines out d'
-Ends (Err (Write whole part)) ended d lines out d' = Part d lines whole part out d'
+Ends (Err (Write whole part)) ended d lines out d' = WrittenInPart d lines whole part out d'
 
 -- From a source that had `from` and has `left` some bytes were read, and to a sink that had `old`
 -- and has `new` others were written. Those written answer the lines of those read, by a front that

@@ -2,6 +2,7 @@
 use crate::texts::SCRIPT;
 use nr_machine::World;
 use nr_programs::{ExitStatus, check_bytes, run_bytes, upgrade_bytes};
+use nr_replay_tests::{AtBrim, Cup};
 use nr_text::{Sink, Source};
 use std::alloc::{AllocError, Global};
 use std::io::{Read, Write};
@@ -82,26 +83,57 @@ pub(crate) fn run_over<R: Wait + Threads + Sync>(
     Ok(run_on(rt, alloc, recording.as_str(), reader, Vec::new(alloc)))
 }
 
+/// A program that reads nothing but its recording.
+#[derive(Clone, Copy)]
+pub(crate) enum Program {
+    Check,
+    Upgrade,
+}
+
+impl Program {
+    /// Runs it on a recording.
+    fn run<W: Write>(self, alloc: Global, recording: &str, output: &mut Sink<W>) -> ExitStatus {
+        let bytes = recording.as_bytes();
+        match self {
+            Program::Check => check_bytes::<World, _>(alloc, bytes, output),
+            Program::Upgrade => upgrade_bytes::<World, _>(alloc, bytes, output),
+        }
+    }
+
+    /// Runs it on a header and steps.
+    fn play(self, alloc: Global, header: &str, steps: &str) -> Result<Played, AllocError> {
+        let recording = record(alloc, header, steps)?;
+        let mut output = Sink::new(Vec::new(alloc));
+        let status = self.run(alloc, recording.as_str(), &mut output);
+        Ok(Played {
+            status,
+            text: output.into_inner(),
+        })
+    }
+
+    /// Whether on a writer that fails behind so many bytes it leaves just those.
+    pub(crate) fn is_cut(self, alloc: Global, recording: &str, room: usize, text: &str) -> bool {
+        let mut output = Sink::new(Cup {
+            held: Vec::new(alloc),
+            room,
+            then: AtBrim::Fails,
+        });
+        let status = self.run(alloc, recording, &mut output);
+        let has_failed = output.has_failed();
+        status == ExitStatus::StreamFailed
+            && has_failed
+            && Some(output.into_inner().held.as_slice()) == text.as_bytes().get(..room)
+    }
+}
+
 /// Checks a header and steps.
 pub(crate) fn check(alloc: Global, header: &str, steps: &str) -> Result<Played, AllocError> {
-    let recording = record(alloc, header, steps)?;
-    let mut output = Sink::new(Vec::new(alloc));
-    let status = check_bytes::<World, _>(alloc, recording.as_bytes(), &mut output);
-    Ok(Played {
-        status,
-        text: output.into_inner(),
-    })
+    Program::Check.play(alloc, header, steps)
 }
 
 /// Writes a header and steps with their answers.
 pub(crate) fn upgrade(alloc: Global, header: &str, steps: &str) -> Result<Played, AllocError> {
-    let recording = record(alloc, header, steps)?;
-    let mut output = Sink::new(Vec::new(alloc));
-    let status = upgrade_bytes::<World, _>(alloc, recording.as_bytes(), &mut output);
-    Ok(Played {
-        status,
-        text: output.into_inner(),
-    })
+    Program::Upgrade.play(alloc, header, steps)
 }
 
 /// A header and steps.

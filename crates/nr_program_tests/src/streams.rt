@@ -1,10 +1,8 @@
 //! Streams that give or take a byte a call, and stop.
-use crate::playing::{record, run_on};
+use crate::playing::{Program, record, run_on};
 use crate::texts::{LOCKS, REPLIES, SCRIPT};
-use nr_machine::World;
-use nr_programs::{ExitStatus, check_bytes};
+use nr_programs::ExitStatus;
 use nr_replay_tests::{AtBrim, Cup, Drip, HEADER};
-use nr_text::Sink;
 use std::alloc::{AllocError, Global};
 use std::sync::Wait;
 use std::test::*;
@@ -117,20 +115,6 @@ fn a_failed_write_leaves_the_first_bytes(rt: HostRuntime) -> Result<(), AllocErr
     Ok(())
 }
 
-/// Whether a check on a writer that fails behind so many bytes leaves just those.
-fn is_cut(alloc: Global, recording: &str, room: usize, text: &str) -> bool {
-    let mut output = Sink::new(Cup {
-        held: Vec::new(alloc),
-        room,
-        then: AtBrim::Fails,
-    });
-    let status = check_bytes::<World, _>(alloc, recording.as_bytes(), &mut output);
-    let has_failed = output.has_failed();
-    status == ExitStatus::StreamFailed
-        && has_failed
-        && Some(output.into_inner().held.as_slice()) == text.as_bytes().get(..room)
-}
-
 #[test]
 fn a_failed_write_leaves_the_first_bytes_of_a_check(rt: HostRuntime) -> Result<(), AllocError> {
     let recording = record(rt.alloc(), HEADER, LOCKS)?;
@@ -140,7 +124,7 @@ fn a_failed_write_leaves_the_first_bytes_of_a_check(rt: HostRuntime) -> Result<(
     ] {
         for room in 0..text.len() {
             assert!(rt;
-                is_cut(rt.alloc(), recording, room, text),
+                Program::Check.is_cut(rt.alloc(), recording, room, text),
                 "behind {room} of {text}"
             );
         }

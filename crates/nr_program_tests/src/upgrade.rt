@@ -1,10 +1,8 @@
 //! Recordings of both versions through the programs: recorded answers, and upgrades.
-use crate::playing::{check, run, upgrade};
+use crate::playing::{Program, check, run, upgrade};
 use crate::texts::{SHUTS, SHUTS_HEADER};
-use nr_machine::World;
-use nr_programs::{ExitStatus, upgrade_bytes};
-use nr_replay_tests::{AtBrim, Cup, HEADER, WAITS};
-use nr_text::Sink;
+use nr_programs::ExitStatus;
+use nr_replay_tests::{HEADER, WAITS};
 use std::alloc::{AllocError, Global};
 use std::sync::Wait;
 use std::test::*;
@@ -80,34 +78,21 @@ fn another_answer_is_the_fault_of_its_step(rt: HostRuntime) -> Result<(), AllocE
     Ok(())
 }
 
-/// Whether an upgrade on a writer that fails behind so many bytes leaves just those.
-fn is_cut(alloc: Global, recording: &str, room: usize, text: &str) -> bool {
-    let mut output = Sink::new(Cup {
-        held: Vec::new(alloc),
-        room,
-        then: AtBrim::Fails,
-    });
-    let status = upgrade_bytes::<World, _>(alloc, recording.as_bytes(), &mut output);
-    status == ExitStatus::StreamFailed
-        && Some(output.into_inner().held.as_slice()) == text.as_bytes().get(..room)
-}
-
-/// Whether that is so for each number of bytes of the text.
-fn is_cut_anywhere(alloc: Global, recording: &str, text: &str) -> bool {
-    for room in 0..text.len() {
-        if !is_cut(alloc, recording, room, text) {
-            return false;
-        }
-    }
-    true
-}
-
 #[test]
 fn a_failed_write_leaves_the_first_bytes_of_an_upgrade(rt: HostRuntime) -> Result<(), AllocError> {
     let alloc = rt.alloc();
     let answered = waits_and_gets(alloc, 2)?;
-    assert!(rt; is_cut_anywhere(alloc, answered.as_str(), answered.as_str()));
     let other = waits_and_gets(alloc, 3)?;
-    assert!(rt; is_cut_anywhere(alloc, other.as_str(), OTHER_ANSWER));
+    for (recording, text) in [
+        (answered.as_str(), answered.as_str()),
+        (other.as_str(), OTHER_ANSWER),
+    ] {
+        for room in 0..text.len() {
+            assert!(rt;
+                Program::Upgrade.is_cut(alloc, recording, room, text),
+                "behind {room} of {text}"
+            );
+        }
+    }
     Ok(())
 }

@@ -10,7 +10,7 @@ use Rattle.nr_text.specs.Streams.{Incoming, Outgoing}
 use Rattle.nr_journal.specs.Rule.{StartsWith}
 use Rattle.nr_command.specs.Command.{meaning_of}
 use Rattle.nr_front.specs.FrontState.{FrontState}
-use Rattle.nr_lines.specs.Engine.{Answered, AnswersLines, Part, Quitted, Turns, has_quit, is_read_failure, is_write_failure, lines_of}
+use Rattle.nr_lines.specs.Engine.{Answered, AnswersLines, Quitted, Turns, WrittenInPart, has_quit, is_read_failure, is_write_failure, lines_of}
 use Rattle.nr_lines.specs.Turn.{Turn, is_quit, text_or_none}
 use Rattle.nr_lines.specs.declared.ending.End.{End}
 use Rattle.nr_lines.specs.declared.ending.End.TheVariants.{Closed, Quit}
@@ -168,7 +168,7 @@ module _ (r : Recording) (s : Standing) (d d' : FrontState) (here : Stands r s d
       }
 
   -- a write failed in the text of one
-  pub up_to_failure : (ended : Bool) (whole part : ℕ) → Part d (lines_of ended read) whole part out d' → Replied r s d d' (λ met. StartsWith (replies r s true read met) out)
+  pub up_to_failure : (ended : Bool) (whole part : ℕ) → WrittenInPart d (lines_of ended read) whole part out d' → Replied r s d d' (λ met. StartsWith (replies r s true read met) out)
   up_to_failure ended whole part h =
       let on = go_on r s d h.front h.texts h.mid here h.no_quit h.turns in
       let last = goes r on.after h.mid h.line h.text d' on.there h.turn in

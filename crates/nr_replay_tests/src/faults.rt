@@ -1,6 +1,6 @@
 //! What faults are printed as: the line, whose text is proved, and the message, which is derived.
 
-use nr_recording::{Fault, ReadFault};
+use nr_recording::{Fault, MakeFault, ReadFault, WriteFault};
 use nr_rev::Refusal;
 use nr_snaps::LoadFault;
 use nr_text::{Sink, Text};
@@ -93,5 +93,26 @@ fn the_message_of_a_recording_that_is_not_loaded_is_its_line(rt: HostRuntime) ->
         last.to_string(rt.alloc())?.as_str(),
         "step 18446744073709551615: fault 107 reason 21"
     );
+    Ok(())
+}
+
+#[test]
+fn what_is_not_made_or_written_says_why(rt: HostRuntime) -> Result<(), Fail> {
+    for (fault, message) in [
+        (MakeFault::Limit, "a limit is out of its range"),
+        (MakeFault::TooManySteps, "more than 1,000,000 steps"),
+        (
+            MakeFault::Step,
+            "a step carries too many bytes, sets the clock below 0 or is not of the version",
+        ),
+    ] {
+        assert_eq!(rt; fault.to_string(rt.alloc())?.as_str(), message);
+    }
+    for (fault, message) in [
+        (WriteFault::Memory, "memory"),
+        (WriteFault::Device, "device"),
+    ] {
+        assert_eq!(rt; fault.to_string(rt.alloc())?.as_str(), message);
+    }
     Ok(())
 }
