@@ -2,7 +2,7 @@
 `internal/poll/fd_mutex.go` changes it. What comes of it is held against the word that netrev shows."""
 
 from dataclasses import dataclass, field
-from typing import Iterable, Optional
+from typing import Iterable
 
 from .output import Row, Table
 from .recording import Step
@@ -67,16 +67,6 @@ class Holders:
         own = [held for held in fits if held.goroutine == goroutine]
         for given in (own or fits or self.held)[-1:]:
             self.held.remove(given)
-
-
-def taken_by(world: World, socket: int, side: str) -> Optional[Step]:
-    """The step that took this side's lock, which is taken now: the first `rwlock` behind the last `rwunlock`."""
-    taking = None
-    for step in world.recording.steps_back(("rwlock", "rwunlock"), world.position, socket, side):
-        if step.kind == "rwunlock":
-            break
-        taking = step
-    return taking
 
 
 def holders_of(world: World, socket: int) -> Holders:

@@ -18,7 +18,6 @@ BLANK_LINE = re.compile(rb"^[ \t\r]*$", re.MULTILINE)
 SHOWN = 40
 PIECE = 1_024  # steps
 AT_ONCE = 16_384  # steps that are read together
-OF_A_GOROUTINE = [name for name, kind in KINDS.items() if kind.arguments[:1] == ("g",)]
 
 
 class Step(NamedTuple):
@@ -113,15 +112,19 @@ class Recording:
         answer = arguments.pop() if self.has_answers and arguments else None
         return Step(number, self._numbers[number], kind, tuple(arguments), answer)
 
-    def last_step_of(self, goroutine: int, until: int) -> int:
-        """The number of a goroutine's last step among the first so many; 0 where it has none."""
-        spelled = re.compile(rb'"(?:%s)"\s*,\s*%d\b' % ("|".join(OF_A_GOROUTINE).encode(), goroutine))
-        for last in range(min(until, self.length), 0, -PIECE):
-            first = self._starts[self._numbers[max(last - PIECE, 0) + 1] - 1]
-            found = list(spelled.finditer(self.data, first, self._starts[self._numbers[last]]))
-            if found:
-                return bisect_left(self._numbers, bisect_right(self._starts, found[-1].start()))
-        return 0
+    def found_back(self, spelled: re.Pattern[bytes], until: int) -> Iterator[re.Match[bytes]]:
+        """What is spelled so in the lines of the first so many steps, the last one first. The text is searched in pieces from
+        there back, each twice as long as the one before."""
+        end, size = min(until, self.length), PIECE
+        while end > 0:
+            first = max(end - size, 0) + 1
+            begin, stop = self._starts[self._numbers[first] - 1], self._starts[self._numbers[end]]
+            yield from reversed(list(spelled.finditer(self.data, begin, stop)))
+            end, size = first - 1, 2 * size
+
+    def number_at(self, place: int) -> int:
+        """The number of the step at this place of the text."""
+        return bisect_left(self._numbers, bisect_right(self._starts, place))
 
     def arrays(self) -> Iterator[list[Any]]:
         """Each step's array as JSON has it, one after the other."""
@@ -132,45 +135,30 @@ class Recording:
 
     def steps_of(self, kinds: tuple[str, ...], until: int, socket: Optional[int] = None) -> Iterator[Step]:
         """The steps of these kinds among the first so many; and, where one is named, of this socket."""
-        return self._between(1, until, kinds, socket, None)
-
-    def steps_back(self, kinds: tuple[str, ...], until: int, socket: int, side: str) -> Iterator[Step]:
-        """The steps of these kinds, of this socket and side, among the first so many, the last one first. The text is
-        searched in pieces from there back, each twice as long as the one before."""
-        end, size = min(until, self.length), PIECE
-        while end > 0:
-            first = max(end - size, 0) + 1
-            yield from reversed(list(self._between(first, end, kinds, socket, side)))
-            end, size = first - 1, 2 * size
-
-    def _between(
-        self, first: int, until: int, kinds: tuple[str, ...], socket: Optional[int], side: Optional[str]
-    ) -> Iterator[Step]:
-        """The steps of these kinds from one number to another; where they are named, of this socket and this side."""
-        numbers = list(self._numbers_of(first, until, kinds, socket, side))
+        numbers = list(self._numbers_of(kinds, until, socket))
         lines = [self.line(self._numbers[number]) for number in numbers]
         for number, values in zip(numbers, json.loads(b"[%s]" % b",".join(lines))):
             step = self._made(number, values)
-            if step.kind in kinds and socket in (None, step.argument("s")) and side in (None, step.argument("side")):
+            if step.kind in kinds and socket in (None, step.argument("s")):
                 yield step
 
-    def _numbers_of(
-        self, first: int, until: int, kinds: tuple[str, ...], socket: Optional[int], side: Optional[str]
-    ) -> Iterable[int]:
-        """The numbers of such steps, and maybe of others. They are searched as text: but not where an escape stands, in
-        which a kind may be hidden."""
+    @cached_property
+    def has_escapes(self) -> bool:
+        """Whether an escape stands somewhere, in which a kind may be hidden from who searches the text."""
+        return b"\\" in self.data
+
+    def _numbers_of(self, kinds: tuple[str, ...], until: int, socket: Optional[int]) -> Iterable[int]:
+        """The numbers of such steps, and maybe of others. They are searched as text, where that finds all."""
         until = min(until, self.length)
-        if until < first or b"\\" in self.data:
-            return range(first, until + 1)
-        named = rb"" if socket is None else rb"\s*,\s*\d+\s*,\s*%d" % socket
-        if named:
-            named += rb"\b" if side is None else rb'\s*,\s*"%s"' % side.encode()
+        if not until or self.has_escapes:
+            return range(1, until + 1)
+        named = rb"" if socket is None else rb"\s*,\s*\d+\s*,\s*%d\b" % socket
         prefix = commonprefix(kinds)  # (a pattern is searched faster the longer it begins with letters)
         rest = "|".join(kind[len(prefix) :] for kind in kinds)
         spelled = re.compile(rb'"%s(?:%s)"%s' % (prefix.encode(), rest.encode(), named))
-        begin, end = self._starts[self._numbers[first] - 1], self._starts[self._numbers[until]]
+        begin, end = self._starts[self._numbers[1] - 1], self._starts[self._numbers[until]]
         places = (found.start() for found in spelled.finditer(self.data, begin, end))
-        return self._numbers_at(places, self._numbers[first], begin)
+        return self._numbers_at(places, self._numbers[1], begin)
 
     def _numbers_at(self, places: Iterable[int], line: int, begin: int) -> Iterator[int]:
         """The numbers of the steps at these places of the text, which rise, behind the place at which a line begins."""

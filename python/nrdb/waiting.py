@@ -6,9 +6,8 @@ from typing import Iterable, Mapping, Optional
 
 from netrev_model.vocabulary import Of
 
-from .holders import taken_by
+from .backwards import Lock, last_steps, takings
 from .output import Row, Table
-from .recording import Step
 from .words import SIDES, LockWord, counted, status_words
 from .world import World
 
@@ -16,32 +15,10 @@ QUIET = ("idle", "gone")
 QUEUES = {"r": "rq", "w": "wq"}
 
 
-class Queue:
-    """Those who wait for one side of a socket's lock, as they are seen for one table."""
-
-    def __init__(self, world: World, socket: int, side: str):
-        self._world, self._socket, self._side = world, socket, side
-
-    @cached_property
-    def places(self) -> dict[int, int]:
-        """The places in the semaphore's queue, from 1, by goroutine."""
-        queue = self._world.queue(QUEUES[self._side], self._socket)
-        return {goroutine: place for place, goroutine in enumerate(queue, 1)}
-
-    @cached_property
-    def word(self) -> LockWord:
-        """The socket's lock word."""
-        return LockWord.of(self._world.number(f"lock {self._socket}"))
-
-    @cached_property
-    def taking(self) -> Optional[Step]:
-        """The step that took the lock."""
-        return taken_by(self._world, self._socket, self._side)
-
-    @property
-    def is_taken(self) -> bool:
-        """Whether somebody has the lock."""
-        return self.word.read_locked if self._side == "r" else self.word.write_locked
+def lock_of(status: str) -> Optional[Lock]:
+    """The lock that a goroutine of this status waits for, if it is one that does."""
+    name, *rest = status.split()
+    return (int(rest[0]), rest[1]) if name in ("acquiring", "queued", "relock") else None
 
 
 class Waits:
@@ -49,8 +26,21 @@ class Waits:
 
     def __init__(self, world: World, statuses: Mapping[int, str]):
         self._world, self._statuses = world, statuses
-        self._queues: dict[tuple[int, str], Queue] = {}
         self._sockets = world.sockets_of_open()
+        self._places: dict[Lock, dict[int, int]] = {}
+        locks = {lock for status in statuses.values() if (lock := lock_of(status))}
+        words = world.of_each(sorted({socket for socket, _ in locks}), "lock")
+        self._words = {socket: LockWord.of(int(word)) for socket, (word,) in words.items()}
+        self._taken = {lock for lock in locks if self._words[lock[0]].is_locked(lock[1])}
+        self._takings = takings(world.recording, world.position, self._taken)
+
+    def _places_in(self, lock: Lock) -> dict[int, int]:
+        """The places in the queue of that lock's semaphore, from 1, by goroutine."""
+        if lock not in self._places:
+            socket, side = lock
+            queue = self._world.queue(QUEUES[side], socket)
+            self._places[lock] = {goroutine: place for place, goroutine in enumerate(queue, 1)}
+        return self._places[lock]
 
     @cached_property
     def _owing(self) -> dict[int, list[int]]:
@@ -67,23 +57,24 @@ class Waits:
         name, *rest = status.split()
         if name == "absent":
             return "isn't made yet"
-        if name in ("acquiring", "queued", "relock"):
-            return f"{status_words(status)}; {self._queue_words(goroutine, int(rest[0]), rest[1])}"
+        if lock := lock_of(status):
+            return f"{status_words(status)}; {self._queue_words(goroutine, lock)}"
         if len(rest) == 2:
             return "; ".join([status_words(status), *self._wait_words(int(rest[0]), rest[1])])
         return status_words(status)
 
-    def _queue_words(self, goroutine: int, socket: int, side: str) -> str:
+    def _queue_words(self, goroutine: int, lock: Lock) -> str:
         """Where it stands in the queue of that lock, and who has the lock."""
-        if (socket, side) not in self._queues:
-            self._queues[socket, side] = Queue(self._world, socket, side)
-        queue = self._queues[socket, side]
-        place = queue.places.get(goroutine)
-        said = f"place {place} of {len(queue.places)}, " if place else ""
-        if not queue.is_taken:
+        places = self._places_in(lock)
+        place = places.get(goroutine)
+        said = f"place {place} of {len(places)}, " if place else ""
+        if lock not in self._taken:
+            socket, _ = lock
             owed = "".join(f"; goroutine {number} owes a release there" for number in self._owing.get(socket, ()))
-            return f"{said}nobody has that lock{owed}" + ("; the socket is closed" if queue.word.closed else "")
-        taking = queue.taking
+            return f"{said}nobody has that lock{owed}" + (
+                "; the socket is closed" if self._words[socket].closed else ""
+            )
+        taking = self._takings.get(lock)
         if taking is None:
             return f"{said}the lock is taken"
         return f"{said}goroutine {taking.argument('g')} has the lock since step {taking.number}"
@@ -114,7 +105,9 @@ def goroutines_table(world: World, numbers: Optional[Iterable[int]] = None, is_a
     waits = Waits(world, statuses)
     rows = [_row(number, statuses[number], waits.of(number)) for number in shown]
     if world.recording.lines:
-        rows = [row if statuses[row.values["goroutine"]] in QUIET else _with_line(world, row) for row in rows]
+        busy = [number for number in shown if statuses[number] not in QUIET]
+        steps = last_steps(world.recording, world.position, busy)
+        rows = [_with_line(world, row, steps.get(row.values["goroutine"], 0)) for row in rows]
     left = len(statuses) - len(shown)
     return Table("goroutines", rows, f"{left} idle or gone: info goroutines all" if left else "")
 
@@ -124,9 +117,8 @@ def _row(number: int, status: str, why: str) -> Row:
     return Row(values, f"gor {number:<4} {status:<16} {why}".rstrip())
 
 
-def _with_line(world: World, row: Row) -> Row:
+def _with_line(world: World, row: Row, step: int) -> Row:
     """The row with where the program stands: its line, since which step, and where the goroutine was started."""
-    step = world.recording.last_step_of(row.values["goroutine"], world.position)
     stack = world.recording.lines.of(step)
     if not stack.calls:
         return row

@@ -1,17 +1,20 @@
-"""Who waits for a lock, and who has it: the same, however many wait, by as many questions; and by the recording's steps from
-the end as by all of them."""
+"""Who waits for a lock, and who has it: the same, however many wait, by as many questions and by one search of the recording's
+text; and by its steps from the end as by all of them."""
 
 import io
+import json
 import random
 import tempfile
 import unittest
 from collections import Counter
 from pathlib import Path
-from typing import Iterator
+from typing import Any, Iterator
+from unittest import mock
 
 from netrev_fuzz.companion import visit
 from nrdb.answers import ANSWERS
-from nrdb.holders import holders_of, taken_by
+from nrdb.backwards import OF_A_GOROUTINE, last_steps, takings
+from nrdb.holders import holders_of
 from nrdb.interrupts import Interrupts
 from nrdb.output import JsonPrinter
 from nrdb.recording import Recording
@@ -22,14 +25,20 @@ from nrdb.world import World
 from .modelled import Modelled, recording_at
 
 
-def waiters(count: int) -> str:
-    """A recording in which so many wait for the read lock of socket 0, a few for the write lock, and some are done."""
-    steps = ['["spawn"]'] * (count + 3) + ['["sockopen",1,1]', '["rwlock",0,0,"r"]', '["rwlock",1,0,"w"]']
+def waiters(count: int, sockets: int = 1) -> str:
+    """A recording in which so many wait for the read lock of each socket, a few for the write lock of socket 0, and some are
+    done. Then the clock ticks, a hundred times for each who waits."""
+    steps = ['["spawn"]'] * (count * sockets + 3) + ['["sockopen",1,1]'] * sockets
+    steps += [f'["rwlock",0,{socket},"r"]' for socket in range(sockets)] + ['["rwlock",1,0,"w"]']
     steps += [
-        step for number in range(4, count + 4) for step in (f'["rwlock",{number},0,"r"]', f'["acquire",{number}]')
+        step
+        for number in range(count * sockets)
+        for step in (f'["rwlock",{number + 4},{number % sockets},"r"]', f'["acquire",{number + 4}]')
     ]
     steps += ['["rwlock",2,0,"w"]', '["acquire",2]', '["rwunlock",1,0,"w"]', '["release",1]', '["acquire",2]']
-    return "\n".join(['{"netrev":1,"gor":100,"sock":1,"desc":1,"buf":1}', *steps]) + "\n"
+    steps += [f'["tick",{time}]' for time in range(1, 100 * count * sockets)]
+    header = '{"netrev":1,"gor":%d,"sock":%d,"desc":1,"buf":1}' % (count * sockets + 4, sockets)
+    return "\n".join([header, *steps]) + "\n"
 
 
 class Asked(unittest.TestCase):
@@ -72,30 +81,94 @@ class Asked(unittest.TestCase):
         self.assertEqual(few, many)
         self.assertIn("dump rq 0", many)
 
+    def searched(self, count: int, sockets: int, with_lines: bool) -> tuple[int, int, int]:
+        """Of `info goroutines` where so many wait at each of so many sockets: how many questions are asked beside the statuses,
+        how many searches of the text are begun, and how many pieces of text are searched."""
+        asked, begun = Counter[str](), mock.Mock()
+        text = waiters(count, sockets)
+        if with_lines:
+            steps = text.count("\n") - 1
+            call = {"call": 1, "function": "main.main", "file": "main.go", "line": 3, "of": "program"}
+            lines: list[Any] = [{"where": 1, "steps": steps}, call, {"stack": 1, "calls": [1]}]
+            lines.append({"step": 1, "stacks": [1] * steps})
+            (self.folder / "recording.where").write_text("\n".join(map(json.dumps, lines)))
+        session, out = self.session(text, asked)
+        asked.clear()
+        searched, pieces = Recording.found_back, mock.Mock()
 
-class Taken(unittest.TestCase):
+        class Pieces:
+            """A pattern that counts how often it is searched for."""
+
+            def __init__(self, spelled: Any):
+                self.spelled = spelled
+
+            def finditer(self, *words: Any) -> Any:
+                pieces()
+                return self.spelled.finditer(*words)
+
+        def counted(recording: Recording, spelled: Any, until: int) -> Iterator[Any]:
+            begun()
+            return searched(recording, Pieces(spelled), until)  # type: ignore[arg-type]
+
+        with mock.patch.object(Recording, "found_back", counted):
+            session.run("info goroutines")
+        rows = json.loads(out.getvalue().splitlines()[-1])["rows"]
+        self.assertEqual(len(rows), count * sockets + 1)
+        self.assertEqual({"at" in row for row in rows}, {with_lines})
+        questions = sum(times for line, times in asked.items() if not line.startswith("print gor "))
+        return questions, begun.call_count, pieces.call_count
+
+    def test_the_text_is_searched_once_however_many_wait_for_however_many_locks(self) -> None:
+        for with_lines in (False, True):
+            with self.subTest(with_lines=with_lines):
+                few, many = (self.searched(count, 4, with_lines) for count in (2, 12))
+                self.assertEqual(few[:2], many[:2])
+                self.assertLessEqual(many[2], few[2] + 2 * 3)  # a text of twice the length has one piece more
+                one, sixteen = (self.searched(3, sockets, with_lines) for sockets in (1, 16))
+                self.assertEqual((one[1], sixteen[1]), (1 + with_lines, 1 + with_lines))
+                self.assertLessEqual(sixteen[0] - one[0], 15 * 2)  # each socket's lock word, and its queue
+
+
+class Backwards(unittest.TestCase):
     def worlds(self) -> Iterator[World]:
-        """Recordings at positions here and there, which may be spelled with blanks."""
+        """Recordings at positions here and there, which may be spelled with blanks or escapes."""
         dice = random.Random("taken")
         for number in range(60):
             text = visit(f"taken-nrdb-{number}").recording
             if number % 3 == 0:
                 text = text.replace(b",", b" ,\t").replace(b"\n", b"\n \n")
+            if number % 3 == 1:
+                text = text.replace(b'"rwlock"', b'"\\u0072wlock"')
             recording = Recording(text)
             for position in {recording.length, *(dice.randint(0, recording.length) for _ in range(6))}:
                 yield World(Modelled.__new__(Modelled), recording, position)
 
-    def test_from_the_end_as_from_the_beginning(self) -> None:
+    def test_takings_are_those_of_all_steps(self) -> None:
         met: Counter[bool] = Counter()
         for world in self.worlds():
+            right = {}
             for socket in range(4):
-                holders = holders_of(world, socket)
+                held = holders_of(world, socket).held
                 for side in "rw":
-                    right = [held.step for held in holders.held if held.side == [side]][-1:]
-                    taking = taken_by(world, socket, side)
-                    if right:  # (a `decref` of somebody who has a lock alone takes that for what it gives up)
-                        self.assertEqual([taking], right, (world.position, socket, side))
-                    met[bool(right)] += 1
+                    found = [one.step for one in held if one.side == [side]][-1:]
+                    if found:  # (a `decref` of somebody who has a lock alone takes that for what it gives up)
+                        right[socket, side] = found[0]
+                    met[bool(found)] += 1
+            self.assertEqual(takings(world.recording, world.position, list(right)), right, world.position)
+            for lock in right:
+                self.assertEqual(takings(world.recording, world.position, [lock]), {lock: right[lock]})
+        self.assertGreater(min(met.values()), 50, met)
+
+    def test_last_steps_are_those_of_all_steps(self) -> None:
+        met: Counter[bool] = Counter()
+        for world in self.worlds():
+            right = dict.fromkeys(range(5), 0)
+            for number in range(1, world.position + 1):
+                step = world.recording.step(number)
+                if step.kind in OF_A_GOROUTINE and step.argument("g") in right:
+                    right[step.argument("g")] = number
+            self.assertEqual(last_steps(world.recording, world.position, range(5)), right)
+            met.update(number > 0 for number in right.values())
         self.assertGreater(min(met.values()), 50, met)
 
 
