@@ -2,14 +2,11 @@
 it tells up to where it ends has to be right (views.py).
 
 nrdb runs in this process, with netrevs of its own. What happens to it happens at random points of its conversations: where
-lines are sent, and where one is waited for. The signals are real ones."""
+lines are sent, and where one is waited for. The signals are real ones, and a slow netrev is one that is stopped for a while."""
 
 import io
 import json
-import os
 import random
-import signal
-import time
 from collections import Counter
 from pathlib import Path
 from typing import Optional, Sequence
@@ -22,7 +19,7 @@ from netrev_model.session import recording_of
 from netrev_model.writing import write_plain
 from nrdb.answers import ANSWERS
 from nrdb.interrupts import GivenUp, Interrupts
-from nrdb.netrev import Ended, Own
+from nrdb.netrev import Ended
 from nrdb.output import JsonPrinter
 from nrdb.recording import Recording
 from nrdb.scout import Scout
@@ -31,10 +28,20 @@ from nrdb.session import Session
 from .cases import Case
 from .counts import Met
 from .randomsteps import Author
+from .slow import Slow, passed_over, pressed
 from .views import Judge
 
-PAUSE = 0.002  # seconds
-HAPPENS = {"ctrl-c": 8, "slow ctrl-c": 3, "slow": 1, "ctrl-c twice": 1, "killed": 1}
+# what may happen at a point, how often in comparison, and how often Ctrl-C is pressed then
+HAPPENS = {
+    "ctrl-c": 8,
+    "slow ctrl-c": 3,
+    "slow": 1,
+    "ctrl-c twice": 1,
+    "slow ctrl-c twice": 1,
+    "killed": 1,
+    "slow killed": 1,
+}
+PRESSED = {"ctrl-c": 1, "slow ctrl-c": 1, "ctrl-c twice": 2, "slow ctrl-c twice": 2}
 VALUES = ("*", "idle", "parked *", "nil", "wait", "g*", "ready", "0", "8", "*read lock*", "no deadline", "1")
 
 
@@ -77,39 +84,18 @@ class Weather:
         self.dice, self.chance = dice, chance
         self.met: Counter[str] = Counter()
 
-    def blow(self, netrev: "Disturbed") -> None:
+    def blow(self, netrev: Slow) -> None:
         """A point has come."""
-        if self.dice.random() < self.chance:
-            (name,) = self.dice.choices(list(HAPPENS), list(HAPPENS.values()))
-            self.met[name] += 1
-            if name.startswith("slow"):
-                time.sleep(PAUSE)
-            if name == "killed":
-                netrev.kill()
-            if "ctrl-c" in name:
-                os.kill(os.getpid(), signal.SIGINT)
-            if name.endswith("twice"):
-                os.kill(os.getpid(), signal.SIGINT)
-
-
-class Disturbed(Own):
-    """A netrev to which something happens."""
-
-    def __init__(self, program: str, path: str, interrupts: Interrupts, weather: Weather) -> None:
-        super().__init__(program, path, interrupts)
-        self._weather = weather
-
-    def kill(self) -> None:
-        """Ends the process, and nothing else."""
-        self._process.kill()
-
-    def _send(self, text: bytes) -> None:
-        self._weather.blow(self)
-        super()._send(text)
-
-    def _next(self, asked: str) -> Optional[str]:
-        self._weather.blow(self)
-        return super()._next(asked)
+        if self.dice.random() >= self.chance:
+            return
+        (name,) = self.dice.choices(list(HAPPENS), list(HAPPENS.values()))
+        self.met[name] += 1
+        happening = [netrev.kill] if name.endswith("killed") else [pressed] * PRESSED.get(name, 0)
+        if name.startswith("slow"):
+            netrev.while_stopped(*happening)
+            return
+        for happens in happening:
+            happens()
 
 
 def played(program: str, case: Case, folder: Path, met: Met) -> str:
@@ -121,7 +107,8 @@ def played(program: str, case: Case, folder: Path, met: Met) -> str:
     weather = Weather(dice, dice.choice([0, 0.01, 0.03, 0.1]))
     path = folder / "recording.jsonl"
     path.write_bytes(case.recording)
-    wrong = followed(program, str(path), case.script.decode().split("\n"), weather, judge, met.nrdb)
+    with passed_over():
+        wrong = followed(program, str(path), case.script.decode().split("\n"), weather, judge, met.nrdb)
     met.nrdb.update(weather.met)
     return wrong
 
@@ -130,8 +117,8 @@ def followed(program: str, path: str, lines: Sequence[str], weather: Weather, ju
     """Runs the lines in a session, and holds each event against what is right."""
     interrupts, out = Interrupts(), io.StringIO()
 
-    def opened() -> Disturbed:
-        return Disturbed(program, path, interrupts, weather)
+    def opened() -> Slow:
+        return Slow(program, path, interrupts, weather.blow)
 
     calm, weather.chance = weather.chance, 0.0
     session = Session(opened(), Recording.read(path), Scout(opened), JsonPrinter(out), interrupts, ANSWERS)

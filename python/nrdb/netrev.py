@@ -61,6 +61,10 @@ class Lines:
         self._silent = None
         return self._whole.popleft().decode("utf-8", "surrogateescape")
 
+    def has_one(self) -> bool:
+        """Whether a line is here already."""
+        return bool(self._whole)
+
     def _read(self) -> bytes:
         with suppress(OSError, ValueError):
             if self._silent and not select.select([self._descriptor], [], [], SILENCE)[0]:

@@ -1,0 +1,75 @@
+"""A netrev that takes its time, while something happens to whoever waits for it."""
+
+import signal
+import threading
+import time
+from contextlib import contextmanager
+from typing import Callable, Iterator, Optional
+
+from nrdb.interrupts import Interrupts
+from nrdb.netrev import Own
+
+MOMENT = 0.002  # seconds
+
+
+class Slow(Own):
+    """A netrev that can be stopped, for as long as something happens. `happens` is called before lines are sent, and before each
+    line that is read."""
+
+    def __init__(self, program: str, path: str, interrupts: Interrupts, happens: Callable[["Slow"], None]):
+        super().__init__(program, path, interrupts)
+        self._happens = happens
+        self._waits = False  # whether a reply is about to be waited for, and isn't here yet
+        self._meanwhile: Optional[threading.Thread] = None
+
+    def _send(self, text: bytes) -> None:
+        self._waits = bool(text)
+        self._happens(self)
+        super()._send(text)
+
+    def _next(self, asked: str) -> Optional[str]:
+        self._waits = not self._lines.has_one()
+        self._happens(self)
+        return super()._next(asked)
+
+    def while_stopped(self, *happening: Callable[[], None]) -> None:
+        """Stops netrev, lets these things happen one after the other, and lets it go on. Where nothing is waited for, or
+        it is stopped already, they happen at once."""
+        if not self._waits or (self._meanwhile and self._meanwhile.is_alive()):
+            for happens in happening:
+                happens()
+            return
+        self._process.send_signal(signal.SIGSTOP)
+        self._meanwhile = threading.Thread(target=self._go_on_behind, args=happening)
+        self._meanwhile.start()
+
+    def _go_on_behind(self, *happening: Callable[[], None]) -> None:
+        for happens in happening:
+            time.sleep(MOMENT)
+            happens()
+        time.sleep(MOMENT)
+        self._process.send_signal(signal.SIGCONT)
+
+    def kill(self) -> None:
+        """Ends the process, and nothing else."""
+        self._process.kill()
+
+    def close(self) -> Optional[int]:
+        if self._meanwhile:
+            self._meanwhile.join()
+        return super().close()
+
+
+def pressed() -> None:
+    """Ctrl-C, as the main thread has it."""
+    signal.pthread_kill(threading.main_thread().ident or 0, signal.SIGINT)
+
+
+@contextmanager
+def passed_over() -> Iterator[None]:
+    """Within, a Ctrl-C that comes while no session holds it back, since one has just ended, does nothing."""
+    before = signal.signal(signal.SIGINT, lambda *_: None)
+    try:
+        yield
+    finally:
+        signal.signal(signal.SIGINT, before)

@@ -1,0 +1,39 @@
+"""Ctrl-C, once and twice, while a netrev that is slow is waited for, and one that is killed meanwhile: at every point of a
+conversation with the built program, that of the session and that of the scout."""
+
+import unittest
+
+from netrev_fuzz.slow import Slow, passed_over, pressed
+from tests.disturbed import EXAMPLE, Disturbances, Weather
+from tests.program.sharing import NETREV
+
+COMMANDS = ("history lock 0 all", "until gor 0 *", "reverse-continue", "goto 3")
+
+
+def slow_and_interrupted(_weather: Weather[Slow], netrev: Slow) -> None:
+    """Ctrl-C comes while netrev takes its time."""
+    netrev.while_stopped(pressed)
+
+
+def slow_and_given_up(_weather: Weather[Slow], netrev: Slow) -> None:
+    """It comes twice."""
+    netrev.while_stopped(pressed, pressed)
+
+
+def slow_and_killed(_weather: Weather[Slow], netrev: Slow) -> None:
+    """netrev takes its time, and then it is gone."""
+    netrev.while_stopped(netrev.kill)
+
+
+class EveryPoint(Disturbances[Slow]):
+    def opened(self, weather: Weather[Slow]) -> Slow:
+        return Slow(NETREV, str(EXAMPLE), weather.interrupts, weather.happens)
+
+    def test_a_slow_netrev_is_told_right(self) -> None:
+        with passed_over():
+            given_up = self.check(COMMANDS, (slow_and_interrupted, slow_and_given_up, slow_and_killed))
+        self.assertGreater(given_up, 70)
+
+
+if __name__ == "__main__":
+    unittest.main()
