@@ -18,6 +18,7 @@ from netrev_go.where import own_line, write_where
 from nrdb.where import Lines
 
 from .golog import STACKS, binary, from_text, packed
+from .test_strange import OBEYED, unseen
 
 REAL = pathlib.Path(__file__).resolve().parents[2] / "examples/real"
 NAMES = ("half", "hijacked", "hung", "leak", "lost", "past")
@@ -195,6 +196,16 @@ class Told(unittest.TestCase):
             told_of(1, "parked 0 r", 9, calls),
             "  m\\u202e.go:3: main.\\x1b[2Jf waits to read (goroutine 1, since step 9)",
         )
+
+    def test_a_logs_name_is_not_obeyed_by_a_terminal(self) -> None:
+        for text in OBEYED:
+            with tempfile.TemporaryDirectory() as folder:
+                log = pathlib.Path(folder, f"log{text}.1")
+                log.write_bytes(b"nothing")
+                outcome = convert(log, log.with_suffix(".jsonl"), None, Wish())
+            self.assertFalse(outcome.taken)
+            self.assertEqual(unseen("\n".join(outcome.lines)), [])
+            self.assertIn("too short for a log", outcome.lines[0])
 
     def test_suspects_are_told_where_nrdb_has_them(self) -> None:
         for printed, told in (

@@ -12,6 +12,8 @@ def callers():
     yield Function("callers: two reset in the middle of replies", play_reset)
     yield Function("callers: silent, slow and resetting ones at 64 fronts", play_crowd)
     yield Function("callers: one for whom there is no descriptor", play_no_descriptor)
+    yield Function("callers: whose only port is somebody else's", play_only_port_taken)
+    yield Function("callers: who join late, behind the searches of others", play_late)
     yield Function("callers: gone before they are answered, with lines to read", play_gone_with_lines)
     yield Function("callers: a web page's request, whose body is run", play_request_of_a_page)
 
@@ -72,6 +74,40 @@ def answered(port):
         except ConnectionError:
             return None
     return None
+
+
+def play_only_port_taken(_folder):
+    """What docs/SERVING.md says of a port that is taken: netrev ends at once, and tells no reason."""
+    taken = socket.socket()
+
+    def take(first):
+        taken.bind((LOOPBACK, first))
+        taken.listen()
+
+    with taken, Server(FIRST, before=take) as server:
+        server.expect_end(3, "placed 0\n")
+
+
+def play_late(folder):
+    """A front whose first caller comes when another has searched for long: it goes through all of that first, and answers what
+    is right then; and the other has its replies meanwhile."""
+    turns = 100
+    with Server(file_of("large", LARGE.encode())(folder).decode(), fronts=2) as server:
+        first = server.call(0)
+        replies = first.makefile("r", encoding="ascii", newline="\n")
+        first.sendall(b"watch in 0\n" + b"continue\nreverse-continue\n" * turns + b"checkpoint\n")
+        came = [replies.readline() for _ in range(2 * turns + 2)]
+        expect("the replies", ["at 0 start\n", "checkpoint 1 at 0\n"], came[-2:])
+        late = server.call(1)
+        late.sendall(b"info position\ninfo breakpoints\nquit\n")
+        first.sendall(b"stepi\nquit\n")
+        expect("the replies meanwhile", ["at 1\n", "bye\n"], list(replies))
+        first.close()
+        came = read_to_end(late)
+        places = [f"at {place} of {LAST} forward" for place in (0, 1)]
+        expect("whether the late one's first reply is right", True, came[0] in places)
+        expect("its other replies", ["marks 1", "1 watch in 0", "bye"], came[1:])
+        server.expect_end(0, f"placed {2 * turns + 3}\n")
 
 
 def play_gone_with_lines(_folder):

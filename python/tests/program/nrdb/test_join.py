@@ -5,6 +5,7 @@ import subprocess
 import unittest
 from typing import Any
 
+from nrdb.cli import SILENT
 from tests.program.sharing import Server
 
 from .support import EXAMPLES, NRDB, PATIENCE, nrdb
@@ -71,9 +72,9 @@ def replies(told):
     return [line for event in told if event["event"] == "reply" for line in event["reply"]]
 
 
-def serving(fronts=1):
-    """A server of so many fronts that are there, and have one connection left each."""
-    server = Server(FIRST, fronts=fronts, connections=2)
+def serving(fronts=1, left=1):
+    """A server of so many fronts that are there, and have so many connections left each."""
+    server = Server(FIRST, fronts=fronts, connections=1 + left)
     for front in range(fronts):
         server.call(front).close()
     return server
@@ -118,6 +119,20 @@ class Join(unittest.TestCase):
             other = EXAMPLES / "lost-wakeup.jsonl"
             said = nrdb("--batch", "--join", f"127.0.0.1:{server.port}", other, status=3)
             self.assertEqual(said, "| the recording has 22 steps, and that of the session 10\n")
+
+    def test_a_front_in_use_is_waited_for_aloud(self):
+        with serving(left=2) as server:
+            other = Other(server.call(0))
+            self.assertEqual(other.ask("stepi 4"), "at 4")
+            words = [NRDB, "--batch", "--join", f"127.0.0.1:{server.port}", "-ex", "print lock 0", str(FIRST)]
+            with subprocess.Popen(words, stdout=subprocess.PIPE, text=True) as waiting:
+                assert waiting.stdout
+                self.assertEqual(waiting.stdout.readline(), f"| {SILENT}\n")
+                other.leaves()
+                said, _ = waiting.communicate(timeout=PATIENCE)
+            self.assertEqual(said.splitlines()[0], "at 4 of 10 forward")
+            self.assertIn("lock 0 = 8   | 1 reference\n", said)
+            self.assertEqual(waiting.returncode, 0)
 
     def test_nobody_serves(self):
         with serving() as server:

@@ -1,0 +1,106 @@
+"""Whatever a terminal obeys, in each place of a recording that netrev refuses, of its header, and of the lines of source beside
+a recording: nrdb and the timeline's page write it out."""
+
+import json
+import tempfile
+import unittest
+from pathlib import Path
+from typing import Any, Iterator
+
+from tests.test_strange import OBEYED, unseen
+
+from .support import EXAMPLES, nrdb
+
+FIRST = EXAMPLES / "first.jsonl"
+HEADER = '{"netrev":2,"gor":2,"sock":1,"desc":1,"buf":16}'
+SHOWN = (
+    "list",
+    "where",
+    "stepi",
+    "info goroutines all",
+    "info suspects",
+    "info holders 0",
+    "history lock 0",
+    "print gor 0",
+)
+FORMS = ((), ("--json",))
+
+
+def spellings(text: str) -> Iterator[str]:
+    """A text within a JSON string: as it is, and as an escape."""
+    yield text
+    yield json.dumps(text)[1:-1]
+
+
+def refused_with(text: str) -> Iterator[bytes]:
+    """Recordings that are refused, with this text in each place of the header and of a step."""
+    for spelled in spellings(text):
+        for header in (
+            f'{{"netrev":1,"{spelled}":4,"sock":2,"desc":2,"buf":16}}',
+            f'{{"netrev":"{spelled}","gor":4,"sock":2,"desc":2,"buf":16}}',
+            f'{{"netrev":1,"gor":"{spelled}","sock":2,"desc":2,"buf":16}}',
+            f'["{spelled}"]',
+            f"{spelled}",
+        ):
+            yield f"{header}\n".encode()
+        for step in (
+            f'["{spelled}"]',
+            f'["spawn","{spelled}"]',
+            f'["spawn",["{spelled}",1]]',
+            f'["rwlock",0,0,"{spelled}","yes"]',
+            f'["arrive",0,"{spelled}","done"]',
+            f'{{"{spelled}":1}}',
+            f'["tick",1,"done"],{spelled}',
+        ):
+            yield f"{HEADER}\n{step}\n".encode()
+
+
+def where_with(text: str, steps: int) -> str:
+    """Lines of source with this text in each of their places."""
+    call: dict[str, Any] = {"call": 1, "function": f"main.{text}f", "file": f"m{text}.go", "line": 3, "of": "program"}
+    library = call | {"call": 2, "of": f"li{text}brary"}
+    lines: list[Any] = [{"where": 1, "steps": steps}, call, library, {"stack": 1, "calls": [1, 2], "made": 1}]
+    return "\n".join(map(json.dumps, [*lines, {"step": 1, "stacks": [1] * steps}])) + "\n"
+
+
+class Obeyed(unittest.TestCase):
+    def setUp(self) -> None:
+        folder = tempfile.TemporaryDirectory()
+        self.addCleanup(folder.cleanup)
+        self.file = Path(folder.name) / "x.jsonl"
+
+    def test_recordings_that_are_refused(self) -> None:
+        for text in OBEYED:
+            for data in refused_with(text):
+                self.file.write_bytes(data)
+                with self.subTest(data=data):
+                    said = nrdb("--batch", self.file, status=1)
+                    self.assertRegex(said, r"\A(line|step) \d+: fault 10\d")
+                    self.assertEqual(unseen(said), [])
+
+    def test_lines_of_source(self) -> None:
+        self.file.write_bytes(FIRST.read_bytes())
+        asked = [word for line in SHOWN for word in ("-ex", line)]
+        for text in OBEYED:
+            self.file.with_suffix(".where").write_text(where_with(text, 10))
+            page = self.file.with_suffix(".html")
+            with self.subTest(text):
+                for form in FORMS:
+                    said = nrdb("--batch", *form, *asked, self.file)
+                    self.assertIn("main.", said)
+                    self.assertEqual(unseen(said), [])
+                nrdb("--timeline", page, self.file)
+                self.assertEqual(unseen(page.read_text().replace("\t", "")), [])
+
+    def test_names_of_files(self) -> None:
+        for text in OBEYED:
+            file = self.file.with_name(f"a{text}.jsonl")
+            file.write_bytes(b"nothing\n")
+            for named, status in ((file, 1), (file.with_suffix(".none"), 3)):
+                self.assertEqual(unseen(nrdb("--batch", named, status=status)), [])
+            said = nrdb("--batch", "-ex", f"source {file}", "-x", FIRST, FIRST)
+            self.assertEqual(unseen(said), [])
+
+
+if __name__ == "__main__":
+    unittest.main()
