@@ -5,24 +5,14 @@ from __future__ import annotations
 import os
 import pathlib
 import re
-import shutil
 import subprocess
 import sys
 
-BUILT = pathlib.Path(__file__).resolve().parents[2] / "crates/netrev/out/netrev"
 PACKAGES = pathlib.Path(__file__).resolve().parents[1]
 ASKED = "info suspects"
 PATIENCE = 60  # seconds
 AT_REST = ("idle", "gone", "absent")
 PRINTED = re.compile(r"(gor|lock) (\d+) = (.*)")
-
-
-def netrev_program() -> str | None:
-    """The environment's NETREV, else the one that was built here, else the one that is installed."""
-    named = os.environ.get("NETREV")
-    if named:
-        return named
-    return str(BUILT) if BUILT.exists() else shutil.which("netrev")
 
 
 def check(netrev: str, recording: pathlib.Path) -> tuple[bool, str]:

@@ -4,7 +4,8 @@ from __future__ import annotations
 
 import tempfile
 
-from .asking import netrev_program
+from netrev_model.built import netrev_program
+
 from .running import MOST_POINTS, logs_folder
 from .toolchain import HOW_TO_INSTALL, TRIED, Trouble, cache, find_go, fit
 

@@ -20,7 +20,9 @@ import sys
 import time
 from dataclasses import asdict, dataclass
 
-from .asking import check, netrev_program
+from netrev_model.built import netrev_program
+
+from .asking import check
 from .compare import differing
 from .logfile import NoLog, read_log
 from .making import Nothing, Unconvertible, make, write, write_words

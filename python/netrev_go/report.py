@@ -7,9 +7,10 @@ import pathlib
 import shlex
 import shutil
 
+from netrev_model.built import netrev_program
 from netrev_model.plain import plain
 
-from .asking import at_the_end, check, hanging, netrev_program, never_closed, suspects
+from .asking import at_the_end, check, hanging, never_closed, suspects
 from .lines import Call, Calls
 from .making import Recording
 from .where import own_line

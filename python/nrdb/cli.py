@@ -4,12 +4,11 @@ file, the program or the connection failed; and 4 where --suspects prints some."
 import argparse
 import io
 import os
-import shutil
 import sys
 from contextlib import closing
-from pathlib import Path
 from typing import Any, NoReturn, Optional, Sequence
 
+from netrev_model.built import BUILT, netrev_program
 from netrev_model.plain import plain
 
 from .answers import ANSWERS
@@ -25,9 +24,6 @@ from .suspects import suspects_table
 from .terminal import Terminal
 from .timeline import write_timeline
 
-HERE = Path(__file__).resolve().parents
-BUILT = HERE[2] / "crates/netrev/out/netrev"
-INSTALLED = HERE[3] / "bin/netrev"  # by `make install`, which puts this module into lib/netrev/nrdb
 DONE, REFUSED, USAGE, FAILED, SUSPECTS = range(5)
 SILENT = "no reply yet: somebody else is at this front, or netrev goes through what all have searched; nrdb waits"
 
@@ -37,13 +33,6 @@ class InOrder(argparse.Action):
 
     def __call__(self, _parser: Any, space: argparse.Namespace, value: Any, _option: Optional[str] = None) -> None:
         space.lines = [*(space.lines or []), (self.const, value)]
-
-
-def program() -> str:
-    """netrev's program where none is named: the one that is built here, one that is installed beside nrdb, or another."""
-    beside = Path(sys.argv[0]).resolve().with_name("netrev")
-    there = [str(path) for path in (BUILT, beside, INSTALLED) if path.is_file()]
-    return os.environ.get("NETREV") or next(iter(there), None) or shutil.which("netrev") or str(BUILT)
 
 
 class Words(argparse.ArgumentParser):
@@ -71,7 +60,7 @@ def parser() -> Words:
     )
     made.add_argument("--timeline", metavar="OUT.html", help="writes the timeline, behind -x and -ex, and ends")
     made.add_argument("--join", metavar="HOST:PORT", help="joins a session that `netrev serve` has")
-    made.add_argument("--netrev", default=program(), metavar="PROGRAM", help="netrev's program")
+    made.add_argument("--netrev", default=netrev_program() or str(BUILT), metavar="PROGRAM", help="netrev's program")
     return made
 
 

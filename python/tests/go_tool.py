@@ -12,8 +12,8 @@ import time
 import unittest
 from typing import Callable
 
-from netrev_go.asking import netrev_program
 from netrev_go.toolchain import SOURCES, find_go, points_program
+from netrev_model.built import netrev_program
 
 ROOT = pathlib.Path(__file__).resolve().parents[2]
 SAMPLES = ROOT / "tools/go/samples"

@@ -1,27 +1,96 @@
-"""What `make install` leaves: netrev, nrdb that finds it, and the man page."""
+"""What `make install` and `pip install` leave: the files of the packages as they are here, nrdb and netrev-go that find netrev,
+and the man page."""
 
 import os
+import shutil
 import subprocess
+import sys
 import tempfile
 import unittest
 from pathlib import Path
+from typing import Optional
 
 from .support import EXAMPLES, NETREV, PATIENCE, ROOT, nrdb
 
+ENVIRONMENT = {name: value for name, value in os.environ.items() if name not in ("NETREV", "MAKEFLAGS", "PYTHONPATH")}
+ASKED = ("--batch", "-ex", "continue", "-ex", "info goroutines", EXAMPLES / "first.jsonl")
+PROJECT = ("pyproject.toml", "python", "LICENSE", "README.md")
+INSTALLED = ("nrdb", "netrev_model", "netrev_go")
+
+
+def printed(*words: object, **settings: str) -> str:
+    """What a program prints that ends with status 0, called elsewhere."""
+    run = subprocess.run(
+        [str(word) for word in words],
+        env=ENVIRONMENT | settings,
+        cwd="/",
+        capture_output=True,
+        text=True,
+        timeout=PATIENCE,
+    )
+    assert run.returncode == 0, (words, run.stdout, run.stderr)
+    return run.stdout
+
+
+def builder() -> Optional[str]:
+    """A Python that can build packages without asking anybody for anything."""
+    for python in (sys.executable, "/usr/bin/python3"):
+        can = [python, "-c", "import setuptools, wheel, pip"]
+        if shutil.which(python) and subprocess.run(can, capture_output=True, check=False).returncode == 0:
+            return python
+    return None
+
+
+def contents(folder: Path) -> dict[str, bytes]:
+    """The files of the packages in a folder."""
+    found = (path for name in INSTALLED for path in (folder / name).rglob("*"))
+    return {
+        str(path.relative_to(folder)): path.read_bytes()
+        for path in found
+        if path.is_file() and path.parent.name != "__pycache__"
+    }
+
 
 class Install(unittest.TestCase):
-    def test_what_is_installed_runs_by_itself(self):
-        environment = {name: value for name, value in os.environ.items() if name not in ("NETREV", "MAKEFLAGS")}
-        with tempfile.TemporaryDirectory() as folder:
-            words = ["make", "-C", str(ROOT), "-o", "netrev", "install", f"NETREV={NETREV}", f"PREFIX={folder}"]
-            subprocess.run(words, env=environment, stdout=subprocess.DEVNULL, timeout=PATIENCE, check=True)
-            words = [f"{folder}/bin/nrdb", "--batch", "-ex", "continue", str(EXAMPLES / "first.jsonl")]
-            ended = subprocess.run(
-                words, env=environment, cwd=folder, capture_output=True, timeout=PATIENCE, check=True
+    def setUp(self) -> None:
+        folder = tempfile.TemporaryDirectory()
+        self.addCleanup(folder.cleanup)
+        self.folder = Path(folder.name)
+
+    def test_what_make_installs_runs_by_itself(self) -> None:
+        for prefix, settings in ((self.folder / "p", ()), (self.folder / "d/usr", (f"DESTDIR={self.folder}/d",))):
+            given = "/usr" if settings else prefix
+            printed(
+                "make", "-s", "-C", ROOT, "-o", "netrev", "install", f"PROGRAM={NETREV}", f"PREFIX={given}", *settings
             )
-            page = (Path(folder) / "share/man/man1/netrev.1").read_text()
-        self.assertEqual(ended.stdout.decode(), nrdb("--batch", "-ex", "continue", EXAMPLES / "first.jsonl"))
-        self.assertTrue(page.startswith(".TH NETREV 1"))
+            self.assertEqual(contents(prefix / "lib/netrev"), contents(ROOT / "python"))
+            self.assertEqual(printed(prefix / "bin/nrdb", *ASKED), nrdb(*ASKED))
+            self.assertIn("records where NETREV_LOG=PATH is set", printed(prefix / "bin/netrev-go", "--help"))
+            found = "import sys; from netrev_model import built; print(built.netrev_program())"
+            self.assertEqual(
+                printed("python3", "-c", found, PYTHONPATH=str(prefix / "lib/netrev"), PATH=os.defpath).strip(),
+                str((prefix / "bin/netrev").resolve()),
+            )
+            self.assertTrue((prefix / "share/man/man1/netrev.1").read_text().startswith(".TH NETREV 1"))
+
+    def test_pip_installs_the_same(self) -> None:
+        python = builder()
+        if python is None:
+            self.skipTest("no Python here has pip, setuptools and wheel")
+        project, there = self.folder / "project", self.folder / "there"
+        project.mkdir()
+        for name in PROJECT:  # (setuptools leaves things beside what it builds)
+            if (ROOT / name).is_dir():
+                shutil.copytree(ROOT / name, project / name)
+            else:
+                shutil.copy(ROOT / name, project / name)
+        words = ("install", "--quiet", "--no-index", "--no-build-isolation", "--no-deps", "--target", there, project)
+        printed(python, "-m", "pip", *words, PIP_DISABLE_PIP_VERSION_CHECK="1", PIP_ROOT_USER_ACTION="ignore")
+        self.assertEqual(contents(there), contents(ROOT / "python"))
+        self.assertEqual(printed(there / "bin/nrdb", *ASKED, NETREV=NETREV, PYTHONPATH=str(there)), nrdb(*ASKED))
+        self.assertIn(
+            "records where NETREV_LOG=PATH is set", printed(there / "bin/netrev-go", "--help", PYTHONPATH=str(there))
+        )
 
 
 if __name__ == "__main__":
