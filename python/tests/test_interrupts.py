@@ -3,6 +3,9 @@ it would have told, or it ends. It never tells anything else."""
 
 import unittest
 
+from nrdb.interrupts import Interrupts
+from nrdb.netrev import Ended
+
 from .disturbed import EXAMPLE, Disturbances, Weather
 from .modelled import Modelled, recording_at
 
@@ -57,6 +60,22 @@ class EveryPoint(Disturbances[Modelled]):
     def test_what_is_told_is_right_and_so_is_what_comes_then(self) -> None:
         given_up = self.check(COMMANDS, (once, twice, twice_apart, killed, killed_twice))
         self.assertGreater(given_up, 100)
+
+
+class Unread(unittest.TestCase):
+    def test_what_nobody_read_is_not_the_reply_to_another_line(self) -> None:
+        points = 0
+
+        def fails(_netrev: Modelled) -> None:
+            nonlocal points
+            points += 1
+            if points == 3:  # before the second of the replies
+                raise MemoryError
+
+        netrev = Modelled(MODEL, Interrupts(), fails)
+        self.assertRaises(MemoryError, netrev.ask_all, ["info position", "print clock", "print timers"])
+        self.assertRaises(Ended, netrev.ask, "info breakpoints")
+        self.assertTrue(netrev.has_ended)
 
 
 if __name__ == "__main__":

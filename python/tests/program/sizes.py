@@ -7,6 +7,7 @@ isn't as it has to be. It takes 1 GB of memory.
 """
 
 import argparse
+import os
 import socket
 import subprocess
 import sys
@@ -20,6 +21,7 @@ from .sharing import NETREV, PATIENCE, Server, Wrong, expect
 STEPS = 1_000_000
 GOROUTINES, SOCKETS, DESCRIPTORS, BUFFER, PIECE = 4096, 256, 256, 1_048_576, 65_536
 COMMANDS = 1_000_000
+EACH_COPY = 1_024  # steps
 WORKERS = 16
 WAITS = 8 * PATIENCE  # seconds
 HEADER = '{"netrev":%d,"gor":%d,"sock":%d,"desc":%d,"buf":%d}'
@@ -246,6 +248,30 @@ def play_commands(folder: Path) -> None:
         server.expect_end(0, f"placed {COMMANDS}\n")
 
 
+def greatest_memory(words: Sequence[object]) -> int:
+    """The most bytes that netrev held while it ran, and ended well."""
+    with subprocess.Popen([NETREV, *map(str, words)], stdout=subprocess.DEVNULL) as ran:
+        _, status, used = os.wait4(ran.pid, 0)
+        ran.returncode = os.waitstatus_to_exitcode(status)
+    expect("status", 0, ran.returncode)
+    return used.ru_maxrss * 1024
+
+
+def play_copies(folder: Path) -> None:
+    """What docs/RECORDING.md says that a recording takes: the bytes held, once a copy, and some for each step. (The program
+    itself and what lists grow by are in the rest.)"""
+    steps = 100 * EACH_COPY
+    for pieces in (0, BUFFER // PIECE):
+        held = pieces * PIECE
+        lines = [f'["sockopen",{BUFFER},1,["number",0]]', *[f'["arrive",0,"{"ab" * PIECE}","done"]'] * pieces]
+        lines += [f'["tick",{time},"done"]' for time in range(1, steps - pieces)]
+        path = written(folder / f"held{pieces}.jsonl", HEADER % (2, 1, 1, 1, BUFFER), lines)
+        most = held * steps // EACH_COPY * 13 // 10 + 300 * steps + 16 * BUFFER
+        took = greatest_memory(["check", path])
+        if took > most:
+            raise Wrong(f"with {held} bytes held over {steps} steps netrev takes {took} bytes, and {most} are the most")
+
+
 CASES: dict[str, Case] = {
     "check of 1,000,000 steps, a file of 16 MB": play_check,
     "check of a step more": play_one_more,
@@ -253,6 +279,7 @@ CASES: dict[str, Case] = {
     "search over 1,000,000 steps, both ways": play_search,
     "upgrade of 1,000,000 steps": play_upgrade,
     "buffers of 1,048,576 bytes: dumped, read, drained, and back": play_buffer,
+    "memory: what the buffers hold, once a copy": play_copies,
     "crowd of all goroutines, sockets, descriptors and timers, with copies on the way": play_crowd,
     "crowd upgraded": play_upgraded_crowd,
     "workers: 16 over 1,000,000 steps, both ways": play_workers,
