@@ -3,7 +3,6 @@ netrev, and is run by `make real`:  python3 python unittest tests.go_tool"""
 
 import os
 import pathlib
-import re
 import signal
 import subprocess
 import sys
@@ -242,19 +241,47 @@ class Sentences(Tool):
                 (folder / name).symlink_to(path)
         return str(folder)
 
-    def test_another_release_is_named_by_function_and_call(self) -> None:
+    def fit(self, changes: dict[str, dict[str, str]]) -> tuple[int, list[str]]:
+        """What is said of the installed Go with other words in some of its files."""
         go = find_go()
         points = points_program(go, self.folder)
         for name in ("runtime", "internal/poll"):
-            (self.folder / name).mkdir(parents=True)
+            (self.folder / name).mkdir(parents=True, exist_ok=True)
             for path in (go.sources() / name).glob("*.go"):
                 (self.folder / name / path.name).write_bytes(path.read_bytes())
-        changed = self.folder / "runtime/netpoll.go"
-        changed.write_text(re.sub(r"\bgpp\.Swap\(", "gpp.Exchange(", changed.read_text()))
+        for name, words in changes.items():
+            text = (self.folder / name).read_text()
+            for old, new in words.items():
+                self.assertIn(old, text)
+                text = text.replace(old, new)
+            (self.folder / name).write_text(text)
         run = subprocess.run([points, "fit", self.folder], capture_output=True, text=True, check=False)
-        self.assertEqual(run.returncode, 1)
-        unfit = [line for line in run.stdout.splitlines() if line.startswith("unfit")]
+        return run.returncode, run.stdout.splitlines()
+
+    def test_another_release_is_named_by_function_and_call(self) -> None:
+        status, said = self.fit({"runtime/netpoll.go": {"gpp.Swap(": "gpp.Exchange("}})
+        self.assertEqual(status, 1)
+        unfit = [line for line in said if line.startswith("unfit")]
         self.assertEqual(unfit, ["unfit runtime/netpoll.go netpollblock: gpp.Swap(...) stands there 0 times, not 1"])
+
+    def test_rules_that_no_release_was_run_with_say_so(self) -> None:
+        error, ready = "pd.setEventErr(ev.events == _EPOLLERR)", "netpollready(&toRun, pd, mode)"
+        counted = {"atomic.Load(&root.nwait) == 0": "root.nwait.Load() == 0"}
+        for releases, events in (
+            ("1.20", {error: "pd.setEventErr(ev.Events == syscall.EPOLLERR)"}),
+            ("1.21 to 1.25", {error: "pd.setEventErr(ev.Events == syscall.EPOLLERR, tag)"}),
+            ("1.21 to 1.25", {error: "pd.setEventErr(ev.Events == 8, tag)", ready: f"delta += {ready}"}),
+        ):
+            status, said = self.fit({"runtime/netpoll_epoll.go": events, "runtime/sema.go": counted})
+            self.assertEqual(status, 0, said)
+            untried = [line for line in said if "no such release was run" in line]
+            self.assertEqual(
+                [line.partition(",")[0] for line in untried],
+                [
+                    f"fits runtime/netpoll_epoll.go netpoll ({releases}",
+                    "fits runtime/sema.go semrelease1 (1.20 to 1.25",
+                ],
+            )
 
     def test_the_doctor_says_that_all_is_well(self) -> None:
         status, said = self.called("doctor")

@@ -69,7 +69,7 @@ func report(fittings []fitting) int {
 			unfit++
 			fmt.Printf("unfit %s: %s\n", name, f.why)
 		case f.variant.tried:
-			fmt.Printf("fits %s (%s)\n", name, f.variant.releases)
+			fmt.Printf("fits %s (%s; 1.19 was run)\n", name, f.variant.releases)
 		default:
 			fmt.Printf("fits %s (%s, written from knowledge: no such release was run)\n", name, f.variant.releases)
 		}

@@ -18,7 +18,8 @@ const (
 	rename  how = "rename" // the function
 )
 
-// A variant is what a function's edits are in some releases. Those that were never run are marked.
+// A variant is what a function's edits are in some releases. Those that no run release has are marked; of the others 1.19 was
+// run, and no other release.
 type variant struct {
 	releases string
 	tried    bool
@@ -102,11 +103,14 @@ var rules = []rule{
 	{polling, "netpolldeadlineimpl", all(
 		one(replace, "seq != currentSeq", "netrevFired(pd, seq, currentSeq, read, write)"))},
 	{epolling, "netpoll", []variant{
-		{"1.18 to 1.20", true, []edit{
+		{"1.18 and 1.19", true, []edit{
 			one(before, "pd.setEventErr(ev.events == _EPOLLERR)", "netrevEvent(pd, mode, $1)"),
 			one(behind, "netpollready(&toRun, pd, mode)", "netrevEventDone(pd)")}},
 		{"1.20", false, []edit{
 			one(before, "pd.setEventErr(ev.Events == syscall.EPOLLERR)", "netrevEvent(pd, mode, $1)"),
+			one(behind, "netpollready(&toRun, pd, mode)", "netrevEventDone(pd)")}},
+		{"1.21 to 1.25", false, []edit{ // (an event with the tag of an earlier use goes by before, and is no point)
+			one(before, "pd.setEventErr(...)", "netrevEvent(pd, mode, $1)"),
 			one(behind, "netpollready(&toRun, pd, mode)", "netrevEventDone(pd)")}}}},
 	{queueing, "semacquire1", all(
 		edit{replace, "cansemacquire(addr)", 3, []string{
