@@ -8,11 +8,41 @@ from netrev_model.vocabulary import Of
 
 from .backwards import Lock, last_steps, takings
 from .output import Row, Table
+from .recording import Step
 from .words import SIDES, LockWord, counted, status_words
 from .world import World
 
 QUIET = ("idle", "gone")
 QUEUES = {"r": "rq", "w": "wq"}
+
+
+class Queue:
+    """Those who wait for one side of a socket's lock, as they are seen for one table."""
+
+    def __init__(self, world: World, socket: int, side: str):
+        self._world, self._socket, self._side = world, socket, side
+
+    @cached_property
+    def places(self) -> dict[int, int]:
+        """The places in the semaphore's queue, from 1, by goroutine."""
+        queue = self._world.queue(QUEUES[self._side], self._socket)
+        return {goroutine: place for place, goroutine in enumerate(queue, 1)}
+
+    @cached_property
+    def word(self) -> LockWord:
+        """The socket's lock word."""
+        return LockWord.of(self._world.number(f"lock {self._socket}"))
+
+    @cached_property
+    def taking(self) -> Optional[Step]:
+        """The step that took the lock."""
+        lock = self._socket, self._side
+        return takings(self._world.recording, self._world.position, [lock]).get(lock)
+
+    @property
+    def is_taken(self) -> bool:
+        """Whether somebody has the lock."""
+        return self.word.read_locked if self._side == "r" else self.word.write_locked
 
 
 def lock_of(status: str) -> Optional[Lock]:
@@ -21,26 +51,23 @@ def lock_of(status: str) -> Optional[Lock]:
     return (int(rest[0]), rest[1]) if name in ("acquiring", "queued", "relock") else None
 
 
+def queues_of(world: World, statuses: Iterable[str]) -> dict[Lock, Queue]:
+    """The queues in which goroutines of these statuses wait, by their locks. Who took those is looked for at once."""
+    queues = {lock: Queue(world, *lock) for lock in map(lock_of, statuses) if lock}
+    taken = [lock for lock, queue in queues.items() if queue.is_taken]
+    found = takings(world.recording, world.position, taken)
+    for lock in taken:
+        queues[lock].taking = found.get(lock)
+    return queues
+
+
 class Waits:
     """What the goroutines of one table wait for; `statuses` are those of all that are looked at."""
 
     def __init__(self, world: World, statuses: Mapping[int, str]):
         self._world, self._statuses = world, statuses
+        self._queues = queues_of(world, statuses.values())
         self._sockets = world.sockets_of_open()
-        self._places: dict[Lock, dict[int, int]] = {}
-        locks = {lock for status in statuses.values() if (lock := lock_of(status))}
-        words = world.of_each(sorted({socket for socket, _ in locks}), "lock")
-        self._words = {socket: LockWord.of(int(word)) for socket, (word,) in words.items()}
-        self._taken = {lock for lock in locks if self._words[lock[0]].is_locked(lock[1])}
-        self._takings = takings(world.recording, world.position, self._taken)
-
-    def _places_in(self, lock: Lock) -> dict[int, int]:
-        """The places in the queue of that lock's semaphore, from 1, by goroutine."""
-        if lock not in self._places:
-            socket, side = lock
-            queue = self._world.queue(QUEUES[side], socket)
-            self._places[lock] = {goroutine: place for place, goroutine in enumerate(queue, 1)}
-        return self._places[lock]
 
     @cached_property
     def _owing(self) -> dict[int, list[int]]:
@@ -58,23 +85,20 @@ class Waits:
         if name == "absent":
             return "isn't made yet"
         if lock := lock_of(status):
-            return f"{status_words(status)}; {self._queue_words(goroutine, lock)}"
+            return f"{status_words(status)}; {self._queue_words(goroutine, *lock)}"
         if len(rest) == 2:
             return "; ".join([status_words(status), *self._wait_words(int(rest[0]), rest[1])])
         return status_words(status)
 
-    def _queue_words(self, goroutine: int, lock: Lock) -> str:
+    def _queue_words(self, goroutine: int, socket: int, side: str) -> str:
         """Where it stands in the queue of that lock, and who has the lock."""
-        places = self._places_in(lock)
-        place = places.get(goroutine)
-        said = f"place {place} of {len(places)}, " if place else ""
-        if lock not in self._taken:
-            socket, _ = lock
+        queue = self._queues[socket, side]
+        place = queue.places.get(goroutine)
+        said = f"place {place} of {len(queue.places)}, " if place else ""
+        if not queue.is_taken:
             owed = "".join(f"; goroutine {number} owes a release there" for number in self._owing.get(socket, ()))
-            return f"{said}nobody has that lock{owed}" + (
-                "; the socket is closed" if self._words[socket].closed else ""
-            )
-        taking = self._takings.get(lock)
+            return f"{said}nobody has that lock{owed}" + ("; the socket is closed" if queue.word.closed else "")
+        taking = queue.taking
         if taking is None:
             return f"{said}the lock is taken"
         return f"{said}goroutine {taking.argument('g')} has the lock since step {taking.number}"

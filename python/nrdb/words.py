@@ -29,10 +29,6 @@ class LockWord:
         counts = (word >> shift & FIELD for shift in (3, 23, 43))
         return cls(bool(word & 1), bool(word & 2), bool(word & 4), *counts)
 
-    def is_locked(self, side: str) -> bool:
-        """Whether somebody has the lock of that side, "r" or "w"."""
-        return self.read_locked if side == "r" else self.write_locked
-
     def __str__(self) -> str:
         said = [
             "closed" if self.closed else "",
