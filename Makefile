@@ -88,7 +88,7 @@ sizes: ready
 
 # The tests of nrdb, the companion, and of the fuzzer, with the built program; among them the hunts of examples/hunts.
 companion: ready
-	@python3 python unittest discover -s python/tests/program -t python
+	@python3 python tests.side_by_side tests/program
 
 # Random recordings and command lines, held against a model of the machine in Python: `make fuzz MINUTES=30 SEED=7`. What
 # differs is kept in out/fuzz (CONTRIBUTING.md). Not in the gate.

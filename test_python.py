@@ -7,8 +7,5 @@ PROJECT = Path(__file__).resolve().parent / "python"
 
 
 def load_tests(_loader: TestLoader, _found: TestSuite, _pattern: str) -> TestSuite:
-    """The tests of the project, which are looked for from its own folder. None is an error."""
-    found = TestLoader().discover(str(PROJECT / "tests"), top_level_dir=str(PROJECT))
-    if not found.countTestCases():
-        raise FileNotFoundError(f"there are no tests in {PROJECT / 'tests'}")
-    return found
+    """The tests of the project, which are looked for from its own folder."""
+    return TestLoader().discover(str(PROJECT / "tests"), top_level_dir=str(PROJECT))
