@@ -1,0 +1,57 @@
+"""Where the recorder's logs go, and what is said where there is no room for them."""
+
+import pathlib
+import shutil
+import tempfile
+import unittest
+from typing import ContextManager, NamedTuple
+from unittest import mock
+
+from netrev_go.running import MOST_POINTS, logs_folder, logs_in, process_of
+from netrev_go.toolchain import Trouble
+
+
+class Usage(NamedTuple):
+    """What a file system has room for."""
+
+    free: int
+
+
+def with_room(**free: int) -> ContextManager[object]:
+    """As if a file system had so many bytes free: `shm` or `other`."""
+    return mock.patch.object(shutil, "disk_usage", lambda place: Usage(free["shm" if place == "/dev/shm" else "other"]))
+
+
+class Room(unittest.TestCase):
+    def setUp(self) -> None:
+        folder = tempfile.TemporaryDirectory()
+        self.addCleanup(folder.cleanup)
+        self.folder = pathlib.Path(folder.name)
+
+    def made_with(self, **free: int) -> pathlib.Path:
+        """The folder that is made where there is so much room. Its place has another one's name."""
+        with with_room(**free), mock.patch.object(tempfile, "gettempdir", lambda: str(self.folder)):
+            made = logs_folder(MOST_POINTS)
+        self.addCleanup(shutil.rmtree, made, ignore_errors=True)
+        return made
+
+    def test_logs_go_into_memory_where_there_is_room(self) -> None:
+        if pathlib.Path("/dev/shm").is_dir():
+            self.assertEqual(self.made_with(shm=2**30, other=2**30).parent, pathlib.Path("/dev/shm"))
+        self.assertEqual(self.made_with(shm=2**20, other=2**30).parent, self.folder)
+
+    def test_no_room_is_said(self) -> None:
+        said = rf"neither /dev/shm nor {self.folder} has 132 MB free for a log: TMPDIR names another folder, --points makes"
+        with self.assertRaisesRegex(Trouble, said):
+            self.made_with(shm=2**27, other=2**27)
+
+    def test_a_processes_logs_are_those_of_its_number(self) -> None:
+        for name in ("log.12", "log.7.2", "log.program.5.6", "other.3"):
+            (self.folder / name).touch()
+        self.assertEqual(
+            [(log.name, process_of(log)) for log in logs_in(self.folder)], [("log.12", 12), ("log.7.2", 7)]
+        )
+
+
+if __name__ == "__main__":
+    unittest.main()
