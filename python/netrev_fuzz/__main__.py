@@ -1,7 +1,7 @@
-"""make fuzz, or by hand:  python3 python netrev_fuzz [--minutes M] [--cases N] [--seed S]
+"""make fuzz, or by hand:  python3 python netrev_fuzz [--minutes M] [--cases N] [--seed S] [--of nrdb]
 
 Plays random cases until the time is up or there were so many. Half of the time goes to cases for netrev, half to sessions of
-nrdb, but for `--cases`, which has none of these. Each has a seed of its own, `S-1`, `S-2`, ..; `S-nrdb-1`, .. for nrdb;
+nrdb, but for `--cases`, which has none of these; `--of` plays one sort alone. Each has a seed of its own, `S-1`, `S-2`, ..; `S-nrdb-1`, .. for nrdb;
 `--case S-7` plays that one alone. Where netrev prints something else than the model, the case is kept in `out/fuzz/S-7/`, with as few
 lines as still show it, what was `told` and what the model `wanted`; `--again out/fuzz/S-7` plays what is kept there. The
 program is $NETREV, else the built one. Ends with status 1 where there was a difference.
@@ -31,6 +31,7 @@ def arguments(words: Optional[Sequence[str]]) -> argparse.Namespace:
     parser.add_argument("--minutes", type=float, default=5)
     parser.add_argument("--cases", type=int, help="at most so many")
     parser.add_argument("--seed", default="")
+    parser.add_argument("--of", choices=("netrev", "nrdb"), help="plays cases for this alone")
     parser.add_argument("--case", metavar="SEED", help="plays this one")
     parser.add_argument("--again", type=Path, metavar="FOLDER", help="plays the case that was kept there")
     return parser.parse_args(words)
@@ -57,24 +58,35 @@ def case_of(seed: str) -> Case:
     return visit(seed) if seed.rpartition("-")[0].endswith(OF_NRDB) else make(seed)
 
 
-def by_turns(seed: str) -> Iterator[str]:
-    """Seeds without end, so that cases for netrev and sessions of nrdb take the same time."""
-    of_netrev, of_nrdb = seeds(seed, None), seeds(f"{seed}{OF_NRDB}", None)
-    spent = {of_netrev: 0.0, of_nrdb: 0.0}
+def wanted_seeds(seed: str, cases: Optional[int], of: str) -> Iterator[str]:
+    """The seeds that are to be played: so many for netrev, or without end, for one of both, or for each for the same time."""
+    of_netrev, of_nrdb = seeds(seed, cases), seeds(f"{seed}{OF_NRDB}", cases)
+    return of_nrdb if of == "nrdb" else of_netrev if of or cases else by_turns(of_netrev, of_nrdb)
+
+
+def by_turns(*ways: Iterator[str]) -> Iterator[str]:
+    """Seeds of several sorts without end, so that each sort takes the same time."""
+    spent = dict.fromkeys(range(len(ways)), 0.0)
     while True:
-        least = min(spent, key=lambda which: spent[which])
+        least = min(spent, key=lambda way: spent[way])
         begun = time.monotonic()
-        yield next(least)
+        yield next(ways[least])
         spent[least] += time.monotonic() - begun
 
 
 def play(
-    netrev: str, seed: str, met: Met, minutes: float = 5, cases: Optional[int] = None, out: Path = ROOT / "out/fuzz"
+    netrev: str,
+    seed: str,
+    met: Met,
+    minutes: float = 5,
+    cases: Optional[int] = None,
+    out: Path = ROOT / "out/fuzz",
+    of: str = "",
 ) -> int:
     """Plays cases, and keeps each that differs. How many did."""
     until, found = time.monotonic() + 60 * minutes, 0
     with tempfile.TemporaryDirectory() as name:
-        for case in map(case_of, seeds(seed, cases) if cases else by_turns(seed)):
+        for case in map(case_of, wanted_seeds(seed, cases, of)):
             if time.monotonic() > until or found == MOST_DIFFERENCES:
                 break
             met.cases[case.sort] += 1
@@ -102,7 +114,7 @@ def main(words: Optional[Sequence[str]] = None) -> int:
         return int(play_one(netrev, kept(asked.again) if asked.again else case_of(asked.case), met))
     seed = asked.seed or f"{time.time_ns() // 1_000_000}"
     print(f"seed {seed}, {asked.minutes:g} minutes", flush=True)
-    found = play(netrev, seed, met, asked.minutes, asked.cases)
+    found = play(netrev, seed, met, asked.minutes, asked.cases, of=asked.of or "")
     print("\n".join(met.lines()))
     commands, steps = sum(met.commands.values()), sum(met.answers.values())
     print(f"{sum(met.cases.values())} cases, {steps} steps, {commands} lines that ask: {found} differences")
