@@ -13,6 +13,7 @@ from .netrev import Reply
 from .output import Row, Table
 from .places import descriptors_table, sockets_table, timers_table
 from .recorded_answers import spelled
+from .reducing import answer_reduce, answer_report
 from .session import Answering, Misused, Session
 from .shapes import MOVED, move_of
 from .suspects import suspects_table
@@ -221,6 +222,8 @@ ANSWERS: dict[str, Answering] = {
     "undisplay": answer_undisplay,
     "history": answer_history,
     "timeline": answer_timeline,
+    "reduce": answer_reduce,
+    "report": answer_report,
     "source": answer_source,
     "info": answer_info,
 }
