@@ -72,7 +72,9 @@ def parser() -> Words:
     )
     made.add_argument("--timeline", metavar="OUT.html", help="writes the timeline, behind -x and -ex, and ends")
     made.add_argument("--trace", metavar="OUT.json", help="writes all steps for Perfetto, behind -x and -ex, and ends")
-    made.add_argument("--reduce", metavar="OUT.jsonl", help="writes the least recording with its first suspect, and ends")
+    made.add_argument(
+        "--reduce", metavar="OUT.jsonl", help="writes the least recording with its first suspect, and ends"
+    )
     made.add_argument("--join", metavar="HOST:PORT", help="joins a session that `netrev serve` has")
     made.add_argument("--netrev", default=program(), metavar="PROGRAM", help="netrev's program")
     return made
@@ -174,8 +176,8 @@ def played(session: Session, wanted: argparse.Namespace) -> int:
             return DONE
     if wanted.suspects:
         return suspected(session)
-    for file, write in ((wanted.timeline, write_timeline), (wanted.reduce, write_reduced)):
-        if file:
+    for name, write in WRITERS.items():
+        if file := getattr(wanted, name):
             return made(session, file, write)
     if not wanted.batch:
         typed(session)
@@ -208,6 +210,9 @@ def made(session: Session, path: str, write: Callable[[Session, str], str]) -> i
 def write_reduced(session: Session, path: str) -> str:
     """Writes the least recording with its first suspect; what to say of it."""
     return reduced_file(session, [path])
+
+
+WRITERS: dict[str, Callable[[Session, str], str]] = {"timeline": write_timeline, "reduce": write_reduced}
 
 
 def typed(session: Session) -> None:

@@ -82,7 +82,9 @@ def _target(events: Events, recording: Recording, wanted: Wanted) -> Target:
         return CellTarget(events, wanted.cell, wanted.value, wanted.until)
     found = [suspect for suspect in suspects_of(recording).suspects if suspect.is_shown]
     if not found:
-        raise Misused("no suspect is here; a cell with a value can be named in its place: reduce OUT.jsonl gor 3 parked*")
+        raise Misused(
+            "no suspect is here; a cell with a value can be named in its place: reduce OUT.jsonl gor 3 parked*"
+        )
     if not 0 < wanted.suspect <= len(found):
         raise Misused(f"the suspects here have the numbers 1 to {len(found)}")
     return SuspectTarget(events, found[wanted.suspect - 1], wanted.suspect)

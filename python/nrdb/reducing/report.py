@@ -51,7 +51,10 @@ def report_text(session: Session, wanted: Wanted, reduced: Reduced) -> str:
 
 def _of_cell(scout: Scout, recording: Recording, wanted: Wanted) -> list[str]:
     """The head of the report of a cell."""
-    return [f"# {wanted.cell} has the value {shown(wanted.value)}", f"So it has at the end of {recording.length} steps."]
+    return [
+        f"# {wanted.cell} has the value {shown(wanted.value)}",
+        f"So it has at the end of {recording.length} steps.",
+    ]
 
 
 def _of_suspect(session: Session, table: Table, wanted: Wanted) -> list[str]:
@@ -77,7 +80,9 @@ def _steps(recording: Recording, reduced: Reduced) -> list[str]:
     rows = [f"| {' | '.join(heads)} |", f"|{'--:|--:|' + '---|' * (len(heads) - 2)}"]
     for step, was in zip(steps, reduced.numbers):
         at = who.index(step.argument("g")) if step.argument("g") in who else len(who)
-        cells = [f"`{_told(step, is_wide)}`" if column == (at if is_wide else 0) else "" for column in range(len(columns))]
+        cells = [
+            f"`{_told(step, is_wide)}`" if column == (at if is_wide else 0) else "" for column in range(len(columns))
+        ]
         line = [shown(recording.lines.words(step.number))] if recording.lines else []
         rows.append(f"| {' | '.join([str(step.number), str(was), *cells, *line])} |")
     return rows

@@ -109,7 +109,9 @@ class Shrinking:
         """Those of the units that are near the steps of the target."""
         first, last = min(self.target.steps) - window, max(self.target.steps) + window
         return {
-            unit for unit in scope if self.units[unit].events[-1] + 1 >= first and self.units[unit].events[0] + 1 <= last
+            unit
+            for unit in scope
+            if self.units[unit].events[-1] + 1 >= first and self.units[unit].events[0] + 1 <= last
         }
 
     def _whole(self, units: set[int]) -> set[int]:

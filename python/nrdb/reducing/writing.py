@@ -40,8 +40,8 @@ def taken(program: str, player: Player, has_answers: bool) -> bytes:
 def text_of(player: Player, has_answers: bool) -> bytes:
     """The text of what the player has played. The limits are those that it needs."""
     world = player.world
-    made = (world.goroutines, world.sockets, world.descs)
-    limits = Limits(*(max(len(one), 1) for one in made), player.limits.buf)
+    gor, sock, desc = (max(len(made), 1) for made in (world.goroutines, world.sockets, world.descs))
+    limits = Limits(gor, sock, desc, player.limits.buf)
     header = {"netrev": 2 if has_answers or _needs_answers(player) else 1, **limits._asdict()}
     lines = [json.dumps(header, separators=(",", ":"))]
     lines += [line_of(step, answer if header["netrev"] == 2 else None) for step, answer in player.steps]
