@@ -24,7 +24,7 @@ from .session import Mismatched, Misused, Session
 from .shapes import POSITION, Refused, Strange
 from .suspects import suspects_table
 from .terminal import Terminal
-from .timeline import write_timeline
+from .timeline import write_timeline, write_trace
 
 HERE = Path(__file__).resolve().parents
 BUILT = HERE[2] / "crates/netrev/out/netrev"
@@ -212,7 +212,11 @@ def write_reduced(session: Session, path: str) -> str:
     return reduced_file(session, [path])
 
 
-WRITERS: dict[str, Callable[[Session, str], str]] = {"timeline": write_timeline, "reduce": write_reduced}
+WRITERS: dict[str, Callable[[Session, str], str]] = {
+    "timeline": write_timeline,
+    "trace": write_trace,
+    "reduce": write_reduced,
+}
 
 
 def typed(session: Session) -> None:

@@ -2,5 +2,6 @@
 the same as a trace for Perfetto."""
 
 from .page import write_timeline
+from .trace import write_trace
 
-__all__ = ["write_timeline"]
+__all__ = ["write_timeline", "write_trace"]
