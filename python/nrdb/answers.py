@@ -13,10 +13,11 @@ from .netrev import Reply
 from .output import Row, Table
 from .places import descriptors_table, sockets_table, timers_table
 from .recorded_answers import spelled
+from .reducing import answer_reduce, answer_report
 from .session import Answering, Misused, Session
 from .shapes import MOVED, move_of
 from .suspects import suspects_table
-from .timeline import write_timeline
+from .timeline import write_timeline, write_trace
 from .waiting import goroutines_table
 from .where import stack_lines
 
@@ -182,6 +183,12 @@ def answer_timeline(session: Session, words: list[str]) -> None:
     session.printer.note(write_timeline(session, words[0], *numbers))
 
 
+def answer_trace(session: Session, words: list[str]) -> None:
+    if len(words) != 1:
+        raise Misused(usage("trace"))
+    session.printer.note(write_trace(session, words[0]))
+
+
 def answer_source(session: Session, words: list[str]) -> bool:
     if len(words) != 1:
         raise Misused(usage("source"))
@@ -221,6 +228,9 @@ ANSWERS: dict[str, Answering] = {
     "undisplay": answer_undisplay,
     "history": answer_history,
     "timeline": answer_timeline,
+    "trace": answer_trace,
+    "reduce": answer_reduce,
+    "report": answer_report,
     "source": answer_source,
     "info": answer_info,
 }

@@ -6,7 +6,7 @@ import io
 import os
 import sys
 from contextlib import closing
-from typing import Any, NoReturn, Optional, Sequence
+from typing import Any, Callable, NoReturn, Optional, Sequence
 
 from netrev_model.built import BUILT, netrev_program
 from netrev_model.plain import plain
@@ -16,13 +16,14 @@ from .interrupts import GivenUp, Interrupted, Interrupts
 from .netrev import Ended, Joined, Netrev, Own, Reply
 from .output import JsonPrinter, Printer, TextPrinter
 from .recording import Recording
+from .reducing import reduced_file
 from .refusals import explained
 from .scout import Scout
 from .session import Mismatched, Misused, Session
 from .shapes import POSITION, Refused, Strange
 from .suspects import suspects_table
 from .terminal import Terminal
-from .timeline import write_timeline
+from .timeline import write_timeline, write_trace
 
 DONE, REFUSED, USAGE, FAILED, SUSPECTS = range(5)
 SILENT = "no reply yet: somebody else is at this front, or netrev goes through what all have searched; nrdb waits"
@@ -59,6 +60,10 @@ def parser() -> Words:
         "--suspects", action="store_true", help="prints the suspects, behind -x and -ex, and ends: with status 4 if any"
     )
     made.add_argument("--timeline", metavar="OUT.html", help="writes the timeline, behind -x and -ex, and ends")
+    made.add_argument("--trace", metavar="OUT.json", help="writes all steps for Perfetto, behind -x and -ex, and ends")
+    made.add_argument(
+        "--reduce", metavar="OUT.jsonl", help="writes the least recording with its first suspect, and ends"
+    )
     made.add_argument("--join", metavar="HOST:PORT", help="joins a session that `netrev serve` has")
     made.add_argument("--netrev", default=netrev_program() or str(BUILT), metavar="PROGRAM", help="netrev's program")
     return made
@@ -120,6 +125,7 @@ def begun(wanted: argparse.Namespace, netrev: Netrev, interrupts: Interrupts, pr
     recording = Recording.read(wanted.file) if wanted.file else None
     scout = Scout(lambda: Own(wanted.netrev, wanted.file, interrupts)) if wanted.file else None
     session = Session(netrev, recording, scout, printer, interrupts, ANSWERS)
+    session.program, session.path = wanted.netrev, wanted.file or ""
     first = session.ask("info position")
     if not POSITION.fullmatch(first):
         return refused(wanted, netrev, first, printer)
@@ -159,8 +165,9 @@ def played(session: Session, wanted: argparse.Namespace) -> int:
             return DONE
     if wanted.suspects:
         return suspected(session)
-    if wanted.timeline:
-        return drawn(session, wanted.timeline)
+    for name, write in WRITERS.items():
+        if file := getattr(wanted, name):
+            return made(session, file, write)
     if not wanted.batch:
         typed(session)
     return DONE
@@ -178,15 +185,27 @@ def suspected(session: Session) -> int:
     return SUSPECTS if table.rows else DONE
 
 
-def drawn(session: Session, path: str) -> int:
-    """Writes the timeline; the exit status."""
+def made(session: Session, path: str, write: Callable[[Session, str], str]) -> int:
+    """Writes a file, and says what was written; the exit status."""
     try:
         with session.interrupts.held():
-            session.printer.note(write_timeline(session, path))
+            session.printer.note(write(session, path))
     except (Interrupted, Misused) as stopped:
         session.printer.note(str(stopped) or "interrupted")
         return FAILED
     return DONE
+
+
+def write_reduced(session: Session, path: str) -> str:
+    """Writes the least recording with its first suspect; what to say of it."""
+    return reduced_file(session, [path])
+
+
+WRITERS: dict[str, Callable[[Session, str], str]] = {
+    "timeline": write_timeline,
+    "trace": write_trace,
+    "reduce": write_reduced,
+}
 
 
 def typed(session: Session) -> None:

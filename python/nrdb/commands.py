@@ -33,6 +33,11 @@ OF_NRDB = {
         command("undisplay [CELL]", "no longer; alone, none"),
         command("history CELL [N|all]", "the changes of a cell up to the position, the last 40 if no number is given"),
         command("timeline FILE [FROM TO]", "writes a page that shows all positions, or these, side by side"),
+        command("trace FILE", "writes all steps for Perfetto: goroutines as threads, and who woke whom"),
+        command(
+            "reduce OUT.jsonl [N | CELL VALUE]", "writes the least recording in which suspect N, or this value, shows"
+        ),
+        command("report OUT.md [N | CELL VALUE]", "the same, with what is said of it in Markdown beside it"),
         command("source FILE", "takes lines from a file"),
     )
 }

@@ -90,6 +90,10 @@ class Scout:
         for position in range(first, last + 1):
             yield self._anew(lambda: self._row(position, looks))
 
+    def behind(self, position: int, looks: Sequence[Sequence[str]]) -> list[list[str]]:
+        """What these looks show behind each of the steps that follow the position, as many as there are lists of them."""
+        return self._anew(lambda: self._behind(position, looks))
+
     def _anew(self, walk: Callable[[], Seen]) -> Seen:
         """What comes of a walk, that of a second one where netrev ended in the first."""
         try:
@@ -124,6 +128,17 @@ class Scout:
         self._placed += 1
         self._stands = move_of("stepi", moved).position
         return [value_of(look, reply) for look, reply in zip(looks, replies)]
+
+    def _behind(self, position: int, looks: Sequence[Sequence[str]]) -> list[list[str]]:
+        netrev = self._at(position)
+        replies = iter(netrev.ask_all([line for asked in looks for line in ("stepi", *asked)]))
+        self._placed += len(looks)
+        self._stands = position + len(looks)
+        shown = []
+        for asked in looks:
+            move_of("stepi", next(replies))
+            shown.append([value_of(line, next(replies)) for line in asked])
+        return shown
 
     def _stops_up_to(self, cell: str, position: int) -> Generator[Stop, None, None]:
         """The positions behind changes of the cell, backwards, from this position on, each with the value there."""

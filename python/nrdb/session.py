@@ -48,6 +48,8 @@ class Session:
     stood: int = 0
     length: int = 0
     depth: int = 0
+    program: str = ""  # netrev's, and the recording's file, where they are known
+    path: str = ""
 
     def begin(self, reply: str) -> None:
         """Tells where the session stands, with netrev's first reply, to `info position`. Mismatched where the recording

@@ -1,4 +1,4 @@
-"""The timeline's page: what it holds is what plain looks show, and it needs nothing from outside."""
+"""The timeline's data: they are what plain looks show; and the page needs nothing from outside."""
 
 import json
 import random
@@ -6,6 +6,9 @@ import re
 import tempfile
 import unittest
 from pathlib import Path
+from unittest.mock import patch
+
+from nrdb.timeline.asking import AT_SOCKET
 
 from .support import EXAMPLES, HUNTS, nrdb, recordings, shown
 
@@ -86,9 +89,46 @@ class Timeline(unittest.TestCase):
     def test_shades_of_one_kind_differ_in_brightness(self):
         _, data = page_of(EXAMPLES / "first.jsonl")
         for of in ("goroutine", "descriptor", "socket"):
-            colours = [shade["colour"] for shade in data["shades"].values() if shade["of"] == of]
-            lights = sorted(brightness(colour) for colour in colours)
-            self.assertTrue(all(after - before >= 4 for before, after in zip(lights, lights[1:])), (of, lights))
+            for theme in ("light", "dark"):
+                colours = [shade[theme] for shade in data["shades"].values() if shade["of"] == of]
+                lights = sorted(brightness(colour) for colour in colours)
+                self.assertTrue(
+                    all(after - before >= 3 for before, after in zip(lights, lights[1:])), (of, theme, lights)
+                )
+
+    def test_connections_wake_ups_and_suspects(self):
+        _, data = page_of(EXAMPLES / "real/hijacked.jsonl")
+        recording = shown(EXAMPLES / "real/hijacked.jsonl").recording
+        self.assertEqual(data["groups"]["2"], 3)
+        opened = [step for step in recording.steps_of(("pollopen",), recording.length)]
+        self.assertEqual([use[1:3] for use in data["uses"]], [[step.argument("s"), step.number] for step in opened])
+        closed = [step.number for step in recording.steps_of(("pollclose",), recording.length)]
+        self.assertEqual(sorted(use[3] for use in data["uses"] if use[3]), closed)
+        self.assertTrue(data["wakes"])
+        for number, who, by, where, kind in data["wakes"]:
+            step = recording.step(number)
+            self.assertEqual((step.kind, step.argument("g")), (kind, by))
+            before, after = (value_at(data["cells"][f"gor {who}"], at) for at in (number - 1, number))
+            self.assertEqual([before.split()[0], after.split()[0]], ["parked", "swapping"])
+            self.assertEqual(f"desc {' '.join(before.split()[1:])}", where)
+        (suspect,) = data["suspects"]
+        self.assertEqual((suspect["rule"], suspect["s"], suspect["d"]), ("deadline left behind", 3, 2))
+        self.assertEqual(suspect["netrev"], ["at 185 wd 2 = -1", "at 184 wd 2 = 35080549"])
+        told = [data["lines"]["texts"][at] for at in data["lines"]["at"]]
+        self.assertEqual(
+            told[: recording.length + 1], [recording.lines.words(step) for step in range(recording.length + 1)]
+        )
+
+    def test_where_too_few_were_asked_all_are(self):
+        path = HUNTS / "blocked-control.jsonl"
+        with tempfile.TemporaryDirectory() as folder, patch.dict(AT_SOCKET, {"rwlock": ()}):
+            file = Path(folder) / "page.html"
+            nrdb("--batch", "-ex", f"timeline {file} 990 1040", path)
+            data = data_in(file.read_text())
+        self.assertEqual(data["compared"], 51)
+        values = shown(path).at(1017)
+        told = {cell: value_at(runs, 1017) for cell, runs in data["cells"].items()}
+        self.assertEqual(told, {cell: values[cell] for cell in told})
 
 
 def brightness(colour):

@@ -5,14 +5,15 @@ from dataclasses import dataclass
 
 from netrev_model.vocabulary import Of
 
-from .words import LockWord
+from ..words import LockWord
 
 
 @dataclass(frozen=True)
 class Shade:
-    """A colour, what it says, and the rows that have it."""
+    """A colour on a light ground, one on a dark ground, what it says, and the rows that have it."""
 
-    colour: str
+    light: str
+    dark: str
     says: str
     of: Of
 
@@ -20,8 +21,8 @@ class Shade:
 def _shades(of: Of, rows: str) -> dict[str, Shade]:
     made = {}
     for row in rows.strip().splitlines():
-        name, colour, says = row.split(None, 2)
-        made[name] = Shade(colour, says, of)
+        name, light, dark, says = row.split(None, 3)
+        made[name] = Shade(light, dark, says, of)
     return made
 
 
@@ -29,39 +30,39 @@ SHADES = {
     **_shades(
         Of.GOROUTINE,
         """
-        gone #ffffff gone
-        idle #eceff1 idle
-        entering #d6e6f4 entering a wait
-        armed #abcfe6 armed
-        parking #6fabd6 parking
-        parked #0b3c7d parked
-        swapping #c3e6a1 goes on, takes the word
-        checking #5fa83a goes on, checks why
-        acquiring #f9d7a0 about to acquire
-        relock #f5a14b tries the lock again
-        queued #8a2f04 queued for a lock
-        owing #b0509e owes a release
+        gone #ffffff #11151b gone
+        idle #e9edf1 #222a35 idle
+        entering #d4e3f4 #27384c entering a wait
+        armed #b0cfee #2d4966 armed
+        parking #7fb0df #336190 parking
+        parked #2b62a8 #3f80cf parked
+        swapping #bfe3a8 #57853f woken, takes the word
+        checking #6dae50 #78b557 woken, checks why
+        acquiring #f5d4a0 #7d6431 about to acquire
+        relock #eaae55 #b0863c tries the lock again
+        queued #b4500f #d2853a queued for a lock
+        owing #7d2a88 #cf84d4 owes a release
         """,
     ),
     **_shades(
         Of.DESCRIPTOR,
         """
-        nil #eceff1 nil
-        ready #f7d34a ready
-        wait #8fbfe0 wait
-        held #0b3c7d a parked goroutine
+        nil #edf0f3 #222a35 nil
+        ready #f0d57a #a0893a an event came
+        wait #9cc3e6 #2f5c8c about to park
+        held #2b62a8 #3f80cf a parked goroutine
         """,
     ),
     **_shades(
         Of.SOCKET,
         """
-        free #eceff1 no reference
-        referred #d3ecd0 references
-        read #86c28b read lock
-        write #2f8a4e write lock
-        both #00441b both locks
-        closing #a31526 closed, with references
-        closed #f6c3b4 closed, no reference
+        free #edf0f3 #222a35 no reference
+        referred #d3e8d6 #2c4a3a references
+        read #8cc79b #35744f read lock
+        write #4b9f8c #34a08f write lock
+        both #1f6d52 #9ad68e both locks
+        closing #a81c28 #ff6b74 closed, with references
+        closed #d6d9de #2c323b closed, no reference
         """,
     ),
 }

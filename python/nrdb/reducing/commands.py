@@ -1,0 +1,35 @@
+"""The commands `reduce` and `report`."""
+
+from pathlib import Path
+
+from ..recording import Recording
+from ..session import Misused, Session
+from ..suspects import suspects_of
+from .reduced import reduced, wanted_by
+from .report import report_text
+from .writing import written
+
+USAGE = "reduce OUT.jsonl [N | CELL VALUE]"
+
+
+def reduced_file(session: Session, words: list[str]) -> str:
+    """Reduces the recording to the file that is named first; what to say of that."""
+    if not words or not words[0].endswith(".jsonl"):
+        raise Misused(f"{USAGE}: the file's name ends with .jsonl")
+    made = reduced(session, words[0], wanted_by(session, words[1:]))
+    said = made.words(session.text().length)
+    found = [suspect for suspect in suspects_of(Recording.read(made.path)).suspects if suspect.is_shown]
+    return "\n".join([said, *(f"{one.rule.value}: {one.sentence()}" for one in found[:1])])
+
+
+def answer_reduce(session: Session, words: list[str]) -> None:
+    session.printer.note(reduced_file(session, words))
+
+
+def answer_report(session: Session, words: list[str]) -> None:
+    if not words or not words[0].endswith(".md"):
+        raise Misused("report OUT.md [N | CELL VALUE]: the file's name ends with .md")
+    wanted = wanted_by(session, words[1:])
+    made = reduced(session, str(Path(words[0]).with_suffix(".jsonl")), wanted)
+    written(words[0], report_text(session, wanted, made).encode())
+    session.printer.note(f"{words[0]}, and {made.words(session.text().length)}")

@@ -1,0 +1,120 @@
+"""Reduces the recording of a session to what still shows a target, and says what was left out."""
+
+from collections import Counter
+from fnmatch import fnmatchcase
+from pathlib import Path
+from typing import NamedTuple, Optional
+
+from netrev_model.machine import Limits
+from netrev_model.vocabulary import cell_of, number_of
+
+from ..recording import Recording
+from ..session import Misused, Session
+from ..suspects import suspects_of
+from .events import Events
+from .playing import Player
+from .shrinking import NotReproduced, Shrinking
+from .targets import CellTarget, SuspectTarget, Target
+from .units import Sort, units_of
+from .writing import answered_by, taken, where_text, written
+
+
+class Wanted(NamedTuple):
+    """What has to show: the suspect of this number, or a cell with a value; and the steps up to which it is looked for."""
+
+    suspect: int
+    cell: str
+    value: str
+    until: int
+
+
+class Reduced(NamedTuple):
+    """A reduced recording: its steps' numbers in the recording, how many units of each sort were left out, and whether more
+    might have been."""
+
+    path: str
+    numbers: list[int]
+    left_out: Counter[Sort]
+    is_done: bool
+
+    def words(self, steps: int) -> str:
+        """What it is, and what was left out."""
+        said = [f"{self.left_out[sort]} {sort.value[self.left_out[sort] != 1]}" for sort in Sort if self.left_out[sort]]
+        left = f"left out {', '.join(said)}" if said else "nothing could be left out"
+        more = "" if self.is_done else "; stopped early, so reduce what is left once more"
+        return f"{self.path}: {len(self.numbers)} of {steps} steps, accepted by netrev; {left}{more}"
+
+
+def reduced(session: Session, path: str, wanted: Wanted) -> Reduced:
+    """Writes the reduced recording to the path, with its NAME.where; Misused where the target doesn't show."""
+    recording = session.text()
+    if Path(path).exists() and session.path and Path(path).samefile(session.path):
+        raise Misused(f"{path} is the recording itself; name another file")
+    answered = _answered(session, recording, wanted.until)
+    events = Events(answered)
+    units = units_of(events)
+    limits = Limits(*(answered.limits[key] for key in Limits._fields))
+    player = Player(events, units, limits, session.interrupts.check)
+    shrinking = Shrinking(player, events, units, _target(events, answered, wanted))
+    try:
+        kept = shrinking.run()
+    except NotReproduced:
+        raise Misused("it doesn't show where the steps are played again; that is an error of nrdb's") from None
+    data = taken(session.program, player, recording.has_answers)
+    numbers = [events.all[place].number for place in player.chosen]
+    written(path, data)
+    if recording.lines:
+        written(str(Path(path).with_suffix(".where")), where_text(recording.lines, numbers).encode())
+    left_out = Counter(unit.sort for at, unit in enumerate(units) if at not in kept)
+    return Reduced(path, numbers, left_out, not shrinking.is_done)
+
+
+def _answered(session: Session, recording: Recording, until: int) -> Recording:
+    """The first so many steps of the recording with netrev's answers."""
+    status, text = answered_by(session.program, "upgrade", recording.data)
+    if status:
+        raise Misused(f"netrev doesn't take the recording: {text.decode('utf-8', 'replace').strip()}")
+    return Recording(b"".join(text.splitlines(keepends=True)[: until + 1]))
+
+
+def _target(events: Events, recording: Recording, wanted: Wanted) -> Target:
+    if wanted.cell:
+        return CellTarget(events, wanted.cell, wanted.value, wanted.until)
+    found = [suspect for suspect in suspects_of(recording).suspects if suspect.is_shown]
+    if not found:
+        raise Misused(
+            "no suspect is here; a cell with a value can be named in its place: reduce OUT.jsonl gor 3 parked*"
+        )
+    if not 0 < wanted.suspect <= len(found):
+        raise Misused(f"the suspects here have the numbers 1 to {len(found)}")
+    return SuspectTarget(events, found[wanted.suspect - 1], wanted.suspect)
+
+
+def wanted_by(session: Session, words: list[str]) -> Wanted:
+    """What the words behind the file ask for."""
+    length = session.text().length
+    if not words:
+        return Wanted(1, "", "", length)
+    if len(words) == 1 and (number := number_of(words[0])) is not None:
+        return Wanted(number, "", "", length)
+    cell = cell_of(words[:2]) or cell_of(words[:1])
+    value = " ".join(words[2 if cell_of(words[:2]) else 1 :])
+    if cell is None or not value:
+        raise Misused("behind the file stands the number of a suspect, or a cell with a value: gor 3 parked*")
+    return Wanted(0, cell, value, _last_with(session, cell, value))
+
+
+def _last_with(session: Session, cell: str, value: str) -> int:
+    """The session's position, if the cell has such a value there, else the last one of the recording at which it has."""
+    scout, length = session.looks(), session.text().length
+
+    def is_wanted(shown: str) -> bool:
+        return fnmatchcase(shown, value) or fnmatchcase(session.words_of(cell, shown), value)
+
+    for position in (session.stands().position, length):
+        if is_wanted(scout.values(position, [cell])[0]):
+            return position
+    found: Optional[int] = scout.find(cell, is_wanted, length, True)
+    if found is None:
+        raise Misused(f"no step gives {cell} the value {value}")
+    return found

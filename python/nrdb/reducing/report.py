@@ -1,0 +1,96 @@
+"""A report in Markdown: what shows, what netrev answers, and the steps of the reduced recording side by side."""
+
+import re
+from pathlib import Path
+
+from netrev_model.plain import plain
+from netrev_model.vocabulary import KINDS
+
+from ..netrev import Own
+from ..output import Table
+from ..recorded_answers import answer_text
+from ..recording import Recording, Step
+from ..scout import Scout
+from ..session import Session
+from ..suspects import suspects_table
+from .reduced import Reduced, Wanted
+from .writing import answered_by
+
+MEANS = re.compile(r"([\\`*_{}\[\]<>|#&~])")  # what Markdown takes for its own
+MOST_COLUMNS = 6
+
+
+def shown(text: str) -> str:
+    """Text of others as Markdown shows it."""
+    return MEANS.sub(r"\\\1", plain(text))
+
+
+def report_text(session: Session, wanted: Wanted, reduced: Reduced) -> str:
+    """The report of a reduced recording."""
+    recording = Recording.read(reduced.path)
+    name = shown(Path(reduced.path).name)
+    scout = Scout(lambda: Own(session.program, reduced.path, session.interrupts))
+    try:
+        table = suspects_table(scout, recording)
+        parts = _of_cell(scout, recording, wanted) if wanted.cell else _of_suspect(session, table, wanted)
+    finally:
+        scout.drop()
+    _, checked = answered_by(session.program, "check", recording.data)
+    parts += [
+        "## The steps",
+        f"{recording.length} of the {session.text().length} steps of {shown(Path(session.path).name)}, in {name}: each "
+        f"goroutine in its column, the network and the clock in the last. `netrev check {name}` prints "
+        f"`{checked.decode('utf-8', 'replace').strip()}`, so this is a run of the machine. What netrev answers is proved; that "
+        "this is a bug, and the lines of the program, are not.",
+        "\n".join(_steps(recording, reduced)),
+        "## To look",
+        f"    ./nrdb {name} -ex 'info suspects' -ex continue -ex 'info goroutines'",
+    ]
+    return "\n\n".join(parts) + "\n"
+
+
+def _of_cell(scout: Scout, recording: Recording, wanted: Wanted) -> list[str]:
+    """The head of the report of a cell."""
+    return [
+        f"# {wanted.cell} has the value {shown(wanted.value)}",
+        f"So it has at the end of {recording.length} steps.",
+    ]
+
+
+def _of_suspect(session: Session, table: Table, wanted: Wanted) -> list[str]:
+    """The head of the report of a suspect."""
+    before = suspects_table(session.looks(), session.text()).rows
+    whole = [row.values for row in before if row.values][wanted.suspect - 1]
+    here = next(row.values for row in table.rows if row.values and row.values["rule"] == whole["rule"])
+    parts = [f"# {here['rule']}", shown(f"{here['says']}.")]
+    parts.append("\n".join(f"- netrev: `{one}`" for one in here["netrev"]))
+    if here["lines"]:
+        parts.append("\n".join(f"- {shown(one)}" for one in here["lines"]))
+    parts.append(f"In the whole recording: {shown(whole['says'])}.")
+    return parts
+
+
+def _steps(recording: Recording, reduced: Reduced) -> list[str]:
+    """The rows of the steps."""
+    steps = [recording.step(number) for number in range(1, recording.length + 1)]
+    who = sorted({g for step in steps if (g := step.argument("g")) is not None})
+    is_wide = len(who) <= MOST_COLUMNS
+    columns = [*(f"goroutine {g}" for g in who), "others"] if is_wide else ["step"]
+    heads = ["", "was", *columns, *(["line"] if recording.lines else [])]
+    rows = [f"| {' | '.join(heads)} |", f"|{'--:|--:|' + '---|' * (len(heads) - 2)}"]
+    for step, was in zip(steps, reduced.numbers):
+        at = who.index(step.argument("g")) if step.argument("g") in who else len(who)
+        cells = [
+            f"`{_told(step, is_wide)}`" if column == (at if is_wide else 0) else "" for column in range(len(columns))
+        ]
+        line = [shown(recording.lines.words(step.number))] if recording.lines else []
+        rows.append(f"| {' | '.join([str(step.number), str(was), *cells, *line])} |")
+    return rows
+
+
+def _told(step: Step, is_wide: bool) -> str:
+    """A step, without its goroutine where that has a column, and its answer."""
+    words = str(step).split()
+    if is_wide and KINDS[step.kind].arguments[:1] == ("g",):
+        del words[1]
+    return " ".join(words) + (f" = {answer_text(step.answer)}" if step.answer not in (None, "done") else "")

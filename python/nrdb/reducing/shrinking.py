@@ -1,0 +1,119 @@
+"""Leaves out units as long as the target shows: first all but those round it, then whole goroutines, sockets and runs of units,
+half of them at a time and then fewer."""
+
+from typing import Iterable, Iterator, Optional
+
+from .events import Events
+from .playing import Player
+from .targets import Target
+from .units import Sort, Unit
+
+WINDOWS = (64, 512, 4_096)  # steps round what happens
+MOST_PLAYED = 600_000  # steps, after which what is found counts
+
+
+class NotReproduced(Exception):
+    """The target doesn't show where all of the recording is played."""
+
+
+class Shrinking:
+    """The units that are kept, fewer and fewer."""
+
+    def __init__(self, player: Player, events: Events, units: list[Unit], target: Target) -> None:
+        self.player, self.events, self.units, self.target = player, events, units, target
+        self.kept: set[int] = set()
+        self._budget = MOST_PLAYED
+
+    @property
+    def is_done(self) -> bool:
+        """Whether as many steps were played as may be."""
+        return self.player.played >= self._budget
+
+    def run(self) -> set[int]:
+        """The units that are left, none of which can be left out; or those that are left when the budget is spent."""
+        for candidate in self._beginnings():
+            if (settled := self._showing(candidate)) is not None:
+                self.kept = settled
+                break
+        else:
+            raise NotReproduced
+        self._budget += self.player.played
+        self._thin(self._idle_ticks())
+        for sort in (Sort.GOROUTINE, Sort.SOCKET):
+            self._thin(unit for unit in self.kept if self.units[unit].sort is sort)
+        while self._thin(self.kept):
+            pass
+        self.player.settle(self.kept)
+        return self.kept
+
+    def _showing(self, candidate: Iterable[int]) -> Optional[set[int]]:
+        """What is left of these units where they are played, if the target shows then."""
+        settled = self.player.settle(candidate)
+        return settled if self.target.shows(self.player) else None
+
+    def _thin(self, candidates: Iterable[int]) -> bool:
+        """Leaves out what it can of the candidates, the last ones first: all at once, then halves and so on. Whether any."""
+        left = sorted(candidates, key=lambda unit: self.units[unit].events[0], reverse=True)
+        size, has_changed = len(left), False
+        while size and not self.is_done:
+            for at in range(0, len(left), size):
+                piece = self.player.needs.with_needing(left[at : at + size]) & self.kept
+                if piece and (settled := self._showing(self.kept - piece)) is not None:
+                    self.kept, has_changed = settled, True
+                if self.is_done:
+                    break
+            left = [unit for unit in left if unit in self.kept]
+            size = min(size, len(left) + 1) // 2
+        return has_changed
+
+    def _idle_ticks(self) -> list[int]:
+        """The ticks behind which another one comes before any timer starts or any deadline is set."""
+        found, is_needed = [], False
+        for unit in sorted(self.kept, key=lambda unit: self.units[unit].events[0], reverse=True):
+            kinds = {self.events.all[place].kind for place in self.units[unit].events}
+            if self.units[unit].sort is Sort.TICK:
+                if not is_needed:
+                    found.append(unit)
+                is_needed = False
+            elif kinds & {"pop", "setdeadline"}:
+                is_needed = True
+        return found
+
+    def _beginnings(self) -> Iterator[set[int]]:
+        """Units to begin with, few ones first: those of the target's socket and goroutine that are near what happens; all of
+        them; those of all goroutines that use the socket; and all that there are."""
+        near = self._about({self.target.socket}, {self.target.goroutine})
+        users = {event.named("g") for event in self.events.all if self.events.socket_of(event) == self.target.socket}
+        wide = self._about({self.target.socket}, users)
+        for scope in (near, wide):
+            for window in WINDOWS:
+                if (windowed := self._window(scope, window)) != scope:
+                    yield self._whole(windowed)
+        yield self._whole(near)
+        yield self._whole(wide)
+        yield {unit for unit in range(len(self.units)) if self._is_before_end(unit)}
+
+    def _about(self, sockets: set[Optional[int]], goroutines: set[Optional[int]]) -> set[int]:
+        """The units about these, and all ticks."""
+        found = set()
+        for place, event in enumerate(self.events.all):
+            is_about = event.kind == "tick" or self.events.socket_of(event) in sockets - {None}
+            if is_about or (event.named("g") in goroutines - {None}):
+                found.add(self.player.owner[place])
+        return {unit for unit in found if self._is_before_end(unit)}
+
+    def _is_before_end(self, unit: int) -> bool:
+        return self.units[unit].events[0] < self.target.until
+
+    def _window(self, scope: set[int], window: int) -> set[int]:
+        """Those of the units that are near the steps of the target."""
+        first, last = min(self.target.steps) - window, max(self.target.steps) + window
+        return {
+            unit
+            for unit in scope
+            if self.units[unit].events[-1] + 1 >= first and self.units[unit].events[0] + 1 <= last
+        }
+
+    def _whole(self, units: set[int]) -> set[int]:
+        """The units with all that they need."""
+        return self.player.needs.with_needed(units)

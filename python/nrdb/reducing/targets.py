@@ -1,0 +1,114 @@
+"""What still has to show in a reduced recording: a suspect, or a cell with a value at the end."""
+
+from abc import ABC, abstractmethod
+from fnmatch import fnmatchcase
+from typing import Any, Iterator, Optional
+
+from netrev_model.cells import value as value_of_cell
+from netrev_model.vocabulary import CELLS, Of
+
+from ..recording import Recording
+from ..suspects import suspects_of
+from ..suspects.found import Suspect
+from ..words import in_words
+from .events import Events
+from .playing import Player
+
+LETTER = {Of.GOROUTINE: "g", Of.SOCKET: "s", Of.DESCRIPTOR: "d"}
+OF_DESCRIPTOR = ("entering", "armed", "parking", "parked", "swapping", "checking")
+
+
+class Replayed(Recording):
+    """The steps that a player has played, for the rules."""
+
+    def __init__(self, player: Player) -> None:
+        super().__init__(b"")
+        self._steps = [step for step, _ in player.steps]
+
+    @property
+    def has_answers(self) -> bool:
+        return False
+
+    def arrays(self) -> Iterator[list[Any]]:
+        for step in self._steps:
+            yield [part.hex() if isinstance(part, bytes) else part for part in step]
+
+
+class Target(ABC):
+    """What has to show: about which goroutine, socket and use, and at which steps it happens."""
+
+    goroutine: Optional[int] = None
+    socket: Optional[int] = None
+    use: Optional[int] = None
+    steps: list[int]
+    until: int  # the last step that can matter
+
+    @abstractmethod
+    def shows(self, player: Player) -> bool:
+        """Whether it shows where the player is."""
+
+
+class SuspectTarget(Target):
+    """A suspect: the same rule about the same, of no less weight and no lower rank."""
+
+    def __init__(self, events: Events, suspect: Suspect, rank: int) -> None:
+        self.suspect, self.rank = suspect, rank
+        self.goroutine, self.socket = suspect.goroutine, suspect.socket
+        self.use = None if suspect.descriptor is None else events.use_at(suspect.descriptor, suspect.step)
+        self.steps, self.until = [suspect.step, *suspect.steps], len(events.all)
+
+    def shows(self, player: Player) -> bool:
+        found = [one for one in suspects_of(Replayed(player)).suspects[: self.rank] if one.is_shown]
+        named = (("g", self.goroutine), ("s", self.socket), ("d", self.use))
+        mine = [None if which is None else player.numbers[form].get(which, -1) for form, which in named]
+        return any(
+            one.rule is self.suspect.rule
+            and one.weight >= self.suspect.weight
+            and [one.goroutine, one.socket, one.descriptor] == mine
+            for one in found
+        )
+
+
+class CellTarget(Target):
+    """A cell that has a value behind a step, the last one that is kept. Numbers in the value are those of the recording."""
+
+    def __init__(self, events: Events, cell: str, wanted: str, position: int) -> None:
+        name, *number = cell.split()
+        self.name, self.wanted, self.steps, self.until = name, wanted, [position], position
+        self.which: Optional[int] = None
+        self.of = CELLS[name].of
+        if self.of is Of.DESCRIPTOR:
+            self.which = self.use = events.use_at(int(number[0]), position)
+            self.socket = None if self.use is None else events.uses[self.use].socket
+        elif number:
+            self.which = int(number[0])
+            self.goroutine = self.which if self.of is Of.GOROUTINE else None
+            self.socket = self.which if self.of is Of.SOCKET else None
+        self._descriptors = {use: one.descriptor for use, one in enumerate(events.uses)}
+
+    def shows(self, player: Player) -> bool:
+        number = None
+        if self.which is not None:
+            number = player.numbers[LETTER[self.of]].get(self.which)
+            if number is None:
+                return False
+        value = self._told(player, str(value_of_cell(player.world, self.name, number)))
+        return fnmatchcase(value, self.wanted) or fnmatchcase(in_words(self.name, value), self.wanted)
+
+    def _told(self, player: Player, value: str) -> str:
+        """A value with the numbers that the recording has."""
+        if self.name in ("rg", "wg") and value.startswith("g"):
+            return f"g{_back(player.numbers['g'], int(value[1:]))}"
+        words = value.split()
+        if self.name != "gor" or len(words) < 2:
+            return value
+        if words[0] in OF_DESCRIPTOR:
+            words[1] = str(self._descriptors[_back(player.numbers["d"], int(words[1]))])
+        else:
+            words[1] = str(_back(player.numbers["s"], int(words[1])))
+        return " ".join(words)
+
+
+def _back(numbers: dict[int, int], number: int) -> int:
+    """Which one has this number, the last where several had it."""
+    return max(which for which, its in numbers.items() if its == number)

@@ -1,0 +1,127 @@
+"""Units: steps that are left out together. A goroutine's call, from rest to rest; bytes that come or go, with their event; a
+timer that starts, with the run of its function; and each other step alone."""
+
+from enum import Enum
+from typing import Iterable, NamedTuple, Optional
+
+from netrev_model.vocabulary import KINDS
+
+from .events import Event, Events, Timer
+
+SIDE_OF = {"arrive": "r", "peerclose": "r", "drain": "w"}
+LAST = ("last",)
+
+
+class Sort(Enum):
+    """What a unit is, in words for one and for several."""
+
+    CALL = "call", "calls"
+    GOROUTINE = "goroutine", "goroutines"
+    SOCKET = "socket", "sockets"
+    NETWORK = "arrival or event", "arrivals and events"
+    TIMER = "timer", "timers"
+    TICK = "tick", "ticks"
+
+
+class Unit(NamedTuple):
+    """The events that go together, by their places in the list of all, which rise."""
+
+    sort: Sort
+    events: list[int]
+
+
+def units_of(events: Events) -> list[Unit]:
+    """All units, in the order of their first events."""
+    calls, others = _calls(events), _others(events)
+    return sorted((*calls, *others), key=lambda unit: unit.events[0])
+
+
+def _calls(events: Events) -> list[Unit]:
+    """Each goroutine's calls. One has ended where the goroutine is at rest and holds no reference but those that are never
+    given up; the freeing of a descriptor belongs to the call that gave up the last reference."""
+    calls: dict[int, list[Unit]] = {}
+    kept: dict[int, int] = {}
+    has_ended: dict[int, bool] = {}
+    for place, (event, rest) in enumerate(zip(events.all, events.rests)):
+        if KINDS[event.kind].arguments[:1] != ("g",):
+            continue
+        g = event.arguments[0]
+        if has_ended.get(g, True) and not _frees(events, calls.get(g), event):
+            calls.setdefault(g, []).append(Unit(Sort.CALL, []))
+        calls[g][-1].events.append(place)
+        if event.number in events.kept_for_ever:
+            kept[g] = kept.get(g, 0) + 1
+        has_ended[g] = rest.is_at_rest and rest.holds <= kept.get(g, 0)
+    return [unit for of_one in calls.values() for unit in of_one]
+
+
+def _frees(events: Events, calls: Optional[list[Unit]], event: Event) -> bool:
+    """Whether the event frees the descriptor whose last reference the goroutine's last call gave up."""
+    return event.kind == "pollclose" and calls is not None and events.all[calls[-1].events[-1]].answer == LAST
+
+
+def _others(events: Events) -> list[Unit]:
+    """The units of the network, of timers and of what is made."""
+    units: list[Unit] = []
+    came: dict[tuple[int, str], list[int]] = {}
+    started: dict[Timer, Unit] = {}
+    for place, event in enumerate(events.all):
+        if event.kind in SIDE_OF:
+            came.setdefault((event.arguments[0], SIDE_OF[event.kind]), []).append(place)
+        elif event.kind == "pollevent":
+            socket = events.uses[event.arguments[0]].socket
+            before = [one for side in event.arguments[2] for one in came.pop((socket, side), ())]
+            units.append(Unit(Sort.NETWORK, sorted((*before, place))))
+        elif event.kind == "pop":
+            assert event.timer
+            units.append(Unit(Sort.TIMER, [place]))
+            started[event.timer] = units[-1]
+        elif event.kind == "fire":
+            assert event.timer
+            started.pop(event.timer).events.append(place)
+        elif KINDS[event.kind].arguments[:1] != ("g",):
+            sort = {"spawn": Sort.GOROUTINE, "sockopen": Sort.SOCKET}.get(event.kind, Sort.TICK)
+            units.append(Unit(sort, [place]))
+    return units + [Unit(Sort.NETWORK, [place]) for places in came.values() for place in places]
+
+
+class Needs:
+    """Which units name what others make, so that they go with them."""
+
+    def __init__(self, events: Events, units: list[Unit]) -> None:
+        maker: dict[tuple[str, int], int] = {}
+        counts = {"spawn": 1, "sockopen": 0, "pollopen": 0}
+        forms = {"spawn": "g", "sockopen": "s", "pollopen": "d"}
+        owner = {place: at for at, unit in enumerate(units) for place in unit.events}
+        self.by: list[set[int]] = [set() for _ in units]  # those that need a unit
+        self.of: list[set[int]] = [set() for _ in units]  # those that a unit needs
+        for place, event in enumerate(events.all):
+            unit = owner[place]
+            if event.kind in counts:
+                maker[forms[event.kind], counts[event.kind]] = unit
+                counts[event.kind] += 1
+            named = [(form, event.named(form)) for form in "gsd"] + [("d", event.timer[0] if event.timer else None)]
+            for form, which in named:
+                made_by = maker.get((form, which)) if which is not None else None
+                if made_by is not None and made_by != unit:
+                    self.by[made_by].add(unit)
+                    self.of[unit].add(made_by)
+
+    def with_needed(self, units: Iterable[int]) -> set[int]:
+        """The units with all that they need."""
+        return _closure(units, self.of)
+
+    def with_needing(self, units: Iterable[int]) -> set[int]:
+        """The units with all that need them."""
+        return _closure(units, self.by)
+
+
+def _closure(units: Iterable[int], links: list[set[int]]) -> set[int]:
+    found: set[int] = set()
+    left = list(units)
+    while left:
+        unit = left.pop()
+        if unit not in found:
+            found.add(unit)
+            left.extend(links[unit])
+    return found

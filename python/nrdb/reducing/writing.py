@@ -1,0 +1,85 @@
+"""Writes a reduced recording, which netrev takes, and NAME.where beside it, if the recording has one."""
+
+import json
+import os
+import subprocess
+import tempfile
+from pathlib import Path
+from typing import Any, Sequence
+
+from netrev_model.machine import Limits
+from netrev_model.writing import line_of
+
+from ..session import Misused
+from ..where import Call, Lines, Stack
+from .playing import Player
+
+
+def answered_by(program: str, command: str, data: bytes) -> tuple[int, bytes]:
+    """netrev's exit status and what it prints, of `netrev COMMAND` on a file with these data."""
+    handle, path = tempfile.mkstemp(suffix=".jsonl")
+    try:
+        with open(handle, "wb") as file:
+            file.write(data)
+        ended = subprocess.run([program, command, path], capture_output=True, check=False)
+        return ended.returncode, ended.stdout
+    finally:
+        os.unlink(path)
+
+
+def taken(program: str, player: Player, has_answers: bool) -> bytes:
+    """The text of what the player has played, as netrev takes it; with netrev's own answers where the recording had such."""
+    text = text_of(player, has_answers)
+    status, said = answered_by(program, "upgrade" if has_answers else "check", text)
+    if status:
+        fault = said.decode("utf-8", "replace").strip()
+        raise Misused(f"netrev doesn't take what is left: {fault}. That is an error of nrdb's; nothing was written")
+    return said if has_answers else text
+
+
+def text_of(player: Player, has_answers: bool) -> bytes:
+    """The text of what the player has played. The limits are those that it needs."""
+    world = player.world
+    gor, sock, desc = (max(len(made), 1) for made in (world.goroutines, world.sockets, world.descs))
+    limits = Limits(gor, sock, desc, player.limits.buf)
+    header = {"netrev": 2 if has_answers or _needs_answers(player) else 1, **limits._asdict()}
+    lines = [json.dumps(header, separators=(",", ":"))]
+    lines += [line_of(step, answer if header["netrev"] == 2 else None) for step, answer in player.steps]
+    return "".join(f"{line}\n" for line in lines).encode()
+
+
+def _needs_answers(player: Player) -> bool:
+    """Whether a step is there that only recordings of version 2 have."""
+    return any(step[0] == "closewrite" for step, _ in player.steps)
+
+
+def where_text(lines: Lines, numbers: Sequence[int]) -> str:
+    """NAME.where for the steps of these numbers, which are 1, 2 and so on then."""
+    calls: dict[Call, int] = {}
+    stacks: dict[Stack, int] = {}
+    told: list[dict[str, Any]] = [{"where": 1, "steps": len(numbers)}]
+    of_steps = []
+    for number in numbers:
+        stack = lines.of(number)
+        if not stack.calls and not stack.made:
+            of_steps.append(0)
+            continue
+        if stack not in stacks:
+            for call in (*stack.calls, *([stack.made] if stack.made else [])):
+                if call not in calls:
+                    calls[call] = len(calls) + 1
+                    told.append({"call": calls[call], **call._asdict()})
+            stacks[stack] = len(stacks) + 1
+            made = {"made": calls[stack.made]} if stack.made else {}
+            told.append({"stack": stacks[stack], "calls": [calls[call] for call in stack.calls], **made})
+        of_steps.append(stacks[stack])
+    told.append({"step": 1, "stacks": of_steps})
+    return "".join(f"{json.dumps(one, separators=(',', ':'))}\n" for one in told)
+
+
+def written(path: str, data: bytes) -> None:
+    """Writes a file; Misused where it can't be."""
+    try:
+        Path(path).write_bytes(data)
+    except OSError as error:
+        raise Misused(f"{path}: {error.strerror}") from None

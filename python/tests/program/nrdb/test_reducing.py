@@ -1,0 +1,130 @@
+"""`reduce` and `report`: what is left is accepted by netrev, shows the same suspect or the same value, and doesn't grow where it is
+reduced again; NAME.where goes with it."""
+
+import re
+import tempfile
+import unittest
+from pathlib import Path
+
+from netrev_fuzz.injections import Bug, Traffic
+from nrdb.recording import Recording
+from nrdb.suspects import suspects_of
+from nrdb.suspects.found import Suspect
+from tests.test_suspects import KNOWN
+
+from .support import EXAMPLES, HUNTS, netrev, nrdb
+from .test_suspects import checked
+
+# of these the least that was reached, and some more
+MOST = {
+    "hunts/blocked-control": 20,
+    "hunts/extended-deadline": 24,
+    "hunts/hijacked-deadline": 48,
+    "hunts/missed-release": 48,
+    "real/past": 21,
+    "real/lost": 12,
+    "real/leak": 22,
+    "real/half": 20,
+    "real/hijacked": 20,
+}
+LENGTH = 1_500
+# seeds of runs of that length in which the planted bug shows and is named
+SEEDS = {
+    Bug.RELEASE: 700,
+    Bug.IDLE: 700,
+    Bug.GONE: 700,
+    Bug.NO_EVENT: 704,
+    Bug.OLD_TAG: 704,
+    Bug.TAKEN_BACK: 703,
+    Bug.NO_TRY: 700,
+    Bug.LEFT_BEHIND: 702,
+    Bug.LOCK: 700,
+    Bug.NOT_EVICTED: 701,
+}
+
+
+def first_of(recording: Recording) -> Suspect:
+    """The first suspect of a recording."""
+    return suspects_of(recording).suspects[0]
+
+
+class Reducing(unittest.TestCase):
+    def setUp(self) -> None:
+        folder = tempfile.TemporaryDirectory()
+        self.addCleanup(folder.cleanup)
+        self.folder = Path(folder.name)
+
+    def reduced(self, path: Path, *words: str) -> Recording:
+        """What is left of a recording, which netrev accepts, and which isn't longer than it says."""
+        out = self.folder / f"{path.stem}-less.jsonl"
+        said = nrdb("--batch", "-ex", " ".join(("reduce", str(out), *words)), path)
+        left = Recording.read(str(out))
+        self.assertIn(f"{out}: {left.length} of {Recording.read(str(path)).length} steps, accepted by netrev; ", said)
+        self.assertEqual(checked(out), f"ok {left.length} steps\n")
+        return left
+
+    def test_the_suspect_of_each_example_is_still_the_first(self) -> None:
+        for name, rule in KNOWN.items():
+            with self.subTest(name):
+                path = EXAMPLES / f"{name}.jsonl"
+                whole, left = Recording.read(str(path)), self.reduced(path)
+                before, now = first_of(whole), first_of(left)
+                self.assertEqual((before.rule, now.rule), (rule, rule))
+                self.assertGreaterEqual(now.weight, before.weight)
+                self.assertEqual(left.has_answers, whole.has_answers)
+                self.assertLessEqual(left.length, min(MOST.get(name, whole.length), whole.length))
+
+    def test_reduced_again_it_does_not_grow(self) -> None:
+        for name in ("hunts/missed-release", "real/past", "reused-descriptor"):
+            with self.subTest(name):
+                once = self.reduced(EXAMPLES / f"{name}.jsonl")
+                twice = self.reduced(self.folder / f"{Path(name).name}-less.jsonl")
+                self.assertLessEqual(twice.length, once.length)
+                self.assertEqual(first_of(twice).rule, first_of(once).rule)
+
+    def test_planted_bugs_are_kept_and_traffic_goes(self) -> None:
+        self.assertEqual(set(SEEDS), set(Bug))
+        for bug, seed in SEEDS.items():
+            with self.subTest(bug.value):
+                path = self.folder / f"{bug.name}.jsonl"
+                path.write_bytes(Traffic(seed, bug, LENGTH).run().text())
+                before, left = first_of(Recording.read(str(path))), self.reduced(path)
+                self.assertEqual(first_of(left).rule, before.rule)
+                self.assertLess(left.length, 50)
+
+    def test_a_cell_has_the_value_at_the_end(self) -> None:
+        for words, shown in (("gor 14 owing*", r"owing \d+ 0 1"), ("gor 3 parked*", r"parked \d+ [rw]")):
+            with self.subTest(words):
+                left = self.reduced(HUNTS / "missed-release.jsonl", *words.split())
+                looks = [f"print gor {number}" for number in range(left.limits["gor"])]
+                path = self.folder / "missed-release-less.jsonl"
+                values = [reply.split(" = ")[1] for reply in netrev(path, ["continue", *looks])[1:]]
+                self.assertTrue(any(re.fullmatch(shown, value) for value in values), values)
+                self.assertLess(left.length, 60)
+
+    def test_the_lines_of_the_program_go_with_their_steps(self) -> None:
+        path = EXAMPLES / "real/hijacked.jsonl"
+        nrdb("--batch", "-ex", f"report {self.folder / 'bug.md'}", path)
+        text = (self.folder / "bug.md").read_text()
+        whole, left = Recording.read(str(path)), Recording.read(str(self.folder / "bug.jsonl"))
+        pairs = [(int(new), int(old)) for new, old in re.findall(r"^\| (\d+) \| (\d+) \|", text, re.MULTILINE)]
+        self.assertEqual([new for new, _ in pairs], list(range(1, left.length + 1)))
+        for new, old in pairs:
+            self.assertEqual(left.step(new).kind, whole.step(old).kind)
+            self.assertEqual(left.lines.of(new), whole.lines.of(old))
+        self.assertIn("main.go:34", text)
+        self.assertIn(f"`ok {left.length} steps`", text)
+        self.assertRegex(text, r"netrev: `at \d+ wd 0 = -1`")
+
+    def test_what_cannot_be_reduced_is_said(self) -> None:
+        path = EXAMPLES / "first.jsonl"
+        said = nrdb("--batch", "-ex", f"reduce {self.folder}/x.jsonl", "-ex", f"reduce {path}", path)
+        self.assertIn("| no suspect is here", said)
+        self.assertIn("is the recording itself", said)
+        said = nrdb("--reduce", self.folder / "none/x.jsonl", EXAMPLES / "lost-wakeup.jsonl", status=3)
+        self.assertIn("none/x.jsonl: No such file or directory", said)
+        self.assertIn("no step gives gor 0 the value gone", nrdb("--batch", "-ex", "reduce x.jsonl gor 0 gone", path))
+
+
+if __name__ == "__main__":
+    unittest.main()

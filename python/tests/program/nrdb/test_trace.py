@@ -1,0 +1,46 @@
+"""`trace` with netrev: the file is whole, and what netrev answers is looked at."""
+
+import json
+import tempfile
+import unittest
+from pathlib import Path
+from unittest.mock import patch
+
+from nrdb.suspects.following import HANDLERS
+from nrdb.timeline.trace import COMPARED
+from tests.test_trace import faults_of
+
+from .support import EXAMPLES, HUNTS, nrdb
+
+
+class Trace(unittest.TestCase):
+    def setUp(self) -> None:
+        folder = tempfile.TemporaryDirectory()
+        self.addCleanup(folder.cleanup)
+        self.path = Path(folder.name) / "run.json"
+
+    def test_the_file_is_whole(self) -> None:
+        for words in (("--trace", self.path), ("--batch", "-ex", f"trace {self.path}")):
+            said = nrdb(*words, HUNTS / "missed-release.jsonl")
+            trace = json.loads(self.path.read_text())
+            self.assertEqual(faults_of(trace["traceEvents"]), [])
+            slices = [event for event in trace["traceEvents"] if event["ph"] == "X"]
+            self.assertIn(f"{self.path}: 1430 steps, {len(slices)} slices, ", said)
+            compared = {*range(1430 // COMPARED, 1431, 1430 // COMPARED), 1430}
+            self.assertIn(f"as netrev has them at {len(compared)} positions", said)
+            self.path.unlink()
+
+    def test_nothing_is_written_where_netrev_answers_otherwise(self) -> None:
+        path = EXAMPLES / "lost-wakeup.jsonl"
+        with patch.dict(HANDLERS, {"blockcheck": lambda state, g: None}):
+            said = nrdb("--trace", self.path, path, status=3)
+        self.assertIn("| netrev answers gor 0 = parking 0 r at 8, and nrdb follows armed 0 r: an error of nrdb's", said)
+        self.assertFalse(self.path.exists())
+
+    def test_a_file_that_cannot_be_written(self) -> None:
+        said = nrdb("--trace", self.path.parent / "none/x.json", EXAMPLES / "first.jsonl", status=3)
+        self.assertIn("none/x.json: No such file or directory", said)
+
+
+if __name__ == "__main__":
+    unittest.main()

@@ -1,0 +1,123 @@
+"""Reducing without netrev: units played with the model are the recording's own steps; what is left out takes along what needs
+it; and numbers are made anew."""
+
+import unittest
+from pathlib import Path
+from typing import Any
+from unittest.mock import patch
+
+from netrev_model.machine import Limits
+from netrev_model.writing import line_of
+from nrdb.recording import Recording
+from nrdb.reducing.events import Events
+from nrdb.reducing.playing import Player
+from nrdb.reducing.shrinking import Shrinking
+from nrdb.reducing.targets import CellTarget
+from nrdb.reducing.units import Unit, units_of
+from nrdb.reducing.writing import where_text
+from nrdb.where import Lines
+from tests.test_suspects import BACK, COMES, LOOKS, OPEN, PARK, PASSES, PAST, READ, USED_AGAIN, Steps, recording_of
+
+EXAMPLES = Path(__file__).resolve().parents[2] / "examples"
+CALL: Steps = [["rwlock", 1, 0, "r"], ["pollreset", 1, 0, "r"], ["sysread", 1, 0, 16], ["rwunlock", 1, 0, "r"]]
+
+
+def player_of(recording: Recording) -> tuple[Player, list[Unit], Events]:
+    """A player of a recording with answers, with its units and events."""
+    events = Events(recording)
+    units = units_of(events)
+    limits = Limits(*(recording.limits[key] for key in Limits._fields))
+    return Player(events, units, limits, lambda: None), units, events
+
+
+def told(player: Player) -> list[str]:
+    """The steps that were played."""
+    return [line_of(step, None) for step, _ in player.steps]
+
+
+class Units(unittest.TestCase):
+    def kinds(self, steps: Steps) -> list[list[str]]:
+        """The kinds of the steps of each unit."""
+        _, units, events = player_of(recording_of(steps))
+        return [[events.all[place].kind for place in unit.events] for unit in units]
+
+    def test_a_call_is_from_rest_to_rest(self) -> None:
+        self.assertEqual(self.kinds(OPEN + CALL)[-1], ["rwlock", "pollreset", "sysread", "rwunlock"])
+
+    def test_a_reference_that_is_kept_is_no_call_for_ever(self) -> None:
+        self.assertEqual(self.kinds(OPEN + [["incref", 1, 0]] + CALL)[-2:], [["incref"], [step[0] for step in CALL]])
+
+    def test_bytes_go_with_their_event_and_the_freeing_with_its_close(self) -> None:
+        self.assertEqual(self.kinds(OPEN + COMES)[-1], ["arrive", "pollevent"])
+        self.assertIn(["increfclose", "evict", "decref", "pollclose"], self.kinds(OPEN + USED_AGAIN))
+
+    def test_each_step_is_in_one_unit(self) -> None:
+        for path in sorted(EXAMPLES.glob("real/*.jsonl")):
+            _, units, events = player_of(Recording.read(str(path)))
+            places = sorted(place for unit in units for place in unit.events)
+            self.assertEqual(places, list(range(len(events.all))))
+
+
+class Playing(unittest.TestCase):
+    def test_all_units_are_the_recording(self) -> None:
+        recordings = [Recording.read(str(path)) for path in sorted(EXAMPLES.glob("real/*.jsonl"))]
+        recordings += [recording_of(OPEN + READ + PARK + PAST + BACK + LOOKS), recording_of(OPEN + USED_AGAIN)]
+        for recording in recordings:
+            player, units, _ = player_of(recording)
+            self.assertEqual(player.settle(range(len(units))), set(range(len(units))))
+            steps: list[Any] = [values[:-1] for values in recording.arrays()]
+            self.assertEqual(
+                [[part.hex() if isinstance(part, bytes) else part for part in step] for step, _ in player.steps], steps
+            )
+
+    def test_numbers_are_made_anew(self) -> None:
+        player, units, events = player_of(recording_of(OPEN + USED_AGAIN + [["pollevent", 0, 2, "rw", 1], ["spawn"]]))
+        kept = {at for at, unit in enumerate(units) if events.all[unit.events[0]].kind != "increfclose"}
+        first = {at for at in kept if events.all[units[at].events[0]].number in (2, 3)}
+        player.settle(kept - first)
+        self.assertEqual(
+            told(player),
+            ['["spawn"]', '["sockopen",16,16]', '["pollopen",0,0]', '["pollevent",0,1,"rw",1]', '["spawn"]'],
+        )
+
+    def test_what_no_longer_goes_is_left_out(self) -> None:
+        player, units, events = player_of(recording_of(OPEN + READ + PARK + COMES + LOOKS[:1] + PAST[:1]))
+        without = {at for at, unit in enumerate(units) if events.all[unit.events[0]].kind != "arrive"}
+        left = player.settle(without)
+        self.assertLess(len(left), len(without))  # (the read that was woken isn't)
+        self.assertNotIn("blockswap", [step[0] for step, _ in player.steps])
+
+    def test_goes_back_alike_with_few_copies(self) -> None:
+        recording = Recording.read(str(EXAMPLES / "real/hijacked.jsonl"))
+        player, units, _ = player_of(recording)
+        with patch("nrdb.reducing.playing.COPIES", 20):
+            for skipped in (90, 60, 40, 11, 62, 2):
+                kept = set(range(len(units))) - {skipped}
+                fresh, _, _ = player_of(recording)
+                self.assertEqual(player.settle(kept), fresh.settle(kept))
+                self.assertEqual(told(player), told(fresh))
+                self.assertEqual((player.world, player.numbers), (fresh.world, fresh.numbers))
+
+
+class Targets(unittest.TestCase):
+    def test_a_cell_of_a_timer_keeps_the_deadline(self) -> None:
+        traffic = OPEN + CALL + CALL + [["spawn"], ["sockopen", 16, 16], ["tick", 3]]
+        recording = recording_of(traffic + [["setdeadline", 0, 0, "r", 5], ["incref", 0, 0]] + PASSES + CALL)
+        player, units, events = player_of(recording)
+        target = CellTarget(events, "rd 0", "-1", recording.length)
+        Shrinking(player, events, units, target).run()
+        kinds = [step[0] for step, _ in player.steps]
+        self.assertEqual(kinds, ["sockopen", "pollopen", "setdeadline", "tick", "pop", "fire"])
+
+
+class Where(unittest.TestCase):
+    def test_lines_are_those_of_the_steps_that_are_kept(self) -> None:
+        recording = Recording.read(str(EXAMPLES / "real/past.jsonl"))
+        numbers = [5, 9, 30, 31, recording.length]
+        lines = Lines(where_text(recording.lines, numbers), len(numbers))
+        self.assertEqual([lines.of(at) for at in range(1, 6)], [recording.lines.of(number) for number in numbers])
+        self.assertTrue(any(lines.words(at) for at in range(1, 6)))
+
+
+if __name__ == "__main__":
+    unittest.main()

@@ -1,0 +1,130 @@
+"""The trace for Perfetto: its events have what the form wants, slices of a thread are in each other or one after the other, and each
+flow leads from a slice to one; statuses are those of the machine's model."""
+
+import json
+import random
+import unittest
+from pathlib import Path
+from typing import Any
+
+from netrev_fuzz.injections import Traffic
+from netrev_fuzz.randomsteps import Author
+from netrev_model.machine import World
+from netrev_model.steps import apply
+from netrev_model.writing import write_plain
+from nrdb.recording import Recording
+from nrdb.timeline.trace import Tracing
+
+EXAMPLES = Path(__file__).resolve().parents[2] / "examples"
+REQUIRED = {
+    "M": {"pid", "name", "args"},
+    "X": {"pid", "tid", "ts", "dur", "name"},
+    "s": {"pid", "tid", "ts", "id", "name", "cat"},
+    "f": {"pid", "tid", "ts", "id", "name", "cat", "bp"},
+}
+Event = dict[str, Any]
+
+
+def slices_of(events: list[Event]) -> dict[tuple[int, int], list[Event]]:
+    """The slices of each thread, by their beginnings, the longer ones first."""
+    threads: dict[tuple[int, int], list[Event]] = {}
+    for event in events:
+        if event["ph"] == "X":
+            threads.setdefault((event["pid"], event["tid"]), []).append(event)
+    for slices in threads.values():
+        slices.sort(key=lambda one: (one["ts"], -one["dur"]))
+    return threads
+
+
+def faults_of(events: list[Event]) -> list[str]:
+    """What isn't of the form."""
+    faults = [f"lacks a field: {event}" for event in events if not REQUIRED[event["ph"]] <= set(event)]
+    threads = slices_of(events)
+    for slices in threads.values():
+        ends: list[int] = []
+        for one in slices:
+            while ends and ends[-1] <= one["ts"]:
+                ends.pop()
+            if one["dur"] < 1 or (ends and one["ts"] + one["dur"] > ends[-1]):
+                faults.append(f"neither within nor behind: {one}")
+            ends.append(one["ts"] + one["dur"])
+    flows: dict[int, list[Event]] = {}
+    for event in events:
+        if event["ph"] in "sf":
+            flows.setdefault(event["id"], []).append(event)
+            around = threads.get((event["pid"], event["tid"]), ())
+            if not any(one["ts"] <= event["ts"] < one["ts"] + one["dur"] for one in around):
+                faults.append(f"in no slice: {event}")
+    faults += [f"no pair: {pair}" for pair in flows.values() if [one["ph"] for one in pair] != ["s", "f"]]
+    faults += [f"goes back: {pair}" for pair in flows.values() if pair[0]["ts"] > pair[-1]["ts"]]
+    return faults
+
+
+def traced(recording: Recording) -> list[Event]:
+    """The events of the trace of a recording, as JSON gives them back."""
+    events: list[Event] = json.loads(json.dumps(list(Tracing(recording).events("run.jsonl", lambda: None))))
+    return events
+
+
+def statuses_of(events: list[Event], length: int) -> list[dict[int, str]]:
+    """Of each position the statuses of those goroutines that do something."""
+    found: list[dict[int, str]] = [{} for _ in range(length + 1)]
+    for event in events:
+        if event.get("cat") == "status":
+            for position in range(event["ts"], event["ts"] + event["dur"]):
+                assert event["tid"] not in found[position]
+                found[position][event["tid"]] = event["name"]
+    return found
+
+
+class Trace(unittest.TestCase):
+    def test_has_the_form_and_the_statuses_of_the_model(self) -> None:
+        for seed in range(8):
+            made, worlds = Author(random.Random(f"trace-{seed}")).recording(200)
+            events = traced(Recording(write_plain(made)))
+            self.assertEqual(faults_of(events), [])
+            told = statuses_of(events, len(made.steps))
+            for position, world in enumerate(worlds):
+                busy = {g: status for g, status in enumerate(world.goroutines) if status[0] not in ("idle", "gone")}
+                self.assertEqual(told[position], {g: " ".join(map(str, status)) for g, status in busy.items()})
+
+    def test_of_examples_and_traffic(self) -> None:
+        recordings = [Recording.read(str(path)) for path in sorted(EXAMPLES.glob("real/*.jsonl"))]
+        recordings.append(Recording(Traffic(31, None, 1_500).run().text()))
+        for recording in recordings:
+            events = traced(recording)
+            self.assertEqual(faults_of(events), [])
+            steps = [event for event in events if event.get("cat") == "step"]
+            self.assertEqual([event["args"]["step"] for event in steps], list(range(1, recording.length + 1)))
+            self.assertEqual(
+                [event["name"].split()[0] for event in steps], [values[0] for values in recording.arrays()]
+            )
+
+    def test_each_wake_up_is_a_flow(self) -> None:
+        traffic = Traffic(31, None, 1_500).run()
+        events, world = traced(Recording(traffic.text())), World(traffic.limits)
+        woken = []
+        for number, (kind, *rest) in enumerate(traffic.steps, 1):
+            of_bytes = kind in ("arrive", "syswrite")
+            before, (world, _) = world, apply(
+                world, (kind, *rest[:-1], bytes.fromhex(rest[-1])) if of_bytes else (kind, *rest)
+            )
+            for g, (old, new) in enumerate(zip(before.goroutines, world.goroutines)):
+                if (old[0], new[0]) in (("parked", "swapping"), ("queued", "acquiring")):
+                    woken.append((number, g))
+        self.assertTrue(woken)
+        self.assertEqual(sorted((event["ts"], event["tid"]) for event in events if event["ph"] == "f"), woken)
+
+    def test_lines_of_the_program_stand_at_steps(self) -> None:
+        recording = Recording.read(str(EXAMPLES / "real/hijacked.jsonl"))
+        lines = {
+            event["args"]["step"]: event["args"].get("line", "")
+            for event in traced(recording)
+            if event.get("cat") == "step"
+        }
+        self.assertEqual(lines, {number: recording.lines.words(number) for number in lines})
+        self.assertIn("main.go:34 net.(*conn).SetReadDeadline", lines.values())
+
+
+if __name__ == "__main__":
+    unittest.main()
