@@ -171,7 +171,7 @@ class Groups(unittest.TestCase):
         self.assertIn(
             f"| 9 queued for socket 0's read lock, which goroutine 0 has since step {since}: goroutines 1 to 9\n", told
         )
-        self.assertIn("| 19 parked for reading; no deadline: goroutines 10, 11, 13 to 29\n", told)
+        self.assertIn("| 19 parked for reading; no deadline: goroutines 10 to 11, 13 to 29\n", told)
         self.assertIn("| gor 12   parked 3 r ", told)
         self.assertEqual(len(every), 30)
 
