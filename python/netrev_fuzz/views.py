@@ -10,7 +10,7 @@ from typing import Any, Callable, Iterable, Mapping, Optional, Sequence
 from netrev_model.cells import look
 from netrev_model.machine import Step, World
 from netrev_model.session import Session
-from netrev_model.vocabulary import cell_of
+from netrev_model.vocabulary import CELLS, Of, cell_of
 from nrdb.words import LockWord, in_words
 
 Event = Mapping[str, Any]
@@ -112,12 +112,28 @@ class Judge:
         return numbers
 
     def wrong_goroutines(self, line: str, rows: Rows, rest: str) -> str:
-        told = [(row["goroutine"], row["status"]) for row in rows]
+        groups = [row for row in rows if "goroutines" in row]
+        for row in groups:
+            if wrong := self.wrong_group(row):
+                return wrong
+        grouped = [number for row in groups for number in row["goroutines"]]
+        rows = [row for row in rows if "goroutines" not in row]
+        told = sorted(
+            [(row["goroutine"], row["status"]) for row in rows] + [(one, self.value(f"gor {one}")) for one in grouped]
+        )
         right = [(number, self.value(f"gor {number}")) for number in self.made("gor")]
         if not line.endswith("all"):
             right = [(number, status) for number, status in right if status not in QUIET]
         waits = (self.wrong_wait(row["goroutine"], row["status"], row["waits_for"]) for row in rows)
         return self.differs(line, told, right) or next(filter(None, waits), "")
+
+    def wrong_group(self, row: Mapping[str, Any]) -> str:
+        """Many that are asleep alike: each has that status, and those that are queued are so for one lock."""
+        statuses = {self.value(f"gor {number}") for number in row["goroutines"]}
+        is_one = len(statuses) == 1 if row["status"] == "queued" else True
+        if is_one and all(status.split()[0] == row["status"] for status in statuses):
+            return ""
+        return f"a group of {row} at {self.position} has {sorted(statuses)}"
 
     def wrong_wait(self, goroutine: int, status: str, words: str) -> str:
         """A place in a queue, and who has the lock since when."""
@@ -194,6 +210,34 @@ class Judge:
         watched = [row for row in rows if row["sort"] == "watch"]
         told = [(row["old"], row["new"]) for row in watched]
         right = [(self.value(row["what"], self.position - 1), self.value(row["what"])) for row in watched]
+        return self.differs(line, told, right)
+
+    def wrong_changed(self, line: str, rows: Rows, rest: str) -> str:
+        """What the last step changed: all cells that differ before it and behind it."""
+        told = sorted((row["cell"], row["old"], row["new"]) for row in rows)
+        numbers = {
+            Of.ALL: [""],
+            Of.GOROUTINE: [f" {number}" for number in self.made("gor")],
+            Of.SOCKET: [f" {number}" for number in self.made("lock")],
+            Of.DESCRIPTOR: [f" {number}" for number in self.made("fdseq")],
+        }
+        cells = [f"{cell.name}{number}" for cell in CELLS.values() for number in numbers[cell.of]]
+        both = [(cell, self.value(cell, self.position - 1), self.value(cell)) for cell in cells]
+        return self.differs(line, told, sorted(one for one in both if one[1] != one[2]))
+
+    def wrong_timer(self, line: str, rows: Rows, rest: str) -> str:
+        """Whose timers the steps beside the position are about, and who set them."""
+        told, right = [], []
+        for row in rows:
+            number = row["step"]
+            kind, *arguments = self.steps[number - 1]
+            at = self.worlds[number if kind == "pop" else number - 1]
+            timer = at.firings[-1 if kind == "pop" else arguments[0]]
+            told.append([row[name] for name in ("sides", "descriptor", "due")])
+            right.append([timer.covers, timer.desc, timer.when])
+            setting = self.steps[row["set_at"] - 1]
+            told.append([row["set_by"], row["descriptor"]])
+            right.append(list(setting[1:3]) if setting[0] == "setdeadline" else [setting[0]])
         return self.differs(line, told, right)
 
     def wrong_display(self, line: str, rows: Rows, rest: str) -> str:

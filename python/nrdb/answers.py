@@ -6,27 +6,22 @@ from fnmatch import fnmatchcase
 
 from netrev_model.vocabulary import CELLS, KINDS, REASONS, Of, cell_of, number_of
 
-from .changes import MOST, history_table
+from .answers_of_calls import OF_CALLS, answer_errors, arrive, taken_most, usage
+from .changes import history_table
 from .commands import ALL_TOPICS, COMMANDS, OF_NETREV, OF_NRDB, TOPICS, Origin, whole_command
 from .holders import holders_table
-from .netrev import Reply
 from .output import Row, Table
 from .places import descriptors_table, sockets_table, timers_table
 from .recorded_answers import spelled
 from .reducing import answer_reduce, answer_report
 from .session import Answering, Misused, Session
-from .shapes import MOVED, move_of
 from .suspects import suspects_table
 from .timeline import write_timeline, write_trace
+from .timers import timer_words
 from .waiting import goroutines_table
 from .where import stack_lines
 
 ROUND = 5
-
-
-def usage(name: str) -> str:
-    """How a command is called."""
-    return f"{COMMANDS[name].usage}: {COMMANDS[name].says}"
 
 
 def taken_number(name: str, words: list[str]) -> int:
@@ -100,10 +95,15 @@ def answer_list(session: Session, words: list[str]) -> None:
     for number in range(max(1, middle - ROUND), min(text.length, middle + ROUND) + 1):
         step = text.step(number)
         here = "=>" if number == position + 1 else "  "
-        at = text.lines.words(number)
+        at = text.lines.words(number) or timer_words(text, step)
         told = {"step": number, "line": step.line, "does": str(step), "next": number == position + 1}
         said = f"{here} {number:>7}  {str(step):<34} line {step.line}"
-        rows.append(Row(told | ({"at": at} if text.lines else {}), f"{said:<56} {at}".rstrip() if at else said))
+        rows.append(
+            Row(
+                told | ({"at": text.lines.words(number)} if text.lines else {}),
+                f"{said:<56} {at}".rstrip() if at else said,
+            )
+        )
     session.printer.table(
         Table("list", rows, "=> (end)" if position == text.length and middle + ROUND > position else "")
     )
@@ -116,31 +116,39 @@ def answer_goto(session: Session, words: list[str]) -> None:
     arrive(session, f"goto {number}", session.go(number))
 
 
-def arrive(session: Session, line: str, reply: str) -> None:
-    """Shows netrev's reply to a move, and where the session stands then."""
-    session.printer.reply(line, Reply(reply), "")
-    if MOVED.fullmatch(reply):
-        session.arrive(move_of(line, reply).position)
+def taken_conditions(name: str, words: list[str]) -> dict[str, str]:
+    """The cells that the words name, each with the value that it is to have."""
+    cell, rest = taken_cell(name, words)
+    ends = (
+        at for at, word in enumerate(rest) if word in ("&&", "and") and rest[at + 1 : at + 2] and rest[at + 1] in CELLS
+    )
+    end = next(ends, len(rest))
+    value = " ".join(word for word in rest[:end] if word not in ("=", "=="))
+    if not value:
+        raise Misused(f"{usage(name)}; which value of {cell}?")
+    return {cell: value} | (taken_conditions(name, rest[end + 1 :]) if end < len(rest) else {})
 
 
 def answer_until(session: Session, words: list[str], name: str = "until") -> None:
     if len(words) == 1 and number_of(words[0]) is not None:
         raise Misused(f"{usage(name)}; goto {words[0]} goes to position {words[0]}")
-    cell, rest = taken_cell(name, words)
-    value = " ".join(word for word in rest if word not in ("=", "=="))
-    if not value:
-        raise Misused(f"{usage(name)}; which value of {cell}?")
+    wanted = taken_conditions(name, words)
     is_back = name == "reverse-until"
 
-    def is_wanted(shown: str) -> bool:
-        return fnmatchcase(shown, value) or fnmatchcase(session.words_of(cell, shown), value)
+    def are_wanted(shown: list[str]) -> bool:
+        return all(
+            fnmatchcase(now, value) or fnmatchcase(session.words_of(cell, now), value)
+            for now, (cell, value) in zip(shown, wanted.items())
+        )
 
-    found = session.looks().find(cell, is_wanted, session.stands().position, is_back)
+    found = session.looks().find(list(wanted), are_wanted, session.stands().position, is_back)
     if found is None:
-        session.printer.note(f"no {'earlier' if is_back else 'later'} step gives {cell} the value {value}")
+        said = " and ".join(f"{cell} the value {value}" for cell, value in wanted.items())
+        session.printer.note(f"no {'earlier' if is_back else 'later'} step gives {said}")
         return
-    arrive(session, f"{name} {cell} {value}", session.go(found))
-    session.show(f"print {cell}", session.netrev.ask(f"print {cell}"))
+    arrive(session, f"{name} {' and '.join(' '.join(one) for one in wanted.items())}", session.go(found))
+    for cell in wanted:
+        session.show(f"print {cell}", session.netrev.ask(f"print {cell}"))
 
 
 def answer_reverse_until(session: Session, words: list[str]) -> None:
@@ -169,9 +177,7 @@ def answer_undisplay(session: Session, words: list[str]) -> None:
 
 def answer_history(session: Session, words: list[str]) -> None:
     cell, rest = taken_cell("history", words)
-    most = None if rest == ["all"] else number_of(rest[0]) if len(rest) == 1 else MOST
-    if len(rest) > 1 or most == 0 or (most is None and rest != ["all"]):
-        raise Misused(f"{usage('history')}; N is a number from 1")
+    most = taken_most("history", rest)
     table = history_table(session.looks(), session.text(), cell, session.stands().position, most)
     session.printer.table(table)
 
@@ -206,6 +212,8 @@ def answer_info(session: Session, words: list[str]) -> None:
         return session.printer.table(timers_table(session.world()))
     if topic == "suspects" and not rest:
         return session.printer.table(suspects_table(session.looks(), session.text()))
+    if topic == "errors":
+        return answer_errors(session, rest)
     number = number_of(rest[0]) if len(rest) == 1 else None
     if topic == "holders" and number is not None:
         return session.printer.table(holders_table(session.world(), number))
@@ -233,4 +241,5 @@ ANSWERS: dict[str, Answering] = {
     "report": answer_report,
     "source": answer_source,
     "info": answer_info,
+    **OF_CALLS,
 }

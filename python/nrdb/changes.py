@@ -6,6 +6,7 @@ from .output import Row, Table, Values
 from .recording import Recording
 from .scout import Change, Scout
 from .shapes import Listed
+from .timers import timer_words
 from .words import in_words
 
 MOST = 40
@@ -34,7 +35,8 @@ def _row(recording: Recording, cell: str, change: Change) -> Row:
         "new": change.new,
     }
     told = f"{change.step:>7}  {str(step):<30} {change.old} -> {change.new}"
-    return Row({**values, "words": words or None}, f"{told}   ({words})" if words else told)
+    behind = [f"({words})" if words else "", timer_words(recording, step)]
+    return Row({**values, "words": words or None}, "   ".join([told, *filter(None, behind)]))
 
 
 def marks_table(scout: Scout, marks: list[Listed], position: int) -> Table:

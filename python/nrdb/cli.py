@@ -77,12 +77,17 @@ def main(words: Optional[Sequence[str]] = None) -> int:
     for stream in (sys.stdin, sys.stdout):
         if isinstance(stream, io.TextIOWrapper):
             stream.reconfigure(errors="surrogateescape")  # bytes that are no UTF-8 go as they come
-    printer = (JsonPrinter if wanted.json else TextPrinter)()
+    printer = JsonPrinter() if wanted.json else TextPrinter(is_coloured=has_colours())
     try:
         return run(wanted, printer)
     except BrokenPipeError:  # whoever read what is printed has gone
         sys.stdout = open(os.devnull, "w", encoding="utf-8")
         return FAILED
+
+
+def has_colours() -> bool:
+    """Whether what is printed goes to a terminal that has colours, and nobody asked for none (https://no-color.org)."""
+    return sys.stdout.isatty() and os.environ.get("TERM", "dumb") != "dumb" and not os.environ.get("NO_COLOR")
 
 
 def run(wanted: argparse.Namespace, printer: Printer) -> int:

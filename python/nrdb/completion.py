@@ -9,6 +9,8 @@ from .commands import COMMANDS, DIRECTIONS, TOPICS, Ambiguous, whole_words
 NUMBERED_TOPICS = {"goroutines": Of.GOROUTINE, "sockets": Of.SOCKET, "descriptors": Of.DESCRIPTOR, "holders": Of.SOCKET}
 OF_CELL = ("print", "watch", "display", "undisplay", "history", "until", "reverse-until")
 STATUSES = "idle gone acquiring queued relock owing entering armed parking parked swapping checking".split()
+FOLLOWED = {"gor": Of.GOROUTINE, "sock": Of.SOCKET, "desc": Of.DESCRIPTOR}
+OF_A_GOROUTINE = ("next", "finish", "reverse-next", "reverse-finish")
 VALUES = {"gor": STATUSES, "rg": ["nil", "ready", "wait"], "wg": ["nil", "ready", "wait"]}
 
 
@@ -22,8 +24,14 @@ def candidates(before: list[str], numbers: Callable[[Of], list[str]]) -> list[st
         return []
     if first in OF_CELL:
         return of_cell(rest, numbers)
+    if first in OF_A_GOROUTINE and not rest:
+        return numbers(Of.GOROUTINE)
+    if len(rest) == 1 and first in ("steps", "calls") and rest[0] in FOLLOWED:
+        return numbers(FOLLOWED[rest[0]])
     if len(rest) == 0:
         return {
+            "steps": [*FOLLOWED, *KINDS],
+            "calls": list(FOLLOWED),
             "break": list(KINDS),
             "tbreak": list(KINDS),
             "dump": list(DUMPS),
@@ -50,4 +58,9 @@ def of_cell(rest: list[str], numbers: Callable[[Of], list[str]]) -> list[str]:
         return []
     if len(rest) == 1 and cell.of is not Of.ALL:
         return numbers(cell.of)
-    return VALUES.get(cell.name, []) if len(rest) == 2 else []
+    length = 2 if cell.of is Of.ALL else 3
+    if rest[length:] and rest[-1] == "and":
+        return list(CELLS)
+    if "and" in rest[length:-1]:
+        return of_cell(rest[rest.index("and", length) + 1 :], numbers)
+    return VALUES.get(cell.name, []) if len(rest) == 2 else ["and"] if len(rest) == length else []

@@ -5,6 +5,7 @@ import json
 import sys
 from abc import ABC, abstractmethod
 from dataclasses import dataclass
+from enum import Enum
 from typing import Any, Optional, TextIO
 
 from netrev_model.plain import plain
@@ -42,10 +43,18 @@ class Place:
         return f"{last}   {then}: {self.next}   (line {self.next.line})" if self.next else f"{last}   {then}"
 
 
+class Style(Enum):
+    """How a line stands out on a terminal with colours: netrev's own replies are left as they are."""
+
+    PLAIN = ""
+    ADDED = "36"  # cyan: what nrdb adds
+    ALARM = "1;31"  # red: a suspect
+
+
 @dataclass(frozen=True)
 class Row:
-    """A row of a table: its values by name, and the line that shows it. One without values is a further line of the row
-    before."""
+    """A row of a table: its values by name, and the line that shows it; one without a line is told by the row before. One
+    without values is a further line of the row before."""
 
     values: Values
     text: str
@@ -61,8 +70,8 @@ class Table:
 
 
 class Printer(ABC):
-    """Where events go. Each is out before the next line is read. All text goes through `write`, and there through `plain`,
-    so nothing of a recording or of a server is obeyed by a terminal."""
+    """Where events go. Each is out before the next line is read. All text goes through `plain`, so nothing of a recording
+    or of a server is obeyed by a terminal."""
 
     def __init__(self, out: Optional[TextIO] = None):
         self.out = out if out is not None else sys.stdout
@@ -97,28 +106,43 @@ class Printer(ABC):
 
 
 class TextPrinter(Printer):
-    """Events as text."""
+    """Events as text, with colours where they are wanted."""
+
+    def __init__(self, out: Optional[TextIO] = None, is_coloured: bool = False):
+        super().__init__(out)
+        self.is_coloured = is_coloured
+
+    def styled(self, text: str, style: Style) -> str:
+        """The text made plain, in that style."""
+        is_styled = self.is_coloured and style is not Style.PLAIN
+        return f"\x1b[{style.value}m{plain(text)}\x1b[0m" if is_styled else plain(text)
+
+    def add(self, text: str, style: Style = Style.ADDED) -> None:
+        """A line that nrdb adds."""
+        print(self.styled(f"| {text}", style), file=self.out, flush=True)
 
     def echo(self, line: str) -> None:
         self.write(f"(netrev) {line}".rstrip())
 
     def reply(self, line: str, reply: Reply, words: str) -> None:
-        self.write(f"{reply.first}   | {words}" if words else reply.first)
+        added = self.styled(f"   | {words}", Style.ADDED) if words else ""
+        print(plain(reply.first) + added, file=self.out, flush=True)
         for entry in reply.entries:
             self.write(entry)
 
     def place(self, place: Place) -> None:
-        self.write(f"| {place}")
+        self.add(str(place))
 
     def note(self, text: str) -> None:
         for line in text.split("\n"):
-            self.write(f"| {line}")
+            self.add(line)
 
     def table(self, table: Table) -> None:
         for row in table.rows:
-            self.write(f"| {row.text}")
+            if row.text:
+                self.add(row.text, Style.ALARM if row.values and table.topic == "suspects" else Style.ADDED)
         if table.rest:
-            self.write(f"| {table.rest}")
+            self.add(table.rest)
 
     def end(self, status: int) -> None:
         """The session has ended."""

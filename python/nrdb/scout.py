@@ -24,10 +24,10 @@ class Lost(Exception):
 
 
 class Stop(NamedTuple):
-    """A position behind a change of a cell, and the value there."""
+    """A position behind a change of a cell, or of one of several, and their values there."""
 
     position: int
-    value: str
+    values: list[str]
 
 
 @dataclass(frozen=True)
@@ -75,13 +75,16 @@ class Scout:
         there are earlier ones."""
         return self._anew(lambda: self._changes(cell, position, most))
 
-    def find(self, cell: str, is_wanted: Callable[[str], bool], position: int, backwards: bool) -> Optional[int]:
-        """The nearest position that way behind a step that gave the cell a value that is wanted, or None."""
+    def find(
+        self, cells: Sequence[str], are_wanted: Callable[[list[str]], bool], position: int, backwards: bool
+    ) -> Optional[int]:
+        """The nearest position that way behind a step that changed one of the cells, and gave them values that are wanted; or
+        None."""
         way = "reverse-continue" if backwards else "continue"
 
         def found() -> Optional[int]:
-            with closing(self._stops(cell, position, way)) as stops:
-                return next((stop for stop, value in stops if is_wanted(value)), None)
+            with closing(self._stops(cells, position, way)) as stops:
+                return next((stop for stop, values in stops if are_wanted(values)), None)
 
         return self._anew(found)
 
@@ -118,10 +121,10 @@ class Scout:
         with closing(self._stops_up_to(cell, position)) as found:
             stops = list(islice(found, wanted))
         is_all = wanted is None or len(stops) < wanted
-        first = self._at(0).values([cell])[0] if is_all else stops.pop().value
+        first = self._at(0).values([cell])[0] if is_all else stops.pop().values[0]
         stops.reverse()
-        olds = [first, *(stop.value for stop in stops)]
-        return [Change(stop.position, old, stop.value) for stop, old in zip(stops, olds)], not is_all
+        olds = [first, *(stop.values[0] for stop in stops)]
+        return [Change(stop.position, old, stop.values[0]) for stop, old in zip(stops, olds)], not is_all
 
     def _row(self, position: int, looks: Sequence[str]) -> list[str]:
         *replies, moved = self._at(position).ask_all([*looks, "stepi"])
@@ -145,51 +148,54 @@ class Scout:
         if position:
             before, now = (self._at(place).values([cell])[0] for place in (position - 1, position))
             if before != now:
-                yield Stop(position, now)
-        yield from self._stops(cell, position, "reverse-continue")
+                yield Stop(position, [now])
+        yield from self._stops([cell], position, "reverse-continue")
 
-    def _stops(self, cell: str, position: int, way: str) -> Generator[Stop, None, None]:
-        """The positions that way behind changes of the cell, each with the value there."""
-        mark, size = self._watch(cell, position), 1
+    def _stops(self, cells: Sequence[str], position: int, way: str) -> Generator[Stop, None, None]:
+        """The positions that way behind changes of one of the cells, each with their values there."""
+        marks, size = self._watch(cells, position), 1
         while True:
             if self._placed + 2 * size >= JOURNAL:
-                mark = self._watch(cell, position)
-            for stop in self._stops_at_once(cell, way, size):
+                marks = self._watch(cells, position)
+            for stop in self._stops_at_once(cells, way, size):
                 if stop is None:
-                    return self._unwatch(mark)
+                    return self._unwatch(marks)
                 position = stop.position
                 try:
                     yield stop
                 except GeneratorExit:  # whoever asked has seen enough
-                    return self._unwatch(mark)
+                    return self._unwatch(marks)
             size = min(2 * size, AT_ONCE)
 
-    def _stops_at_once(self, cell: str, way: str, size: int) -> list[Optional[Stop]]:
+    def _stops_at_once(self, cells: Sequence[str], way: str, size: int) -> list[Optional[Stop]]:
         """The next so many stops, and None behind the last where there are no more."""
-        look = f"print {cell}"
+        looks = [f"print {cell}" for cell in cells]
         netrev = self._walker()
-        replies = netrev.ask_all([way, look] * size)
+        replies = iter(netrev.ask_all([way, *looks] * size))
         self._placed += size
         stops: list[Optional[Stop]] = []
-        for moved, shown in zip(replies[::2], replies[1::2]):
+        for moved in replies:
             move = move_of(way, moved)
+            shown = [value_of(look, next(replies)) for look in looks]
             if move.is_end:
                 return [*stops, None]
-            stops.append(Stop(move.position, value_of(look, shown)))
+            stops.append(Stop(move.position, shown))
         return stops
 
-    def _watch(self, cell: str, position: int) -> str:
-        """Goes to the position and watches the cell; the mark's number."""
-        reply = self._at(position).ask(f"watch {cell}").first
-        self._placed += 1
-        return matched(MARK, f"watch {cell}", reply)[1]
+    def _watch(self, cells: Sequence[str], position: int) -> list[str]:
+        """Goes to the position and watches the cells; the marks' numbers."""
+        netrev = self._at(position)
+        replies = netrev.ask_all([f"watch {cell}" for cell in cells])
+        self._placed += len(cells)
+        return [matched(MARK, f"watch {cell}", reply)[1] for cell, reply in zip(cells, replies)]
 
-    def _unwatch(self, mark: str) -> None:
-        """Takes the mark away. Ctrl-C isn't looked for: whoever walks has what was wanted, and the mark must not stay."""
-        netrev = self._walker()
-        self._placed += 1
-        if netrev.ask(f"delete {mark}").first != f"deleted mark {mark}":
-            self.drop()
+    def _unwatch(self, marks: Sequence[str]) -> None:
+        """Takes the marks away. Ctrl-C isn't looked for: whoever walks has what was wanted, and no mark must stay."""
+        for mark in marks:
+            netrev = self._walker()
+            self._placed += 1
+            if netrev.ask(f"delete {mark}").first != f"deleted mark {mark}":
+                return self.drop()
 
     def _walker(self) -> Netrev:
         """The netrev that looks, which is about to go somewhere."""

@@ -6,6 +6,8 @@ from typing import Callable, Mapping, Optional, Sequence
 
 from netrev_model.vocabulary import cell_of
 
+from .attached import Attached
+from .changed import changed_table
 from .changes import marks_table
 from .commands import COMMANDS, Ambiguous, is_answered_here, whole_words
 from .interrupts import Interrupted, Interrupts
@@ -15,6 +17,7 @@ from .output import Place, Printer, Row, Table
 from .recording import Recording
 from .scout import Lost, Scout
 from .shapes import MOVED, OF_CELL, OF_DUMP, POSITION, VALUE, Listed, Position, Refused, move_of, position_of
+from .timers import timers_beside
 from .words import absent_words, dump_words, in_words
 from .world import World
 
@@ -34,6 +37,13 @@ class Mismatched(Exception):
     """A session was joined that has another recording."""
 
 
+def parts_of(line: str) -> list[str]:
+    """The commands of a line; a file's name may have a `;` in it."""
+    if line.split()[0] in ("source", "timeline"):
+        return [line]
+    return [part.strip() for part in line.split(";") if part.strip()]
+
+
 @dataclass
 class Session:
     """A netrev, the recording and the scout where they are there, and where what is said goes."""
@@ -45,6 +55,7 @@ class Session:
     interrupts: Interrupts
     answers: Mapping[str, Answering]
     displays: list[str] = field(default_factory=list)
+    attached: Attached = field(default_factory=Attached)
     stood: int = 0
     length: int = 0
     depth: int = 0
@@ -109,9 +120,24 @@ class Session:
             return True
 
     def attempt(self, line: str) -> bool:
-        """Answers a line, or says what is wrong with it. False where the session has ended."""
+        """Answers a line, which may have several commands with `;` between, and what is to be run where a mark hit. False
+        where the session has ended."""
         if not line.split() or line.lstrip().startswith("#"):
             return True
+        for part in parts_of(line):
+            if self.attached.takes(part):
+                continue
+            if not self.attempt_one(part):
+                return False
+            while self.attached.pending:
+                self.interrupts.check()
+                self.printer.echo(self.attached.pending[0])
+                if not self.attempt_one(self.attached.pending.popleft()):
+                    return False
+        return True
+
+    def attempt_one(self, line: str) -> bool:
+        """Answers a command, or says what is wrong with it. False where the session has ended."""
         try:
             self.tell_of_others()
             return self.answer(line)
@@ -142,6 +168,9 @@ class Session:
             self.arrive(move.position, move.marks, stood)
         elif reply.first.startswith("fault"):
             self.printer.note(hint(words, reply.first))
+        elif words == ["info", "breakpoints"]:
+            for told in self.attached.listed(reply.entries):
+                self.printer.note(told)
         return reply.first != "bye"
 
     def show(self, line: str, reply: Reply, is_dump: bool = False) -> None:
@@ -164,15 +193,31 @@ class Session:
         return absent_words(cell, self.recording.limits if self.recording else {})
 
     def arrive(self, position: int, numbers: Sequence[str] = (), stood: Sequence[Listed] = ()) -> None:
-        """Tells where the session stands after a move, which marks hit there, and what is displayed. Before the move these
-        marks stood, of which some may be gone."""
+        """Tells where the session stands after a move, which marks hit there, what the last step changed, and what is
+        displayed. Before the move these marks stood, of which some may be gone."""
         self.stood = position
+        self.attached.hits(numbers)
         self.printer.place(self.place(position))
-        if numbers and self.scout:
-            listed = {mark.number: mark for mark in [*stood, *self.netrev.marks()]}
-            hit = [listed[number] for number in numbers if number in listed]
-            self.printer.table(marks_table(self.scout, hit, position))
+        if self.scout and self.recording:
+            self.tell_changes(self.scout, self.recording, position, self.hit(numbers, stood))
         self.show_displays()
+
+    def hit(self, numbers: Sequence[str], stood: Sequence[Listed]) -> list[Listed]:
+        """The marks of these numbers, as they are listed, or were before the move."""
+        listed = {mark.number: mark for mark in [*stood, *self.netrev.marks()]} if numbers else {}
+        return [listed[number] for number in numbers if number in listed]
+
+    def tell_changes(self, scout: Scout, recording: Recording, position: int, hit: list[Listed]) -> None:
+        """Tells whose timers the steps beside the position are about, which marks hit, and what the last step changed."""
+        timers = timers_beside(recording, position)
+        if timers.rows:
+            self.printer.table(timers)
+        if hit:
+            self.printer.table(marks_table(scout, hit, position))
+        told = [mark.what for mark in hit if mark.sort == "watch"]
+        changed = changed_table(scout, recording, position, told)
+        if changed and changed.rows:
+            self.printer.table(changed)
 
     def show_displays(self) -> None:
         """Shows the cells that are displayed."""

@@ -18,7 +18,10 @@ try:
 except ImportError:  # a Python without it has no line editing
     readline = None  # type: ignore[assignment]
 
-PROMPT = "(netrev) "
+PROMPT, TAKING = "(netrev) ", "> "  # the second for the lines of `commands`
+FIRST = (
+    "what went wrong: info suspects; what hangs: continue, info goroutines; what failed: info errors; all else: help"
+)
 KEPT = 1000
 MOST_NUMBERS = 200
 
@@ -39,6 +42,7 @@ class Terminal:
     def run(self) -> None:
         """Reads and answers lines until quit, or the end of the input."""
         self._load()
+        self.session.printer.note(FIRST)
         try:
             while self._turn():
                 pass
@@ -48,6 +52,8 @@ class Terminal:
     def _turn(self) -> bool:
         """Reads and answers one line. False where the session has ended."""
         try:
+            if self.session.attached.taking is not None:
+                return self.session.run(input(TAKING))
             line = input(PROMPT)
             if line.split():
                 self._last = line if repeats(line) else ""
@@ -57,6 +63,7 @@ class Terminal:
             return False
         except KeyboardInterrupt:
             print("^C")
+            self.session.attached.taking = None
             return True
 
     def _load(self) -> None:

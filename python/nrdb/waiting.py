@@ -7,6 +7,7 @@ from typing import Iterable, Mapping, Optional
 from netrev_model.vocabulary import Of
 
 from .backwards import Lock, last_steps, takings
+from .groups import grouped
 from .output import Row, Table
 from .recording import Step
 from .words import SIDES, LockWord, counted, status_words
@@ -95,13 +96,25 @@ class Waits:
         queue = self._queues[socket, side]
         place = queue.places.get(goroutine)
         said = f"place {place} of {len(queue.places)}, " if place else ""
-        if not queue.is_taken:
-            owed = "".join(f"; goroutine {number} owes a release there" for number in self._owing.get(socket, ()))
-            return f"{said}nobody has that lock{owed}" + ("; the socket is closed" if queue.word.closed else "")
-        taking = queue.taking
-        if taking is None:
-            return f"{said}the lock is taken"
-        return f"{said}goroutine {taking.argument('g')} has the lock since step {taking.number}"
+        taking = queue.taking if queue.is_taken else None
+        if taking:
+            return f"{said}goroutine {taking.argument('g')} has the lock since step {taking.number}"
+        return (
+            f"{said}the lock is taken" if queue.is_taken else f"{said}nobody has that lock{self._owed(socket, queue)}"
+        )
+
+    def _owed(self, socket: int, queue: Queue) -> str:
+        """Who owes releases there, and that the socket is closed."""
+        owed = "".join(f"; goroutine {number} owes a release there" for number in self._owing.get(socket, ()))
+        return owed + ("; the socket is closed" if queue.word.closed else "")
+
+    def of_queue(self, socket: int, side: str) -> str:
+        """Who has the lock for which goroutines are queued."""
+        queue = self._queues.setdefault((socket, side), Queue(self._world, socket, side))
+        taking = queue.taking if queue.is_taken else None
+        if taking:
+            return f"which goroutine {taking.argument('g')} has since step {taking.number}"
+        return "which is taken" if queue.is_taken else f"which nobody has{self._owed(socket, queue)}"
 
     def _wait_words(self, descriptor: int, side: str) -> list[str]:
         """Of a wait: whose descriptor it is, what lies there unread or has room, and its deadline."""
@@ -132,6 +145,8 @@ def goroutines_table(world: World, numbers: Optional[Iterable[int]] = None, is_a
         busy = [number for number in shown if statuses[number] not in QUIET]
         steps = last_steps(world.recording, world.position, busy)
         rows = [_with_line(world, row, steps.get(row.values["goroutine"], 0)) for row in rows]
+    if not is_all and numbers is None:
+        rows = grouped(rows, waits.of_queue)
     left = len(statuses) - len(shown)
     return Table("goroutines", rows, f"{left} idle or gone: info goroutines all" if left else "")
 

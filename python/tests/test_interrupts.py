@@ -15,6 +15,8 @@ COMMANDS = (
     "history info 0 2",
     "until gor 0 *",
     "reverse-until lock 0 *",
+    "until lock 0 * and gor 0 idle",
+    "next 0",
     "info goroutines all",
     "info sockets all",
     "info descriptors all",

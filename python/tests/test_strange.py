@@ -32,6 +32,16 @@ ASKED: tuple[str, ...] = (
     "info sockets",
 )
 ASKED += ("watch lock 0", "info timers", "info descriptors", "info holders 0", "where", "list", "goto 3", "resume")
+ASKED += (
+    "next",
+    "finish 0",
+    "info errors",
+    "calls",
+    "steps gor 0",
+    "commands",
+    "until lock 0 * and gor 0 *",
+    "goto 2; where",
+)
 Answers = Callable[[bytes], bytes]
 
 

@@ -72,7 +72,7 @@ class Asked(unittest.TestCase):
             asked[count] = Counter()
             session, out = self.session(waiters(count), asked[count])
             asked[count].clear()
-            session.run("info goroutines")
+            session.run("info goroutines all")
             self.assertIn(f"place {count} of {count}, goroutine 0 has the lock since step {count + 5}", out.getvalue())
             self.assertIn("relock 0 w", out.getvalue())
         few, many = (

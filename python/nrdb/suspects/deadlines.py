@@ -59,7 +59,8 @@ def follow_timer(state: State, d: int, place: int, old: int, was_combo: bool) ->
     descriptor.running[place] = wanted
     if wanted:
         covers = "rw" if place == READ and combo else LETTERS[place]
-        entry = (deadline, state.next_number, d, place, covers, descriptor.sequences[place])
+        numbers = (deadline, state.next_number, d, place, covers, descriptor.sequences[place])
+        entry = (*numbers, descriptor.settings[place])
         state.next_number += 1
         state.armed[d, place] = entry
         heapq.heappush(state.timers, entry)
@@ -75,7 +76,7 @@ def pop(state: State) -> None:
 
 
 def fire(state: State, i: int) -> None:
-    _, _, d, place, covers, sequence = state.firings.pop(i)
+    _, _, d, place, covers, sequence, _ = state.firings.pop(i)
     descriptor = state.descriptors[d]
     if descriptor.sequences[place] != sequence:
         return
@@ -164,6 +165,6 @@ def passed_alone(state: State, of: tuple[int, int], weight: int, moved: Setting,
             Evidence(state.step, f"{side}d {d}", "-1"),
             Evidence(state.step - 1, f"{side}d {d}", str(descriptor.deadlines[place])),
         ],
-        looks=[f"goto {moved.step}", f"history {side}d {d}"],
+        looks=[f"goto {state.step}", f"history {side}d {d}"],
         steps=[*([setting.step] if setting else []), moved.step, state.step],
     )

@@ -134,7 +134,7 @@ def queued(state: State, g: int) -> Optional[Suspect]:
         goroutine=holder.goroutine,
         socket=s,
         evidence=[Evidence(state.step, f"gor {one}", state.goroutines[one].words()) for one in (holder.goroutine, g)],
-        looks=[f"info holders {s}", f"goto {holder.step}"],
+        looks=[f"goto {state.step}", f"info holders {s}"],
         steps=[holder.step, row.since],
     )
 
@@ -198,6 +198,6 @@ def held(state: State, s: int, socket: Socket, hold: Hold) -> Optional[Suspect]:
         goroutine=g,
         socket=s,
         evidence=[Evidence(state.step, f"gor {g}", row.words()), Evidence(state.step, f"lock {s}", str(socket.word()))],
-        looks=[f"info holders {s}", f"goto {hold.step}"],
+        looks=[f"goto {state.step}", f"info holders {s}"],
         steps=[hold.step, *([socket.closer[0]] if socket.closer else [])],
     )

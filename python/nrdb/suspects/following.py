@@ -1,6 +1,6 @@
 """Follows a recording through all its steps."""
 
-from typing import Callable
+from typing import Any, Callable, Optional
 
 from netrev_model.vocabulary import KINDS
 
@@ -21,7 +21,12 @@ HANDLERS: dict[str, Callable[..., None]] = {kind: _handler(kind) for kind in KIN
 BY_GOROUTINE = frozenset(kind for kind, row in KINDS.items() if row.arguments[:1] == ("g",))
 
 
-def follow(recording: Recording) -> State:
+Seen = Callable[
+    [State, str, list[Any]], None
+]  # who looks behind each step: the state, the step's kind and its arguments
+
+
+def follow(recording: Recording, seen: Optional[Seen] = None) -> State:
     """The state behind all steps."""
     state, has_answers = State(), recording.has_answers
     handlers, by_goroutine, begins = HANDLERS, BY_GOROUTINE, state.begins  # (there may be a million steps)
@@ -33,4 +38,6 @@ def follow(recording: Recording) -> State:
         if kind in by_goroutine:
             begins(values[1])
         handlers[kind](*values)
+        if seen is not None:
+            seen(state, kind, values[1:])
     return state

@@ -30,7 +30,8 @@ def peerclose(state: State, s: int) -> None:
 
 def sysread(state: State, g: int, s: int, most: int) -> None:
     held = state.sockets[s].bytes
-    held[READ] = max(held[READ] - most, 0)
+    state.moved = min(held[READ], most)
+    held[READ] -= state.moved
     state.goroutines[g].tried = state.step
 
 
@@ -40,7 +41,8 @@ def syswrite(state: State, g: int, s: int, digits: str) -> None:
     if socket.shut:
         state.suspects.append(write_behind_shut(state, g, s, *socket.shut))
     else:
-        socket.bytes[WRITE] = min(socket.bytes[WRITE] + len(digits) // 2, socket.room[WRITE])
+        state.moved = min(len(digits) // 2, socket.room[WRITE] - socket.bytes[WRITE])
+        socket.bytes[WRITE] += state.moved
 
 
 def write_behind_shut(state: State, g: int, s: int, shut: int, by: int) -> Suspect:

@@ -132,6 +132,7 @@ class State:
 
     def __init__(self) -> None:
         self.clock = self.step = 0
+        self.moved = 0  # bytes of the last read or write
         self.goroutines = [Goroutine(0)]
         self.sockets: list[Socket] = []
         self.descriptors: list[Descriptor] = []

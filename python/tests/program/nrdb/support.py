@@ -18,6 +18,7 @@ HUNTS = EXAMPLES / "hunts"
 NRDB = str(ROOT / "nrdb")
 DIFFERING = ("other-answer", "early-arrival")
 PATIENCE = 60  # seconds
+BESIDE = ("changed", "timer")  # topics of the tables that follow each move
 
 LIMIT_OF = {Of.GOROUTINE: "gor", Of.SOCKET: "sock", Of.DESCRIPTOR: "desc"}
 
@@ -49,11 +50,12 @@ def nrdb_process(*words, lines=()):
     return ended.stdout, ended.stderr, ended.returncode
 
 
-def events(path, lines):
-    """The events of nrdb on this recording with these lines, without those of its start and its end."""
+def events(path, lines, beside=False):
+    """The events of nrdb on this recording with these lines, without those of its start and its end; and without what is told
+    beside each move, but where it is wanted."""
     told = [json.loads(line) for line in nrdb("--json", path, lines=lines).splitlines()]
     assert [event["event"] for event in told[:2] + told[-1:]] == ["reply", "place", "end"], told[:2]
-    return told[2:-1]
+    return [event for event in told[2:-1] if beside or event.get("topic") not in BESIDE]
 
 
 def netrev(path, lines):

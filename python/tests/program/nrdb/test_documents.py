@@ -1,4 +1,4 @@
-"""The sessions that docs/ shows: each is what nrdb prints, and so is what it says of a recording that is refused."""
+"""The sessions that docs/ and README.md show: each is what nrdb prints, and so is what it says of a recording that is refused."""
 
 import re
 import unittest
@@ -27,7 +27,7 @@ def refusals(text):
 class Documents(unittest.TestCase):
     def test_sessions_are_what_is_printed(self):
         count = 0
-        for page in sorted((ROOT / "docs").glob("*.md")):
+        for page in [ROOT / "README.md", *sorted((ROOT / "docs").glob("*.md"))]:
             for recording, lines in sessions(page.read_text(encoding="utf-8")):
                 asked = [line[len(PROMPT) :] for line in lines if line.startswith(PROMPT)]
                 words = [word for line in asked for word in ("-ex", line)]
@@ -35,7 +35,7 @@ class Documents(unittest.TestCase):
                     said = nrdb("--batch", *words, ROOT / recording).splitlines()
                     self.assertEqual(said[2:], lines)
                 count += 1
-        self.assertGreaterEqual(count, 5)
+        self.assertGreaterEqual(count, 12)
 
     def test_refused_recordings_are_explained_as_is_shown(self):
         count = 0

@@ -1,14 +1,19 @@
-"""The hunts of examples/hunts and examples/real: each bug is found by at most five commands, which print just what is
-kept. A recording with an answer that isn't the machine's is refused, and nrdb explains that."""
+"""The hunts of examples/hunts and examples/real, and two long ones that are made here: each bug that a rule knows is found by
+`info suspects` and the line that it says to type, which print just what is kept. A recording with an answer that isn't the
+machine's is refused, and nrdb explains that."""
 
 import json
 import tempfile
 import unittest
 from pathlib import Path
 
+from netrev_fuzz.long_hunts import made
+from tests.test_suspects import KNOWN
+
 from .support import DIFFERING, EXAMPLES, HUNTS, nrdb, nrdb_process
 
 MOST = 5
+LONG = {"keeper": 50_000, "refused": 500_000}  # steps, or a few more, until all that can end has done so
 
 
 class Hunts(unittest.TestCase):
@@ -21,6 +26,34 @@ class Hunts(unittest.TestCase):
                 kept = hunt.with_suffix(".session").read_text()
                 played = nrdb_process("--batch", "-x", hunt, hunt.with_suffix(".jsonl"))
                 self.assertEqual(played, (kept, "", int(hunt.stem in DIFFERING)))
+
+    def test_those_that_a_rule_knows_take_the_line_that_it_says(self):
+        hunts = [EXAMPLES / f"{name}.nrdb" for name in KNOWN if "/" in name]
+        hunts += [HUNTS / "made" / f"{name}.nrdb" for name in LONG]
+        self.assertGreaterEqual(len(hunts), 11)
+        for hunt in hunts:
+            with self.subTest(hunt.stem):
+                first, second = hunt.read_text().splitlines()
+                kept = hunt.with_suffix(".session").read_text().splitlines()
+                self.assertEqual(first, "info suspects")
+                self.assertEqual(next(line for line in kept if "look:" in line), f"|    look:   {second}")
+
+    def test_the_long_ones_print_what_is_kept(self):
+        with tempfile.TemporaryDirectory() as folder:
+            for name, length in LONG.items():
+                path, hunt = Path(folder) / f"{name}.jsonl", HUNTS / "made" / f"{name}.nrdb"
+                program = made(name, length)
+                path.write_bytes(program.text())
+                with self.subTest(name):
+                    assert program.planted
+                    goroutine, socket = program.planted
+                    kept = hunt.with_suffix(".session").read_text()
+                    self.assertEqual(nrdb("--batch", "-x", hunt, path), kept)
+                    first = next(line for line in kept.splitlines() if line.startswith("| 1. "))
+                    self.assertIn(f"goroutine {goroutine}", first)
+                    self.assertIn(
+                        f"socket {socket}" if name == "refused" else f"descriptor {program.descriptors[socket]}", first
+                    )
 
     def test_the_early_arrival_without_answers_and_at_its_place(self):
         header, *lines = (HUNTS / "early-arrival.jsonl").read_text().splitlines()

@@ -20,9 +20,9 @@ UP = "\x1b[A"
 class Typist:
     """Types at nrdb, and reads what is on its screen."""
 
-    def __init__(self, recording, home, program=NETREV):
+    def __init__(self, recording, home, program=NETREV, **variables):
         words = [NRDB, "--netrev", str(program), str(recording)]
-        environment = {**os.environ, "HOME": home, "TERM": "dumb", "INPUTRC": "/dev/null", "COLUMNS": "200"}
+        environment = {**os.environ, "HOME": home, "TERM": "dumb", "INPUTRC": "/dev/null", "COLUMNS": "200"} | variables
         environment.pop("NETREV_HISTORY", None)
         self.process, self.terminal = pty.fork()
         if self.process == 0:
@@ -31,7 +31,7 @@ class Typist:
         self.screen = ""
 
     def __enter__(self):
-        self.until(PROMPT)
+        self.greeting = self.until(PROMPT)
         return self
 
     def __exit__(self, *_):
@@ -123,6 +123,8 @@ class Terminal(unittest.TestCase):
                 ("break rwu\t", "break rwunlock "),
                 ("watch wai\t", "watch waiters "),
                 ("info gor\t", "info goroutines "),
+                ("steps rwu\t", "steps rwunlock "),
+                ("calls so\t", "calls sock "),
                 ("set \tre\t", "set exec-direction reverse "),
             ):
                 person.type(typed)
@@ -135,6 +137,28 @@ class Terminal(unittest.TestCase):
             person.until("print lock 0 ")
             person.type("\r")
             self.assertIn("lock 0 = 0   | 0 references\n", person.until(PROMPT))
+
+    def test_the_first_line_says_what_to_type(self):
+        with self.typist() as person:
+            self.assertIn("| what went wrong: info suspects; what hangs: ", person.greeting)
+
+    def test_lines_of_a_mark_have_a_prompt_of_their_own(self):
+        with self.typist() as person:
+            person.ask("watch lock 0")
+            person.type("commands\r")
+            person.until("\n> ")
+            person.type("print lock 0\r")
+            person.until("\n> ")
+            person.type("end\r")
+            person.until(PROMPT)
+            self.assertIn("(netrev) print lock 0\nlock 0 = 0 ", person.ask("continue"))
+
+    def test_what_is_added_has_a_colour_unless_nobody_wants_any(self):
+        colour, example = "\x1b[36m| ", EXAMPLES / "first.jsonl"
+        with Typist(example, self.home, TERM="xterm", NO_COLOR="") as person:
+            self.assertIn("at 0 of 10 forward\n" + colour, person.greeting)
+        with Typist(example, self.home, TERM="xterm", NO_COLOR="1") as person:
+            self.assertNotIn(colour, person.greeting)
 
     def test_lines_are_kept_for_the_next_session(self):
         with self.typist() as person:

@@ -110,7 +110,8 @@ class Views(unittest.TestCase):
             for at, goroutines, sockets in zip(places, tables[::2], tables[1::2], strict=True):
                 with self.subTest(path.stem, position=at):
                     values = world.at(at)
-                    left = set(world.made("gor", at)) - {row["goroutine"] for row in goroutines}
+                    told = [number for row in goroutines for number in row.get("goroutines", [row.get("goroutine")])]
+                    left = set(world.made("gor", at)) - set(told)
                     self.assertLessEqual({values[f"gor {number}"] for number in left}, {"idle", "gone"})
                     for row in goroutines:
                         self.assertNotIn(row["status"], ("idle", "gone"))

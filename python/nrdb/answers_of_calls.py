@@ -1,0 +1,101 @@
+"""What nrdb answers of calls and of what happened here, a function for each of its commands, as in `answers.py`."""
+
+from typing import Optional
+
+from netrev_model.vocabulary import number_of
+
+from .commands import COMMANDS, TOPICS
+from .following import (
+    GOALS,
+    MOST,
+    Stay,
+    Subject,
+    call_row,
+    calls_table,
+    errors_table,
+    goroutine_at,
+    steps_table,
+)
+from .netrev import Reply
+from .output import Table
+from .session import Answering, Misused, Session
+from .shapes import MOVED, move_of
+
+
+def usage(name: str) -> str:
+    """How a command is called."""
+    return f"{COMMANDS[name].usage}: {COMMANDS[name].says}"
+
+
+def taken_most(name: str, words: list[str]) -> Optional[int]:
+    """How many rows at most: those that are shown by itself, a number from 1, or all, which is None."""
+    most = None if words == ["all"] else number_of(words[0]) if len(words) == 1 else MOST
+    if len(words) > 1 or most == 0 or (most is None and words != ["all"]):
+        told = usage(name) if name in COMMANDS else f"info {TOPICS[name].usage}: {TOPICS[name].says}"
+        raise Misused(f"{told}; N is a number from 1")
+    return most
+
+
+def arrive(session: Session, line: str, reply: str) -> None:
+    """Shows netrev's reply to a move, and where the session stands then."""
+    session.printer.reply(line, Reply(reply), "")
+    if MOVED.fullmatch(reply):
+        session.arrive(move_of(line, reply).position)
+
+
+def answer_steps(session: Session, words: list[str]) -> None:
+    found = Subject.of(words)
+    if found is None:
+        raise Misused(usage("steps"))
+    subject, rest = found
+    most = taken_most("steps", rest)
+    session.printer.table(steps_table(session.text(), subject, session.stands().position, most))
+
+
+def answer_calls(session: Session, words: list[str]) -> None:
+    found = Subject.of(words)
+    subject, rest = found if found and found[0].is_numbered else (Subject(), words)
+    most = taken_most("calls", rest)
+    session.printer.table(calls_table(session.text(), subject, session.stands().position, most))
+
+
+def answer_errors(session: Session, words: list[str]) -> None:
+    most = taken_most("errors", words)
+    session.printer.table(errors_table(session.text(), session.stands().position, most))
+
+
+def moved_by_call(name: str) -> Answering:
+    """The answer of a command that moves by calls."""
+
+    def answer(session: Session, words: list[str]) -> None:
+        number = number_of(words[0]) if len(words) == 1 else None
+        if words and number is None:
+            raise Misused(f"{usage(name)}; G is a goroutine's number")
+        text, position = session.text(), session.stands().position
+        try:
+            goroutine = goroutine_at(text, position) if number is None else number
+            goal = GOALS[name](text, goroutine, position)
+        except Stay as stay:
+            raise Misused(str(stay)) from None
+        arrive(session, f"{name} {goroutine}", session.go(goal.position))
+        if goal.call:
+            session.printer.table(Table("calls", [call_row(text, goal.call, max(goal.position, position))]))
+
+    return answer
+
+
+def answer_commands(session: Session, words: list[str]) -> None:
+    marks = [mark.number for mark in session.netrev.marks()]
+    number = words[0] if words else marks[-1] if marks else ""
+    if len(words) > 1 or number not in marks:
+        raise Misused(f"{usage('commands')}; the marks are {', '.join(marks) or 'none'}")
+    session.attached.begin(number)
+    session.printer.note(f"the lines that come run when mark {number} hits; the last one is `end`")
+
+
+OF_CALLS: dict[str, Answering] = {
+    "steps": answer_steps,
+    "calls": answer_calls,
+    "commands": answer_commands,
+    **{name: moved_by_call(name) for name in GOALS},
+}

@@ -1,0 +1,207 @@
+"""`steps` and `calls`: what a goroutine did, what happened to a socket or a descriptor, all steps of a kind; and `info errors`,
+the calls that failed."""
+
+from typing import Callable, Iterator, NamedTuple, Optional
+
+from netrev_model.vocabulary import KINDS, number_of
+
+from .calls import Book, Call, book_of
+from .output import Row, Table
+from .recording import Recording, Step
+from .recorded_answers import answer_text
+from .timers import timer_of, timer_words
+
+MOST = 40
+SUBJECTS = {"gor": "goroutine", "sock": "socket", "desc": "descriptor"}
+
+
+class Subject(NamedTuple):
+    """Whose steps or calls are asked for: a goroutine's, a socket's, a descriptor's; or those of a kind, of all."""
+
+    name: str = ""
+    number: int = 0
+
+    def __str__(self) -> str:
+        return f"{SUBJECTS[self.name]} {self.number}" if self.is_numbered else self.name
+
+    @property
+    def is_numbered(self) -> bool:
+        """Whether it is one of several: a goroutine, a socket or a descriptor."""
+        return self.name in SUBJECTS
+
+    @classmethod
+    def of(cls, words: list[str]) -> Optional[tuple["Subject", list[str]]]:
+        """The subject that the words begin with, and the words behind it; None where they begin with none."""
+        number = number_of(words[1]) if len(words) > 1 else None
+        if words[:1] and words[0] in SUBJECTS:
+            return None if number is None else (cls(words[0], number), words[2:])
+        return (cls(words[0]), words[1:]) if words[:1] and words[0] in KINDS else None
+
+    def has(self, call: Call) -> bool:
+        """Whether a call is of this subject."""
+        numbers = {"gor": call.goroutine, "sock": call.socket, "desc": call.descriptor}
+        return not self.name or numbers[self.name] == self.number
+
+
+def steps_table(recording: Recording, subject: Subject, position: int, most: Optional[int]) -> Table:
+    """The last steps of the subject up to the position, at most so many where `most` isn't None."""
+    found = list(_numbers(recording, subject, position))
+    shown = found if most is None else found[-most:]
+    rows = [_step_row(recording, recording.step(number)) for number in shown]
+    return Table("steps", rows, _rest(len(found), len(shown), "step", f"steps {_typed(subject)}", subject, position))
+
+
+def _numbers(recording: Recording, subject: Subject, position: int) -> Iterator[int]:
+    """The numbers of the subject's steps up to the position."""
+    if subject.name in KINDS:
+        yield from (step.number for step in recording.steps_of((subject.name,), position))
+        return
+    book = book_of(recording)
+    whose = {"gor": book.goroutines, "sock": book.sockets, "desc": book.descriptors}[subject.name]
+    for number, one in enumerate(whose[:position], 1):
+        if one == subject.number:
+            yield number
+
+
+def _typed(subject: Subject) -> str:
+    return f"{subject.name} {subject.number}" if subject.name in SUBJECTS else subject.name
+
+
+def _step_row(recording: Recording, step: Step) -> Row:
+    """A step, its answer where it has one, whose timer it is about, and the line of the program."""
+    timer, at = timer_of(recording, step), recording.lines.words(step.number)
+    values = {"step": step.number, "line": step.line, "does": str(step), "timer": timer and timer._asdict()}
+    answered = f", answered {answer_text(step.answer)}" if step.answer not in (None, "done") else ""
+    told = f"{step.number:>7}  {step}{answered}"
+    return Row(
+        values | ({"at": at} if recording.lines else {}), f"{told:<56} {at or timer_words(recording, step)}".rstrip()
+    )
+
+
+def _rest(count: int, shown: int, name: str, line: str, subject: Subject, position: int) -> str:
+    """What is left out, or that there is nothing."""
+    if shown < count:
+        return f"{count - shown} earlier ones: {line} all"
+    return "" if count else f"no {name} of {subject} up to position {position}"
+
+
+def calls_table(recording: Recording, subject: Subject, position: int, most: Optional[int]) -> Table:
+    """The last calls of the subject that began up to the position."""
+    found = [call for call in book_of(recording).calls if call.first <= position and subject.has(call)]
+    shown = found if most is None else found[-most:]
+    rows = [call_row(recording, call, position) for call in shown]
+    line = f"calls {_typed(subject)}" if subject.name else "calls"
+    return Table("calls", rows, _rest(len(found), len(shown), "call", line, subject, position))
+
+
+def call_row(recording: Recording, call: Call, position: int) -> Row:
+    """A call. One that ends behind the position hasn't ended there."""
+    seen = call if call.last <= position else call.as_begun()
+    at = recording.lines.words(call.first)
+    values = {
+        "goroutine": seen.goroutine,
+        "call": seen.name,
+        "socket": seen.socket,
+        "descriptor": seen.descriptor if seen.descriptor >= 0 else None,
+        "first": seen.first,
+        "last": seen.last or None,
+        "waited": seen.waited,
+        "slept": seen.slept,
+        "bytes": seen.moved,
+        "outcome": seen.outcome.value if seen.last else None,
+    }
+    told = f"gor {seen.goroutine:<4} {seen.words()}"
+    return Row(values | ({"at": at} if recording.lines else {}), f"{told:<72} {at}".rstrip())
+
+
+def errors_table(recording: Recording, position: int, most: Optional[int]) -> Table:
+    """The calls up to the position that ended with a timeout, a close, a broken pipe or an event error."""
+    failed = [call for call in book_of(recording).calls if call.last and call.outcome.is_error]
+    found = [call for call in failed if call.last <= position]
+    shown = found if most is None else found[-most:]
+    rest = []
+    if len(shown) < len(found):
+        rest.append(f"{len(found) - len(shown)} earlier ones: info errors all")
+    if not found:
+        rest.append(f"no call has failed up to position {position}")
+    if len(found) < len(failed):
+        rest.append(f"{len(failed) - len(found)} later")
+    return Table("errors", [call_row(recording, call, position) for call in shown], "; ".join(rest))
+
+
+class Stay(Exception):
+    """There is nowhere to go: why."""
+
+
+class Goal(NamedTuple):
+    """A position to go to, and the call that is passed on the way, if it is a whole one."""
+
+    position: int
+    call: Optional[Call] = None
+
+
+def goroutine_at(recording: Recording, position: int) -> int:
+    """The goroutine of the last step, or of the last one before that is of any."""
+    whose = book_of(recording).goroutines
+    for at in range(position - 1, -1, -1):
+        if whose[at] >= 0:
+            return whose[at]
+    raise Stay("no goroutine has made a step yet: name one")
+
+
+def next_goal(recording: Recording, goroutine: int, position: int) -> Goal:
+    """Behind the goroutine's next step, or behind the whole call that it begins."""
+    book = book_of(recording)
+    step = _own_step(book, goroutine, range(position + 1, recording.length + 1))
+    call = next((call for call in book.calls if call.first == step), None)
+    return Goal(step) if call is None else Goal(call.last or recording.length, call)
+
+
+def previous_goal(recording: Recording, goroutine: int, position: int) -> Goal:
+    """Before the goroutine's last step, or before the whole call that it ended."""
+    book = book_of(recording)
+    step = _own_step(book, goroutine, range(position, 0, -1))
+    call = next((call for call in book.calls if call.goroutine == goroutine and call.last == step), None)
+    return Goal(step - 1) if call is None else Goal(call.first - 1, call)
+
+
+def finish_goal(recording: Recording, goroutine: int, position: int) -> Goal:
+    """Behind the call that the goroutine is in."""
+    call = _call_at(book_of(recording), goroutine, position)
+    if not call.last:
+        raise Stay(f"it doesn't end in this recording: goroutine {goroutine}'s {call.words()}")
+    return Goal(call.last, call)
+
+
+def start_goal(recording: Recording, goroutine: int, position: int) -> Goal:
+    """Before the call that the goroutine is in."""
+    call = _call_at(book_of(recording), goroutine, position)
+    return Goal(call.first - 1, call)
+
+
+def _own_step(book: Book, goroutine: int, numbers: range) -> int:
+    """The first step of the goroutine among these."""
+    found = next((number for number in numbers if book.goroutines[number - 1] == goroutine), None)
+    if found is None:
+        raise Stay(f"goroutine {goroutine} makes no {'later' if numbers.step > 0 else 'earlier'} step")
+    return found
+
+
+def _call_at(book: Book, goroutine: int, position: int) -> Call:
+    """The innermost call that the goroutine is in."""
+    inside = [
+        call
+        for call in book.calls
+        if call.goroutine == goroutine and call.first <= position and (not call.last or call.last > position)
+    ]
+    if not inside:
+        raise Stay(f"goroutine {goroutine} is in no call")
+    return inside[-1]
+
+
+GOALS: dict[str, Callable[[Recording, int, int], Goal]] = {
+    "next": next_goal,
+    "reverse-next": previous_goal,
+    "finish": finish_goal,
+    "reverse-finish": start_goal,
+}

@@ -1,0 +1,189 @@
+"""Calls in place of steps: what nrdb finds in a recording's steps is what the goroutines of random traffic have called, with the
+same steps and the same ends; and where `next`, `finish` and their reverses lead."""
+
+import random
+import unittest
+from typing import Any, NamedTuple, Optional
+
+from netrev_fuzz.injections import Bug, Traffic
+from netrev_fuzz.little_go import Turns
+from nrdb.calls import Call, Outcome, book_of
+from nrdb.following import GOALS, Stay, Subject, calls_table, errors_table, goroutine_at, steps_table
+from nrdb.recording import Recording
+
+SEEDS = range(300, 312)
+LENGTH = 1_500
+ENDS = {-1: Outcome.CLOSED, -2: Outcome.TIMED_OUT, -3: Outcome.EVENT_ERROR}
+MODES = {"r": "SetReadDeadline", "w": "SetWriteDeadline", "rw": "SetDeadline"}
+
+
+class Made(NamedTuple):
+    """A call as the traffic makes it; its last step is 0 where it hasn't ended."""
+
+    goroutine: int
+    name: str
+    socket: int
+    first: int
+    last: int
+    outcome: Outcome
+
+
+class Telling(Traffic):
+    """Traffic that tells of its calls."""
+
+    def __init__(self, seed: int, bug: Optional[Bug] = None) -> None:
+        super().__init__(seed, bug, LENGTH)
+        self.told: list[Made] = []
+        self.last_of: dict[int, int] = {}
+        self.answers: list[tuple[Any, ...]] = []
+
+    def do(self, kind: str, *arguments: Any) -> tuple[Any, ...]:
+        answer = super().do(kind, *arguments)
+        self.answers.append(answer)
+        if kind not in ("arrive", "drain", "tick", "pop", "fire", "pollevent", "spawn", "sockopen"):
+            self.last_of[arguments[0]] = len(self.steps)
+        return answer
+
+    def tell(self, g: int, name: str, s: int, turns: Turns) -> Turns:
+        """Makes a call, and tells of it."""
+        at, first = len(self.told), len(self.steps) + 1
+        self.told.append(Made(g, name, s, first, 0, Outcome.DONE))
+        result = yield from turns
+        outcome = Outcome.CLOSED if self.answers[first - 1][0] == "no" else Outcome.DONE
+        if name in ("Read", "Write"):
+            outcome = Outcome.EOF if result == 0 and name == "Read" else ENDS.get(result, Outcome.DONE)
+        self.told[at] = Made(g, name, s, first, self.last_of[g], outcome)
+        return result
+
+    def read(self, g: int, s: int, most: int) -> Turns:
+        return (yield from self.tell(g, "Read", s, super().read(g, s, most)))
+
+    def write(self, g: int, s: int, data: bytes) -> Turns:
+        return (yield from self.tell(g, "Write", s, super().write(g, s, data)))
+
+    def set_deadline(self, g: int, s: int, mode: str, time: int) -> Turns:
+        return (yield from self.tell(g, MODES[mode], s, super().set_deadline(g, s, mode, time)))
+
+    def close(self, g: int, s: int) -> Turns:
+        return (yield from self.tell(g, "Close", s, super().close(g, s)))
+
+
+def seen(call: Call) -> Made:
+    """A call that nrdb found, as the traffic would tell it."""
+    return Made(call.goroutine, call.name, call.socket, call.first, call.last, call.outcome)
+
+
+class Calls(unittest.TestCase):
+    def compare(self, one: Optional[Call], made: Made) -> None:
+        """Holds a call that nrdb found against that which was made."""
+        assert one is not None, made
+        found = seen(one)
+        if found.name == "Control" and (found.outcome is Outcome.CLOSED or not found.last):
+            found = found._replace(name=made.name)  # (that it is about a deadline is seen where it sets one)
+        if not made.last:  # (it hasn't ended, or its last step is made, and its goroutine had no turn since)
+            made = made._replace(last=found.last, outcome=found.outcome)
+        self.assertEqual(found, made)
+
+    def test_are_those_that_the_goroutines_made(self) -> None:
+        ends: set[tuple[str, Outcome]] = set()
+        for seed in SEEDS:
+            traffic = Telling(seed)
+            traffic.run()
+            found = {call.first: call for call in book_of(Recording(traffic.text())).calls}
+            for made in traffic.told:
+                with self.subTest(seed=seed, step=made.first):
+                    self.compare(found.get(made.first), made)
+                ends.add((made.name, made.outcome))
+            others = [found[first] for first in set(found) - {made.first for made in traffic.told}]
+            self.assertLessEqual(
+                {call.name for call in others}, {"Open", "Control", "Read"}
+            )  # (`raw_read` and `controller`)
+        self.assertGreaterEqual(len(ends), 8, ends)
+
+    def test_steps_are_those_of_the_goroutine_the_socket_and_the_kind(self) -> None:
+        traffic = Telling(SEEDS[0])
+        traffic.run()
+        recording = Recording(traffic.text())
+        every = [recording.step(number) for number in range(1, recording.length + 1)]
+        at = recording.length - 100
+        for g in (5, 9, 20):
+            rows = steps_table(recording, Subject("gor", g), at, None).rows
+            self.assertEqual(
+                [row.values["step"] for row in rows], [s.number for s in every[:at] if s.argument("g") == g]
+            )
+            self.assertTrue(rows)
+        for kind in ("rwlock", "fire"):
+            rows = steps_table(recording, Subject(kind), at, None).rows
+            self.assertEqual([row.values["step"] for row in rows], [s.number for s in every[:at] if s.kind == kind])
+        named = [s.number for s in every[:at] if s.argument("s") == 3]
+        rows = steps_table(recording, Subject("sock", 3), at, None).rows
+        self.assertLess(set(named), {row.values["step"] for row in rows})
+        self.assertIn("pollreset", {recording.step(row.values["step"]).kind for row in rows})
+        last = steps_table(recording, Subject("sock", 3), at, 5)
+        self.assertEqual([row.values["step"] for row in last.rows], [row.values["step"] for row in rows][-5:])
+        self.assertEqual(last.rest, f"{len(rows) - 5} earlier ones: steps sock 3 all")
+
+    def test_errors_are_the_calls_that_failed(self) -> None:
+        for seed in SEEDS[:4]:
+            traffic = Telling(seed)
+            traffic.run()
+            recording = Recording(traffic.text())
+            at = recording.length // 2
+            table = errors_table(recording, at, None)
+            failed = {made.first for made in traffic.told if made.last and made.outcome in ENDS.values()}
+            told = {row.values["first"] for row in table.rows}
+            early = {made.first for made in traffic.told if made.first in failed and made.last <= at}
+            self.assertLessEqual(early, told)
+            self.assertEqual(told & failed, early)
+            self.assertTrue(all(row.values["last"] <= at and row.values["outcome"] for row in table.rows))
+
+
+class Going(unittest.TestCase):
+    def test_leads_to_the_ends_of_calls(self) -> None:
+        dice, met = random.Random("going"), 0
+        for seed in SEEDS[:6]:
+            traffic = Telling(seed)
+            traffic.run()
+            recording = Recording(traffic.text())
+            for _ in range(40):
+                at = dice.randint(100, recording.length)
+                g = goroutine_at(recording, at)
+                inside = [made for made in traffic.told if made.goroutine == g and made.first <= at < made.last]
+                if inside:
+                    self.assertEqual(GOALS["finish"](recording, g, at).position, inside[-1].last)
+                    self.assertEqual(GOALS["reverse-finish"](recording, g, at).position, inside[-1].first - 1)
+                    met += 1
+        self.assertGreater(met, 100)
+
+    def test_next_and_its_reverse_pass_whole_calls(self) -> None:
+        traffic = Telling(SEEDS[1])
+        traffic.run()
+        recording = Recording(traffic.text())
+        own = [made for made in traffic.told if made.name == "Read" and made.last]
+        self.assertGreater(len(own), 20)
+        for made in own:
+            self.assertEqual(GOALS["next"](recording, made.goroutine, made.first - 1).position, made.last)
+            self.assertEqual(GOALS["reverse-next"](recording, made.goroutine, made.last).position, made.first - 1)
+            if made.last > made.first:  # within the call it goes by the goroutine's own steps
+                goal = GOALS["next"](recording, made.goroutine, made.first)
+                self.assertEqual(goal.call, None)
+                own_steps = [
+                    n for n in range(made.first + 1, made.last + 1) if recording.step(n).argument("g") == made.goroutine
+                ]
+                self.assertEqual(goal.position, own_steps[0])
+
+    def test_says_where_there_is_nowhere_to_go(self) -> None:
+        recording = Recording(b'{"netrev":1,"gor":2,"sock":1,"desc":1,"buf":1}\n["sockopen",1,1]\n["rwlock",0,0,"r"]\n')
+        for name, at in (("next", 2), ("reverse-next", 1), ("finish", 1), ("finish", 2)):
+            with self.assertRaises(Stay):
+                GOALS[name](recording, 0, at)
+        with self.assertRaises(Stay):
+            goroutine_at(recording, 1)
+        self.assertEqual(
+            calls_table(recording, Subject(), 2, None).rows[0].text,
+            "gor 0    Read on socket 0: since step 2, hasn't ended",
+        )
+
+
+if __name__ == "__main__":
+    unittest.main()
