@@ -42,13 +42,6 @@ class Debuggee:
         """The step of that number, or None."""
         return self.recording.step_or_none(number)
 
-    def line(self, position: int) -> int:
-        """The line of the next step; at the end the line behind the last step."""
-        if (step := self.step(position + 1)) is not None:
-            return step.line
-        last = self.step(self.length)
-        return last.line + 1 if last else self.recording.header_line + 1
-
     def step_at(self, line: int) -> Optional[Step]:
         """The step in a line, or the first one behind it."""
         low, high = 1, self.length + 1

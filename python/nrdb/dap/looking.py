@@ -134,11 +134,9 @@ class Looks:
         return [first, *calls]
 
     def _step_frame(self, frame: Frame, is_next: bool) -> Body:
-        """The frame of a step, in the recording's text. Behind the last step it is in the line behind."""
+        """The frame of a step, in the recording's text."""
         step = self._debuggee.step(frame.step)
         line = step.line if step else self._debuggee.recording.header_line
-        if not is_next and frame.step == self._debuggee.position == self._debuggee.length:
-            line = self._debuggee.line(frame.step)
         name = "no step yet" if step is None else f"{'about to' if is_next else 'last'}: {plain(str(step))}"
         source = self._debuggee.source()
         return {"id": self.handles.give(frame), "name": name, "line": line, "column": 1, "source": source}

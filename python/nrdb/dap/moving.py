@@ -33,11 +33,11 @@ class Moves:
 
     def goto(self, position: int, reason: str = "goto") -> Stop:
         """To a position."""
+        why = Stop(reason, "the recording's end" if position == self._debuggee.length else f"at {position}")
         if position == self._debuggee.position:
-            return Stop(reason, f"at {position}")
+            return why
         reply = self._session.go(position)
-        move = move_of("goto", reply)
-        return self._arrived(f"goto {position}", reply, move, [], Stop(reason, f"at {position}"))
+        return self._arrived(f"goto {position}", reply, move_of("goto", reply), [], why)
 
     def next_of(self, maker: Maker) -> Stop:
         """To before the next step of a goroutine, or of the network, but the one that it is about to make."""

@@ -30,7 +30,7 @@ class Hunt(unittest.TestCase):
     def test_it_stops_at_the_end_and_goes_back_to_the_change(self):
         stopped = self.editor.begin(LOST)
         self.assertEqual((stopped["reason"], stopped["threadId"]), ("entry", 1))
-        self.assertEqual(self.editor.line(), 24)  # behind the last step
+        self.assertEqual((self.editor.line(), stopped["description"]), (23, "the recording's end"))
         info = self.editor("dataBreakpointInfo", name="rg 0")
         self.assertEqual((info["dataId"], info["accessTypes"]), ("rg 0", ["write"]))
         (made,) = self.editor("setDataBreakpoints", breakpoints=[{"dataId": "rg 0"}])["breakpoints"]
@@ -89,7 +89,7 @@ class Hunt(unittest.TestCase):
             reasons.append((stopped["reason"], self.editor.line()))
         self.assertEqual(
             reasons,
-            [("function breakpoint", 5), ("breakpoint", 10), ("function breakpoint", 19), ("pause", 24)],
+            [("function breakpoint", 5), ("breakpoint", 10), ("function breakpoint", 19), ("pause", 23)],
         )
         self.editor("setFunctionBreakpoints", breakpoints=[])
         self.assertEqual(self.editor.move("reverseContinue", threadId=1)["reason"], "breakpoint")
@@ -232,7 +232,7 @@ class Ends(unittest.TestCase):
             for command, arguments in wrong:
                 with self.assertRaises(Refusal, msg=command):
                     editor(command, **arguments)
-            self.assertEqual(editor.line(), 24)
+            self.assertEqual(editor.line(), 23)
 
     def test_what_is_no_message_ends_it(self):
         for data in (
