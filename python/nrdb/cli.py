@@ -12,6 +12,7 @@ from netrev_model.built import BUILT, netrev_program
 from netrev_model.plain import plain
 
 from .answers import ANSWERS
+from .dap import serve_port, serve_streams
 from .interrupts import GivenUp, Interrupted, Interrupts
 from .netrev import Ended, Joined, Netrev, Own, Reply
 from .output import JsonPrinter, Printer, TextPrinter
@@ -65,6 +66,12 @@ def parser() -> Words:
         "--reduce", metavar="OUT.jsonl", help="writes the least recording with its first suspect, and ends"
     )
     made.add_argument("--join", metavar="HOST:PORT", help="joins a session that `netrev serve` has")
+    made.add_argument(
+        "--dap", action="store_true", help="serves an editor by the Debug Adapter Protocol, over the standard streams"
+    )
+    made.add_argument(
+        "--dap-port", metavar="PORT", type=int, help="the same at a port of the loopback, one after the other"
+    )
     made.add_argument("--netrev", default=netrev_program() or str(BUILT), metavar="PROGRAM", help="netrev's program")
     return made
 
@@ -72,6 +79,10 @@ def parser() -> Words:
 def main(words: Optional[Sequence[str]] = None) -> int:
     """Runs nrdb with these words; its exit status."""
     wanted = parser().parse_args(words)
+    if wanted.dap_port is not None:
+        return serve_port(wanted.netrev, wanted.dap_port)
+    if wanted.dap:
+        return serve_streams(wanted.netrev)
     if not wanted.file and not wanted.join:
         parser().error("a recording has to be named, or a session to join")
     for stream in (sys.stdin, sys.stdout):

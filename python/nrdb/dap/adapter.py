@@ -1,0 +1,351 @@
+"""The adapter: answers an editor's requests one by one, by a session of nrdb's."""
+
+from contextlib import ExitStack
+from typing import Callable, NamedTuple, Optional
+
+from netrev_model.plain import plain
+
+from ..completion import candidates
+from ..line_hints import hint
+from ..netrev import Ended
+from ..scout import Lost
+from ..session import Misused
+from ..shapes import Refused, Strange
+from . import filters
+from .debuggee import debuggee
+from .looking import maker_of, thread_of
+from .marks import Sort, cell_wish, kind_wish, wish_of
+from .messages import Body, Request, Unanswerable, Wire
+from .moving import Stop
+from .target import Launch, Target
+
+CAPABILITIES: Body = {
+    "supportsConfigurationDoneRequest": True,
+    "supportsFunctionBreakpoints": True,
+    "supportsConditionalBreakpoints": True,
+    "supportsDataBreakpoints": True,
+    "supportsBreakpointLocationsRequest": True,
+    "supportsExceptionInfoRequest": True,
+    "exceptionBreakpointFilters": filters.offered(),
+    "supportsStepBack": True,
+    "supportsGotoTargetsRequest": True,
+    "supportsRestartRequest": True,
+    "supportsTerminateRequest": True,
+    "supportsEvaluateForHovers": True,
+    "supportsCompletionsRequest": True,
+    "completionTriggerCharacters": [" "],
+}
+FIXED = "a recording is what happened: no value in it can be changed"
+MOST_TARGETS = 1_000  # lines that are looked through for those with a step
+
+
+def shown(text: str) -> str:
+    """Text of several lines as an editor may show it."""
+    return "\n".join(plain(line) for line in text.split("\n"))
+
+
+class Outcome(NamedTuple):
+    """What comes of a request: the body of its response, and then that the session has stopped, or an event."""
+
+    body: Body = {}
+    stop: Optional[Stop] = None
+    event: str = ""
+
+
+class Adapter:
+    """Serves one editor."""
+
+    def __init__(self, wire: Wire, program: str):
+        self._wire, self._program = wire, program
+        self._opened = ExitStack()
+        self._target_or_none: Optional[Target] = None
+        self._first_line = 1
+        self._answers: dict[str, Callable[[Request], Outcome]] = {
+            "initialize": self._initialize, "launch": self._launch, "attach": self._attach,
+            "configurationDone": self._configured, "terminate": self._terminate, "disconnect": self._disconnect,
+            "restart": self._restart, "continue": self._continue, "reverseContinue": self._reverse_continue,
+            "stepIn": self._step_in, "stepBack": self._step_back, "next": self._next, "stepOut": self._step_out,
+            "pause": self._pause, "gotoTargets": self._goto_targets, "goto": self._goto,
+            "setBreakpoints": self._set_lines, "setFunctionBreakpoints": self._set_functions,
+            "setDataBreakpoints": self._set_data, "dataBreakpointInfo": self._data_info,
+            "setExceptionBreakpoints": self._set_filters, "exceptionInfo": self._exception_info,
+            "breakpointLocations": self._locations, "threads": self._threads, "stackTrace": self._stack,
+            "scopes": self._scopes, "variables": self._variables, "evaluate": self._evaluate,
+            "completions": self._completions, "setVariable": self._refuse_change, "setExpression": self._refuse_change,
+        }  # fmt: skip
+
+    def serve(self) -> None:
+        """Answers until the editor has gone, or says that it goes."""
+        with self._opened:
+            while (request := self._wire.request()) is not None:
+                self._answer(request)
+                if request.command == "disconnect":
+                    return
+
+    def _answer(self, request: Request) -> None:
+        """Answers a request, and tells what comes of it."""
+        try:
+            outcome = self._outcome(request)
+        except Unanswerable as why:
+            self._wire.refuse(request, shown(str(why)))
+            return
+        except (Ended, Strange, Lost) as why:
+            said = str(why) if isinstance(why, (Strange, Lost)) else "netrev has ended"
+            self._wire.refuse(request, plain(said))
+            self._end(said)
+            return
+        self._wire.respond(request, outcome.body)
+        if outcome.stop:
+            self._stopped(outcome.stop)
+        if outcome.event:
+            self._wire.event(outcome.event)
+
+    def _outcome(self, request: Request) -> Outcome:
+        """What comes of a request; Unanswerable where it can't be done."""
+        answer = self._answers.get(request.command)
+        if answer is None:
+            raise Unanswerable(f"{request.command} isn't known here")
+        try:
+            return answer(request)
+        except Refused as refused:
+            raise Unanswerable(f"netrev answered: {refused}; {hint([request.command], str(refused))}") from None
+        except Misused as wrong:
+            raise Unanswerable(str(wrong)) from None
+
+    @property
+    def _target(self) -> Target:
+        if self._target_or_none is None:
+            raise Unanswerable("no recording is open: launch comes first")
+        return self._target_or_none
+
+    def _stopped(self, stop: Stop) -> None:
+        """Tells that the session stands somewhere else, and what is said of it."""
+        target = self._target
+        target.stop = stop
+        target.looks.handles.forget()
+        body: Body = {"reason": stop.reason, "description": plain(stop.says), "allThreadsStopped": True}
+        if stop.reason == "exception":
+            body["text"] = plain(stop.says)
+        if stop.marks:
+            body["hitBreakpointIds"] = list(stop.marks)
+        self._console(target.debuggee.printer.take())
+        self._wire.event("stopped", threadId=thread_of(target.debuggee.maker_here()), **body)
+
+    def _console(self, text: str) -> None:
+        if text:
+            self._wire.event("output", category="console", output=text)
+
+    def _end(self, why: str) -> None:
+        """Ends the session, whatever netrev does."""
+        self._console(f"| {plain(why)}\n")
+        self._close()
+        self._wire.event("terminated")
+
+    def _close(self) -> None:
+        self._target_or_none = None
+        self._opened.close()
+
+    # --- the beginning and the end
+
+    def _initialize(self, request: Request) -> Outcome:
+        self._first_line = 0 if request.arguments.get("linesStartAt1") is False else 1
+        return Outcome(CAPABILITIES)
+
+    def _launch(self, request: Request) -> Outcome:
+        launch = Launch.of(request)
+        self._close()
+        debugged = self._opened.enter_context(debuggee(launch.program or self._program, launch.recording))
+        debugged.say_nothing_yet()
+        self._target_or_none = Target(debugged, launch)
+        self._target.stop = self._target.moves.goto(launch.position(debugged.length), "entry")
+        return Outcome(event="initialized")
+
+    def _attach(self, request: Request) -> Outcome:
+        raise Unanswerable("a recording is launched; `nrdb --join` joins a session that others share")
+
+    def _configured(self, request: Request) -> Outcome:
+        return Outcome(stop=self._target.stop)
+
+    def _restart(self, request: Request) -> Outcome:
+        return Outcome(stop=self._target.moves.goto(0, "entry"))
+
+    def _terminate(self, request: Request) -> Outcome:
+        self._close()
+        return Outcome(event="terminated")
+
+    def _disconnect(self, request: Request) -> Outcome:
+        self._close()
+        return Outcome()
+
+    # --- moves
+
+    def _continue(self, request: Request) -> Outcome:
+        return Outcome({"allThreadsContinued": True}, self._target.moves.run(True))
+
+    def _reverse_continue(self, request: Request) -> Outcome:
+        return Outcome({}, self._target.moves.run(False))
+
+    def _step_in(self, request: Request) -> Outcome:
+        return Outcome(stop=self._target.moves.step("stepi"))
+
+    def _step_back(self, request: Request) -> Outcome:
+        return Outcome(stop=self._target.moves.step("reverse-stepi"))
+
+    def _next(self, request: Request) -> Outcome:
+        return Outcome(stop=self._target.moves.next_of(maker_of(request.whole_number("threadId"))))
+
+    def _step_out(self, request: Request) -> Outcome:
+        goroutine = maker_of(request.whole_number("threadId"))
+        if goroutine is None:
+            raise Unanswerable("the network and the clock make no calls")
+        return Outcome(stop=self._target.moves.out_of(goroutine))
+
+    def _pause(self, request: Request) -> Outcome:
+        return Outcome(stop=Stop("pause", f"at {self._target.debuggee.position}"))
+
+    def _goto_targets(self, request: Request) -> Outcome:
+        step = self._target.debuggee.step_at(self._line_from(request, "line"))
+        if step is None:
+            raise Unanswerable("no step stands in that line, or behind it")
+        position = step.number - 1
+        named = {"id": position, "label": f"position {position}, before {step.kind}", "line": self._line_to(step.line)}
+        return Outcome({"targets": [named]})
+
+    def _goto(self, request: Request) -> Outcome:
+        position = request.whole_number("targetId")
+        if not 0 <= position <= self._target.debuggee.length:
+            raise Unanswerable(f"the recording has {self._target.debuggee.length} steps")
+        return Outcome(stop=self._target.moves.goto(position))
+
+    # --- breakpoints
+
+    def _set_lines(self, request: Request) -> Outcome:
+        target, asked = self._target, request.objects("breakpoints")
+        if not self._is_the_recording(request):
+            said = "breakpoints are set in the recording's text: a line of the program has many steps"
+            return Outcome({"breakpoints": [{"verified": False, "message": said} for _ in asked]})
+        steps = [target.debuggee.step_at(self._line_of(one)) for one in asked]
+        wishes = [
+            wish_of(f"@{step.number if step else target.debuggee.length + 1}", one.get("condition"))
+            for step, one in zip(steps, asked)
+        ]
+        made = target.marks.replace(Sort.LINE, wishes)
+        lines = [{"line": self._line_to(step.line)} if step else {} for step in steps]
+        return Outcome({"breakpoints": [one | line for one, line in zip(made, lines)]})
+
+    def _is_the_recording(self, request: Request) -> bool:
+        source = request.arguments.get("source")
+        path = source.get("path") if isinstance(source, dict) else None
+        return isinstance(path, str) and self._target.debuggee.is_at(path)
+
+    def _set_functions(self, request: Request) -> Outcome:
+        wishes = [kind_wish(one.get("name"), one.get("condition")) for one in request.objects("breakpoints")]
+        return Outcome({"breakpoints": self._target.marks.replace(Sort.FUNCTION, wishes)})
+
+    def _data_info(self, request: Request) -> Outcome:
+        name = request.text("name")
+        if self._target.looks.value(name) is None:
+            return Outcome({"dataId": None, "description": f"{plain(name)} is no cell"})
+        return Outcome({"dataId": name, "description": name, "accessTypes": ["write"], "canPersist": True})
+
+    def _set_data(self, request: Request) -> Outcome:
+        wishes = [cell_wish(one.get("dataId"), one.get("condition")) for one in request.objects("breakpoints")]
+        return Outcome({"breakpoints": self._target.marks.replace(Sort.DATA, wishes)})
+
+    def _set_filters(self, request: Request) -> Outcome:
+        names = request.arguments.get("filters") or []
+        if not isinstance(names, list):
+            raise Unanswerable("filters has to be a list")
+        return Outcome({"breakpoints": self._target.filters.replace(names)})
+
+    def _exception_info(self, request: Request) -> Outcome:
+        wrong = self._target.filters.at(self._target.debuggee.position)
+        if not wrong:
+            raise Unanswerable("nothing of the filters that are set is here")
+        says = "; ".join(plain(one.says) for one in wrong)
+        return Outcome({"exceptionId": wrong[0].sort, "description": says, "breakMode": "always"})
+
+    def _locations(self, request: Request) -> Outcome:
+        first = self._line_from(request, "line")
+        last = self._line_from(request, "endLine") if "endLine" in request.arguments else first
+        found: list[Body] = []
+        step = self._target.debuggee.step_at(first)
+        while step is not None and step.line <= last and len(found) < MOST_TARGETS:
+            found.append({"line": self._line_to(step.line)})
+            step = self._target.debuggee.step(step.number + 1)
+        return Outcome({"breakpoints": found})
+
+    # --- looks
+
+    def _threads(self, request: Request) -> Outcome:
+        return Outcome({"threads": self._target.looks.threads()})
+
+    def _stack(self, request: Request) -> Outcome:
+        frames = self._target.looks.frames(maker_of(request.whole_number("threadId")))
+        shown = self._page(request, frames, "startFrame", "levels")
+        return Outcome({"stackFrames": [self._placed(frame) for frame in shown], "totalFrames": len(frames)})
+
+    def _placed(self, frame: Body) -> Body:
+        """A frame with its line as the editor counts; one that has none keeps 0."""
+        return frame | ({"line": self._line_to(frame["line"])} if frame["line"] else {})
+
+    def _scopes(self, request: Request) -> Outcome:
+        return Outcome({"scopes": self._target.looks.scopes(request.whole_number("frameId"))})
+
+    def _variables(self, request: Request) -> Outcome:
+        variables = self._target.looks.variables(request.whole_number("variablesReference"))
+        return Outcome({"variables": self._page(request, variables, "start", "count")})
+
+    def _page(self, request: Request, rows: list[Body], first: str, count: str) -> list[Body]:
+        """The rows that are asked for: all where no number is given."""
+        begin, most = (request.arguments.get(name) or 0 for name in (first, count))
+        if not isinstance(begin, int) or not isinstance(most, int) or begin < 0 or most < 0:
+            raise Unanswerable(f"{first} and {count} are whole numbers")
+        return rows[begin : begin + most if most else None]
+
+    def _evaluate(self, request: Request) -> Outcome:
+        text, context = request.text("expression"), request.arguments.get("context")
+        if context == "repl":
+            return self._typed(text)
+        shown = (self._target.looks.meaning if context == "hover" else self._target.looks.value)(text)
+        if shown is None:
+            raise Unanswerable(f"{text} is no cell: one is spelled as in print, rg 0 or gor 3")
+        return Outcome({"result": shown, "variablesReference": 0})
+
+    def _typed(self, text: str) -> Outcome:
+        """Runs a line of nrdb's that was typed in the console."""
+        target, before = self._target, self._target.debuggee.position
+        goes_on = target.debuggee.session.run(text)
+        said = target.debuggee.printer.take().rstrip("\n")
+        body: Body = {"result": said, "variablesReference": 0}
+        if not goes_on:
+            self._close()
+            return Outcome(body, event="terminated")
+        moved = Stop("goto", f"at {target.debuggee.position}") if target.debuggee.position != before else None
+        return Outcome(body, moved)
+
+    def _completions(self, request: Request) -> Outcome:
+        text, column = request.text("text"), request.whole_number("column")
+        typed = text[: max(column - self._first_line, 0)]
+        *before, last = typed.split(" ")
+        found = candidates([word for word in before if word], self._target.debuggee.numbers)
+        labels = sorted({one for one in found if one.startswith(last)})
+        start = len(typed) - len(last) + self._first_line
+        return Outcome({"targets": [{"label": one, "start": start, "length": len(last)} for one in labels]})
+
+    def _refuse_change(self, request: Request) -> Outcome:
+        raise Unanswerable(FIXED)
+
+    # --- lines, as the editor counts them
+
+    def _line_to(self, line: int) -> int:
+        return line - 1 + self._first_line
+
+    def _line_from(self, request: Request, name: str) -> int:
+        return request.whole_number(name) + 1 - self._first_line
+
+    def _line_of(self, breakpoint_: Body) -> int:
+        line = breakpoint_.get("line")
+        if not isinstance(line, int):
+            raise Unanswerable("a breakpoint has a line")
+        return line + 1 - self._first_line

@@ -1,0 +1,106 @@
+"""The recording that an editor debugs: its session, and what belongs to a position."""
+
+from contextlib import closing, contextmanager
+from pathlib import Path
+from typing import Iterator, Optional
+
+from netrev_model.vocabulary import Of
+
+from ..answers import ANSWERS
+from ..interrupts import Interrupts
+from ..netrev import Own
+from ..recording import Recording, Step
+from ..refusals import explained
+from ..scout import Scout
+from ..session import Session
+from ..shapes import POSITION
+from .collecting import Collecting
+from .messages import Unanswerable
+
+FAR = 10_000  # steps
+Maker = Optional[int]  # of a step: the number of a goroutine, or None for the network and the clock
+
+
+class Debuggee:
+    """A session over a recording of its own, and its text."""
+
+    def __init__(self, session: Session, recording: Recording, printer: Collecting, path: str):
+        self.session, self.recording, self.printer = session, recording, printer
+        self.path = Path(path).resolve()
+
+    @property
+    def position(self) -> int:
+        """Where the session stands."""
+        return self.session.stood
+
+    @property
+    def length(self) -> int:
+        """How many steps the recording has."""
+        return self.recording.length
+
+    def step(self, number: int) -> Optional[Step]:
+        """The step of that number, or None."""
+        return self.recording.step_or_none(number)
+
+    def step_at(self, line: int) -> Optional[Step]:
+        """The step in a line, or the first one behind it."""
+        low, high = 1, self.length + 1
+        while low < high:
+            middle = (low + high) // 2
+            low, high = (middle + 1, high) if self.recording.step(middle).line < line else (low, middle)
+        return self.step(low)
+
+    def maker(self, number: int) -> Maker:
+        """Who makes the step of that number."""
+        step = self.step(number)
+        return step.argument("g") if step else None
+
+    def maker_here(self) -> Maker:
+        """Who makes the next step; at the end, who made the last."""
+        return self.maker(min(self.position + 1, self.length))
+
+    def last_step_of(self, maker: Maker) -> int:
+        """The last step up to the position that was made by this one; 0 where there is none, or it is far."""
+        if maker is not None:
+            return self.recording.last_step_of(maker, self.position)
+        numbers = range(self.position, max(self.position - FAR, 0), -1)
+        return next((number for number in numbers if self.maker(number) is None), 0)
+
+    def source(self) -> dict[str, str]:
+        """The recording's text, as the protocol names it."""
+        return {"name": self.path.name, "path": str(self.path)}
+
+    def is_at(self, path: str) -> bool:
+        """Whether a path leads to the recording."""
+        return Path(path).resolve() == self.path
+
+    def numbers(self, of: Of) -> list[str]:
+        """The numbers of what is made at the position."""
+        return [str(number) for number in range(self.session.world().made(of))]
+
+    def say_nothing_yet(self) -> None:
+        """Throws away what was said and wasn't shown."""
+        self.printer.take()
+
+
+@contextmanager
+def debuggee(program: str, path: str) -> Iterator[Debuggee]:
+    """The session of a recording, while it is debugged. Unanswerable where netrev or nrdb can't take the recording."""
+    interrupts, printer = Interrupts(), Collecting()
+    try:
+        recording = Recording.read(path)
+        netrev = Own(program, path, interrupts)
+    except OSError as error:
+        raise Unanswerable(f"{error.filename}: {error.strerror}") from None
+    with closing(netrev):
+        scout = Scout(lambda: Own(program, path, interrupts))
+        try:
+            session = Session(netrev, recording, scout, printer, interrupts, ANSWERS)
+            first = session.ask("info position")
+            if not POSITION.fullmatch(first):
+                raise Unanswerable("\n".join([first, *explained(program, path, first)]))
+            session.begin(first)
+            yield Debuggee(session, recording, printer, path)
+        finally:
+            scout.drop()
+            netrev.drop()

@@ -1,0 +1,93 @@
+"""The editor's exception filters: steps at which to stop, since something went wrong there."""
+
+from bisect import bisect_left, bisect_right
+from enum import Enum
+from functools import cached_property
+from typing import Iterable, NamedTuple, Optional
+
+from ..recording import Recording
+from ..suspects import suspects_of
+from .messages import Body
+
+
+class Filter(Enum):
+    """The filters, by the names that the protocol passes on."""
+
+    SUSPECTS = "suspects"
+    TIMEOUTS = "timeouts"
+
+
+LABELS = {Filter.SUSPECTS: "Suspects", Filter.TIMEOUTS: "Timeouts"}
+SAYS = {
+    Filter.SUSPECTS: "before a step that `info suspects` names",
+    Filter.TIMEOUTS: "before the step by which a call ends with a timeout",
+}
+
+
+def offered() -> list[Body]:
+    """The filters as the protocol offers them."""
+    return [
+        {
+            "filter": one.value,
+            "label": LABELS[one],
+            "description": SAYS[one],
+            "default": False,
+            "supportsCondition": False,
+        }
+        for one in Filter
+    ]
+
+
+class Wrong(NamedTuple):
+    """Something that went wrong: the step, what sort of thing it is, and what is said of it."""
+
+    step: int
+    sort: str
+    says: str
+
+
+class Filters:
+    """The filters that are set. The rules run over the recording when the first one is."""
+
+    def __init__(self, recording: Recording):
+        self._recording = recording
+        self._set: frozenset[Filter] = frozenset()
+
+    def replace(self, names: Iterable[object]) -> list[Body]:
+        """Sets these filters in place of those before; what the protocol says of each."""
+        known = {one.value: one for one in Filter}
+        asked = list(names)
+        self._set = frozenset(known[name] for name in asked if isinstance(name, str) and name in known)
+        return [
+            {"verified": True} if name in known else {"verified": False, "message": f"{name} is no filter"}
+            for name in asked
+        ]
+
+    @cached_property
+    def _all(self) -> dict[Filter, list[Wrong]]:
+        """What went wrong, by the filters, in the order of the steps."""
+        ranked = suspects_of(self._recording)
+        suspects = [Wrong(one.step, one.rule.value, one.sentence()) for one in ranked.suspects if one.is_shown]
+        timeouts = [
+            Wrong(
+                one.step,
+                "timeout",
+                f"goroutine {one.goroutine}'s call on descriptor {one.descriptor} ends with a timeout",
+            )
+            for one in ranked.timeouts
+        ]
+        return {Filter.SUSPECTS: sorted(suspects), Filter.TIMEOUTS: sorted(timeouts)}
+
+    def _positions(self) -> list[int]:
+        """The positions before the steps at which to stop, rising."""
+        return sorted({wrong.step - 1 for one in self._set for wrong in self._all[one]})
+
+    def nearest(self, position: int, forwards: bool) -> Optional[int]:
+        """The nearest position that way at which to stop."""
+        positions = self._positions()
+        at = bisect_right(positions, position) if forwards else bisect_left(positions, position) - 1
+        return positions[at] if 0 <= at < len(positions) else None
+
+    def at(self, position: int) -> list[Wrong]:
+        """What goes wrong by the next step, by the filters that are set."""
+        return [wrong for one in Filter if one in self._set for wrong in self._all[one] if wrong.step == position + 1]

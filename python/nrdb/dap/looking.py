@@ -1,0 +1,243 @@
+"""What an editor looks at: goroutines as threads, their stacks, and cells as variables."""
+
+from dataclasses import dataclass
+from pathlib import Path
+from typing import Optional, Sequence
+
+from netrev_model.plain import plain
+from netrev_model.vocabulary import CELLS, KINDS, Of, cell_of
+
+from ..where import OF_THE_PROGRAM, Call
+from ..words import status_words
+from ..world import World
+from .debuggee import Debuggee, Maker
+from .messages import Body, Unanswerable
+
+NETWORK = 65_536  # the thread's number; a goroutine's is at most 4,096
+IN_QUEUES = ("acquiring", "queued", "relock", "owing")  # whose number is a socket's
+
+
+def thread_of(maker: Maker) -> int:
+    """The number of a thread, from 1, as the protocol has it."""
+    return NETWORK if maker is None else maker + 1
+
+
+def maker_of(thread: int) -> Maker:
+    """Whose thread has that number; Unanswerable where none has."""
+    if thread == NETWORK:
+        return None
+    if not 0 < thread < NETWORK:
+        raise Unanswerable("there is no such goroutine")
+    return thread - 1
+
+
+@dataclass(frozen=True)
+class Frame:
+    """A frame of the stack of a goroutine, or of the network."""
+
+    maker: Maker
+    step: int
+
+
+@dataclass(frozen=True)
+class Cells:
+    """Cells of one thing: the whole machine, a goroutine, a socket or a descriptor."""
+
+    of: Of
+    number: int = 0
+
+    def names(self) -> list[str]:
+        """The cells, as commands spell them."""
+        return [
+            cell.name if self.of is Of.ALL else f"{cell.name} {self.number}"
+            for cell in CELLS.values()
+            if cell.of is self.of
+        ]
+
+    @property
+    def title(self) -> str:
+        return "machine" if self.of is Of.ALL else f"{self.of.value} {self.number}"
+
+
+@dataclass(frozen=True)
+class Every:
+    """All things of a sort."""
+
+    of: Of
+
+
+Thing = Frame | Cells | Every
+
+
+class Handles:
+    """Numbers for what the editor may ask about. They hold until the next move, and are never given again."""
+
+    def __init__(self) -> None:
+        self._things: dict[int, Thing] = {}
+        self._given = 0
+
+    def give(self, thing: Thing) -> int:
+        self._given += 1
+        self._things[self._given] = thing
+        return self._given
+
+    def take(self, number: int) -> Thing:
+        """What has the number; Unanswerable where that was before a move."""
+        if number not in self._things:
+            raise Unanswerable("that was of another position")
+        return self._things[number]
+
+    def forget(self) -> None:
+        self._things.clear()
+
+
+class Looks:
+    """Looks at the position at which the session stands. `goes_first` is whether the program's own line is shown first where
+    it is known, else the recording's."""
+
+    def __init__(self, debuggee: Debuggee, goes_first: bool, root: Path):
+        self._debuggee, self._goes_first, self._root = debuggee, goes_first, root
+        self.handles = Handles()
+
+    @property
+    def _world(self) -> World:
+        return self._debuggee.session.world()
+
+    def threads(self) -> list[Body]:
+        """The goroutines that aren't gone, and the network with the clock."""
+        world = self._world
+        statuses = world.of_each(range(world.made(Of.GOROUTINE)), "gor")
+        goroutines = [
+            {"id": thread_of(goroutine), "name": f"goroutine {goroutine}: {status}"}
+            for goroutine, (status,) in statuses.items()
+            if status != "gone"
+        ]
+        return [*goroutines, {"id": NETWORK, "name": "network and clock"}]
+
+    def frames(self, maker: Maker) -> list[Body]:
+        """A stack: the step that is about to be made, or was made last, and the program's calls at that step, where they are
+        known; else what the goroutine does, in words."""
+        here = self._debuggee.position
+        is_next = here < self._debuggee.length and self._debuggee.maker(here + 1) == maker
+        frame = Frame(maker, here + 1 if is_next else self._debuggee.last_step_of(maker))
+        first = self._step_frame(frame, is_next)
+        if maker is None:
+            return [first]
+        stack = self._debuggee.recording.lines.of(frame.step)
+        if not stack.calls:
+            words = status_words(self._world.value(f"gor {maker}"))
+            return [first, *([self._label(frame, words)] if words else [])]
+        calls = [self._call_frame(frame, call) for call in stack.calls]
+        own = next((at for at, call in enumerate(stack.calls) if call.of == OF_THE_PROGRAM), None)
+        if self._goes_first and own is not None:
+            return [calls[own], first, *calls[:own], *calls[own + 1 :]]
+        return [first, *calls]
+
+    def _step_frame(self, frame: Frame, is_next: bool) -> Body:
+        """The frame of a step, in the recording's text."""
+        step = self._debuggee.step(frame.step)
+        line = step.line if step else self._debuggee.recording.header_line
+        name = "no step yet" if step is None else f"{'about to' if is_next else 'last'}: {plain(str(step))}"
+        source = self._debuggee.source()
+        return {"id": self.handles.give(frame), "name": name, "line": line, "column": 1, "source": source}
+
+    def _call_frame(self, frame: Frame, call: Call) -> Body:
+        """The frame of a call of the program's, of a library's or of Go's."""
+        path = self._root / call.file
+        where = {"path": str(path)} if path.is_file() else {"origin": plain(call.file)}
+        return {
+            "id": self.handles.give(frame),
+            "name": plain(call.function),
+            "presentationHint": "normal" if call.of == OF_THE_PROGRAM else "subtle",
+            "source": {"name": plain(Path(call.file).name), **where},
+            "line": call.line,
+            "column": 1,
+        }
+
+    def _label(self, frame: Frame, words: str) -> Body:
+        return {"id": self.handles.give(frame), "name": words, "presentationHint": "label", "line": 0, "column": 0}
+
+    def scopes(self, frame: int) -> list[Body]:
+        """What a frame has to do with, the machine, and all there is."""
+        thing = self.handles.take(frame)
+        if not isinstance(thing, Frame):
+            raise Unanswerable("that is no frame")
+        own = [] if thing.maker is None else [Cells(Of.GOROUTINE, thing.maker)]
+        near = [*own, *self._about(thing)]
+        scopes = [(cells.title, self.handles.give(cells), False) for cells in (*near, Cells(Of.ALL))]
+        scopes += [
+            (f"all {of.value}s", self.handles.give(Every(of)), True) for of in (Of.SOCKET, Of.DESCRIPTOR, Of.GOROUTINE)
+        ]
+        return [{"name": name, "variablesReference": number, "expensive": dear} for name, number, dear in scopes]
+
+    def _about(self, frame: Frame) -> list[Cells]:
+        """The socket and the descriptor that the goroutine's status or the frame's step names."""
+        world = self._world
+        socket, descriptor = None, None
+        status = "idle" if frame.maker is None else world.value(f"gor {frame.maker}")
+        name, *rest = status.split()
+        if rest and name in IN_QUEUES:
+            socket = int(rest[0])
+        elif rest:
+            descriptor = int(rest[0])
+        elif step := self._debuggee.step(frame.step):
+            socket, descriptor = step.argument("s"), step.argument("d")
+        sockets = world.sockets_of_open()
+        if socket is None and descriptor is not None:
+            socket = sockets.get(descriptor)
+        elif descriptor is None and socket is not None:
+            descriptor = next((one for one, its in sockets.items() if its == socket), None)
+        named = [(Of.SOCKET, socket), (Of.DESCRIPTOR, descriptor)]
+        return [Cells(of, number) for of, number in named if number is not None]
+
+    def variables(self, reference: int) -> list[Body]:
+        """The variables of a scope, or of one of them."""
+        thing = self.handles.take(reference)
+        if isinstance(thing, Cells):
+            return self.cells(thing.names())
+        if isinstance(thing, Every):
+            return self._every(thing.of)
+        raise Unanswerable("that has no variables")
+
+    def _every(self, of: Of) -> list[Body]:
+        """All things of a sort, each with its cells below it, but for goroutines, which have one cell."""
+        world = self._world
+        if of is Of.GOROUTINE:
+            return self.cells([f"gor {number}" for number in range(world.made(of))])
+        if of is Of.SOCKET:
+            rows = [(number, f"lock {number}") for number in range(world.made(of))]
+        else:
+            rows = [(number, f"info {number}") for number in world.sockets_of_open()]
+        shown = self.cells([cell for _, cell in rows])
+        return [
+            {
+                "name": f"{of.value} {number}",
+                "value": f"{cell} = {row['value']}",
+                "variablesReference": self.handles.give(Cells(of, number)),
+            }
+            for (number, cell), row in zip(rows, shown)
+        ]
+
+    def cells(self, names: Sequence[str]) -> list[Body]:
+        """Cells with their values, and what these say in words."""
+        values = self._world.values(names)
+        return [
+            {"name": cell, "value": self._with_words(cell, value), "evaluateName": cell, "variablesReference": 0}
+            for cell, value in zip(names, values)
+        ]
+
+    def _with_words(self, cell: str, value: str) -> str:
+        words = self._debuggee.session.words_of(cell, value)
+        return f"{value}   ({words})" if words else value
+
+    def value(self, text: str) -> Optional[str]:
+        """The value of the cell that a text spells; None where it spells none."""
+        cell = cell_of(text.split())
+        return None if cell is None else str(self.cells([cell])[0]["value"])
+
+    def meaning(self, text: str) -> Optional[str]:
+        """What a word of the recording means, as under the pointer: a cell's value, or a kind of step."""
+        word = text.strip().strip('"')
+        if word in KINDS:
+            return f"{KINDS[word].usage}: {KINDS[word].says}"
+        return self.value(word)

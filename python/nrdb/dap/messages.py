@@ -1,0 +1,124 @@
+"""Messages of the protocol: JSON behind a header that tells its length, as both ends send them."""
+
+import json
+from dataclasses import dataclass, field
+from typing import Any, BinaryIO, Optional
+
+LONGEST = 16 * 2**20  # bytes of a message
+LONGEST_HEADER = 1_024
+
+Body = dict[str, Any]
+
+
+class Malformed(Exception):
+    """What came is no message: what is wrong with it. Where it ends isn't known, so nothing behind it can be read."""
+
+
+class Unanswerable(Exception):
+    """A request that can't be done: why, as the editor shows it."""
+
+
+@dataclass(frozen=True)
+class Request:
+    """A request: its number, its name and its arguments."""
+
+    number: int
+    command: str
+    arguments: Body = field(default_factory=dict)
+
+    def text(self, name: str) -> str:
+        """The argument of that name, which has to be a text."""
+        value = self.arguments.get(name)
+        if not isinstance(value, str):
+            raise Unanswerable(f"{self.command}: {name} has to be a text")
+        return value
+
+    def whole_number(self, name: str) -> int:
+        """The argument of that name, which has to be a whole number."""
+        value = self.arguments.get(name)
+        if not isinstance(value, int) or isinstance(value, bool):
+            raise Unanswerable(f"{self.command}: {name} has to be a whole number")
+        return value
+
+    def objects(self, name: str) -> list[Body]:
+        """The argument of that name, which has to be a list of objects, and is an empty one where it isn't there."""
+        value = self.arguments.get(name) or []
+        if not isinstance(value, list) or not all(isinstance(one, dict) for one in value):
+            raise Unanswerable(f"{self.command}: {name} has to be a list of objects")
+        return value
+
+
+class Wire:
+    """The two streams to the editor."""
+
+    def __init__(self, reader: BinaryIO, writer: BinaryIO):
+        self._reader, self._writer = reader, writer
+        self._sent = 0
+
+    def request(self) -> Optional[Request]:
+        """The next request; None where the editor has gone. Messages of other types are passed over."""
+        while True:
+            length = self._length()
+            if length is None:
+                return None
+            data = self._reader.read(length)
+            if len(data) < length:
+                return None
+            message = _object(data)
+            if message.get("type") == "request":
+                return _request(message)
+
+    def _length(self) -> Optional[int]:
+        """What the header says of the length; None where nothing more comes."""
+        length: Optional[int] = None
+        while True:
+            line = self._reader.readline(LONGEST_HEADER)
+            if not line:
+                return None
+            if line in (b"\r\n", b"\n"):
+                break
+            name, _, value = line.partition(b":")
+            if name.strip().lower() == b"content-length":
+                length = int(value) if value.strip().isdigit() else None
+        if length is None or length > LONGEST:
+            raise Malformed("a message has to begin with its Content-Length, of at most 16 MiB")
+        return length
+
+    def respond(self, request: Request, body: Body) -> None:
+        """Says that a request was done."""
+        self._send("response", request_seq=request.number, command=request.command, success=True, body=body)
+
+    def refuse(self, request: Request, why: str) -> None:
+        """Says that a request wasn't done, and why."""
+        error = {"id": 1, "format": why.replace("{", "(").replace("}", ")"), "showUser": True}
+        said = {"success": False, "message": why, "body": {"error": error}}
+        self._send("response", request_seq=request.number, command=request.command, **said)
+
+    def event(self, name: str, **body: Any) -> None:
+        """Tells that something happened."""
+        self._send("event", event=name, body=body)
+
+    def _send(self, sort: str, **message: Any) -> None:
+        self._sent += 1
+        data = json.dumps({"seq": self._sent, "type": sort, **message}).encode("ascii")
+        self._writer.write(b"Content-Length: %d\r\n\r\n%s" % (len(data), data))
+        self._writer.flush()
+
+
+def _object(data: bytes) -> Body:
+    """The JSON object that these bytes are."""
+    try:
+        message = json.loads(data)
+    except (ValueError, RecursionError):
+        raise Malformed("a message isn't JSON") from None
+    if not isinstance(message, dict):
+        raise Malformed("a message is no object")
+    return message
+
+
+def _request(message: Body) -> Request:
+    """The request that an object is."""
+    number, command, arguments = message.get("seq"), message.get("command"), message.get("arguments")
+    if not isinstance(number, int) or not isinstance(command, str):
+        raise Malformed("a request has a number and a command")
+    return Request(number, command, arguments if isinstance(arguments, dict) else {})

@@ -1,0 +1,112 @@
+"""The editor's moves, each a line of netrev's or several: where they lead, and why they stop there."""
+
+from typing import NamedTuple, Optional, Sequence
+
+from ..netrev import Reply
+from ..shapes import Listed, Move, move_of
+from .debuggee import Debuggee, Maker
+from .filters import Filters, Wrong
+from .marks import Marks
+
+
+class Stop(NamedTuple):
+    """Why the session stands where it does: the protocol's word, one in words for people, and the marks that hit."""
+
+    reason: str
+    says: str
+    marks: tuple[int, ...] = ()
+
+
+class Moves:
+    """Moves of a session. All go on past marks whose conditions don't hold."""
+
+    def __init__(self, debuggee: Debuggee, marks: Marks, filters: Filters):
+        self._debuggee, self._session = debuggee, debuggee.session
+        self._marks, self._filters = marks, filters
+
+    def step(self, line: str) -> Stop:
+        """One step, either way: `stepi` or `reverse-stepi`."""
+        self._face_forwards()
+        reply = self._session.ask(line)
+        move = move_of(line, reply)
+        return self._arrived(line, reply, move, [], self._end_or("step", move))
+
+    def goto(self, position: int, reason: str = "goto") -> Stop:
+        """To a position."""
+        why = Stop(reason, "the recording's end" if position == self._debuggee.length else f"at {position}")
+        if position == self._debuggee.position:
+            return why
+        reply = self._session.go(position)
+        return self._arrived(f"goto {position}", reply, move_of("goto", reply), [], why)
+
+    def next_of(self, maker: Maker) -> Stop:
+        """To before the next step of a goroutine, or of the network, but the one that it is about to make."""
+        numbers = range(self._debuggee.position + 2, self._debuggee.length + 1)
+        found = next((number for number in numbers if self._debuggee.maker(number) == maker), None)
+        return self.run(True, self._debuggee.length if found is None else found - 1)
+
+    def out_of(self, goroutine: int) -> Stop:
+        """Behind the step that ends a goroutine's call."""
+        scout, here = self._session.looks(), self._debuggee.position
+        found = scout.find(f"gor {goroutine}", lambda value: value in ("idle", "gone"), here, False)
+        return self.run(True, self._debuggee.length if found is None else found)
+
+    def run(self, forwards: bool, target: Optional[int] = None) -> Stop:
+        """That way to the nearest position at which a mark hits or a filter stops, or to the target; else to the end."""
+        stood = self._session.netrev.marks()
+        bound = self._bound(forwards, target)
+        line = "continue" if forwards else "reverse-continue"
+        self._face_forwards()
+        while True:
+            reply = self._session.ask(line)
+            move = move_of(line, reply)
+            if bound is not None and (move.position - bound) * (1 if forwards else -1) > 0:
+                return self._stop_at(bound, target)
+            hit = self._marks.holding(move.marks)
+            if hit or move.is_end or move.position == bound:
+                why = self._why(hit, move, target)
+                return self._arrived(line, reply, move._replace(marks=tuple(hit)), stood, why)
+
+    def _bound(self, forwards: bool, target: Optional[int]) -> Optional[int]:
+        """The position behind which a move doesn't go, whatever hits there."""
+        filtered = self._filters.nearest(self._debuggee.position, forwards)
+        bounds = [bound for bound in (filtered, target) if bound is not None]
+        return (min if forwards else max)(bounds, default=None)
+
+    def _stop_at(self, bound: int, target: Optional[int]) -> Stop:
+        """Back to the position that the move went past."""
+        reply = self._session.go(bound)
+        move = move_of("goto", reply)
+        return self._arrived(f"goto {bound}", reply, move, [], self._why([], move, target))
+
+    def _why(self, hit: Sequence[str], move: Move, target: Optional[int]) -> Stop:
+        """Why a move stops where it does."""
+        if hit:
+            return Stop(self._marks.reason(hit[0]), f"mark {', '.join(hit)}", tuple(map(int, hit)))
+        if wrong := self._filters.at(move.position):
+            return Stop("exception", told(wrong))
+        if move.position == target:
+            return Stop("step", f"at {move.position}")
+        return self._end_or("step", move)
+
+    def _end_or(self, reason: str, move: Move) -> Stop:
+        """Stopped at an end of the recording, or for this reason."""
+        if not move.is_end:
+            return Stop(reason, f"at {move.position}")
+        return Stop("pause", "the recording's end" if move.position else "the recording's start")
+
+    def _face_forwards(self) -> None:
+        """The editor has names of its own for the two ways, whatever was typed in the console."""
+        if self._session.stands().direction == "reverse":
+            self._session.ask("set exec-direction forward")
+
+    def _arrived(self, line: str, reply: str, move: Move, stood: Sequence[Listed], why: Stop) -> Stop:
+        """Says where the session stands now."""
+        self._session.printer.reply(line, Reply(reply), "")
+        self._session.arrive(move.position, move.marks, stood)
+        return why
+
+
+def told(wrong: Sequence[Wrong]) -> str:
+    """What went wrong, each in its sentence."""
+    return "; ".join(f"{one.sort}: {one.says}" for one in wrong)

@@ -1,0 +1,46 @@
+"""examples/editors: what an editor and the adapter say to one another, message by message."""
+
+import json
+import unittest
+from typing import Any
+
+from tests.program.nrdb.dap_client import Adapter
+from tests.program.nrdb.support import EXAMPLES
+from tests.program.sharing import NETREV
+
+CONVERSATION = EXAMPLES / "editors/lost-wakeup.dap"
+RECORDING = "lost-wakeup.jsonl"
+ASKS, SAYS = "> ", "< "
+
+
+def conversation() -> list[tuple[str, dict[str, Any]]]:
+    """The messages, each with who says it."""
+    lines = CONVERSATION.read_text(encoding="utf-8").splitlines()
+    return [(line[:2], json.loads(line[2:])) for line in lines]
+
+
+def as_told(message: dict[str, Any]) -> Any:
+    """A message as it is kept: without numbers of messages, and with the recording's name for its path."""
+    kept = {name: value for name, value in message.items() if name not in ("seq", "request_seq", "type")}
+    return json.loads(json.dumps(kept).replace(json.dumps(str(EXAMPLES / RECORDING)), json.dumps(RECORDING)))
+
+
+class Conversation(unittest.TestCase):
+    """The hunt for the lost wake-up."""
+
+    def test_it_is_said_so(self):
+        told = conversation()
+        self.assertGreater(len(told), 20)
+        with Adapter() as editor:
+            for number, (who, message) in enumerate(told, 1):
+                if who == SAYS:
+                    self.assertEqual(as_told(editor.message() or {}), message)
+                    continue
+                arguments = dict(message.get("arguments", {}))
+                if message["command"] == "launch":
+                    arguments |= {"program": str(EXAMPLES / RECORDING), "netrev": NETREV}
+                editor.send({"seq": number, "type": "request", "command": message["command"], "arguments": arguments})
+
+
+if __name__ == "__main__":
+    unittest.main()
