@@ -7,6 +7,7 @@ from typing import Iterator, Optional
 from netrev_model.vocabulary import Of
 
 from ..answers import ANSWERS
+from ..backwards import last_steps
 from ..interrupts import Interrupts
 from ..netrev import Own
 from ..recording import Recording, Step
@@ -62,7 +63,7 @@ class Debuggee:
     def last_step_of(self, maker: Maker) -> int:
         """The last step up to the position that was made by this one; 0 where there is none, or it is far."""
         if maker is not None:
-            return self.recording.last_step_of(maker, self.position)
+            return last_steps(self.recording, self.position, [maker])[maker]
         numbers = range(self.position, max(self.position - FAR, 0), -1)
         return next((number for number in numbers if self.maker(number) is None), 0)
 

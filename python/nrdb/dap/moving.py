@@ -48,7 +48,7 @@ class Moves:
     def out_of(self, goroutine: int) -> Stop:
         """Behind the step that ends a goroutine's call."""
         scout, here = self._session.looks(), self._debuggee.position
-        found = scout.find(f"gor {goroutine}", lambda value: value in ("idle", "gone"), here, False)
+        found = scout.find([f"gor {goroutine}"], lambda values: values[0] in ("idle", "gone"), here, False)
         return self.run(True, self._debuggee.length if found is None else found)
 
     def run(self, forwards: bool, target: Optional[int] = None) -> Stop:

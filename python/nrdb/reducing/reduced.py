@@ -114,7 +114,7 @@ def _last_with(session: Session, cell: str, value: str) -> int:
     for position in (session.stands().position, length):
         if is_wanted(scout.values(position, [cell])[0]):
             return position
-    found: Optional[int] = scout.find(cell, is_wanted, length, True)
+    found: Optional[int] = scout.find([cell], lambda values: is_wanted(values[0]), length, True)
     if found is None:
         raise Misused(f"no step gives {cell} the value {value}")
     return found
