@@ -188,15 +188,20 @@ def _own_step(book: Book, goroutine: int, numbers: range) -> int:
 
 
 def _call_at(book: Book, goroutine: int, position: int) -> Call:
-    """The innermost call that the goroutine is in."""
-    inside = [
+    """The innermost call that the goroutine is in; Stay where it is in none."""
+    inside = calls_at(book, goroutine, position)
+    if not inside:
+        raise Stay(f"goroutine {goroutine} is in no call")
+    return inside[-1]
+
+
+def calls_at(book: Book, goroutine: int, position: int) -> list[Call]:
+    """The calls that a goroutine is in, the innermost last."""
+    return [
         call
         for call in book.calls
         if call.goroutine == goroutine and call.first <= position and (not call.last or call.last > position)
     ]
-    if not inside:
-        raise Stay(f"goroutine {goroutine} is in no call")
-    return inside[-1]
 
 
 GOALS: dict[str, Callable[[Recording, int, int], Goal]] = {

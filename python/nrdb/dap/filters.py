@@ -5,6 +5,7 @@ from enum import Enum
 from functools import cached_property
 from typing import Iterable, NamedTuple, Optional
 
+from ..calls import Outcome, book_of
 from ..recording import Recording
 from ..suspects import suspects_of
 from .messages import Body
@@ -15,12 +16,14 @@ class Filter(Enum):
 
     SUSPECTS = "suspects"
     TIMEOUTS = "timeouts"
+    ERRORS = "errors"
 
 
-LABELS = {Filter.SUSPECTS: "Suspects", Filter.TIMEOUTS: "Timeouts"}
+LABELS = {Filter.SUSPECTS: "Suspects", Filter.TIMEOUTS: "Timeouts", Filter.ERRORS: "Other errors"}
 SAYS = {
     Filter.SUSPECTS: "before a step that `info suspects` names",
     Filter.TIMEOUTS: "before the step by which a call ends with a timeout",
+    Filter.ERRORS: "before the step by which a call ends since its socket was closed, or with another error",
 }
 
 
@@ -66,17 +69,14 @@ class Filters:
     @cached_property
     def _all(self) -> dict[Filter, list[Wrong]]:
         """What went wrong, by the filters, in the order of the steps."""
-        ranked = suspects_of(self._recording)
-        suspects = [Wrong(one.step, one.rule.value, one.sentence()) for one in ranked.suspects if one.is_shown]
-        timeouts = [
-            Wrong(
-                one.step,
-                "timeout",
-                f"goroutine {one.goroutine}'s call on descriptor {one.descriptor} ends with a timeout",
-            )
-            for one in ranked.timeouts
-        ]
-        return {Filter.SUSPECTS: sorted(suspects), Filter.TIMEOUTS: sorted(timeouts)}
+        shown = [one for one in suspects_of(self._recording).suspects if one.is_shown]
+        failed = [call for call in book_of(self._recording).calls if call.last and call.outcome.is_error]
+        found: dict[Filter, list[Wrong]] = {one: [] for one in Filter}
+        found[Filter.SUSPECTS] = [Wrong(one.step, one.rule.value, one.sentence()) for one in shown]
+        for call in failed:
+            sort = Filter.TIMEOUTS if call.outcome is Outcome.TIMED_OUT else Filter.ERRORS
+            found[sort].append(Wrong(call.last, call.outcome.value, f"goroutine {call.goroutine}'s {call.words()}"))
+        return {one: sorted(wrong) for one, wrong in found.items()}
 
     def _positions(self) -> list[int]:
         """The positions before the steps at which to stop, rising."""

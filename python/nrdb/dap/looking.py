@@ -7,6 +7,8 @@ from typing import Optional, Sequence
 from netrev_model.plain import plain
 from netrev_model.vocabulary import CELLS, KINDS, Of, cell_of
 
+from ..calls import book_of
+from ..following import calls_at
 from ..where import OF_THE_PROGRAM, Call
 from ..words import status_words
 from ..world import World
@@ -115,8 +117,8 @@ class Looks:
         return [*goroutines, {"id": NETWORK, "name": "network and clock"}]
 
     def frames(self, maker: Maker) -> list[Body]:
-        """A stack: the step that is about to be made, or was made last, and the program's calls at that step, where they are
-        known; else what the goroutine does, in words."""
+        """A stack: the step that is about to be made, or was made last; the call that it is of, as `calls` has it; and the
+        program's own calls at that step, where they are known, else what the goroutine does, in words."""
         here = self._debuggee.position
         is_next = here < self._debuggee.length and self._debuggee.maker(here + 1) == maker
         frame = Frame(maker, here + 1 if is_next else self._debuggee.last_step_of(maker))
@@ -124,14 +126,16 @@ class Looks:
         if maker is None:
             return [first]
         stack = self._debuggee.recording.lines.of(frame.step)
+        inside = calls_at(book_of(self._debuggee.recording), maker, here)
+        labels = [self._label(frame, f"in {call.as_begun().words()}") for call in reversed(inside)]
         if not stack.calls:
             words = status_words(self._world.value(f"gor {maker}"))
-            return [first, *([self._label(frame, words)] if words else [])]
+            return [first, *labels, *([self._label(frame, words)] if words else [])]
         calls = [self._call_frame(frame, call) for call in stack.calls]
         own = next((at for at, call in enumerate(stack.calls) if call.of == OF_THE_PROGRAM), None)
         if self._goes_first and own is not None:
-            return [calls[own], first, *calls[:own], *calls[own + 1 :]]
-        return [first, *calls]
+            return [calls[own], first, *labels, *calls[:own], *calls[own + 1 :]]
+        return [first, *labels, *calls]
 
     def _step_frame(self, frame: Frame, is_next: bool) -> Body:
         """The frame of a step, in the recording's text."""

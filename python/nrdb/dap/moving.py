@@ -2,11 +2,13 @@
 
 from typing import NamedTuple, Optional, Sequence
 
+from ..following import Stay, finish_goal
 from ..netrev import Reply
 from ..shapes import Listed, Move, move_of
 from .debuggee import Debuggee, Maker
 from .filters import Filters, Wrong
 from .marks import Marks
+from .messages import Unanswerable
 
 
 class Stop(NamedTuple):
@@ -46,10 +48,12 @@ class Moves:
         return self.run(True, self._debuggee.length if found is None else found - 1)
 
     def out_of(self, goroutine: int) -> Stop:
-        """Behind the step that ends a goroutine's call."""
-        scout, here = self._session.looks(), self._debuggee.position
-        found = scout.find([f"gor {goroutine}"], lambda values: values[0] in ("idle", "gone"), here, False)
-        return self.run(True, self._debuggee.length if found is None else found)
+        """Behind the step that ends a goroutine's call; Unanswerable where it is in none, or that doesn't end."""
+        try:
+            goal = finish_goal(self._debuggee.recording, goroutine, self._debuggee.position)
+        except Stay as why:
+            raise Unanswerable(str(why)) from None
+        return self.run(True, goal.position)
 
     def run(self, forwards: bool, target: Optional[int] = None) -> Stop:
         """That way to the nearest position at which a mark hits or a filter stops, or to the target; else to the end."""

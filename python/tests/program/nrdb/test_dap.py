@@ -125,7 +125,7 @@ class Hunt(unittest.TestCase):
         self.assertEqual(self.editor.line(), 13)
         self.editor.move("stepBack", threadId=1)
         self.editor.move("stepOut", threadId=1)
-        self.assertEqual(self.editor.line(), 14)  # behind blockswap the goroutine is idle
+        self.assertEqual(self.editor.line(), 16)  # behind rwunlock, which ends the Read
         (target,) = self.editor("gotoTargets", source={"path": LOST}, line=20)["targets"]
         stopped = self.editor.move("goto", threadId=1, targetId=target["id"])
         self.assertEqual((stopped["reason"], self.editor.line()), ("goto", 20))
@@ -217,7 +217,7 @@ class Ends(unittest.TestCase):
             lines = [{"where": 1, "steps": 22}, call, {"stack": 1, "calls": [1]}, {"step": 1, "stacks": [1] * 22}]
             recording.with_suffix(".where").write_text("".join(f"{json.dumps(line)}\n" for line in lines))
             editor.begin(str(recording))
-            _, frame = editor("stackTrace", threadId=1)["stackFrames"]
+            *_, frame = editor("stackTrace", threadId=1)["stackFrames"]
             self.assertIn("\\x1b", frame["name"])
             self.assertFalse([c for c in json.dumps(frame, ensure_ascii=False) if c in STRANGE[0] + STRANGE[-1]])
 

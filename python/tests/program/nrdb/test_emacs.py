@@ -13,7 +13,7 @@ from tests.program.sharing import NETREV
 
 INSTALLED = Path("/usr/share/emacs/site-lisp")
 FOLDERS = [*INSTALLED.glob("elpa/*"), *INSTALLED.glob("elpa-src/*")]
-PATIENCE = 120  # seconds
+PATIENCE = 300  # seconds
 HUNT = """
 (setq native-comp-deferred-compilation nil native-comp-speed -1 make-backup-files nil ring-bell-function 'ignore
       dap-auto-configure-features nil dap-breakpoints-file {breakpoints})
