@@ -2,6 +2,7 @@
 
 import json
 import subprocess
+import tempfile
 import unittest
 from typing import Any
 
@@ -119,6 +120,15 @@ class Join(unittest.TestCase):
             other = EXAMPLES / "lost-wakeup.jsonl"
             said = nrdb("--batch", "--join", f"127.0.0.1:{server.port}", other, status=3)
             self.assertEqual(said, "| the recording has 22 steps, and that of the session 10\n")
+
+    def test_a_file_that_is_no_recording(self):
+        """It has as many lines as the session's, and netrev tells its fault."""
+        with tempfile.TemporaryDirectory() as folder, serving() as server:
+            file = f"{folder}/x.jsonl"
+            with open(file, "w", encoding="ascii") as text:
+                text.write('{"netrev":1,"gor":2,"sock":1,"desc":1,"buf":1}\n' + '["pollclose",0,0]\n' * 10)
+            said = nrdb("--batch", "--join", f"127.0.0.1:{server.port}", file, "-ex", "info goroutines", status=3)
+            self.assertEqual(said, f"| {file} isn't a recording: step 1: fault 107 reason 5\n")
 
     def test_a_front_in_use_is_waited_for_aloud(self):
         with serving(left=2) as server:
