@@ -3,6 +3,7 @@
 import json
 import subprocess
 import tempfile
+import threading
 import unittest
 from typing import Any
 
@@ -137,7 +138,10 @@ class Join(unittest.TestCase):
             words = [NRDB, "--batch", "--join", f"127.0.0.1:{server.port}", "-ex", "print lock 0", str(FIRST)]
             with subprocess.Popen(words, stdout=subprocess.PIPE, text=True) as waiting:
                 assert waiting.stdout
+                too_long = threading.Timer(PATIENCE, waiting.kill)
+                too_long.start()
                 self.assertEqual(waiting.stdout.readline(), f"| {SILENT}\n")
+                too_long.cancel()
                 other.leaves()
                 said, _ = waiting.communicate(timeout=PATIENCE)
             self.assertEqual(said.splitlines()[0], "at 4 of 10 forward")
