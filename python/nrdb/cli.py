@@ -4,6 +4,7 @@ file, the program or the connection failed; and 4 where --suspects prints some."
 import argparse
 import io
 import os
+import subprocess
 import sys
 from contextlib import closing
 from typing import Any, Callable, NoReturn, Optional, Sequence
@@ -16,7 +17,7 @@ from .dap import serve_port, serve_streams
 from .interrupts import GivenUp, Interrupted, Interrupts
 from .netrev import Ended, Joined, Netrev, Own, Reply
 from .output import JsonPrinter, Printer, TextPrinter
-from .recording import Recording
+from .recording import NoRecording, Recording
 from .reducing import reduced_file
 from .refusals import explained
 from .scout import Scout
@@ -108,7 +109,7 @@ def run(wanted: argparse.Namespace, printer: Printer) -> int:
     except Ended as ended:
         printer.note("netrev has ended")
         status = ended.status if ended.status and ended.status > 0 else FAILED
-    except (Mismatched, Strange) as wrong:
+    except (Mismatched, NoRecording, Strange) as wrong:
         printer.note(str(wrong))
         status = FAILED
     except (GivenUp, KeyboardInterrupt):
@@ -139,6 +140,8 @@ def start(wanted: argparse.Namespace, printer: Printer) -> int:
 def begun(wanted: argparse.Namespace, netrev: Netrev, interrupts: Interrupts, printer: Printer) -> int:
     """Runs a session with this netrev to its end; the exit status."""
     recording = Recording.read(wanted.file) if wanted.file else None
+    if wanted.join and wanted.file and (fault := fault_of(wanted.netrev, wanted.file)):
+        raise NoRecording(f"{wanted.file} isn't a recording: {fault}")
     scout = Scout(lambda: Own(wanted.netrev, wanted.file, interrupts)) if wanted.file else None
     session = Session(netrev, recording, scout, printer, interrupts, ANSWERS)
     session.program, session.path = wanted.netrev, wanted.file or ""
@@ -152,6 +155,15 @@ def begun(wanted: argparse.Namespace, netrev: Netrev, interrupts: Interrupts, pr
         if scout:
             scout.drop()
     return netrev.close() or status
+
+
+def fault_of(netrev: str, path: str) -> str:
+    """The first fault of a recording; nothing where netrev takes it, or isn't here to say."""
+    try:
+        ended = subprocess.run([netrev, "check", path], stdout=subprocess.PIPE, check=False)
+    except OSError:
+        return ""
+    return ended.stdout.decode("utf-8", "surrogateescape").strip() if ended.returncode == REFUSED else ""
 
 
 def refused(wanted: argparse.Namespace, netrev: Netrev, first: str, printer: Printer) -> int:

@@ -42,6 +42,18 @@ class Step(NamedTuple):
         return " ".join((self.kind, *(shortened(str(argument)) for argument in self.arguments)))
 
 
+class NoRecording(Exception):
+    """The text isn't a recording: netrev has never read it, or another one."""
+
+
+def parsed(text: bytes) -> Any:
+    """The JSON value of a text; NoRecording where it has none."""
+    try:
+        return json.loads(text)
+    except (ValueError, RecursionError):
+        raise NoRecording("the file isn't a recording: netrev check tells its first fault") from None
+
+
 def shortened(text: str) -> str:
     """The text, or its beginning where it is long."""
     return text if len(text) <= SHOWN else f"{text[: SHOWN - 2]}.."
@@ -90,7 +102,7 @@ class Recording:
     @cached_property
     def limits(self) -> dict[str, Any]:
         """The header's keys and values."""
-        header = json.loads(self.line(self.header_line))
+        header = parsed(self.line(self.header_line))
         return header if isinstance(header, dict) else {}
 
     @property
@@ -104,10 +116,12 @@ class Recording:
 
     def step(self, number: int) -> Step:
         """The step of that number, from 1 to the recording's length."""
-        return self._made(number, json.loads(self.line(self._numbers[number])))
+        return self._made(number, parsed(self.line(self._numbers[number])))
 
-    def _made(self, number: int, values: list[Any]) -> Step:
+    def _made(self, number: int, values: Any) -> Step:
         """The step of that number, by the array in its line."""
+        if not (isinstance(values, list) and values and isinstance(values[0], str)):
+            raise NoRecording(f"the file isn't a recording: line {self._numbers[number]} is no step")
         kind, *arguments = values
         answer = arguments.pop() if self.has_answers and arguments else None
         return Step(number, self._numbers[number], kind, tuple(arguments), answer)
@@ -131,13 +145,13 @@ class Recording:
         for first in range(1, self.length + 1, AT_ONCE):
             last = min(first + AT_ONCE, self.length + 1) - 1
             text = self.data[self._starts[self._numbers[first] - 1] : self._starts[self._numbers[last]]]
-            yield from json.loads(b"[%s]" % b",".join(line for line in text.split(b"\n") if line.strip()))
+            yield from parsed(b"[%s]" % b",".join(line for line in text.split(b"\n") if line.strip()))
 
     def steps_of(self, kinds: tuple[str, ...], until: int, socket: Optional[int] = None) -> Iterator[Step]:
         """The steps of these kinds among the first so many; and, where one is named, of this socket."""
         numbers = list(self._numbers_of(kinds, until, socket))
         lines = [self.line(self._numbers[number]) for number in numbers]
-        for number, values in zip(numbers, json.loads(b"[%s]" % b",".join(lines))):
+        for number, values in zip(numbers, parsed(b"[%s]" % b",".join(lines))):
             step = self._made(number, values)
             if step.kind in kinds and socket in (None, step.argument("s")):
                 yield step

@@ -132,8 +132,12 @@ class Disturbances(unittest.TestCase, Generic[Of]):
             played = self.begun()
             played.weather.left, played.weather.action = point, action
             try:
-                yield point, played, played.run(command), True
+                told = played.run(command)
+                played.weather.left = None
+                played.session.stands()  # (a netrev that is gone may be met here only)
+                yield point, played, told, True
             except (GivenUp, Ended):
+                played.weather.left = None
                 yield point, played, played.told(), False
             played.end()
 
@@ -146,7 +150,6 @@ class Disturbances(unittest.TestCase, Generic[Of]):
             count, right = self.points(command)
             for action in actions:
                 for point, played, told, goes_on in self.disturbed(command, action, count):
-                    played.weather.left = None
                     with self.subTest(f"{command}: {action.__name__} at {point}"):
                         told = [event for event in told if event["event"] != "note" or event in right]
                         self.assertEqual(told, right[: len(told)])

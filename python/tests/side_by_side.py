@@ -2,8 +2,8 @@
 
     python3 python tests.side_by_side FOLDER [--jobs N]
 
-FOLDER is below python/, as tests/program. What a module says is printed where it fails; the last lines say what each took, the
-longest first. Ends with status 1 where one failed, or where there was none."""
+FOLDER is below python/, as tests/program. What a module says is printed where it fails; the last lines say what each took, by the
+clock and of processor time, the longest first. Ends with status 1 where one failed, or where there was none."""
 
 import argparse
 import os
@@ -19,12 +19,13 @@ RAN_NONE = "Ran 0 tests"
 
 
 class Ran(NamedTuple):
-    """A module that was run: whether it passed, what it said, and how long it took."""
+    """A module that was run: whether it passed, what it said, how long it took, and how much of the processors."""
 
     module: str
     passed: bool
     said: str
     seconds: float
+    processor: float
 
 
 def modules_in(folder: Path) -> list[str]:
@@ -37,9 +38,13 @@ def run(module: str) -> Ran:
     """Runs a module."""
     begun = time.monotonic()
     words = [sys.executable, str(PACKAGES), "unittest", module]
-    ended = subprocess.run(words, stdout=subprocess.PIPE, stderr=subprocess.STDOUT, text=True, check=False)
-    passed = ended.returncode == 0 and RAN_NONE not in ended.stdout
-    return Ran(module, passed, ended.stdout, time.monotonic() - begun)
+    with subprocess.Popen(words, stdout=subprocess.PIPE, stderr=subprocess.STDOUT, text=True) as process:
+        assert process.stdout
+        said = process.stdout.read()
+        _, status, used = os.wait4(process.pid, 0)
+        process.returncode = os.waitstatus_to_exitcode(status)
+    passed = process.returncode == 0 and RAN_NONE not in said
+    return Ran(module, passed, said, time.monotonic() - begun, used.ru_utime + used.ru_stime)
 
 
 def main() -> int:
@@ -57,8 +62,10 @@ def main() -> int:
     failed = [one for one in ran if not one.passed]
     for one in failed:
         print(f"{one.module}:\n{one.said}", file=sys.stderr)
-    print("\n".join(f"{one.seconds:6.1f} s  {one.module}" for one in ran))
-    print(f"{len(modules)} modules in {time.monotonic() - begun:.0f} s, {len(failed)} failed")
+    print("\n".join(f"{one.seconds:6.1f} s, {one.processor:6.1f} s  {one.module}" for one in ran))
+    processor = sum(one.processor for one in ran)
+    took = f"{time.monotonic() - begun:.0f} s, {processor:.0f} s of processor time"
+    print(f"{len(modules)} modules in {took}: {len(failed)} failed")
     return int(bool(failed))
 
 

@@ -63,6 +63,16 @@ class EveryPoint(Disturbances[Modelled]):
         given_up = self.check(COMMANDS, (once, twice, twice_apart, killed, killed_twice))
         self.assertGreater(given_up, 100)
 
+    def test_a_scout_that_is_gone_is_begun_anew(self) -> None:
+        went_on = 0
+        for command in ("history lock 0 all", "until gor 0 *"):
+            count, right = self.points(command)
+            for point, _, told, goes_on in self.disturbed(command, killed, count):
+                if goes_on:  # (else it was the session's own)
+                    went_on += 1
+                    self.assertEqual(told, right, (command, point))
+        self.assertGreater(went_on, 20)
+
 
 class Unread(unittest.TestCase):
     def test_what_nobody_read_is_not_the_reply_to_another_line(self) -> None:

@@ -156,6 +156,27 @@ class Strangers(unittest.TestCase):
         self.assertTrue(there.is_set())
 
 
+class NoRecordings(unittest.TestCase):
+    """Files that netrev has never read, and that are no recordings: where a session is joined."""
+
+    LINES = (b"garbage", b"5", b"[]", b'{"a":1}', b'[["rwlock",0,0,"r"]]', b"\xff\xfe", b"[1,2]", b"null", b"[" * 9000)
+
+    def test_each_is_told_in_a_sentence(self) -> None:
+        header = b'{"netrev":1,"gor":4,"sock":2,"desc":2,"buf":16}'
+        asked = tuple(word for line in ASKED for word in ("-ex", line))
+        with tempfile.TemporaryDirectory() as folder:
+            file = Path(folder) / "x.jsonl"
+            for line in self.LINES:
+                for text in (b"\n".join([header, *[line] * 10]), b"\n".join([line, *[b'["spawn"]'] * 10])):
+                    file.write_bytes(text + b"\n")
+                    with self.subTest(text[:60]), server(behind_position(b"at 5\n")) as address:
+                        status, said = nrdb("--netrev", "/nowhere", "--join", address, file, "--batch", *asked)
+                        if text.startswith(header):
+                            self.assertIn("the file isn't a recording: ", said.splitlines()[-1])
+                            self.assertEqual(status, 3)
+                        self.assertEqual(unseen(said), [])
+
+
 class Plain(unittest.TestCase):
     def test_what_can_be_seen_stays(self) -> None:
         for text in ("", "at 5 of 10 forward", 'sock 0: "äöü" | é 漢字 \\'):
@@ -190,7 +211,8 @@ class Plain(unittest.TestCase):
                 file.write_text("\n".join(['{"netrev":2}', *steps[:10]]) + "\n")
                 answers = behind_position(b"at 5\n")
                 with server(answers) as address:
-                    _, said = nrdb("--join", address, file, "--batch", "-ex", "list", "-ex", "where", "-ex", "stepi")
+                    asked = ("--batch", "-ex", "list", "-ex", "where", "-ex", "stepi")
+                    _, said = nrdb("--netrev", "/nowhere", "--join", address, file, *asked)
             self.assertEqual(unseen(said), [])
             self.assertIn("next step 6", said)
 

@@ -26,7 +26,7 @@ def printed(*words: object, **settings: str) -> str:
         cwd="/",
         capture_output=True,
         text=True,
-        timeout=PATIENCE,
+        timeout=8 * PATIENCE,
     )
     assert run.returncode == 0, (words, run.stdout, run.stderr)
     return run.stdout

@@ -2,6 +2,8 @@
 
 import json
 import subprocess
+import tempfile
+import threading
 import unittest
 from typing import Any
 
@@ -120,6 +122,15 @@ class Join(unittest.TestCase):
             said = nrdb("--batch", "--join", f"127.0.0.1:{server.port}", other, status=3)
             self.assertEqual(said, "| the recording has 22 steps, and that of the session 10\n")
 
+    def test_a_file_that_is_no_recording(self):
+        """It has as many lines as the session's, and netrev tells its fault."""
+        with tempfile.TemporaryDirectory() as folder, serving() as server:
+            file = f"{folder}/x.jsonl"
+            with open(file, "w", encoding="ascii") as text:
+                text.write('{"netrev":1,"gor":2,"sock":1,"desc":1,"buf":1}\n' + '["pollclose",0,0]\n' * 10)
+            said = nrdb("--batch", "--join", f"127.0.0.1:{server.port}", file, "-ex", "info goroutines", status=3)
+            self.assertEqual(said, f"| {file} isn't a recording: step 1: fault 107 reason 5\n")
+
     def test_a_front_in_use_is_waited_for_aloud(self):
         with serving(left=2) as server:
             other = Other(server.call(0))
@@ -127,7 +138,10 @@ class Join(unittest.TestCase):
             words = [NRDB, "--batch", "--join", f"127.0.0.1:{server.port}", "-ex", "print lock 0", str(FIRST)]
             with subprocess.Popen(words, stdout=subprocess.PIPE, text=True) as waiting:
                 assert waiting.stdout
+                too_long = threading.Timer(PATIENCE, waiting.kill)
+                too_long.start()
                 self.assertEqual(waiting.stdout.readline(), f"| {SILENT}\n")
+                too_long.cancel()
                 other.leaves()
                 said, _ = waiting.communicate(timeout=PATIENCE)
             self.assertEqual(said.splitlines()[0], "at 4 of 10 forward")
