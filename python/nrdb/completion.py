@@ -8,6 +8,7 @@ from .commands import COMMANDS, DIRECTIONS, TOPICS, Ambiguous, whole_words
 
 NUMBERED_TOPICS = {"goroutines": Of.GOROUTINE, "sockets": Of.SOCKET, "descriptors": Of.DESCRIPTOR, "holders": Of.SOCKET}
 OF_CELL = ("print", "watch", "display", "undisplay", "history", "until", "reverse-until")
+BEHIND_A_FILE = ("reduce", "report")
 STATUSES = "idle gone acquiring queued relock owing entering armed parking parked swapping checking".split()
 VALUES = {"gor": STATUSES, "rg": ["nil", "ready", "wait"], "wg": ["nil", "ready", "wait"]}
 
@@ -22,6 +23,8 @@ def candidates(before: list[str], numbers: Callable[[Of], list[str]]) -> list[st
         return []
     if first in OF_CELL:
         return of_cell(rest, numbers)
+    if first in BEHIND_A_FILE and rest:
+        return of_cell(rest[1:], numbers)
     if len(rest) == 0:
         return {
             "break": list(KINDS),

@@ -8,6 +8,7 @@ from unittest.mock import patch
 
 from netrev_model.machine import Limits
 from netrev_model.writing import line_of
+from nrdb.completion import candidates
 from nrdb.recording import Recording
 from nrdb.reducing.events import Events
 from nrdb.reducing.playing import Player
@@ -108,6 +109,15 @@ class Targets(unittest.TestCase):
         Shrinking(player, events, units, target).run()
         kinds = [step[0] for step, _ in player.steps]
         self.assertEqual(kinds, ["sockopen", "pollopen", "setdeadline", "tick", "pop", "fire"])
+
+
+class Completion(unittest.TestCase):
+    def test_a_cell_is_completed_behind_the_file(self) -> None:
+        for command in ("reduce", "report"):
+            self.assertIn("lock", candidates([command, "x.jsonl"], lambda of: ["7"]))
+            self.assertEqual(candidates([command, "x.jsonl", "gor"], lambda of: ["7"]), ["7"])
+            self.assertIn("parked", candidates([command, "x.jsonl", "gor", "7"], lambda of: ["7"]))
+            self.assertEqual(candidates([command], lambda of: ["7"]), [])
 
 
 class Where(unittest.TestCase):

@@ -75,7 +75,7 @@ def collected(session: Session, recording: Recording, window: Window) -> Data:
         "cells": {cell: [[start, value] for start, value in run] for cell, run in runs.items()},
         "rows": rows_of(runs),
         "uses": connections.uses,
-        "groups": connections.groups(),
+        "groups": connections.groups(runs, window),
         "wakes": wakes_of(recording, runs),
         "words": words_of(runs),
         "shades": {name: vars(one) | {"of": one.of.value} for name, one in SHADES.items()},
