@@ -2,6 +2,7 @@
 const X = C.getContext("2d");
 const MONO = "ui-monospace, 'DejaVu Sans Mono', monospace", SANS = "system-ui, 'DejaVu Sans', sans-serif";
 const DARK = matchMedia("(prefers-color-scheme: dark)");
+const INKS = "ground panel ink soft line quiet head accent accent-ground bad due mark hit".split(" ");
 const THIN = ["idle", "nil", "free", "closed"];
 const ARROWS = 400; // so many are drawn at most
 let ink = {}, shadeOf = {}, density = null;
@@ -10,7 +11,7 @@ let ink = {}, shadeOf = {}, density = null;
 function readColours() {
   const style = getComputedStyle(document.documentElement);
   ink = {};
-  for (const name of ["ground", "panel", "ink", "soft", "line", "quiet", "head", "accent", "accent-ground", "bad", "due", "mark", "hit"]) {
+  for (const name of INKS) {
     ink[name] = style.getPropertyValue(`--${name}`).trim();
   }
   const theme = DARK.matches ? "dark" : "light";

@@ -80,7 +80,7 @@ def collected(session: Session, recording: Recording, window: Window) -> Data:
         "words": words_of(runs),
         "shades": {name: vars(one) | {"of": one.of.value} for name, one in SHADES.items()},
         "marks": marks_of(session, recording, window, runs),
-        "suspects": suspects_data(scout, recording),
+        "suspects": suspects_data(scout, recording, window),
     }
 
 

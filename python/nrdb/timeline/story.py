@@ -79,13 +79,14 @@ def wakes_of(recording: Recording, runs: Runs) -> list[list[Any]]:
     return sorted(wakes, key=lambda wake: wake[:2])
 
 
-def suspects_data(scout: Scout, recording: Recording) -> list[Data]:
-    """The suspects as `info suspects` tells them, and whom they are about."""
+def suspects_data(scout: Scout, recording: Recording, window: Window) -> list[Data]:
+    """The suspects of the window as `info suspects` tells them, and whom they are about."""
     rows = [row.values for row in suspects_table(scout, recording).rows if row.values]
     found = [suspect for suspect in suspects_of(recording).suspects if suspect.is_shown]
     return [
         {**row, "g": suspect.goroutine, "s": suspect.socket, "d": suspect.descriptor, "steps": suspect.steps}
         for row, suspect in zip(rows, found)
+        if window.first <= suspect.step <= window.last
     ]
 
 
