@@ -1,6 +1,7 @@
 """Reducing without netrev: units played with the model are the recording's own steps; what is left out takes along what needs
 it; and numbers are made anew."""
 
+import tempfile
 import unittest
 from pathlib import Path
 from typing import Any
@@ -15,7 +16,7 @@ from nrdb.reducing.playing import Player
 from nrdb.reducing.shrinking import Shrinking
 from nrdb.reducing.targets import CellTarget
 from nrdb.reducing.units import Unit, units_of
-from nrdb.reducing.writing import where_text
+from nrdb.reducing.writing import where_text, write_lines
 from nrdb.where import Lines
 from tests.test_suspects import BACK, COMES, LOOKS, OPEN, PARK, PASSES, PAST, READ, USED_AGAIN, Steps, recording_of
 
@@ -127,6 +128,18 @@ class Where(unittest.TestCase):
         lines = Lines(where_text(recording.lines, numbers), len(numbers))
         self.assertEqual([lines.of(at) for at in range(1, 6)], [recording.lines.of(number) for number in numbers])
         self.assertTrue(any(lines.words(at) for at in range(1, 6)))
+
+    def test_lines_of_another_recording_go(self) -> None:
+        lines = Recording.read(str(EXAMPLES / "real/past.jsonl")).lines
+        with tempfile.TemporaryDirectory() as folder:
+            path, beside = f"{folder}/x.jsonl", Path(folder) / "x.where"
+            write_lines(path, lines, [5, 9])
+            self.assertEqual(Lines.beside(path, 2).of(2), lines.of(9))
+            write_lines(path, Lines(), [1])
+            self.assertFalse(beside.exists())
+            beside.write_text("mine")
+            write_lines(path, Lines(), [1])
+            self.assertEqual(beside.read_text(), "mine")
 
 
 if __name__ == "__main__":
