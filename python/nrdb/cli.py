@@ -20,7 +20,7 @@ from .output import JsonPrinter, Printer, TextPrinter
 from .recording import NoRecording, Recording
 from .reducing import reduced_file
 from .refusals import explained
-from .scout import Scout
+from .scout import Lost, Scout
 from .session import Mismatched, Misused, Session
 from .shapes import POSITION, Refused, Strange
 from .suspects import suspects_table
@@ -218,7 +218,7 @@ def made(session: Session, path: str, write: Callable[[Session, str], str]) -> i
     try:
         with session.interrupts.held():
             session.printer.note(write(session, path))
-    except (Interrupted, Misused) as stopped:
+    except (Interrupted, Lost, Misused, Refused) as stopped:
         session.printer.note(str(stopped) or "interrupted")
         return FAILED
     return DONE

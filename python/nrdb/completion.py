@@ -8,6 +8,7 @@ from .commands import COMMANDS, DIRECTIONS, TOPICS, Ambiguous, whole_words
 
 NUMBERED_TOPICS = {"goroutines": Of.GOROUTINE, "sockets": Of.SOCKET, "descriptors": Of.DESCRIPTOR, "holders": Of.SOCKET}
 OF_CELL = ("print", "watch", "display", "undisplay", "history", "until", "reverse-until")
+BEHIND_A_FILE = ("reduce", "report")
 STATUSES = "idle gone acquiring queued relock owing entering armed parking parked swapping checking".split()
 FOLLOWED = {"gor": Of.GOROUTINE, "sock": Of.SOCKET, "desc": Of.DESCRIPTOR}
 OF_A_GOROUTINE = ("next", "finish", "reverse-next", "reverse-finish")
@@ -28,6 +29,8 @@ def candidates(before: list[str], numbers: Callable[[Of], list[str]]) -> list[st
         return numbers(Of.GOROUTINE)
     if len(rest) == 1 and first in ("steps", "calls") and rest[0] in FOLLOWED:
         return numbers(FOLLOWED[rest[0]])
+    if first in BEHIND_A_FILE and rest:
+        return of_cell(rest[1:], numbers)
     if len(rest) == 0:
         return {
             "steps": [*FOLLOWED, *KINDS],

@@ -1,6 +1,7 @@
 """Reducing without netrev: units played with the model are the recording's own steps; what is left out takes along what needs
 it; and numbers are made anew."""
 
+import tempfile
 import unittest
 from pathlib import Path
 from typing import Any
@@ -8,13 +9,14 @@ from unittest.mock import patch
 
 from netrev_model.machine import Limits
 from netrev_model.writing import line_of
+from nrdb.completion import candidates
 from nrdb.recording import Recording
 from nrdb.reducing.events import Events
 from nrdb.reducing.playing import Player
 from nrdb.reducing.shrinking import Shrinking
 from nrdb.reducing.targets import CellTarget
 from nrdb.reducing.units import Unit, units_of
-from nrdb.reducing.writing import where_text
+from nrdb.reducing.writing import where_text, write_lines
 from nrdb.where import Lines
 from tests.test_suspects import BACK, COMES, LOOKS, OPEN, PARK, PASSES, PAST, READ, USED_AGAIN, Steps, recording_of
 
@@ -110,6 +112,15 @@ class Targets(unittest.TestCase):
         self.assertEqual(kinds, ["sockopen", "pollopen", "setdeadline", "tick", "pop", "fire"])
 
 
+class Completion(unittest.TestCase):
+    def test_a_cell_is_completed_behind_the_file(self) -> None:
+        for command in ("reduce", "report"):
+            self.assertIn("lock", candidates([command, "x.jsonl"], lambda of: ["7"]))
+            self.assertEqual(candidates([command, "x.jsonl", "gor"], lambda of: ["7"]), ["7"])
+            self.assertIn("parked", candidates([command, "x.jsonl", "gor", "7"], lambda of: ["7"]))
+            self.assertEqual(candidates([command], lambda of: ["7"]), [])
+
+
 class Where(unittest.TestCase):
     def test_lines_are_those_of_the_steps_that_are_kept(self) -> None:
         recording = Recording.read(str(EXAMPLES / "real/past.jsonl"))
@@ -117,6 +128,18 @@ class Where(unittest.TestCase):
         lines = Lines(where_text(recording.lines, numbers), len(numbers))
         self.assertEqual([lines.of(at) for at in range(1, 6)], [recording.lines.of(number) for number in numbers])
         self.assertTrue(any(lines.words(at) for at in range(1, 6)))
+
+    def test_lines_of_another_recording_go(self) -> None:
+        lines = Recording.read(str(EXAMPLES / "real/past.jsonl")).lines
+        with tempfile.TemporaryDirectory() as folder:
+            path, beside = f"{folder}/x.jsonl", Path(folder) / "x.where"
+            write_lines(path, lines, [5, 9])
+            self.assertEqual(Lines.beside(path, 2).of(2), lines.of(9))
+            write_lines(path, Lines(), [1])
+            self.assertFalse(beside.exists())
+            beside.write_text("mine")
+            write_lines(path, Lines(), [1])
+            self.assertEqual(beside.read_text(), "mine")
 
 
 if __name__ == "__main__":

@@ -4,6 +4,7 @@ flow leads from a slice to one; statuses are those of the machine's model."""
 import json
 import random
 import unittest
+from functools import lru_cache
 from pathlib import Path
 from typing import Any
 
@@ -23,6 +24,12 @@ REQUIRED = {
     "f": {"pid", "tid", "ts", "id", "name", "cat", "bp"},
 }
 Event = dict[str, Any]
+
+
+@lru_cache
+def traffic() -> Traffic:
+    """Some traffic of connections."""
+    return Traffic(31, None, 1_500).run()
 
 
 def slices_of(events: list[Event]) -> dict[tuple[int, int], list[Event]]:
@@ -90,7 +97,7 @@ class Trace(unittest.TestCase):
 
     def test_of_examples_and_traffic(self) -> None:
         recordings = [Recording.read(str(path)) for path in sorted(EXAMPLES.glob("real/*.jsonl"))]
-        recordings.append(Recording(Traffic(31, None, 1_500).run().text()))
+        recordings.append(Recording(traffic().text()))
         for recording in recordings:
             events = traced(recording)
             self.assertEqual(faults_of(events), [])
@@ -101,10 +108,9 @@ class Trace(unittest.TestCase):
             )
 
     def test_each_wake_up_is_a_flow(self) -> None:
-        traffic = Traffic(31, None, 1_500).run()
-        events, world = traced(Recording(traffic.text())), World(traffic.limits)
+        events, world = traced(Recording(traffic().text())), World(traffic().limits)
         woken = []
-        for number, (kind, *rest) in enumerate(traffic.steps, 1):
+        for number, (kind, *rest) in enumerate(traffic().steps, 1):
             of_bytes = kind in ("arrive", "syswrite")
             before, (world, _) = world, apply(
                 world, (kind, *rest[:-1], bytes.fromhex(rest[-1])) if of_bytes else (kind, *rest)

@@ -2,6 +2,7 @@
 const X = C.getContext("2d");
 const MONO = "ui-monospace, 'DejaVu Sans Mono', monospace", SANS = "system-ui, 'DejaVu Sans', sans-serif";
 const DARK = matchMedia("(prefers-color-scheme: dark)");
+const INKS = "ground panel ink soft line quiet head accent accent-ground bad due mark hit".split(" ");
 const THIN = ["idle", "nil", "free", "closed"];
 const ARROWS = 400; // so many are drawn at most
 let ink = {}, shadeOf = {}, density = null;
@@ -10,7 +11,7 @@ let ink = {}, shadeOf = {}, density = null;
 function readColours() {
   const style = getComputedStyle(document.documentElement);
   ink = {};
-  for (const name of ["ground", "panel", "ink", "soft", "line", "quiet", "head", "accent", "accent-ground", "bad", "due", "mark", "hit"]) {
+  for (const name of INKS) {
     ink[name] = style.getPropertyValue(`--${name}`).trim();
   }
   const theme = DARK.matches ? "dark" : "light";
@@ -198,7 +199,7 @@ function drawSuspects(high) {
 
 // How many are woken where, in all of the run; with suspects, marks, what was found, and what is in view.
 function drawOverview(wide) {
-  const left = labels(), room = wide - left - 8, x = (position) => left + ((position - D.first) / COUNT) * room;
+  const left = labels(), room = wide - left - EDGE, x = (position) => left + ((position - D.first) / COUNT) * room;
   const count = Math.max(1, Math.floor(room));
   if (!density || density.bars.length !== count) density = counted(count);
   X.fillStyle = ink.quiet;
@@ -222,7 +223,7 @@ function drawOverview(wide) {
   X.fillRect(x(V.chosen), 6, 1.5, 26);
   X.fillStyle = ink.soft;
   X.font = `11px ${SANS}`;
-  X.fillText(left < 100 ? "run" : "the whole run", 12, 19);
+  X.fillText(COUNT <= D.length ? "this part" : left < 100 ? "run" : "the whole run", 12, 19);
 }
 
 function counted(count) {
@@ -247,7 +248,7 @@ function drawRuler(wide) {
     X.fillStyle = ink.line;
     X.fillRect(x, 38, 1, V.head - 38);
     X.fillStyle = at === V.chosen ? ink.accent : ink.soft;
-    if (x + 24 < wide) X.fillText(String(at), x + 4, 46);
+    if (x + 4 + X.measureText(String(at)).width < wide) X.fillText(String(at), x + 4, 46);
   }
   if (step >= WIDE) drawSteps(step);
   else if (step >= SLANTED) drawSlanted(wide);

@@ -61,7 +61,7 @@ function pinch() {
 }
 
 function overviewTo(event) {
-  const room = C.clientWidth - labels() - 8;
+  const room = C.clientWidth - labels() - EDGE;
   show(D.first + ((event.offsetX - labels()) / room) * COUNT - V.span / 2, V.span);
 }
 

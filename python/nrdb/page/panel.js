@@ -1,10 +1,22 @@
 // The panel of the chosen position, the suspects above, what hovering tells, and the help.
 const LISTED = 40;
 const KEYS = [
-  ["← →", "a position back, ahead"], ["Home End", "start, end"], ["+ − wheel", "zoom"], ["a d drag", "to the left, right"], ["0", "the whole run"],
-  ["/", "find a step"], ["n N", "next match, one before"], ["[ ]", "change of the row before, next"], ["↑ ↓", "other rows"], ["c", "copy goto for the prompt"], ["Esc", "forget what was found"],
+  ["← →", "a position back, ahead"],
+  ["Home End", "start, end"],
+  ["+ − wheel", "zoom"],
+  ["a d drag", "to the left, right"],
+  ["0", "the whole run"],
+  ["/", "find a step"],
+  ["n N", "next match, one before"],
+  ["[ ]", "change of the row before, next"],
+  ["↑ ↓", "other rows"],
+  ["c", "copy goto for the prompt"],
+  ["Esc", "forget what was found"],
 ];
-const SOURCE = `Each value is netrev's own reply. Behind each step those cells were asked that such a step can change, and all cells at ${D.compared} positions, which agreed. Arrows, suspects, connections and lines of the program are nrdb's, unproved.`;
+const SOURCE = [
+  "Each value is netrev's own reply. Behind each step those cells were asked that such a step can change, and all cells at",
+  `${D.compared} positions, which agreed. Arrows, suspects, connections and lines of the program are nrdb's, unproved.`,
+].join(" ");
 
 function fillPanel() {
   const at = V.chosen, panel = $("panel");
@@ -17,15 +29,20 @@ function fillPanel() {
   for (const [step, who, , , kind] of D.wakes) if (step === at) panel.append(element("p", `${kind} wakes goroutine ${who}`));
   const marks = D.marks.filter((mark) => mark.hits.includes(at)).map((mark) => `mark ${mark.mark}: ${mark.what}`);
   if (marks.length) panel.append(element("p", marks.join("; ")));
+  fillTables(at);
+}
+
+// The cells of a position: those that its step changed, and those that say something.
+function fillTables(at) {
   const values = new Map(CELLS.map((cell) => [cell, valueAt(cell, at)]));
   const changed = at > D.first ? CELLS.filter((cell) => valueAt(cell, at - 1) !== values.get(cell)) : [];
+  const those = (begins, quiet) => CELLS.filter((cell) => begins.test(cell) && !quiet.includes(values.get(cell)));
   fillTable("changed by the last step", changed, values, (cell) => valueAt(cell, at - 1));
-  const busy = (value) => !["idle", "gone", "absent"].includes(value);
-  fillTable("goroutines that do something", CELLS.filter((cell) => cell.startsWith("gor ") && busy(values.get(cell))), values);
-  fillTable("sockets in use", CELLS.filter((cell) => cell.startsWith("lock ") && !["0", "1", "absent"].includes(values.get(cell))), values);
-  fillTable("bytes", CELLS.filter((cell) => /^(in|out) /.test(cell) && !["0", "absent"].includes(values.get(cell))), values);
-  fillTable("deadlines", CELLS.filter((cell) => /^[rw]d /.test(cell) && !["0", "absent"].includes(values.get(cell))), values);
-  fillTable("machine", CELLS.filter((cell) => !cell.includes(" ")), values);
+  fillTable("goroutines that do something", those(/^gor /, ["idle", "gone", "absent"]), values);
+  fillTable("sockets in use", those(/^lock /, ["0", "1", "absent"]), values);
+  fillTable("bytes", those(/^(in|out) /, ["0", "absent"]), values);
+  fillTable("deadlines", those(/^[rw]d /, ["0", "absent"]), values);
+  fillTable("machine", those(/^\w+$/, []), values);
 }
 
 function stepLine(label, text, position, none) {
@@ -43,13 +60,19 @@ function fillTable(title, cells, values, before) {
     const row = element("tr"), shown = element("td"), value = values.get(cell);
     if (before) shown.append(element("span", `${before(cell)} → `, "old"));
     shown.append(document.createTextNode(value));
-    const words = wordsOf(cell, value) || (cell === "clock" || cell === "least" ? (value === "absent" ? "no timer" : time(Number(value))) : "");
+    const words = wordsOf(cell, value) || timeWords(cell, value);
     if (words) shown.append(element("small", words));
     row.append(element("td", cell), shown);
     table.append(row);
   }
   const more = cells.length > LISTED ? ` (${LISTED} of ${cells.length})` : "";
   $("panel").append(element("h2", title + more), table);
+}
+
+// A time of the whole machine as people read it.
+function timeWords(cell, value) {
+  if (cell !== "clock" && cell !== "least") return "";
+  return value === "absent" ? "no timer" : time(Number(value));
 }
 
 function copy() {
@@ -88,7 +111,8 @@ function hover(event) {
   tip.replaceChildren(element("b", `${row.title}: ${said(row, value, position)}`));
   const words = row.kind === "sock" || row.kind === "due" ? "" : wordsOf(row.cell, value);
   if (words) tip.append(element("div", words));
-  tip.append(element("div", `from ${from}${from > D.first ? ` (${stepAt(from)})` : ""} ${until === null ? "to the end" : `to ${until} (${stepAt(until)})`}`));
+  const begun = from > D.first ? `from ${from} (${stepAt(from)})` : `from ${from}`;
+  tip.append(element("div", `${begun} ${until === null ? "to the end" : `to ${until} (${stepAt(until)})`}`));
   const long = (until ?? D.last) - from;
   tip.append(element("div", `${long} step${long === 1 ? "" : "s"}, ${time(clockAt(until ?? D.last) - clockAt(from))}`));
   if (from > D.first && lineAt(from)) tip.append(element("div", lineAt(from), "line"));

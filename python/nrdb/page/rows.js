@@ -22,17 +22,25 @@ function grouped() {
     for (const side of "rw") {
       const name = `desc ${d} ${side}`;
       const use = { begins, ends: ends ?? D.last + 1, of: d, side };
-      if (named[name]) add(socket, { ...named[name], ...use, kind: "desc", runs: D.cells[named[name].cell], title: `desc ${d} ${SIDES[side]}` });
-      const cell = `${side}d ${d}`, due = D.cells[cell];
-      if (due && due.some(([at, value]) => at < use.ends && value !== "0" && value !== "absent")) {
-        const shades = due.map(([, value]) => (value === "0" || value === "absent" ? "" : value < 0 ? "passed" : "due"));
-        add(socket, { ...use, name: `due ${d} ${side}`, cell, kind: "due", runs: due, shades, title: `${SIDES[side]} deadline` });
-      }
+      if (!named[name]) continue;
+      const { cell, shades } = named[name];
+      add(socket, { ...use, name, cell, shades, kind: "desc", runs: D.cells[cell], title: `desc ${d} ${SIDES[side]}` });
+      const deadline = deadlineRow(use);
+      if (deadline) add(socket, deadline);
     }
   }
   for (const rows of groups.values()) rows.sort((one, other) => RANK[one.kind] - RANK[other.kind]);
   const first = new Set(D.suspects.map((one) => one.s).filter((socket) => socket !== null));
   return [...groups].sort((one, other) => first.has(other[0]) - first.has(one[0]) || order(one[0]) - order(other[0]));
+}
+
+// The row of a side's deadline in a use of a descriptor; nothing where there is never one.
+function deadlineRow(use) {
+  const { of, side, begins, ends } = use, cell = `${side}d ${of}`, runs = D.cells[cell];
+  const shades = runs.map(([, value]) => (value === "0" || value === "absent" ? "" : value < 0 ? "passed" : "due"));
+  const isIn = (at) => runs[at][0] < ends && (at + 1 < runs.length ? runs[at + 1][0] : D.last + 1) > begins;
+  if (!shades.some((shade, at) => shade && isIn(at))) return null;
+  return { ...use, name: `due ${of} ${side}`, cell, kind: "due", runs, shades, title: `${SIDES[side]} deadline` };
 }
 
 function order(socket) {
@@ -59,7 +67,8 @@ function rowsBetween(from, to, all) {
     if (!kept.length || (!all && kept.every((row) => row.kind === "sock" && row.shades.length < 2))) continue;
     const who = kept.filter((row) => row.kind === "gor").length;
     const said = who ? ` · ${who} goroutine${who > 1 ? "s" : ""}` : "";
-    shown.push({ head: socket < 0 ? "no connection" : `connection ${socket}`, said, isBad: D.suspects.some((one) => one.s === socket) });
+    const isBad = D.suspects.some((one) => one.s === socket);
+    shown.push({ head: socket < 0 ? "no connection" : `connection ${socket}`, said, isBad });
     shown.push(...kept);
   }
   return shown;

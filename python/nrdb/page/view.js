@@ -1,5 +1,5 @@
 // What is in view: from which position, how many, which rows, which position is chosen, and what was found.
-const V = { from: D.first, span: COUNT, top: 0, chosen: within(D.position), row: "", rows: [], hits: [], suspect: -1, high: 18, head: 66 };
+const V = { from: D.first, span: COUNT, top: 0, rows: [], high: 18, head: 66, chosen: within(D.position), row: "", hits: [] };
 const EDGE = 26, NARROW = 700; // pixels that are left free at the right; of a narrow screen
 const WIDE = 64, SLANTED = 16; // pixels for a step from which it is written, and is so aslant
 const C = $("picture");
@@ -23,7 +23,8 @@ function show(from, span) {
   V.high = Math.min(Math.max(Math.floor(room / (V.rows.length + 1)), 18), 24);
   scroll(V.top);
   const rows = V.rows.filter((row) => !row.head).length;
-  tell(`${rows} rows · positions ${Math.ceil(V.from)} to ${Math.floor(V.from + V.span - 0.001)} of ${D.length.toLocaleString("en")}`);
+  const last = Math.floor(V.from + V.span - 0.001);
+  tell(`${rows} rows · positions ${Math.ceil(V.from)} to ${last} of ${D.length.toLocaleString("en")}`);
   draw();
 }
 
@@ -52,8 +53,8 @@ function choose(position, see) {
 
 // Shows a suspect: its steps, and its connection at the top.
 function showSuspect(at) {
-  const suspect = D.suspects[at], steps = [suspect.step, ...suspect.steps].filter((step) => step >= D.first && step <= D.last);
-  V.suspect = at;
+  const suspect = D.suspects[at];
+  const steps = [suspect.step, ...suspect.steps].filter((step) => step >= D.first && step <= D.last);
   const first = Math.min(...steps), last = Math.max(...steps);
   const span = Math.min(COUNT, Math.max((last - first) * 1.3, 44));
   show((first + last) / 2 - span / 2, span);
@@ -77,8 +78,9 @@ function find(text) {
 // Goes to the next match, or with -1 to the one before.
 function match(way) {
   if (!V.hits.length) return;
-  const next = way > 0 ? V.hits.find((p) => p > V.chosen) ?? V.hits[0] : V.hits.filter((p) => p < V.chosen).pop() ?? V.hits[V.hits.length - 1];
-  choose(next, true);
+  const ahead = () => V.hits.find((p) => p > V.chosen) ?? V.hits[0];
+  const before = () => V.hits.filter((p) => p < V.chosen).pop() ?? V.hits[V.hits.length - 1];
+  choose(way > 0 ? ahead() : before(), true);
 }
 
 // Goes to the next change in the row that was clicked, or to the one before.

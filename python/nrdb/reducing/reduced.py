@@ -16,7 +16,7 @@ from .playing import Player
 from .shrinking import NotReproduced, Shrinking
 from .targets import CellTarget, SuspectTarget, Target
 from .units import Sort, units_of
-from .writing import answered_by, taken, where_text, written
+from .writing import answered_by, taken, write_lines, written
 
 
 class Wanted(NamedTuple):
@@ -63,8 +63,7 @@ def reduced(session: Session, path: str, wanted: Wanted) -> Reduced:
     data = taken(session.program, player, recording.has_answers)
     numbers = [events.all[place].number for place in player.chosen]
     written(path, data)
-    if recording.lines:
-        written(str(Path(path).with_suffix(".where")), where_text(recording.lines, numbers).encode())
+    write_lines(path, recording.lines, numbers)
     left_out = Counter(unit.sort for at, unit in enumerate(units) if at not in kept)
     return Reduced(path, numbers, left_out, not shrinking.is_done)
 

@@ -62,7 +62,7 @@ def _of_suspect(session: Session, table: Table, wanted: Wanted) -> list[str]:
     before = suspects_table(session.looks(), session.text()).rows
     whole = [row.values for row in before if row.values][wanted.suspect - 1]
     here = next(row.values for row in table.rows if row.values and row.values["rule"] == whole["rule"])
-    parts = [f"# {here['rule']}", shown(f"{here['says']}.")]
+    parts = [f"# {here['rule']}", shown(f"{here['says'][:1].upper()}{here['says'][1:]}.")]
     parts.append("\n".join(f"- netrev: `{one}`" for one in here["netrev"]))
     if here["lines"]:
         parts.append("\n".join(f"- {shown(one)}" for one in here["lines"]))

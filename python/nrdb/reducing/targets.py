@@ -10,12 +10,12 @@ from netrev_model.vocabulary import CELLS, Of
 from ..recording import Recording
 from ..suspects import suspects_of
 from ..suspects.found import Suspect
+from ..suspects.state import INSIDE
 from ..words import in_words
 from .events import Events
 from .playing import Player
 
 LETTER = {Of.GOROUTINE: "g", Of.SOCKET: "s", Of.DESCRIPTOR: "d"}
-OF_DESCRIPTOR = ("entering", "armed", "parking", "parked", "swapping", "checking")
 
 
 class Replayed(Recording):
@@ -102,7 +102,7 @@ class CellTarget(Target):
         words = value.split()
         if self.name != "gor" or len(words) < 2:
             return value
-        if words[0] in OF_DESCRIPTOR:
+        if words[0] in INSIDE:
             words[1] = str(self._descriptors[_back(player.numbers["d"], int(words[1]))])
         else:
             words[1] = str(_back(player.numbers["s"], int(words[1])))

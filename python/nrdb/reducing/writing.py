@@ -21,7 +21,7 @@ def answered_by(program: str, command: str, data: bytes) -> tuple[int, bytes]:
     try:
         with open(handle, "wb") as file:
             file.write(data)
-        ended = subprocess.run([program, command, path], capture_output=True, check=False)
+        ended = subprocess.run([program, command, path], capture_output=True, check=False, start_new_session=True)
         return ended.returncode, ended.stdout
     finally:
         os.unlink(path)
@@ -75,6 +75,15 @@ def where_text(lines: Lines, numbers: Sequence[int]) -> str:
         of_steps.append(stacks[stack])
     told.append({"step": 1, "stacks": of_steps})
     return "".join(f"{json.dumps(one, separators=(',', ':'))}\n" for one in told)
+
+
+def write_lines(path: str, lines: Lines, numbers: Sequence[int]) -> None:
+    """Writes NAME.where beside a recording of these steps. One that is there already is of another recording, and goes."""
+    beside = Path(path).with_suffix(".where")
+    if lines:
+        written(str(beside), where_text(lines, numbers).encode())
+    elif beside.is_file() and beside.read_bytes().startswith(b'{"where":'):
+        beside.unlink()
 
 
 def written(path: str, data: bytes) -> None:

@@ -75,12 +75,12 @@ def collected(session: Session, recording: Recording, window: Window) -> Data:
         "cells": {cell: [[start, value] for start, value in run] for cell, run in runs.items()},
         "rows": rows_of(runs),
         "uses": connections.uses,
-        "groups": connections.groups(),
+        "groups": connections.groups(runs, window),
         "wakes": wakes_of(recording, runs),
         "words": words_of(runs),
         "shades": {name: vars(one) | {"of": one.of.value} for name, one in SHADES.items()},
         "marks": marks_of(session, recording, window, runs),
-        "suspects": suspects_data(scout, recording),
+        "suspects": suspects_data(scout, recording, window),
     }
 
 

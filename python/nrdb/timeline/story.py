@@ -10,6 +10,7 @@ from ..recording import Recording
 from ..scout import Scout
 from ..session import Session
 from ..suspects import suspects_of, suspects_table
+from ..suspects.state import INSIDE
 from .runs import Runs, Window
 
 Data = dict[str, Any]  # what the page's script reads
@@ -42,9 +43,24 @@ class Connections:
             counts = self._touched.setdefault(g, {})
             counts[socket] = counts.get(socket, 0) + 1
 
-    def groups(self) -> dict[int, int]:
-        """The socket of each goroutine."""
+    def groups(self, runs: Runs, window: Window) -> dict[int, int]:
+        """The socket of each goroutine: the one at which it waits for the most steps, or makes the most."""
+        for cell, run in runs.items():
+            if cell.startswith("gor "):
+                ends = [begins for begins, _ in run[1:]] + [window.last + 1]
+                for (begins, value), until in zip(run, ends):
+                    self._waits(int(cell.split()[1]), value.split(), begins, until - begins)
         return {g: max(counts, key=counts.__getitem__) for g, counts in self._touched.items()}
+
+    def _waits(self, g: int, status: list[str], position: int, steps: int) -> None:
+        """Counts the steps of a status at its socket."""
+        if len(status) < 3:
+            return
+        socket = int(status[1])
+        if status[0] in INSIDE:
+            socket = next(use[1] for use in reversed(self.uses) if use[0] == socket and use[2] <= position)
+        counts = self._touched.setdefault(g, {})
+        counts[socket] = counts.get(socket, 0) + steps
 
 
 def wakes_of(recording: Recording, runs: Runs) -> list[list[Any]]:
@@ -63,13 +79,14 @@ def wakes_of(recording: Recording, runs: Runs) -> list[list[Any]]:
     return sorted(wakes, key=lambda wake: wake[:2])
 
 
-def suspects_data(scout: Scout, recording: Recording) -> list[Data]:
-    """The suspects as `info suspects` tells them, and whom they are about."""
+def suspects_data(scout: Scout, recording: Recording, window: Window) -> list[Data]:
+    """The suspects of the window as `info suspects` tells them, and whom they are about."""
     rows = [row.values for row in suspects_table(scout, recording).rows if row.values]
     found = [suspect for suspect in suspects_of(recording).suspects if suspect.is_shown]
     return [
         {**row, "g": suspect.goroutine, "s": suspect.socket, "d": suspect.descriptor, "steps": suspect.steps}
         for row, suspect in zip(rows, found)
+        if window.first <= suspect.step <= window.last
     ]
 
 

@@ -12,7 +12,7 @@ from nrdb.suspects import suspects_of
 from nrdb.suspects.found import Suspect
 from tests.test_suspects import KNOWN
 
-from .support import EXAMPLES, HUNTS, netrev, nrdb
+from .support import EXAMPLES, HUNTS, ROOT, netrev, nrdb
 from .test_suspects import checked
 
 # of these the least that was reached, and some more
@@ -115,6 +115,21 @@ class Reducing(unittest.TestCase):
         self.assertIn("main.go:34", text)
         self.assertIn(f"`ok {left.length} steps`", text)
         self.assertRegex(text, r"netrev: `at \d+ wd 0 = -1`")
+
+    def test_the_page_shows_what_is_printed(self) -> None:
+        text = (ROOT / "docs/NRDB.md").read_text(encoding="utf-8")
+        found = re.search(r"    \$ ./nrdb --reduce small.jsonl (\S+)\n((?:    \| .*\n)+)", text)
+        assert found
+        out = self.folder / "small.jsonl"
+        said = nrdb("--reduce", out, ROOT / found[1]).replace(f"{self.folder}/", "")
+        self.assertEqual(said.splitlines()[2:], [line[4:] for line in found[2].splitlines()])
+        rows = re.findall(r"^\| `((?:hunts|real)/[\w-]+)` \| ([\d,]+) \| (\d+) \|$", text, re.MULTILINE)
+        self.assertGreater(len(rows), 8)
+        for name, steps, left in rows:
+            self.assertEqual(Recording.read(str(EXAMPLES / f"{name}.jsonl")).length, int(steps.replace(",", "")))
+            self.assertLessEqual(int(left), MOST[name])
+            if name.startswith("real/"):
+                self.assertEqual(self.reduced(EXAMPLES / f"{name}.jsonl").length, int(left))
 
     def test_what_cannot_be_reduced_is_said(self) -> None:
         path = EXAMPLES / "first.jsonl"
