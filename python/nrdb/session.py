@@ -116,6 +116,7 @@ class Session:
             with self.interrupts.held():
                 return answer(what)
         except Interrupted:
+            self.attached.pending.clear()
             self.printer.note("interrupted; the session goes on")
             return True
 

@@ -72,9 +72,17 @@ class Asked(unittest.TestCase):
             asked[count] = Counter()
             session, out = self.session(waiters(count), asked[count])
             asked[count].clear()
+            session.run("info goroutines")
+            asked_for_groups = asked[count].copy()
+            asked[count].clear()
             session.run("info goroutines all")
+            self.assertEqual(asked_for_groups, asked[count])
             self.assertIn(f"place {count} of {count}, goroutine 0 has the lock since step {count + 5}", out.getvalue())
             self.assertIn("relock 0 w", out.getvalue())
+            is_group = (
+                f"queued for socket 0's read lock, which goroutine 0 has since step {count + 5}" in out.getvalue()
+            )
+            self.assertEqual(is_group, count == 60)
         few, many = (
             {line: times for line, times in one.items() if not line.startswith("print gor ")} for one in asked.values()
         )

@@ -62,12 +62,14 @@ class Batch(unittest.TestCase):
     def test_lines_of_json(self):
         told = [json.loads(line) for line in nrdb("--json", FIRST, lines=["si 4", "list 2", "nonsense"]).splitlines()]
         self.assertEqual(
-            [event["event"] for event in told], ["reply", "place", "reply", "place", "table", "reply", "note", "end"]
+            [event.get("topic", event["event"]) for event in told],
+            ["reply", "place", "reply", "place", "changed", "list", "reply", "note", "end"],
         )
         last = {"number": 4, "line": 5, "kind": "incref", "arguments": [0, 0], "answer": None}
         following = {"number": 5, "line": 6, "kind": "rwlock", "arguments": [0, 0, "r"], "answer": None}
         self.assertEqual(told[3], {"event": "place", "position": 4, "steps": 10, "last": last, "next": following})
-        self.assertEqual(told[4]["rows"][0], {"step": 1, "line": 2, "does": "spawn", "next": False})
+        self.assertEqual(told[4]["rows"], [{"cell": "lock 0", "old": "0", "new": "8"}])
+        self.assertEqual(told[5]["rows"][0], {"step": 1, "line": 2, "does": "spawn", "next": False})
         self.assertEqual(told[-1], {"event": "end", "status": 0})
 
     def test_other_words_have_status_2(self):

@@ -3,6 +3,8 @@
 import re
 import unittest
 
+from nrdb.commands import OF_NRDB, TOPICS, Origin
+
 from .support import ROOT, nrdb
 
 PROMPT = "(netrev) "
@@ -36,6 +38,15 @@ class Documents(unittest.TestCase):
                     self.assertEqual(said[2:], lines)
                 count += 1
         self.assertGreaterEqual(count, 12)
+
+    def test_each_command_and_topic_has_its_row(self):
+        page = (ROOT / "docs/NRDB.md").read_text(encoding="utf-8")
+        for name in (
+            *OF_NRDB,
+            *(f"info {topic.usage.split()[0]}" for topic in TOPICS.values() if topic.origin is Origin.NRDB),
+        ):
+            with self.subTest(name):
+                self.assertRegex(page, rf"`{name}[ `]")
 
     def test_refused_recordings_are_explained_as_is_shown(self):
         count = 0

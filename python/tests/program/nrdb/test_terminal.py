@@ -151,7 +151,9 @@ class Terminal(unittest.TestCase):
             person.until("\n> ")
             person.type("end\r")
             person.until(PROMPT)
-            self.assertIn("(netrev) print lock 0\nlock 0 = 0 ", person.ask("continue"))
+            person.type("continue\r")
+            person.until("| mark 1: lock 0: absent -> 0")
+            person.until("(netrev) print lock 0\nlock 0 = 0 ")
 
     def test_what_is_added_has_a_colour_unless_nobody_wants_any(self):
         colour, example = "\x1b[36m| ", EXAMPLES / "first.jsonl"
