@@ -1,6 +1,7 @@
 """`steps` and `calls`: what a goroutine did, what happened to a socket or a descriptor, all steps of a kind; and `info errors`,
 the calls that failed."""
 
+from itertools import chain
 from typing import Callable, Iterator, NamedTuple, Optional
 
 from netrev_model.vocabulary import KINDS, number_of
@@ -141,12 +142,12 @@ class Goal(NamedTuple):
 
 
 def goroutine_at(recording: Recording, position: int) -> int:
-    """The goroutine of the last step, or of the last one before that is of any."""
+    """The goroutine of the last step, or of the last one before that is of any; at the start of the next one."""
     whose = book_of(recording).goroutines
-    for at in range(position - 1, -1, -1):
+    for at in chain(range(position - 1, -1, -1), range(position, len(whose))):
         if whose[at] >= 0:
             return whose[at]
-    raise Stay("no goroutine has made a step yet: name one")
+    raise Stay("no goroutine makes a step in this recording")
 
 
 def next_goal(recording: Recording, goroutine: int, position: int) -> Goal:

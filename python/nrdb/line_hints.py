@@ -11,7 +11,6 @@ from netrev_model.vocabulary import CELLS, DUMPS, KINDS, MOST_LINE, Cell, Of, ce
 from .commands import ALL_TOPICS, COMMANDS, SPELLINGS, TOPICS
 
 FOREIGN = {
-    "finish": "a step is the smallest unit here: until gor 0 idle goes to the step that makes goroutine 0 idle",
     "run": "the recording is replayed already: restart 0 goes to the start",
     "start": "restart 0 goes to the start",
     "rwatch": "a recording has no reads: watch CELL stops behind changes",
@@ -56,8 +55,6 @@ def unknown(words: list[str]) -> str:
     """Of a word that is no command."""
     first, _, form = words[0].partition("/")
     plain = unicodedata.normalize("NFKC", words[0]).lower().rstrip("!;")
-    if ";" in words[0].strip(";"):
-        return "one command a line"
     if words[0].startswith("!"):
         return FOREIGN["shell"]
     if form and first in ("p", "print"):

@@ -177,8 +177,9 @@ class Going(unittest.TestCase):
         for name, at in (("next", 2), ("reverse-next", 1), ("finish", 1), ("finish", 2)):
             with self.assertRaises(Stay):
                 GOALS[name](recording, 0, at)
+        self.assertEqual([goroutine_at(recording, at) for at in (0, 1, 2)], [0, 0, 0])
         with self.assertRaises(Stay):
-            goroutine_at(recording, 1)
+            goroutine_at(Recording(recording.before_line(3)), 1)
         self.assertEqual(
             calls_table(recording, Subject(), 2, None).rows[0].text,
             "gor 0    Read on socket 0: since step 2, hasn't ended",
