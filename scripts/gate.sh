@@ -43,7 +43,7 @@ sh scripts/agree.sh || more=$((more + 1))
 for name in each_call refused_serving loopback hostile upgrades system lengths sizes; do
 	python3 python "tests.program.$name" || more=$((more + 1))
 done
-python3 python unittest discover -s python/tests/program -t python || more=$((more + 1))
+python3 python tests.side_by_side tests/program || more=$((more + 1))
 sh examples/play_all.sh || more=$((more + 1))
 
 # what it took, crate by crate: `python3 scripts/minutes.py out/minutes.tsv`
