@@ -10,6 +10,7 @@ from nrdb.interrupts import Interrupts
 from nrdb.netrev import Own
 
 MOMENT = 0.002  # seconds
+_at_work: list[threading.Thread] = []  # those that may still press Ctrl-C
 
 
 class Slow(Own):
@@ -41,6 +42,7 @@ class Slow(Own):
             return
         self._process.send_signal(signal.SIGSTOP)
         self._meanwhile = threading.Thread(target=self._go_on_behind, args=happening)
+        _at_work.append(self._meanwhile)
         self._meanwhile.start()
 
     def _go_on_behind(self, *happening: Callable[[], None]) -> None:
@@ -65,11 +67,18 @@ def pressed() -> None:
     signal.pthread_kill(threading.main_thread().ident or 0, signal.SIGINT)
 
 
+def settle() -> None:
+    """Waits until all that was begun has happened."""
+    while _at_work:
+        _at_work.pop().join()
+
+
 @contextmanager
 def passed_over() -> Iterator[None]:
-    """Within, a Ctrl-C that comes while no session holds it back, since one has just ended, does nothing."""
+    """Within, a Ctrl-C that comes while no session holds it back, since one has just ended, does nothing. None comes later."""
     before = signal.signal(signal.SIGINT, lambda *_: None)
     try:
         yield
     finally:
+        settle()
         signal.signal(signal.SIGINT, before)

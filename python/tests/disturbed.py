@@ -96,6 +96,9 @@ class Disturbances(unittest.TestCase, Generic[Of]):
         """A netrev over the example, to which this happens."""
         raise NotImplementedError
 
+    def settle(self) -> None:
+        """Waits until what has begun to happen has happened."""
+
     def begun(self) -> Played:
         """A session over the example, with a mark and a display."""
         weather: Weather[Of] = Weather(Interrupts())
@@ -134,6 +137,7 @@ class Disturbances(unittest.TestCase, Generic[Of]):
             try:
                 told = played.run(command)
                 played.weather.left = None
+                self.settle()
                 played.session.stands()  # (a netrev that is gone may be met here only)
                 yield point, played, told, True
             except (GivenUp, Ended):

@@ -121,8 +121,9 @@ class Asked(unittest.TestCase):
         with mock.patch.object(Recording, "found_back", counted):
             session.run("info goroutines")
         rows = json.loads(out.getvalue().splitlines()[-1])["rows"]
-        self.assertEqual(len(rows), count * sockets + 1)
-        self.assertEqual({"at" in row for row in rows}, {with_lines})
+        told = [goroutine for row in rows for goroutine in row.get("goroutines", [row.get("goroutine")])]
+        self.assertEqual((len(told), len(set(told))), (count * sockets + 1, count * sockets + 1))
+        self.assertEqual({"at" in row for row in rows if "goroutine" in row}, {with_lines})
         questions = sum(times for line, times in asked.items() if not line.startswith("print gor "))
         return questions, begun.call_count, pieces.call_count
 

@@ -3,7 +3,7 @@ conversation with the built program, that of the session and that of the scout."
 
 import unittest
 
-from netrev_fuzz.slow import Slow, passed_over, pressed
+from netrev_fuzz.slow import Slow, passed_over, pressed, settle
 from tests.disturbed import EXAMPLE, Disturbances, Weather
 from tests.program.sharing import NETREV
 
@@ -28,6 +28,9 @@ def slow_and_killed(_weather: Weather[Slow], netrev: Slow) -> None:
 class EveryPoint(Disturbances[Slow]):
     def opened(self, weather: Weather[Slow]) -> Slow:
         return Slow(NETREV, str(EXAMPLE), weather.interrupts, weather.happens)
+
+    def settle(self) -> None:
+        settle()
 
     def test_a_slow_netrev_is_told_right(self) -> None:
         with passed_over():
