@@ -26,6 +26,8 @@ BANNER = """
 # what nrdb starts as its scout: lines go to the port and replies come back
 RELAY = """#!{python}
 import socket, sys, threading
+if sys.argv[1] == "check":  # who serves has taken the recording
+    sys.exit()
 with socket.create_connection(("{host}", {port})) as port:
     def reply():
         while some := port.recv(65536):

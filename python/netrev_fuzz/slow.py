@@ -10,7 +10,7 @@ from nrdb.interrupts import Interrupts
 from nrdb.netrev import Own
 
 MOMENT = 0.002  # seconds
-_at_work: list[threading.Thread] = []  # those that may still press Ctrl-C
+MEANWHILE = "netrev is stopped"  # the name of threads that may press Ctrl-C
 
 
 class Slow(Own):
@@ -41,8 +41,7 @@ class Slow(Own):
                 happens()
             return
         self._process.send_signal(signal.SIGSTOP)
-        self._meanwhile = threading.Thread(target=self._go_on_behind, args=happening)
-        _at_work.append(self._meanwhile)
+        self._meanwhile = threading.Thread(target=self._go_on_behind, args=happening, name=MEANWHILE)
         self._meanwhile.start()
 
     def _go_on_behind(self, *happening: Callable[[], None]) -> None:
@@ -69,16 +68,22 @@ def pressed() -> None:
 
 def settle() -> None:
     """Waits until all that was begun has happened."""
-    while _at_work:
-        _at_work.pop().join()
+    for thread in threading.enumerate():
+        if thread.name == MEANWHILE:
+            thread.join()
+
+
+def nothing(*_: object) -> None:
+    """What a Ctrl-C does that is passed over."""
 
 
 @contextmanager
 def passed_over() -> Iterator[None]:
     """Within, a Ctrl-C that comes while no session holds it back, since one has just ended, does nothing. None comes later."""
-    before = signal.signal(signal.SIGINT, lambda *_: None)
+    before = signal.signal(signal.SIGINT, nothing)
     try:
         yield
     finally:
+        signal.signal(signal.SIGINT, nothing)  # (a session that was given up may have left its own)
         settle()
         signal.signal(signal.SIGINT, before)

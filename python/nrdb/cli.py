@@ -160,7 +160,8 @@ def begun(wanted: argparse.Namespace, netrev: Netrev, interrupts: Interrupts, pr
 def fault_of(netrev: str, path: str) -> str:
     """The first fault of a recording; nothing where netrev takes it, or isn't here to say."""
     try:
-        ended = subprocess.run([netrev, "check", path], stdout=subprocess.PIPE, check=False)
+        words = [netrev, "check", path]
+        ended = subprocess.run(words, stdin=subprocess.DEVNULL, stdout=subprocess.PIPE, check=False)
     except OSError:
         return ""
     return ended.stdout.decode("utf-8", "surrogateescape").strip() if ended.returncode == REFUSED else ""

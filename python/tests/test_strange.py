@@ -5,6 +5,8 @@ import contextlib
 import io
 import json
 import socket
+import subprocess
+import sys
 import tempfile
 import threading
 import unicodedata
@@ -94,6 +96,9 @@ def behind_position(answer: bytes) -> Answers:
     return lambda line: POSITION if line == b"info position" else answer
 
 
+PACKAGES = Path(__file__).resolve().parents[1]
+
+
 class Strangers(unittest.TestCase):
     ANSWERS = {
         "other words": b"hello\n",
@@ -154,6 +159,25 @@ class Strangers(unittest.TestCase):
             status, _ = joined(late, asked=())
         self.assertEqual((status, before.mock_calls[0]), (0, mock.call(SILENT)))
         self.assertTrue(there.is_set())
+
+
+class WhoSays(unittest.TestCase):
+    """Who says whether a file is a recording is given no input: it may be one that waits for some."""
+
+    def test_it_isnt_waited_for(self) -> None:
+        with tempfile.TemporaryDirectory() as folder:
+            program = Path(folder, "netrev")
+            program.write_text("#!/bin/sh\ncat > /dev/null\necho a fault\nexit 1\n")
+            program.chmod(0o755)
+            asks = f"from nrdb.cli import fault_of; print(fault_of({str(program)!r}, 'x'))"
+            words = [sys.executable, "-c", asks]
+            with subprocess.Popen(words, stdin=subprocess.PIPE, stdout=subprocess.PIPE, cwd=PACKAGES) as asked:
+                try:
+                    self.assertEqual(asked.wait(timeout=60), 0)
+                finally:
+                    asked.kill()
+                assert asked.stdout
+                self.assertEqual(asked.stdout.read(), b"a fault\n")
 
 
 class NoRecordings(unittest.TestCase):
