@@ -15,9 +15,11 @@ INSTALLED = $(notdir $(wildcard python/nrdb python/netrev_model python/netrev_go
 
 # The program that NETREV names is taken as it is; else the one that is built here, once it is proved.
 ifdef NETREV
+GIVEN := $(abspath $(NETREV))
 ready:
 	@test -x "$(NETREV)" || { echo "NETREV=$(NETREV) is no program" >&2; exit 1; }
 else
+GIVEN =
 NETREV = $(BUILT)
 ready: netrev
 endif
@@ -147,10 +149,11 @@ install-files:
 	(cd python && tar -cf - --mode=u=rwX,go=rX --exclude=__pycache__ __main__.py $(INSTALLED)) | tar -xf - --no-same-owner -C $(LIB)
 	python3 scripts/man.py > $(DESTDIR)$(PREFIX)/share/man/man1/netrev.1
 
-# Makes out/netrev-VERSION-linux-x86_64.tar.gz of the proved program, nrdb and the examples, for machines without the
-# toolchain, and tries it: `make package VERSION=1`. The gate has to have passed.
-package: netrev
-	@sh scripts/package.sh $(VERSION) $(BUILT)
+# Makes out/netrev-VERSION-linux-x86_64.tar.gz of the program that the gate left, or of NETREV=FILE, with nrdb and the examples,
+# for machines without the toolchain, and tries it: `make package VERSION=1`. The gate has to have passed with that program.
+# netrev is proved only where none is built here.
+package:
+	@sh scripts/package.sh $(VERSION) $(GIVEN)
 	@sh scripts/try_package.sh out/netrev-$(VERSION)-linux-x86_64.tar.gz
 
 # Records Go's own tests, those of five other projects and the samples, and compares all answers and lock words: an hour or so. It

@@ -10,11 +10,13 @@
 # examples/hunts, and those of the recorder and the fuzzer. Both worlds have to agree on the recordings of examples/
 # (scripts/agree.sh). What docs/THEOREM.md quotes has to stand in the source (scripts/theorem.py), and black and mypy have
 # nothing to say of what is written in Python, where they are here (scripts/lint.sh). The last line is that of `rt ci`, with
-# one more failed for each of these that fails.
+# one more failed for each of these that fails. Where none does, the sum of the program that was played is in out/gate.sum,
+# for scripts/package.sh.
 set -eu
 cd "$(dirname "$0")/.."
 mkdir -p out
-log=out/gate.log
+log=out/gate.log sum=out/gate.sum
+rm -f "$sum"
 unset NETREV NETREV_AGREE # (what was built here is what is played)
 
 # One job a check, and as many checks as there are processors and 5 GB of memory for: a check with four jobs takes a quarter
@@ -51,5 +53,6 @@ python3 scripts/minutes.py out/minutes.tsv | tail -n 2
 
 last=$(tail -n 1 "$log")
 passed=${last%% passed*} failed=${last#*passed, }
+[ "$more" != 0 ] || sha256sum < crates/netrev/out/netrev > "$sum"
 echo "$passed passed, $((${failed%% failed*} + more)) failed"
 [ "$more" = 0 ]

@@ -1,25 +1,39 @@
 #!/bin/sh
-# Makes an archive for machines without the toolchain:  scripts/package.sh VERSION PROGRAM
+# Makes an archive for machines without the toolchain:  scripts/package.sh VERSION [PROGRAM]
 #
-# netrev-VERSION-linux-x86_64.tar.gz is left in out/, and its sum beside it. In it are the proved PROGRAM, nrdb, the man page,
-# the examples, the licenses, the log of the gate that passed with this program, and SHA256SUMS of all that.
+# netrev-VERSION-linux-x86_64.tar.gz is left in out/, and its sum beside it. In it are the proved program, nrdb, the man page,
+# the examples, the licenses, the log of the gate that passed, and SHA256SUMS of all that.
+#
+# PROGRAM has to be the one that the gate played, by the sum that it left (out/gate.sum). Where none is named, it is the one
+# built here, by the gate or later of the same files; only where none is built is netrev proved first.
 set -eu
 cd "$(dirname "$0")/.."
-version=$1 program=$2
-log=out/gate.log
+version=$1 program=${2:-}
+built=crates/netrev/out/netrev log=out/gate.log sum=out/gate.sum
 name=netrev-$version-linux-x86_64
 
-case "$(tail -n 1 "$log" 2>/dev/null)" in
-*" passed, 0 failed") ;;
-*)
-	echo "package.sh: $log is of no gate that passed: \`make test\` first." >&2
+fail() {
+	echo "package.sh: $1" >&2
 	exit 1
-	;;
-esac
-changed=$(find crates crates.txt -path '*/out' -prune -o -newer "$log" -type f -print | head -n 1)
-if [ -n "$changed" ]; then
-	echo "package.sh: $changed is newer than $log: \`make test\` first." >&2
-	exit 1
+}
+
+# The first file of the crates that is newer than another one.
+newer_than() {
+	find crates crates.txt -path '*/out' -prune -o -newer "$1" -type f -print | head -n 1
+}
+
+[ -s "$log" ] && [ -s "$sum" ] || fail "$log and $sum are of no gate that passed: \`make test\` first."
+changed=$(newer_than "$log")
+[ -z "$changed" ] || fail "$changed is newer than $log: \`make test\` first."
+
+if [ -z "$program" ]; then
+	[ -e "$built" ] || sh scripts/prove.sh
+	program=$built
+fi
+[ -f "$program" ] && [ -x "$program" ] || fail "$program is no program."
+if [ "$(sha256sum < "$program")" != "$(cat "$sum")" ]; then
+	[ "$program" -ef "$built" ] && [ -z "$(newer_than "$built")" ] ||
+		fail "$program isn't the program that the gate played: its sum isn't that of $sum."
 fi
 
 room=$(mktemp -d)
