@@ -1,48 +1,49 @@
 -- What is out and what is held of a text that goes out in pieces.
-use Rattle.std.proofs.Common.{◌≡◌, ℕ, ◌<◌, ◌≤◌, List, [], ◌++◌, arith, length, take, drop, refl, sym, ap, subst, ◌∙◌, append-nil, append_assoc, take-append-drop, length-append, length-drop, Option, None, Some, Ok, Err, Result}
+use Rattle.std.proofs.Common.{◌≡◌, ℕ, ◌<◌, ◌≤◌, List, [], ◌++◌, arith, length, take, drop, refl, sym, ap, subst, ◌∙◌, append-nil, append_assoc, take-append-drop, length-append, length-drop, true, Ok, Err, Result}
 use Rattle.std.proofs.lemmas.List.{length-take-le}
 use Rattle.std.proofs.Math.Seq.{take-length}
-use Rattle.std.proofs.KnownBytes.{Appends-trans}
-use Rattle.std.specs.Io.KnownBytes.{Appends}
 use Rattle.std.specs.Prelude.{OnErr, OnOk}
 use Rattle.std.specs.Result.{IsErr}
-use Rattle.nr_text.specs.Buffered.{Buffering, HasSent, IsCut, IsOut, SentOrCut, Writes}
-use Rattle.nr_text.specs.Streams.{saturating_count}
+use Rattle.nr_text.specs.Buffered.{Buffering, HasSent, IsCut, IsOut, PutsOut, PutsOutSome, SentOrCut, Writes}
+use Rattle.nr_text.specs.Streams.{Outgoing, Sends, saturating_count}
+use Rattle.nr_text.proofs.StreamLemmas.{sends_none, sends_then}
 use Rattle.nr_text.specs.declared.buffered.WriteFailed.{WriteFailed}
 
 -- a piece is held behind what is held
-pub holds : (start : Option (List ℕ)) (sent piece : List ℕ) (b : Buffering) → HasSent start sent b → HasSent start (sent ++ piece) (record b { held = b.held ++ piece })
+pub holds : (start : Outgoing) (sent piece : List ℕ) (b : Buffering) → HasSent start sent b → HasSent start (sent ++ piece) (record b { held = b.held ++ piece })
 holds start sent piece b has = record {
   out = has.out;
   split = ap (λ s. s ++ piece) has.split ∙ append_assoc has.out b.held piece;
   written = has.written;
   count = has.count;
+  calm = has.calm;
 }
 
 -- behind what is out some more bytes are put out, and counted
-behind : (start c c' : Option (List ℕ)) (out bytes : List ℕ) (n o o' : ℕ) → n ≤ length bytes → Appends start c out → o ≡ saturating_count (length out) → IsOut bytes n c c' o o'
-    → Appends start c' (out ++ take n bytes) × (o' ≡ saturating_count (length (out ++ take n bytes)))
+behind : (start c c' : Outgoing) (out bytes : List ℕ) (n o o' : ℕ) → n ≤ length bytes → Sends start c out → o ≡ saturating_count (length out) → IsOut bytes n c c' o o'
+    → Sends start c' (out ++ take n bytes) × (o' ≡ saturating_count (length (out ++ take n bytes)))
 behind start c c' out bytes n o o' within before count more =
-    (Appends-trans start c c' out (take n bytes) before more.written, omega (arith, count, more.count, length-append out (take n bytes), length-take-le n bytes within))
+    (sends_then start c c' out (take n bytes) before more.written, omega (arith, count, more.count, length-append out (take n bytes), length-take-le n bytes within))
 
 -- all that was held is put out
-pub puts_all : (start c' : Option (List ℕ)) (sent : List ℕ) (b : Buffering) (o' : ℕ) → HasSent start sent b → IsOut b.held (length b.held) b.contents c' b.out o'
-    → HasSent start (sent ++ []) (record { contents = c'; held = []; out = o' })
+puts_all : (start c' : Outgoing) (sent : List ℕ) (b : Buffering) (o' : ℕ) → HasSent start sent b → PutsOut b.held b.taken c' b.out o'
+    → HasSent start (sent ++ []) (record { taken = c'; held = []; out = o' })
 puts_all start c' sent b o' has all =
-    let more = behind start b.contents c' has.out b.held (length b.held) b.out o' (omega arith) has.written has.count all in
+    let more = behind start b.taken c' has.out b.held (length b.held) b.out o' (omega arith) has.written has.count all.0 in
     let whole = take-length b.held in
     record {
       out = has.out ++ take (length b.held) b.held;
       split = ap (λ s. s ++ []) (has.split ∙ ap (λ t. has.out ++ t) (sym whole));
       written = more.0;
       count = more.1;
+      calm = all.1 ∙ has.calm;
     }
 
 -- some of what was held is put out, and then a write fails
-pub puts_some : (start c' : Option (List ℕ)) (sent : List ℕ) (b : Buffering) (n o' : ℕ) → HasSent start sent b → n < length b.held → IsOut b.held n b.contents c' b.out o'
-    → IsCut start (sent ++ []) (record { contents = c'; held = []; out = o' })
-puts_some start c' sent b n o' has within some =
-    let more = behind start b.contents c' has.out b.held n b.out o' (omega (arith, within)) has.written has.count some in
+puts_some : (start c' : Outgoing) (sent : List ℕ) (b : Buffering) (n o' : ℕ) → HasSent start sent b → n < length b.held → IsOut b.held n b.taken c' b.out o' → c'.failed ≡ true
+    → IsCut start (sent ++ []) (record { taken = c'; held = []; out = o' })
+puts_some start c' sent b n o' has within some failed =
+    let more = behind start b.taken c' has.out b.held n b.out o' (omega (arith, within)) has.written has.count some in
     record {
       out = has.out ++ take n b.held;
       left = drop n b.held;
@@ -50,11 +51,12 @@ puts_some start c' sent b n o' has within some =
       short = omega (arith, within, length-drop n b.held);
       written = more.0;
       count = more.1;
+      failed = failed;
       dropped = refl;
     }
 
 -- where a write failed, it failed for whatever was to follow too
-cut_before : (start : Option (List ℕ)) (sent more : List ℕ) (b : Buffering) → IsCut start sent b → IsCut start (sent ++ more) b
+cut_before : (start : Outgoing) (sent more : List ℕ) (b : Buffering) → IsCut start sent b → IsCut start (sent ++ more) b
 cut_before start sent more b cut = record {
   out = cut.out;
   left = cut.left ++ more;
@@ -62,6 +64,7 @@ cut_before start sent more b cut = record {
   short = omega (arith, cut.short, length-append cut.left more);
   written = cut.written;
   count = cut.count;
+  failed = cut.failed;
   dropped = cut.dropped;
 }
 
@@ -79,44 +82,39 @@ writes_cut u v one two e (Err _) fails cut = record {
 }
 
 -- what is held is put out, or a write fails
-pub puts : (start c' : Option (List ℕ)) (sent : List ℕ) (b : Buffering) (o' : ℕ) (result : Result Unit WriteFailed) → HasSent start sent b
-    → OnOk result (IsOut b.held (length b.held) b.contents c' b.out o')
-    → OnErr result ((n : ℕ) × (n < length b.held) × IsOut b.held n b.contents c' b.out o')
-    → SentOrCut start (sent ++ []) (record { contents = c'; held = []; out = o' }) result
+pub puts : (start c' : Outgoing) (sent : List ℕ) (b : Buffering) (o' : ℕ) (result : Result Unit WriteFailed) → HasSent start sent b
+    → OnOk result (PutsOut b.held b.taken c' b.out o') → OnErr result (PutsOutSome b.held b.taken c' b.out o')
+    → SentOrCut start (sent ++ []) (record { taken = c'; held = []; out = o' }) result
 puts start c' sent b o' (Ok _) has ok err = puts_all start c' sent b o' has ok
-puts start c' sent b o' (Err _) has ok err = puts_some start c' sent b err.0 o' has err.1 err.2
+puts start c' sent b o' (Err _) has ok err = puts_some start c' sent b err.0 o' has err.1 err.2 err.3
 
 -- a piece is put out where nothing is held, or a write fails
-pub puts_directly : (start c' : Option (List ℕ)) (sent piece held : List ℕ) (b : Buffering) (o' : ℕ) (result : Result Unit WriteFailed) → b.held ≡ [] → held ≡ [] → HasSent start sent b
-    → OnOk result (IsOut piece (length piece) b.contents c' b.out o')
-    → OnErr result ((n : ℕ) × (n < length piece) × IsOut piece n b.contents c' b.out o')
-    → SentOrCut start (sent ++ piece) (record { contents = c'; held = held; out = o' }) result
+pub puts_directly : (start c' : Outgoing) (sent piece held : List ℕ) (b : Buffering) (o' : ℕ) (result : Result Unit WriteFailed) → b.held ≡ [] → held ≡ [] → HasSent start sent b
+    → OnOk result (PutsOut piece b.taken c' b.out o') → OnErr result (PutsOutSome piece b.taken c' b.out o')
+    → SentOrCut start (sent ++ piece) (record { taken = c'; held = held; out = o' }) result
 puts_directly start c' sent piece held b o' result none still has ok err =
     let behind = subst (λ h. HasSent start (sent ++ piece) (record b { held = h })) (ap (λ h. h ++ piece) none) (holds start sent piece b has) in
     let done = puts start c' (sent ++ piece) (record b { held = piece }) o' result behind ok err in
-    subst (λ h. SentOrCut start (sent ++ piece) (record { contents = c'; held = h; out = o' }) result) (sym still)
-    (subst (λ s. SentOrCut start s (record { contents = c'; held = []; out = o' }) result) (append-nil (sent ++ piece)) done)
-
-appends_none : (known : Option (List ℕ)) → Appends known known []
-appends_none None = tt
-appends_none (Some xs) = sym (append-nil xs)
+    subst (λ h. SentOrCut start (sent ++ piece) (record { taken = c'; held = h; out = o' }) result) (sym still)
+    (subst (λ s. SentOrCut start s (record { taken = c'; held = []; out = o' }) result) (append-nil (sent ++ piece)) done)
 
 -- a text is begun where nothing is held
-begins : (b : Buffering) → b.held ≡ [] → b.out ≡ 0 → HasSent b.contents [] b
+begins : (b : Buffering) → b.held ≡ [] → b.out ≡ 0 → HasSent b.taken [] b
 begins b none no_count = record {
   out = [];
   split = sym none;
-  written = appends_none b.contents;
+  written = sends_none b.taken;
   count = no_count;
+  calm = refl;
 }
 
 -- a write failed, whatever the error says
-pub cut_is_counted : (start : Option (List ℕ)) (sent : List ℕ) (b : Buffering) (result : Result Unit WriteFailed) → IsErr result → IsCut start sent b → SentOrCut start sent b result
+pub cut_is_counted : (start : Outgoing) (sent : List ℕ) (b : Buffering) (result : Result Unit WriteFailed) → IsErr result → IsCut start sent b → SentOrCut start sent b result
 cut_is_counted start sent b (Ok _) fails cut = absurd (grind (arith, fails))
 cut_is_counted start sent b (Err _) fails cut = cut
 
 -- a text that was begun at this writer, and of which a piece was sent
 pub from_begun : (b b' begun : Buffering) (piece : List ℕ) (result : Result Unit WriteFailed) → begun ≡ record b { out = 0 } → b.held ≡ [] → Writes begun b' piece result
-    → SentOrCut b.contents piece b' result
+    → SentOrCut b.taken piece b' result
 from_begun b b' begun piece result is none writes =
-    writes.behind b.contents [] (subst (HasSent b.contents []) (sym is) (begins (record b { out = 0 }) none refl))
+    writes.behind b.taken [] (subst (HasSent b.taken []) (sym is) (begins (record b { out = 0 }) none refl))

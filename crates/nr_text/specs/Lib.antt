@@ -1,4 +1,5 @@
 -- what callers need
+pub mod Calls
 pub mod Streams
 pub mod Buffered
 pub mod Text

@@ -1,18 +1,66 @@
--- Readers and writers that remember whether they failed.
-use Rattle.std.specs.Prelude.{◌≡◌, ℕ, ◌-◌, ◌^◌, ◌<◌, min, Bool, true, List, length, take, Option, Result, Ok, Err}
-use Rattle.std.specs.Io.KnownBytes.{Appends}
+-- Readers and writers that remember what came, what went, and whether they failed.
+use Rattle.std.specs.Prelude.{◌≡◌, ℕ, ◌-◌, ◌^◌, ◌<◌, ◌≤◌, min, Bool, true, List, [], ◌++◌, length, take, Option, Result, Ok, Err}
+use Rattle.std.specs.Io.KnownBytes.{Appends, Consumes, IsAtEnd}
+use Rattle.nr_text.specs.declared.calls.Outcome.{Outcome}
+use Rattle.nr_text.specs.declared.calls.Outcome.TheVariants.{Moved, Interrupted, Failed}
 use Rattle.nr_text.specs.declared.sink.Part.{Part}
 
--- what is seen of a source: the bytes that it has left, where they are known, and whether a read
--- failed
+-- What is seen of a source: the bytes that its reader has left, where they are known; those that
+-- reads returned, in their order; whether the last read found the end; and whether a read failed.
 pub record Incoming : Type 0 where
   pub remaining : Option (List ℕ)
+  pub received : List ℕ
+  pub ended : Bool
   pub failed : Bool
 
--- what is seen of a sink: the bytes that it holds, where they are known, and whether a write failed
+-- What is seen of a sink: the bytes that its writer holds, where they are known; those that writes
+-- took, in their order; and whether a write failed, or took nothing of the bytes that there were.
 pub record Outgoing : Type 0 where
   pub contents : Option (List ℕ)
+  pub sent : List ℕ
   pub failed : Bool
+
+-- These bytes were received since. Where the reader's bytes are known, they were the next ones.
+pub record Receives (from left : Incoming) (bytes : List ℕ) : Type 0 where
+  pub received : left.received ≡ from.received ++ bytes
+  pub consumed : Consumes from.remaining left.remaining bytes
+
+-- The last read found the end. Where the reader's bytes are known, none is left.
+abbrev pub IsOver : Incoming → Type 0
+IsOver left = (left.ended ≡ true) × IsAtEnd left.remaining
+
+-- These bytes were sent since. Where the writer's bytes are known, they stand behind the others.
+pub record Sends (old new : Outgoing) (bytes : List ℕ) : Type 0 where
+  pub sent : new.sent ≡ old.sent ++ bytes
+  pub appended : Appends old.contents new.contents bytes
+
+-- One call of a reader with this buffer, and how it came out.
+abbrev pub Reads : Incoming → Incoming → List ℕ → Outcome → Type 0
+Reads old new buffer (Moved n) =
+    (n ≤ length buffer) × Receives old new (take n buffer) × (new.failed ≡ old.failed)
+    × (n ≡ 0 → 0 < length buffer → IsOver new)
+Reads old new buffer Interrupted = Receives old new [] × (new.failed ≡ old.failed)
+Reads old new buffer Failed = Receives old new [] × (new.failed ≡ true)
+
+-- one call of a writer with this buffer, and how it came out
+abbrev pub Takes : Outgoing → Outgoing → List ℕ → Outcome → Type 0
+Takes old new buffer (Moved n) =
+    (n ≤ length buffer) × Sends old new (take n buffer) × (0 < n → new.failed ≡ old.failed)
+    × (n ≡ 0 → 0 < length buffer → new.failed ≡ true)
+Takes old new buffer Interrupted = Sends old new [] × (new.failed ≡ old.failed)
+Takes old new buffer Failed = Sends old new [] × (new.failed ≡ true)
+
+-- What came of a read: the first bytes of the buffer were received, and none only at the end or
+-- where there was no room; or a read failed.
+abbrev pub ReadsSome : {E : Type 0} → Incoming → Incoming → List ℕ → Result ℕ E → Type 0
+ReadsSome old new buffer (Ok n) = Reads old new buffer (Moved n)
+ReadsSome old new buffer (Err _) = Reads old new buffer Failed
+
+-- What came of a write: the first of the bytes went out, and none only where a writer took none of
+-- them; or a write failed.
+abbrev pub TakesSome : {E : Type 0} → Outgoing → Outgoing → List ℕ → Result ℕ E → Type 0
+TakesSome old new bytes (Ok n) = Takes old new bytes (Moved n)
+TakesSome old new bytes (Err _) = Takes old new bytes Failed
 
 -- a count that stays at 2 ^ 64 - 1
 abbrev pub saturating_count : ℕ → ℕ
@@ -20,7 +68,7 @@ saturating_count n = min n (2 ^ 64 - 1)
 
 -- The whole text was written, and no write failed.
 abbrev pub WritesAll : Outgoing → Outgoing → List ℕ → Type 0
-WritesAll old new text = Appends old.contents new.contents text × (new.failed ≡ old.failed)
+WritesAll old new text = Sends old new text × (new.failed ≡ old.failed)
 
 -- A write failed when exactly the first n bytes of the text were out, and not the next, and this
 -- count reports n.
@@ -28,7 +76,7 @@ pub record WritesPrefix (old new : Outgoing) (text : List ℕ) (count : ℕ) : T
   pub n : ℕ
   pub within : n < length text
   pub count_is : count ≡ saturating_count n
-  pub out : Appends old.contents new.contents (take n text)
+  pub out : Sends old new (take n text)
   pub failed : new.failed ≡ true
 
 -- The whole text was written; or a write failed, and how much is out is reported.

@@ -1,14 +1,15 @@
 //! A writer that joins the pieces of a text before they go out.
 
-ghost use Rattle.std.specs.Prelude.{◌≡◌, ◌+◌, ◌<◌, ◌≤◌, ◌++◌, ℕ, [], length, OnErr, OnOk};
-ghost use Rattle.std.specs.Io.{WritesAtMost};
-ghost use Rattle.std.specs.Io.KnownBytes.{WriteAppends};
-ghost use Rattle.nr_text.specs.Buffered.{IsOut, SentOrCut, Writes};
+ghost use Rattle.std.specs.Prelude.{◌≡◌, ◌+◌, ◌≤◌, ◌++◌, [], length, false, OnErr, OnOk};
+ghost use Rattle.nr_text.specs.Buffered.{PutsOut, PutsOutSome, SentOrCut, Writes};
+ghost use Rattle.nr_text.specs.Streams.{TakesSome};
 ghost use Rattle.nr_text.specs.declared.buffered.TheConstants.{ROOM};
 
+use crate::calls::Outcome;
+use crate::logged::LoggedWriter;
 use crate::text::Text;
 use arrayvec::ArrayVec;
-use std::io::{ErrorKind, Write};
+use std::io::Write;
 use std::marker::Model;
 
 /// How many bytes are held at most.
@@ -19,11 +20,11 @@ pub(crate) const ROOM: usize = 512;
 pub struct WriteFailed;
 
 /// A writer that joins the pieces of a text: it holds them until it is full or the text ends, and takes no memory for it.
-/// Where a write fails, what is held is dropped. Contracts see the bytes that the inner writer has, where they are known,
-/// those that are held here, and how many bytes of the text are out.
+/// Where a write fails, what is held is dropped. Contracts see what the inner writer took, the bytes that are held here, and
+/// how many bytes of the text are out.
 #[derive(Drop)]
 pub struct Buffered<W: Write> {
-    writer: W,
+    writer: LoggedWriter<W>,
     held: ArrayVec<u8, ROOM>,
     // How many bytes of the text are out. It stays at `u64::MAX`.
     out: u64,
@@ -34,16 +35,20 @@ impl<W: Write> Model for Buffered<W> {
 
     ghost Value = { Buffering };
 
-    ghost view = { λ b. record { contents = W.contents b.writer; held = b.held.items; out = b.out } };
+    ghost view = { λ b. record { taken = b.writer; held = b.held.items; out = b.out } };
 }
 
 impl<W: Write> Buffered<W> {
     // Holds nothing, and nothing of a text is out.
     pub(crate) fn new(writer: W) -> Buffered<W>
-        ensures { result ≡ record { contents = W.contents writer; held = []; out = 0 } }
+        ensures { result ≡ record {
+          taken = record { contents = W.contents writer; sent = []; failed = false };
+          held = [];
+          out = 0;
+        } }
     {
         Buffered {
-            writer,
+            writer: LoggedWriter::new(writer),
             held: ArrayVec::new(),
             out: 0,
         }
@@ -51,14 +56,14 @@ impl<W: Write> Buffered<W> {
 
     // The writer. What is held is dropped.
     pub(crate) fn into_inner(self) -> W
-        ensures { W.contents result ≡ self.contents }
+        ensures { W.contents result ≡ self.taken.contents }
     {
         let Buffered {
             writer,
             held: _,
             out: _,
         } = self;
-        writer
+        writer.into_inner()
     }
 
     // How many bytes of the text are out.
@@ -71,7 +76,7 @@ impl<W: Write> Buffered<W> {
     // Writes a text whole: all of it is out, or a write failed.
     pub(crate) fn print<T: Text>(&mut self, text: &T) -> Result<(), WriteFailed>
         requires { self.old.held ≡ [] }
-        ensures out { SentOrCut self.old.contents (T.text text.now) self.new result }
+        ensures out { SentOrCut self.old.taken (T.text text.now) self.new result }
         ensures empty { self.new.held ≡ [] }
     {
         self.begin();
@@ -122,10 +127,13 @@ impl<W: Write> Buffered<W> {
 }
 
 // Writes the bytes, in as many writes as that takes, and counts those that are out.
-fn put_out<W: Write>(bytes: &[u8], writer: &mut W, out: &mut u64) -> Result<(), WriteFailed>
-    ensures ok { OnOk result (IsOut bytes.now (length bytes.now) (W.contents writer.old) (W.contents writer.new) out.old out.new) }
-    ensures err { OnErr result ((n : ℕ) × (n < length bytes.now)
-        × IsOut bytes.now n (W.contents writer.old) (W.contents writer.new) out.old out.new) }
+fn put_out<W: Write>(
+    bytes: &[u8],
+    writer: &mut LoggedWriter<W>,
+    out: &mut u64,
+) -> Result<(), WriteFailed>
+    ensures ok { OnOk result (PutsOut bytes.now writer.old writer.new out.old out.new) }
+    ensures err { OnErr result (PutsOutSome bytes.now writer.old writer.new out.old out.new) }
 {
     let mut sent = 0;
     while sent < bytes.len() {
@@ -142,16 +150,16 @@ fn put_out<W: Write>(bytes: &[u8], writer: &mut W, out: &mut u64) -> Result<(), 
 }
 
 // Writes some of the bytes, and says how many. A write that is interrupted is tried again, up to `u64::MAX` times.
-fn write_some<W: Write>(writer: &mut W, bytes: &[u8]) -> Result<usize, WriteFailed>
-    ensures bound { WritesAtMost result bytes.now }
-    ensures bytes { WriteAppends (W.contents writer.old) (W.contents writer.new) result bytes.now }
+fn write_some<W: Write>(writer: &mut LoggedWriter<W>, bytes: &[u8]) -> Result<usize, WriteFailed>
+    ensures { TakesSome writer.old writer.new bytes.now result }
 {
     for _ in 0..u64::MAX {
         match writer.write(bytes) {
-            Ok(count) => return Ok(count),
-            Err(error) if error.kind() == ErrorKind::Interrupted => {}
-            Err(_) => return Err(WriteFailed),
+            Outcome::Moved(count) => return Ok(count),
+            Outcome::Interrupted => {}
+            Outcome::Failed => return Err(WriteFailed),
         }
     }
+    writer.give_up();
     Err(WriteFailed)
 }

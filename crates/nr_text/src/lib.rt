@@ -2,7 +2,9 @@
 #![tactic(auto)]
 
 mod buffered;
+mod calls;
 pub mod laws;
+mod logged;
 mod sink;
 mod source;
 mod text;

@@ -1,6 +1,6 @@
-//! A writer of whole texts that remembers whether a write failed.
+//! A writer of whole texts that remembers what went out and whether a write failed.
 
-ghost use Rattle.std.specs.Prelude.{◌≡◌, false};
+ghost use Rattle.std.specs.Prelude.{◌≡◌, [], false};
 ghost use Rattle.nr_text.specs.Streams.{Prints};
 
 use crate::buffered::{Buffered, WriteFailed};
@@ -8,9 +8,10 @@ use crate::text::Text;
 use std::io::Write;
 use std::marker::Model;
 
-/// A writer of whole texts that remembers whether a write failed, or took nothing of the bytes that there were. The pieces of
-/// a text are joined, so a text of up to 512 bytes goes out in one write. Contracts see the bytes that the writer has, where
-/// they are known, and whether a write failed.
+/// A writer of whole texts that remembers what went out and whether a write failed, or took nothing of the bytes that there
+/// were. The pieces of a text are joined, so a text of up to 512 bytes goes out in one write. Contracts see the bytes that the
+/// writer has, where they are known, those that writes took, and whether one failed. What writes took, and how each came out,
+/// is remembered in proofs alone.
 #[derive(Drop)]
 pub struct Sink<W: Write> {
     writer: Buffered<W>,
@@ -23,9 +24,9 @@ impl<W: Write> Model for Sink<W> {
 
     ghost Value = { Outgoing };
 
-    ghost view = { λ s. record { contents = s.writer.contents; failed = s.failed } };
+    ghost view = { λ s. s.writer.taken };
 
-    ghost invariant = { λ s. s.writer.held ≡ [] };
+    ghost invariant = { λ s. (s.writer.held ≡ []) × (s.failed ≡ s.writer.taken.failed) };
 }
 
 /// A part of a text: a write failed, or took nothing, when exactly its first so many bytes were out. The count stays at
@@ -34,9 +35,9 @@ impl<W: Write> Model for Sink<W> {
 pub struct Part(pub u64);
 
 impl<W: Write> Sink<W> {
-    /// The writer, of which no write has failed.
+    /// The writer, of which no write was made.
     pub fn new(writer: W) -> Sink<W>
-        ensures { result ≡ record { contents = W.contents writer; failed = false } }
+        ensures { result ≡ record { contents = W.contents writer; sent = []; failed = false } }
     {
         Sink {
             writer: Buffered::new(writer),

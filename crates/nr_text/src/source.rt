@@ -1,27 +1,32 @@
-//! A reader that remembers whether a read failed.
+//! A reader that remembers what it gave and whether a read failed.
 
-ghost use Rattle.std.specs.Prelude.{◌≡◌, false, true, OnErr, OnOk};
-ghost use Rattle.std.specs.Io.{ReadsAtMost};
-ghost use Rattle.std.specs.Io.KnownBytes.{ReadConsumes};
+ghost use Rattle.std.specs.Prelude.{◌≡◌, [], false};
+ghost use Rattle.nr_text.specs.Streams.{ReadsSome};
 
-use std::io::{ErrorKind, Read};
+use crate::calls::Outcome;
+use crate::logged::LoggedReader;
+use std::io::Read;
 use std::marker::Model;
 use std::sync::Wait;
 
-/// A reader that remembers whether a read failed. Contracts see the bytes that it has left, where they are known, and
-/// whether one did.
+/// A reader that remembers what its reads returned and whether one failed. Contracts see the bytes that the reader has left,
+/// where they are known, those that reads returned, whether the last one found the end, and whether one failed. What reads
+/// returned, and how each came out, is remembered in proofs alone.
 #[derive(Drop)]
 pub struct Source<R: Read> {
-    reader: R,
+    reader: LoggedReader<R>,
     failed: bool,
 }
 
 impl<R: Read> Model for Source<R> {
+    ghost use Rattle.std.specs.Prelude.{◌≡◌};
     ghost use Rattle.nr_text.specs.Streams.{Incoming};
 
     ghost Value = { Incoming };
 
-    ghost view = { λ s. record { remaining = R.remaining s.reader; failed = s.failed } };
+    ghost view = { λ s. s.reader };
+
+    ghost invariant = { λ s. s.failed ≡ s.reader.failed };
 }
 
 /// A read failed.
@@ -29,12 +34,12 @@ impl<R: Read> Model for Source<R> {
 pub struct ReadFailed;
 
 impl<R: Read> Source<R> {
-    /// The reader, of which no read has failed.
+    /// The reader, of which no read was made.
     pub fn new(reader: R) -> Source<R>
-        ensures { result ≡ record { remaining = R.remaining reader; failed = false } }
+        ensures { result ≡ record { remaining = R.remaining reader; received = []; ended = false; failed = false } }
     {
         Source {
-            reader,
+            reader: LoggedReader::new(reader),
             failed: false,
         }
     }
@@ -44,7 +49,7 @@ impl<R: Read> Source<R> {
         ensures { R.remaining result ≡ self.remaining }
     {
         let Source { reader, failed: _ } = self;
-        reader
+        reader.into_inner()
     }
 
     /// Whether a read failed.
@@ -56,16 +61,13 @@ impl<R: Read> Source<R> {
 
     /// Reads some bytes, and none at the end. A read that is interrupted is tried again.
     pub fn read(&mut self, rt: &impl Wait, buf: &mut [u8]) -> Result<usize, ReadFailed>
-        ensures bound { ReadsAtMost result buf.new }
-        ensures bytes { ReadConsumes self.old.remaining self.new.remaining result buf.new }
-        ensures ok { OnOk result (self.new.failed ≡ self.old.failed) }
-        ensures failed { OnErr result (self.new.failed ≡ true) }
+        ensures { ReadsSome self.old self.new buf.new result }
     {
         for _ in rt.forever() {
             match self.reader.read(buf) {
-                Ok(count) => return Ok(count),
-                Err(error) if error.kind() == ErrorKind::Interrupted => {}
-                Err(_) => {
+                Outcome::Moved(count) => return Ok(count),
+                Outcome::Interrupted => {}
+                Outcome::Failed => {
                     self.failed = true;
                     return Err(ReadFailed);
                 }

@@ -1,8 +1,8 @@
 use Rattle.std.proofs.Common.{rules, take, sym, subst}
 use Rattle.std.proofs.Math.Seq.{take-add}
 use Rattle.std.proofs.lemmas.List.{take_rest}
-use Rattle.std.proofs.KnownBytes.{Appends-trans}
-use Rattle.std.specs.Io.KnownBytes.{Appends}
+use Rattle.nr_text.specs.Streams.{Sends}
+use Rattle.nr_text.proofs.StreamLemmas.{sends_then}
 use Rattle.nr_text.proofs.buffered.put_out.Goals as goal
 
 pub loop-sent-preserved : goal.loop-sent-preserved
@@ -10,9 +10,11 @@ loop-sent-preserved g c =
     let sent = c.loop-sent.sent in
     let count = c.in-Ok.count in
     let bytes = c.args.bytes.now in
-    let more = subst (λ rest. Appends (g.W.Write.contents c.loop-sent.writer) (g.W.Write.contents c.write_some.new.writer) (take count rest)) (take_rest bytes sent) c.in-Ok.ensures.bytes in
+    let now = c.write_some.new.writer in
+    let more = subst (λ rest. Sends c.loop-sent.writer now (take count rest)) (take_rest bytes sent) c.in-Ok.ensures.1 in
     record {
       within = search rules;
-      so_far = subst (Appends _ _) (sym (take-add sent count bytes)) (Appends-trans _ _ _ _ _ c.loop-sent.invariant.so_far more);
+      so_far = subst (Sends c.args.writer.now now) (sym (take-add sent count bytes)) (sends_then _ _ _ _ _ c.loop-sent.invariant.so_far more);
+      calm = search rules;
       uncounted = search rules;
     }

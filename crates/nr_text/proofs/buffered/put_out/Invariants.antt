@@ -1,12 +1,13 @@
 -- the first bytes are out, and none is counted yet
 use Rattle.std.proofs.Common.{◌≡◌, ◌≤◌, ◌-◌, length, take}
-use Rattle.std.specs.Io.KnownBytes.{Appends}
+use Rattle.nr_text.specs.Streams.{Sends}
 use Rattle.nr_text.proofs.buffered.put_out.Given as goal
 
 abbrev pub invariant-loop-sent : goal.invariant-loop-sent
 invariant-loop-sent g l = record {
   within : l.sent ≤ length l.bytes;
-  so_far : Appends (g.W.Write.contents l.initial.writer) (g.W.Write.contents l.writer) (take l.sent l.bytes);
+  so_far : Sends l.initial.writer l.writer (take l.sent l.bytes);
+  calm : l.writer.failed ≡ l.initial.writer.failed;
   uncounted : l.out ≡ l.initial.out;
 }
 

@@ -1,0 +1,67 @@
+//! The calls that were made of a reader or a writer. Only proofs read them: at run time nothing is kept of them.
+
+ghost use Rattle.std.specs.Prelude.{◌≡◌, ℕ, List, [], ◌∷◌, ◌++◌};
+ghost use Rattle.std.specs.Borrow.{ftrue};
+ghost use Rattle.std.specs.declared.io.ErrorKind.{ErrorKind as CallErrorKind};
+ghost use Rattle.nr_text.specs.Calls.{calls_code, outcome_of_kind};
+ghost use Rattle.nr_text.specs.declared.calls.Outcome.{Outcome as CallOutcome};
+
+use std::io::ErrorKind;
+use std::marker::Model;
+
+/// How a call of a reader or a writer came out.
+#[derive(Clone, Copy, Debug, PartialEq, Eq)]
+pub enum Outcome {
+    /// It moved the first so many bytes of its buffer.
+    Moved(usize),
+    /// It was interrupted, and moved none.
+    Interrupted,
+    /// It failed, and moved none.
+    Failed,
+}
+
+impl Outcome {
+    // That of a call that returned an error of this kind.
+    pub(crate) fn of_kind(kind: ErrorKind) -> Outcome
+        ensures { result ≡ outcome_of_kind kind }
+    {
+        match kind {
+            ErrorKind::Interrupted => Outcome::Interrupted,
+            _ => Outcome::Failed,
+        }
+    }
+}
+
+/// A call that was made: what its buffer has behind it, and how it came out.
+#[derive(Clone, Copy)]
+pub(crate) struct Call<'a> {
+    pub(crate) buffer: &'a [u8],
+    pub(crate) outcome: Outcome,
+}
+
+/// The calls that were made, in their order.
+#[derive(Drop)]
+pub(crate) struct Calls {
+    ghost made: { List (List ℕ × CallOutcome) } by { calls_code },
+}
+
+impl Model for Calls {
+    ghost also_owns = { λ _. ftrue };
+}
+
+impl Calls {
+    // None yet.
+    pub(crate) fn new() -> Calls
+        ensures { result.made ≡ [] }
+    {
+        Calls {}
+    }
+
+    // These, and one more.
+    #[inline(always)]
+    pub(crate) fn and(&self, _call: &Call<'_>) -> Calls
+        ensures { result.made ≡ self.now.made ++ (_call.now.buffer.now, _call.now.outcome) ∷ [] }
+    {
+        Calls {}
+    }
+}

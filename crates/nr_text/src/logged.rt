@@ -1,0 +1,129 @@
+//! A reader and a writer that remember their calls, in proofs alone.
+
+ghost use Rattle.std.specs.Prelude.{◌≡◌, [], false};
+ghost use Rattle.nr_text.specs.Streams.{Reads, Takes};
+
+use crate::calls::{Call, Calls, Outcome};
+use std::io::{Read, Write};
+use std::marker::Model;
+
+/// A reader that remembers its reads. Contracts see the bytes that it has left, where they are known, those that its reads
+/// returned, whether the last one found the end, and whether one failed.
+#[derive(Drop)]
+pub(crate) struct LoggedReader<R: Read> {
+    reader: R,
+    calls: Calls,
+}
+
+impl<R: Read> Model for LoggedReader<R> {
+    ghost use Rattle.nr_text.specs.Calls.{a_read_failed, bytes_of, finds_end};
+    ghost use Rattle.nr_text.specs.Streams.{Incoming};
+
+    ghost Value = { Incoming };
+
+    ghost view = { λ l. record {
+      remaining = R.remaining l.reader;
+      received = bytes_of l.calls.made;
+      ended = finds_end l.calls.made;
+      failed = a_read_failed l.calls.made;
+    } };
+}
+
+impl<R: Read> LoggedReader<R> {
+    // The reader, of which no read was made.
+    pub(crate) fn new(reader: R) -> LoggedReader<R>
+        ensures { result ≡ record { remaining = R.remaining reader; received = []; ended = false; failed = false } }
+    {
+        LoggedReader {
+            reader,
+            calls: Calls::new(),
+        }
+    }
+
+    // The reader.
+    pub(crate) fn into_inner(self) -> R
+        ensures { R.remaining result ≡ self.remaining }
+    {
+        let LoggedReader { reader, calls: _ } = self;
+        reader
+    }
+
+    // Reads once.
+    #[inline(always)]
+    pub(crate) fn read(&mut self, buffer: &mut [u8]) -> Outcome
+        ensures { Reads self.old self.new buffer.new result }
+    {
+        let outcome = match self.reader.read(buffer) {
+            Ok(count) => Outcome::Moved(count),
+            Err(error) => Outcome::of_kind(error.kind()),
+        };
+        let buffer: &[u8] = buffer;
+        self.calls = self.calls.and(&Call { buffer, outcome });
+        outcome
+    }
+}
+
+/// A writer that remembers its writes. Contracts see the bytes that it has, where they are known, those that its writes took,
+/// and whether one failed, or took nothing of the bytes that there were.
+#[derive(Drop)]
+pub(crate) struct LoggedWriter<W: Write> {
+    writer: W,
+    calls: Calls,
+}
+
+impl<W: Write> Model for LoggedWriter<W> {
+    ghost use Rattle.nr_text.specs.Calls.{a_write_failed, bytes_of};
+    ghost use Rattle.nr_text.specs.Streams.{Outgoing};
+
+    ghost Value = { Outgoing };
+
+    ghost view = { λ l. record {
+      contents = W.contents l.writer;
+      sent = bytes_of l.calls.made;
+      failed = a_write_failed l.calls.made;
+    } };
+}
+
+impl<W: Write> LoggedWriter<W> {
+    // The writer, of which no write was made.
+    pub(crate) fn new(writer: W) -> LoggedWriter<W>
+        ensures { result ≡ record { contents = W.contents writer; sent = []; failed = false } }
+    {
+        LoggedWriter {
+            writer,
+            calls: Calls::new(),
+        }
+    }
+
+    // The writer.
+    pub(crate) fn into_inner(self) -> W
+        ensures { W.contents result ≡ self.contents }
+    {
+        let LoggedWriter { writer, calls: _ } = self;
+        writer
+    }
+
+    // Writes once.
+    #[inline(always)]
+    pub(crate) fn write(&mut self, buffer: &[u8]) -> Outcome
+        ensures { Takes self.old self.new buffer.now result }
+    {
+        let outcome = match self.writer.write(buffer) {
+            Ok(count) => Outcome::Moved(count),
+            Err(error) => Outcome::of_kind(error.kind()),
+        };
+        self.calls = self.calls.and(&Call { buffer, outcome });
+        outcome
+    }
+
+    // Gives up: the last write counts as failed.
+    pub(crate) fn give_up(&mut self)
+        ensures { Takes self.old self.new [] Outcome.Failed }
+    {
+        let call = Call {
+            buffer: &[],
+            outcome: Outcome::Failed,
+        };
+        self.calls = self.calls.and(&call);
+    }
+}
