@@ -1,10 +1,10 @@
 -- The one text that is written of a recording.
-use Rattle.std.specs.Prelude.{ℕ, ◌<◌, List, [], ◌∷◌, ◌++◌, length, take, map, Option, Result, Err, Bool, true, false, codes}
+use Rattle.std.specs.Prelude.{ℕ, ◌<◌, List, [], ◌∷◌, ◌++◌, length, take, map, Result, Err, Bool, true, false, codes}
 use Rattle.std.specs.List.{concat}
-use Rattle.std.specs.Io.KnownBytes.{Appends}
 use Rattle.serde_json.specs.Data.{Data, number, unsigned, object, no_members, member}
 use Rattle.serde_json.specs.Written.{compact_text}
 use Rattle.nr_rev.specs.declared.limits.Limits.{Limits}
+use Rattle.nr_text.specs.Streams.{Outgoing, Sends}
 use Rattle.nr_recording.specs.declared.fault.WriteFault.{WriteFault}
 use Rattle.nr_recording.specs.declared.fault.WriteFault.TheVariants as faults
 use Rattle.nr_recording.specs.declared.recording.RecordedStep.{RecordedStep}
@@ -48,12 +48,12 @@ text r = concat (line_texts r)
 -- ---- what an error leaves written
 
 -- just a prefix of the text, and not all
-abbrev pub AppendsPart : Option (List ℕ) → Option (List ℕ) → List ℕ → Type 0
-AppendsPart old new bytes = (n : ℕ) × (n < length bytes) × Appends old new (take n bytes)
+abbrev pub SendsPart : Outgoing → Outgoing → List ℕ → Type 0
+SendsPart old new bytes = (n : ℕ) × (n < length bytes) × Sends old new (take n bytes)
 
 -- just some first lines, whole, and not all
-abbrev pub AppendsLines : Option (List ℕ) → Option (List ℕ) → List (List ℕ) → Type 0
-AppendsLines old new texts = (n : ℕ) × (n < length texts) × Appends old new (concat (take n texts))
+abbrev pub SendsLines : Outgoing → Outgoing → List (List ℕ) → Type 0
+SendsLines old new texts = (n : ℕ) × (n < length texts) × Sends old new (concat (take n texts))
 
 -- a write is reported to have failed
 abbrev pub is_device_failure : {A : Type 0} → Result A WriteFault → Bool

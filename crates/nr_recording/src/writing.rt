@@ -1,12 +1,12 @@
 //! Writing a recording, a line for the header and one for each step.
 
 ghost use Rattle.std.specs.Prelude.{◌≡◌, ◌||◌, IfOk, OnOk, false};
-ghost use Rattle.std.specs.Io.KnownBytes.{Appends};
 ghost use Rattle.serde_json.specs.View.{view};
 ghost use Rattle.serde_json.specs.Written.{has_float};
 ghost use Rattle.nr_recording.specs.Reading.{reading};
 ghost use Rattle.nr_recording.specs.Text.{IsTextOf};
-ghost use Rattle.nr_recording.specs.Writing.{header_data, line_text, line_texts, text, is_device_failure, AppendsPart, AppendsLines};
+ghost use Rattle.nr_recording.specs.Writing.{header_data, line_text, line_texts, text, is_device_failure, SendsPart, SendsLines};
+ghost use Rattle.nr_text.specs.Streams.{Sends};
 
 use crate::fault::WriteFault;
 use crate::recording::Recording;
@@ -43,10 +43,10 @@ fn line_bytes(alloc: Global, value: &Value) -> Result<Vec<u8>, Memory>
 fn write_line<W: Write>(alloc: Global, value: &Value, out: &mut Sink<W>) -> Result<(), WriteFault>
     requires { has_float (view value.now) ≡ false }
     ensures ok { OnOk result
-        (Appends out.old.contents out.new.contents (line_text (view value.now))) }
+        (Sends out.old out.new (line_text (view value.now))) }
     ensures memory { result ≡ Err WriteFault.Memory → out.new ≡ out.old }
     ensures device { result ≡ Err WriteFault.Device
-        → AppendsPart out.old.contents out.new.contents (line_text (view value.now)) }
+        → SendsPart out.old out.new (line_text (view value.now)) }
     ensures failed { out.new.failed ≡ (out.old.failed || is_device_failure result) }
 {
     let line = line_bytes(alloc, value)?;
@@ -64,19 +64,19 @@ pub fn write<W: Write>(
     out: &mut Sink<W>,
 ) -> Result<(), WriteFault>
     ensures ok { OnOk result
-        (Appends out.old.contents out.new.contents (text recording.now)) }
+        (Sends out.old out.new (text recording.now)) }
 
     // What was written is read again as the recording.
     ensures again { OnOk result (IsTextOf (text recording.now) recording.now) }
     ensures read_again { OnOk result (reading (text recording.now) ≡ Ok recording.now) }
 
     // Only whole lines went out, and not all of them.
-    ensures memory { result ≡ Err WriteFault.Memory → AppendsLines
-        out.old.contents out.new.contents (line_texts recording.now) }
+    ensures memory { result ≡ Err WriteFault.Memory → SendsLines
+        out.old out.new (line_texts recording.now) }
 
     // Just a prefix of the text went out, and not all of it.
     ensures device { result ≡ Err WriteFault.Device
-        → AppendsPart out.old.contents out.new.contents (text recording.now) }
+        → SendsPart out.old out.new (text recording.now) }
 
     // Where no write had failed before, one failed exactly where that is reported.
     ensures failed { out.new.failed ≡ (out.old.failed || is_device_failure result) }

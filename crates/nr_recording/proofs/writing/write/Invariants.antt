@@ -1,12 +1,12 @@
 use Rattle.std.proofs.Common.{◌≡◌, ◌+◌, take, All}
 use Rattle.std.specs.List.{concat}
-use Rattle.std.specs.Io.KnownBytes.{Appends}
+use Rattle.nr_text.specs.Streams.{Sends}
 use Rattle.nr_recording.specs.Writing.{line_texts, HasTypedArguments}
 use Rattle.nr_recording.proofs.writing.write.Given as goal
 
 abbrev pub invariant-loop-recorded : goal.invariant-loop-recorded
 invariant-loop-recorded g l = record {
-  so_far : Appends l.fn.out.contents l.out.contents (concat (take (l.recorded-index + 1) (line_texts l.fn.recording)));
+  so_far : Sends l.fn.out l.out (concat (take (l.recorded-index + 1) (line_texts l.fn.recording)));
   calm : l.out.failed ≡ l.fn.out.failed;
   typed : All HasTypedArguments (take l.recorded-index l.fn.recording.steps);
 }
