@@ -1,9 +1,9 @@
 -- The debugger as a machine: what each command is answered, and what it leaves.
-use Rattle.std.specs.Prelude.{ℕ, ◌+◌, ◌-◌, ◌<◌, ◌≤◌, ◌==◌, nat_lt, All, List, [], ◌∷◌, length, Option, Some, None, Result, Ok, Err, if◌then◌else◌}
+use Rattle.std.specs.Prelude.{◌≡◌, true, ℕ, ◌+◌, ◌-◌, ◌≤◌, ◌==◌, nat_lt, All, List, [], ◌∷◌, length, Option, Some, None, Result, Ok, Err, if◌then◌else◌}
 use Rattle.nr_rev.specs.Cell.{cell, bytes_of, queue_of}
 use Rattle.nr_rev.specs.Run.{Recording, world_at}
 use Rattle.nr_rev.specs.Worlds.{HasItems}
-use Rattle.nr_marks.specs.Marks.{after_stop, mark_deletion, next_number}
+use Rattle.nr_marks.specs.Marks.{after_stop, any_watch, mark_deletion, next_number}
 use Rattle.nr_marks.specs.Numbered.{empty, item_of, with_item, without_item}
 use Rattle.nr_marks.specs.declared.mark.Mark.{Mark}
 use Rattle.nr_marks.specs.declared.mark.Mark.TheVariants as marks
@@ -136,11 +136,11 @@ pub record IsWithin (last : ℕ) (d : Debugger) : Type 0 where
   pub position : d.position ≤ last
   pub kept : All (λ c. c.item ≤ last) d.checkpoints.present
 
--- a search this way goes over worlds: there are marks, and a copy of the world is needed
+-- a search this way goes over worlds: there is a watch, and a copy of the world is needed
 abbrev pub NeedsWorlds : Direction → Recording → Debugger → Type 0
-NeedsWorlds way r d = (0 < length d.marks.present) × NeedsCopy way r d.position
+NeedsWorlds way r d = (any_watch d.marks.present ≡ true) × NeedsCopy way r d.position
 
--- The command searches the recording, by copies of its worlds: it continues, there are marks, and a
+-- The command searches the recording, by copies of its worlds: it continues, there is a watch, and a
 -- position other than the start lies that way.
 abbrev pub Searches : Recording → Command → Debugger → Type 0
 Searches r commands.Continue d = NeedsWorlds d.direction r d

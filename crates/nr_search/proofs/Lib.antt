@@ -1,5 +1,6 @@
 pub mod FinderLemmas
 mod KnownLemmas
+mod LastWriteLemmas
 mod NearestLemmas
 mod QuietLemmas
 mod ReportLemmas

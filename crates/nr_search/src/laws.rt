@@ -1,10 +1,13 @@
 //! Laws of searches: public functions with an empty body, whose contract is the law.
 
-ghost use Rattle.std.specs.Prelude.{◌≡◌, ◌+◌, ◌≤◌, length, List, ℕ};
+ghost use Rattle.std.specs.Prelude.{◌≡◌, ◌≢◌, ◌+◌, ◌-◌, ◌≤◌, ◌<◌, ◌∷◌, [], length, List, ℕ};
+ghost use Rattle.nr_rev.specs.Cell.{cell};
+ghost use Rattle.nr_rev.specs.declared.cell.Cell.{Cell};
+ghost use Rattle.nr_marks.specs.declared.mark.Mark.TheVariants.{Watch};
 ghost use Rattle.nr_marks.specs.Hit.{hits_at};
 ghost use Rattle.nr_marks.specs.Marks.{NumberedMark};
-ghost use Rattle.nr_rev.specs.Run.{Recording};
-ghost use Rattle.nr_search.specs.Nearest.{IsFound, nearest_hit};
+ghost use Rattle.nr_rev.specs.Run.{Recording, world_at};
+ghost use Rattle.nr_search.specs.Nearest.{IsFound, IsNearest, nearest_hit};
 ghost use Rattle.nr_search.specs.declared.direction.Direction.TheVariants.{Forward, Backward};
 ghost use Rattle.nr_search.specs.declared.workers.TheConstants.{LEAST_WORKERS, MOST_WORKERS};
 
@@ -16,6 +19,17 @@ pub fn the_nearest_hit_is_nearest()
         (nearest_hit Forward r marks n) }
     ensures backward { (r : Recording) (marks : List NumberedMark) (n : ℕ)
         → IsFound Backward (hits_at r marks) 0 n (nearest_hit Backward r marks n) }
+{}
+
+/// Where going back over a watch stops, its cell was written last: it had another value just before, and has this one up to
+/// where the search began.
+pub fn going_back_leads_to_the_last_write()
+    ensures steady { (r : Recording) (number n p : ℕ) (c : Cell) (ms : List ℕ)
+        → IsNearest Backward (hits_at r (record { number = number; item = Watch c } ∷ [])) 0 n p ms
+        → (q : ℕ) → p ≤ q → q < n → cell (world_at r q) c ≡ cell (world_at r p) c }
+    ensures written { (r : Recording) (number n p : ℕ) (c : Cell) (ms : List ℕ)
+        → IsNearest Backward (hits_at r (record { number = number; item = Watch c } ∷ [])) 0 n p ms
+        → cell (world_at r (p - 1)) c ≢ cell (world_at r p) c }
 {}
 
 /// A search has 1 to 16 workers.

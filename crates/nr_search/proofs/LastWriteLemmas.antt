@@ -1,0 +1,67 @@
+-- Going back over a watch leads to the last write.
+use Rattle.std.proofs.Common.{◌≡◌, ◌≢◌, ℕ, zero, suc, ◌+◌, ◌-◌, ◌<◌, ◌≤◌, Bool, true, false, not, cond, List, [], ◌∷◌, length, map, filter, rules, refl, sym, ap, ◌∙◌, subst, arith}
+use Rattle.nr_rev.specs.Cell.{cell}
+use Rattle.nr_rev.specs.Run.{Recording, world_at}
+use Rattle.nr_rev.specs.declared.cell.Cell.{Cell}
+use Rattle.nr_rev.specs.declared.cell_value.CellValue.{CellValue}
+use Rattle.nr_marks.specs.Hit.{hits_at, same_value}
+use Rattle.nr_marks.specs.Marks.{NumberedMark}
+use Rattle.nr_marks.specs.declared.mark.Mark.TheVariants.{Watch}
+use Rattle.nr_search.specs.Nearest.{IsNearest}
+use Rattle.nr_search.specs.declared.direction.Direction.TheVariants.{Backward}
+
+abbrev one : ℕ → Cell → List NumberedMark
+one number c = record { number = number; item = Watch c } ∷ []
+
+-- values that compare as equal are the same
+same : (a b : CellValue) → same_value a b ≡ true → a ≡ b
+same a b is = search rules
+
+self : (a : CellValue) → same_value a a ≡ true
+self a = search rules
+
+-- what is found at a position, by whether the value there is the one before
+by_value : (r : Recording) (number q : ℕ) (c : Cell) (b : Bool)
+    → same_value (cell (world_at r (q - 1)) c) (cell (world_at r q) c) ≡ b
+    → hits_at r (one number c) q ≡ map (λ m. m.number) (cond (not b) (one number c) [])
+by_value r number q c b is = ap (λ v. map (λ (m : NumberedMark). m.number) (cond (not v) (one number c) [])) is
+
+-- where the watch doesn't hit, the value is the one before
+quiet : (r : Recording) (number q : ℕ) (c : Cell) → hits_at r (one number c) q ≡ []
+    → cell (world_at r (q - 1)) c ≡ cell (world_at r q) c
+quiet r number q c none = go (same_value (cell (world_at r (q - 1)) c) (cell (world_at r q) c)) refl
+  where
+    go : (b : Bool) → same_value (cell (world_at r (q - 1)) c) (cell (world_at r q) c) ≡ b
+        → cell (world_at r (q - 1)) c ≡ cell (world_at r q) c
+    go true is = same (cell (world_at r (q - 1)) c) (cell (world_at r q) c) is
+    go false is = absurd (let hit : [] ≡ number ∷ [] = sym none ∙ by_value r number q c false is in cc)
+
+steady_on : (r : Recording) (number n p : ℕ) (c : Cell) (ms : List ℕ)
+    → IsNearest Backward (hits_at r (one number c)) 0 n p ms
+    → (k : ℕ) → p + k < n → cell (world_at r (p + k)) c ≡ cell (world_at r p) c
+steady_on r number n p c ms h zero within = ap (λ i. cell (world_at r i) c) (omega arith)
+steady_on r number n p c ms h (suc k) within =
+    let before : p + suc k - 1 ≡ p + k = omega arith in
+    let none : hits_at r (one number c) (p + suc k) ≡ [] =
+    h.nearest (p + suc k) (omega arith) within (omega arith) in
+    sym (quiet r number (p + suc k) c none)
+    ∙ ap (λ i. cell (world_at r i) c) before
+    ∙ steady_on r number n p c ms h k (omega (arith, within))
+
+pub steady : (r : Recording) (number n p : ℕ) (c : Cell) (ms : List ℕ)
+    → IsNearest Backward (hits_at r (one number c)) 0 n p ms
+    → (q : ℕ) → p ≤ q → q < n → cell (world_at r q) c ≡ cell (world_at r p) c
+steady r number n p c ms h q from within =
+    let there : p + (q - p) ≡ q = omega (arith, from) in
+    ap (λ i. cell (world_at r i) c) (sym there)
+    ∙ steady_on r number n p c ms h (q - p) (omega (arith, from, within))
+
+pub written : (r : Recording) (number n p : ℕ) (c : Cell) (ms : List ℕ)
+    → IsNearest Backward (hits_at r (one number c)) 0 n p ms
+    → cell (world_at r (p - 1)) c ≢ cell (world_at r p) c
+written r number n p c ms h is =
+    let equal : same_value (cell (world_at r (p - 1)) c) (cell (world_at r p) c) ≡ true =
+    subst (λ v. same_value (cell (world_at r (p - 1)) c) v ≡ true) is (self (cell (world_at r (p - 1)) c)) in
+    let none : ms ≡ [] = h.reported ∙ by_value r number p c true equal in
+    let few : length ms ≡ 0 = ap length none in
+    omega (arith, few, h.some)
