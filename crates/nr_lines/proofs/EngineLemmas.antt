@@ -1,12 +1,12 @@
 -- What the line loop keeps, and how it ends.
-use Rattle.std.proofs.Common.{◌≡◌, ℕ, suc, ◌+◌, ◌<◌, ◌≤◌, min, Bool, ◌||◌, true, false, cond, Option, Ok, Err, List, [], ◌∷◌, ◌++◌, arith, length, take, drop, refl, sym, ap, ◌∙◌, subst, nat_eq, append_assoc, append-nil, get_or, take-append-drop, take_all, drop-cons}
+use Rattle.std.proofs.Common.{◌≡◌, ℕ, suc, ◌+◌, ◌<◌, ◌≤◌, min, Bool, ◌||◌, true, false, cond, Ok, Err, List, [], ◌∷◌, ◌++◌, arith, length, take, drop, refl, sym, ap, ◌∙◌, subst, nat_eq, append_assoc, append-nil, get_or, take-append-drop, take_all, drop-cons}
 use Rattle.std.proofs.lemmas.List.{length-take, take_more}
 use Rattle.std.proofs.lemmas.Bool.{lt-ltb, le-ltb, eqb-false, false≢true}
 use Rattle.std.specs.List.{concat}
-use Rattle.std.specs.Io.KnownBytes.{Appends, Consumes, IsAtEnd}
+use Rattle.nr_text.specs.Streams.{Incoming, IsOver, Outgoing, Receives, Sends}
 use Rattle.nr_command.specs.Command.{meaning_of}
 use Rattle.nr_front.specs.FrontState.{FrontState}
-use Rattle.std.proofs.KnownBytes.{Appends-nil, Appends-trans, Consumes-nil, Consumes-trans}
+use Rattle.nr_text.proofs.StreamLemmas.{receives_none, receives_then, sends_none, sends_then}
 use Rattle.nr_lines.specs.declared.ending.End.TheVariants.{Closed, Quit}
 use Rattle.nr_lines.specs.declared.ending.LineEnd.{LineEnd}
 use Rattle.nr_lines.specs.declared.ending.LineEnd.TheVariants.{Read, Write}
@@ -17,10 +17,10 @@ use Rattle.nr_lines.proofs.LineLemmas.{whole_lines-byte, unfinished_line-byte, w
 use Rattle.nr_lines.proofs.TurnLemmas.{counted_more, has_quit-append, concat_more, turns_more, turn_asks}
 
 -- what a turn gave
-abbrev Turned : FrontState → List ℕ → FrontState → Option (List ℕ) → Option (List ℕ) → ℕ → ℕ → Type 0
-Turned p line p' w w' whole whole' = (text : List ℕ) × Turn p line text p' × Appends w w' text × (whole' ≡ count_with whole text)
+abbrev Turned : FrontState → List ℕ → FrontState → Outgoing → Outgoing → ℕ → ℕ → Type 0
+Turned p line p' w w' whole whole' = (text : List ℕ) × Turn p line text p' × Sends w w' text × (whole' ≡ count_with whole text)
 
-abbrev Failed : FrontState → List ℕ → FrontState → Option (List ℕ) → Option (List ℕ) → ℕ → LineEnd → Type 0
+abbrev Failed : FrontState → List ℕ → FrontState → Outgoing → Outgoing → ℕ → LineEnd → Type 0
 Failed p line p' w w' whole e = (text : List ℕ) × Turn p line text p' × StopsInside e whole text w w'
 
 -- the line that is kept asks for what the whole line does
@@ -28,7 +28,7 @@ asks : (line read : List ℕ) → line ≡ take 257 (unfinished_line read) → m
 asks line read kept = ap meaning_of kept ∙ meaning_of-take (unfinished_line read)
 
 -- a byte that is no line feed
-pub byte_more : (r r' w w' : Option (List ℕ)) (p p' : FrontState) (came read line line' : List ℕ) (whole b : ℕ)
+pub byte_more : (r r' : Incoming) (w w' : Outgoing) (p p' : FrontState) (came read line line' : List ℕ) (whole b : ℕ)
     → LoopInvariant r r' w w' p p' came read line whole → nat_eq b 10 ≡ false → line' ≡ take 257 (line ++ b ∷ []) → LoopInvariant r r' w w' p p' came (read ++ b ∷ []) line' whole
 byte_more r r' w w' p p' came read line line' whole b st goes e = record {
   texts = st.texts;
@@ -41,26 +41,26 @@ byte_more r r' w w' p p' came read line line' whole b st goes e = record {
 }
 
 -- what is written with a turn more
-written_more : (w w' w'' : Option (List ℕ)) (texts : List (List ℕ)) (text : List ℕ) → Appends w w' (concat texts) → Appends w' w'' text → Appends w w'' (concat (texts ++ text ∷ []))
-written_more w w' w'' texts text so_far more = subst (Appends w w'') (sym (concat_more texts text)) (Appends-trans w w' w'' (concat texts) text so_far more)
+written_more : (w w' w'' : Outgoing) (texts : List (List ℕ)) (text : List ℕ) → Sends w w' (concat texts) → Sends w' w'' text → Sends w w'' (concat (texts ++ text ∷ []))
+written_more w w' w'' texts text so_far more = subst (Sends w w'') (sym (concat_more texts text)) (sends_then w w' w'' (concat texts) text so_far more)
 
 abbrev has_one : Bool → Bool
 has_one t = t || false
 
 -- the line that is kept has its turn: so has the whole line, after those before it
-turns_after : (r r' w w' : Option (List ℕ)) (p p' p'' : FrontState) (came read line text : List ℕ) (whole : ℕ) (st : LoopInvariant r r' w w' p p' came read line whole) → Turn p' line text p''
+turns_after : (r r' : Incoming) (w w' : Outgoing) (p p' p'' : FrontState) (came read line text : List ℕ) (whole : ℕ) (st : LoopInvariant r r' w w' p p' came read line whole) → Turn p' line text p''
     → Turns p (whole_lines read ++ unfinished_line read ∷ []) (st.texts ++ text ∷ []) p''
 turns_after r r' w w' p p' p'' came read line text whole st turn =
     turns_more p (whole_lines read) st.texts p' (unfinished_line read) text p'' st.turns (turn_asks line (unfinished_line read) text p' p'' (asks line read st.kept) turn)
 
 -- it isn't quit: so none of them is
-no_quit_after : (r r' w w' : Option (List ℕ)) (p p' : FrontState) (came read line : List ℕ) (whole : ℕ) → LoopInvariant r r' w w' p p' came read line whole → is_quit (meaning_of line) ≡ false
+no_quit_after : (r r' : Incoming) (w w' : Outgoing) (p p' : FrontState) (came read line : List ℕ) (whole : ℕ) → LoopInvariant r r' w w' p p' came read line whole → is_quit (meaning_of line) ≡ false
     → has_quit (whole_lines read ++ unfinished_line read ∷ []) ≡ false
 no_quit_after r r' w w' p p' came read line whole st goes =
     has_quit-append (whole_lines read) (unfinished_line read ∷ []) st.no_quit ∙ ap (λ a. has_one (is_quit a)) (sym (asks line read st.kept)) ∙ ap has_one goes
 
 -- a line feed, after a line that isn't quit
-pub line_more : (r r' w w' w'' : Option (List ℕ)) (p p' p'' : FrontState) (came read line line' : List ℕ) (whole whole' b : ℕ)
+pub line_more : (r r' : Incoming) (w w' w'' : Outgoing) (p p' p'' : FrontState) (came read line line' : List ℕ) (whole whole' b : ℕ)
     → LoopInvariant r r' w w' p p' came read line whole → nat_eq b 10 ≡ true → is_quit (meaning_of line) ≡ false → Turned p' line p'' w' w'' whole whole' → line' ≡ []
     → LoopInvariant r r' w w'' p p'' came (read ++ b ∷ []) line' whole'
 line_more r r' w w' w'' p p' p'' came read line line' whole whole' b st feed goes turned cleared =
@@ -92,8 +92,8 @@ no_line read line kept none =
     lines_at_end read ∙ ap (λ t. whole_lines read ++ cond t (unfinished_line read ∷ []) []) (le-ltb 0 (length (unfinished_line read)) (omega (arith, len, none))) ∙ append-nil (whole_lines read)
 
 -- a line is quit: these lines, of which it is one
-quits : (r r' w w' w'' : Option (List ℕ)) (p p' p'' : FrontState) (came read line : List ℕ) (back : List (List ℕ)) (whole whole' : ℕ) (ended : Bool)
-    → LoopInvariant r r' w w' p p' came read line whole → lines_of ended came ≡ whole_lines read ++ unfinished_line read ∷ back → (ended ≡ true → IsAtEnd r') → is_quit (meaning_of line) ≡ true
+quits : (r r' : Incoming) (w w' w'' : Outgoing) (p p' p'' : FrontState) (came read line : List ℕ) (back : List (List ℕ)) (whole whole' : ℕ) (ended : Bool)
+    → LoopInvariant r r' w w' p p' came read line whole → lines_of ended came ≡ whole_lines read ++ unfinished_line read ∷ back → (ended ≡ true → IsOver r') → is_quit (meaning_of line) ≡ true
     → Turned p' line p'' w' w'' whole whole' → AnswersLines r r' w w'' p p'' (Ok Quit)
 quits r r' w w' w'' p p' p'' came read line back whole whole' ended st lines at_end stops turned =
     let text = turned.0 in
@@ -118,8 +118,8 @@ quits r r' w w' w'' p p' p'' came read line back whole whole' ended st lines at_
     }
 
 -- a write failed
-cut : (r r' w w' w'' : Option (List ℕ)) (p p' p'' : FrontState) (came read line : List ℕ) (back : List (List ℕ)) (whole : ℕ) (ended : Bool) (e : LineEnd)
-    → LoopInvariant r r' w w' p p' came read line whole → lines_of ended came ≡ whole_lines read ++ unfinished_line read ∷ back → (ended ≡ true → IsAtEnd r')
+cut : (r r' : Incoming) (w w' w'' : Outgoing) (p p' p'' : FrontState) (came read line : List ℕ) (back : List (List ℕ)) (whole : ℕ) (ended : Bool) (e : LineEnd)
+    → LoopInvariant r r' w w' p p' came read line whole → lines_of ended came ≡ whole_lines read ++ unfinished_line read ∷ back → (ended ≡ true → IsOver r')
     → Failed p' line p'' w' w'' whole e → AnswersLines r r' w w'' p p'' (Err e)
 cut r r' w w' w'' p p' p'' came read line back whole ended Read st lines at_end failed = absurd failed.2
 cut r r' w w' w'' p p' p'' came read line back whole ended (Write n part) st lines at_end failed =
@@ -131,7 +131,7 @@ cut r r' w w' w'' p p' p'' came read line back whole ended (Write n part) st lin
       out = concat st.texts ++ take stops.0 failed.0;
       ended = ended;
       reads = st.reads;
-      writes = Appends-trans w w' w'' (concat st.texts) (take stops.0 failed.0) st.writes stops.3;
+      writes = sends_then w w' w'' (concat st.texts) (take stops.0 failed.0) st.writes stops.3;
       at_end = at_end;
       ends = record {
         front = whole_lines read;
@@ -153,7 +153,7 @@ cut r r' w w' w'' p p' p'' came read line back whole ended (Write n part) st lin
     }
 
 -- the reader is at its end, and no line is left
-pub closed : (r r' w w' : Option (List ℕ)) (p p' : FrontState) (read line : List ℕ) (whole : ℕ) → LoopInvariant r r' w w' p p' read read line whole → IsAtEnd r' → length line ≡ 0
+pub closed : (r r' : Incoming) (w w' : Outgoing) (p p' : FrontState) (read line : List ℕ) (whole : ℕ) → LoopInvariant r r' w w' p p' read read line whole → IsOver r' → length line ≡ 0
     → AnswersLines r r' w w' p p' (Ok Closed)
 closed r r' w w' p p' read line whole st at_end none = record {
   read = read;
@@ -166,7 +166,7 @@ closed r r' w w' p p' read line whole st at_end none = record {
 }
 
 -- the reader is at its end, and the last line isn't quit
-pub closed_after : (r r' w w' w'' : Option (List ℕ)) (p p' p'' : FrontState) (read line : List ℕ) (whole whole' : ℕ) → LoopInvariant r r' w w' p p' read read line whole → IsAtEnd r' → 0 < length line
+pub closed_after : (r r' : Incoming) (w w' w'' : Outgoing) (p p' p'' : FrontState) (read line : List ℕ) (whole whole' : ℕ) → LoopInvariant r r' w w' p p' read read line whole → IsOver r' → 0 < length line
     → is_quit (meaning_of line) ≡ false → Turned p' line p'' w' w'' whole whole' → AnswersLines r r' w w'' p p'' (Ok Closed)
 closed_after r r' w w' w'' p p' p'' read line whole whole' st at_end some goes turned =
     let text = turned.0 in
@@ -189,36 +189,36 @@ closed_after r r' w w' w'' p p' p'' read line whole whole' st at_end some goes t
     }
 
 -- the last line, at the reader's end
-pub last_quits : (r r' w w' w'' : Option (List ℕ)) (p p' p'' : FrontState) (read line : List ℕ) (whole whole' : ℕ) → LoopInvariant r r' w w' p p' read read line whole → IsAtEnd r' → 0 < length line
+pub last_quits : (r r' : Incoming) (w w' w'' : Outgoing) (p p' p'' : FrontState) (read line : List ℕ) (whole whole' : ℕ) → LoopInvariant r r' w w' p p' read read line whole → IsOver r' → 0 < length line
     → is_quit (meaning_of line) ≡ true → Turned p' line p'' w' w'' whole whole' → AnswersLines r r' w w'' p p'' (Ok Quit)
 last_quits r r' w w' w'' p p' p'' read line whole whole' st at_end some stops turned =
     quits r r' w w' w'' p p' p'' read read line [] whole whole' true st (last_line read line st.kept some) (λ _. at_end) stops turned
 
-pub last_cut : (r r' w w' w'' : Option (List ℕ)) (p p' p'' : FrontState) (read line : List ℕ) (whole : ℕ) (e : LineEnd) → LoopInvariant r r' w w' p p' read read line whole → IsAtEnd r'
+pub last_cut : (r r' : Incoming) (w w' w'' : Outgoing) (p p' p'' : FrontState) (read line : List ℕ) (whole : ℕ) (e : LineEnd) → LoopInvariant r r' w w' p p' read read line whole → IsOver r'
     → 0 < length line
     → Failed p' line p'' w' w'' whole e → AnswersLines r r' w w'' p p'' (Err e)
 last_cut r r' w w' w'' p p' p'' read line whole e st at_end some failed =
     cut r r' w w' w'' p p' p'' read read line [] whole true e st (last_line read line st.kept some) (λ _. at_end) failed
 
 -- a line that ends by a line feed
-pub line_quits : (r r' w w' w'' : Option (List ℕ)) (p p' p'' : FrontState) (came read line bs : List ℕ) (whole whole' b : ℕ) → LoopInvariant r r' w w' p p' came read line whole → came ≡ read ++ b ∷ bs
+pub line_quits : (r r' : Incoming) (w w' w'' : Outgoing) (p p' p'' : FrontState) (came read line bs : List ℕ) (whole whole' b : ℕ) → LoopInvariant r r' w w' p p' came read line whole → came ≡ read ++ b ∷ bs
     → nat_eq b 10 ≡ true
     → is_quit (meaning_of line) ≡ true → Turned p' line p'' w' w'' whole whole' → AnswersLines r r' w w'' p p'' (Ok Quit)
 line_quits r r' w w' w'' p p' p'' came read line bs whole whole' b st e feed stops turned =
     quits r r' w w' w'' p p' p'' came read line (whole_lines bs) whole whole' false st (lines_there read came bs b e feed) (λ (h : false ≡ true). cc) stops turned
 
-pub line_cut : (r r' w w' w'' : Option (List ℕ)) (p p' p'' : FrontState) (came read line bs : List ℕ) (whole b : ℕ) (err : LineEnd) → LoopInvariant r r' w w' p p' came read line whole
+pub line_cut : (r r' : Incoming) (w w' w'' : Outgoing) (p p' p'' : FrontState) (came read line bs : List ℕ) (whole b : ℕ) (err : LineEnd) → LoopInvariant r r' w w' p p' came read line whole
     → came ≡ read ++ b ∷ bs → nat_eq b 10 ≡ true
     → Failed p' line p'' w' w'' whole err → AnswersLines r r' w w'' p p'' (Err err)
 line_cut r r' w w' w'' p p' p'' came read line bs whole b err st e feed failed =
     cut r r' w w' w'' p p' p'' came read line (whole_lines bs) whole false err st (lines_there read came bs b e feed) (λ (h : false ≡ true). cc) failed
 
 -- nothing came yet
-pub invariant_at_first : (r w : Option (List ℕ)) (p : FrontState) (line : List ℕ) → line ≡ [] → LoopInvariant r r w w p p [] [] line 0
+pub invariant_at_first : (r : Incoming) (w : Outgoing) (p : FrontState) (line : List ℕ) → line ≡ [] → LoopInvariant r r w w p p [] [] line 0
 invariant_at_first r w p line e = record {
   texts = [];
-  reads = Consumes-nil r;
-  writes = Appends-nil w;
+  reads = receives_none r;
+  writes = sends_none w;
   turns = refl;
   no_quit = refl;
   kept = e;
@@ -226,11 +226,11 @@ invariant_at_first r w p line e = record {
 }
 
 -- a read that gave some bytes
-pub came_more : (r r' r'' w w' : Option (List ℕ)) (p p' : FrontState) (read line bytes : List ℕ) (whole : ℕ) → LoopInvariant r r' w w' p p' read read line whole → Consumes r' r'' bytes
+pub came_more : (r r' r'' : Incoming) (w w' : Outgoing) (p p' : FrontState) (read line bytes : List ℕ) (whole : ℕ) → LoopInvariant r r' w w' p p' read read line whole → Receives r' r'' bytes
     → LoopInvariant r r'' w w' p p' (read ++ bytes) read line whole
 came_more r r' r'' w w' p p' read line bytes whole st more = record {
   texts = st.texts;
-  reads = Consumes-trans r r' r'' read bytes st.reads more;
+  reads = receives_then r r' r'' read bytes st.reads more;
   writes = st.writes;
   turns = st.turns;
   no_quit = st.no_quit;
@@ -239,28 +239,28 @@ came_more r r' r'' w w' p p' read line bytes whole st more = record {
 }
 
 -- none of the bytes are done with
-pub none_done : (r r' w w' : Option (List ℕ)) (p p' : FrontState) (came before line : List ℕ) (whole : ℕ) → LoopInvariant r r' w w' p p' came before line whole
+pub none_done : (r r' : Incoming) (w w' : Outgoing) (p p' : FrontState) (came before line : List ℕ) (whole : ℕ) → LoopInvariant r r' w w' p p' came before line whole
     → LoopInvariant r r' w w' p p' came (before ++ []) line whole
 none_done r r' w w' p p' came before line whole st = subst (λ read. LoopInvariant r r' w w' p p' came read line whole) (sym (append-nil before)) st
 
 -- all of them are
-pub all_done : (r r' w w' : Option (List ℕ)) (p p' : FrontState) (before bytes came line : List ℕ) (whole i : ℕ) → LoopInvariant r r' w w' p p' came (before ++ take i bytes) line whole
+pub all_done : (r r' : Incoming) (w w' : Outgoing) (p p' : FrontState) (before bytes came line : List ℕ) (whole i : ℕ) → LoopInvariant r r' w w' p p' came (before ++ take i bytes) line whole
     → length bytes ≤ i
     → LoopInvariant r r' w w' p p' came (before ++ bytes) line whole
 all_done r r' w w' p p' before bytes came line whole i st h = subst (λ done. LoopInvariant r r' w w' p p' came (before ++ done) line whole) (take_all i bytes h) st
 
 -- the line by another name
-pub relined : (r r' w w' : Option (List ℕ)) (p p' : FrontState) (came read line slice : List ℕ) (whole : ℕ) → LoopInvariant r r' w w' p p' came read line whole → slice ≡ line
+pub relined : (r r' : Incoming) (w w' : Outgoing) (p p' : FrontState) (came read line slice : List ℕ) (whole : ℕ) → LoopInvariant r r' w w' p p' came read line whole → slice ≡ line
     → LoopInvariant r r' w w' p p' came read slice whole
 relined r r' w w' p p' came read line slice whole st e = subst (λ l. LoopInvariant r r' w w' p p' came read l whole) (sym e) st
 
 -- a read that gave none
-pub last_invariant : (r r' r'' w w' : Option (List ℕ)) (p p' : FrontState) (read line slice buf : List ℕ) (whole n : ℕ) → LoopInvariant r r' w w' p p' read read line whole
-    → Consumes r' r'' (take n buf) → n ≡ 0 → slice ≡ line → LoopInvariant r r'' w w' p p' read read slice whole
+pub last_invariant : (r r' r'' : Incoming) (w w' : Outgoing) (p p' : FrontState) (read line slice buf : List ℕ) (whole n : ℕ) → LoopInvariant r r' w w' p p' read read line whole
+    → Receives r' r'' (take n buf) → n ≡ 0 → slice ≡ line → LoopInvariant r r'' w w' p p' read read slice whole
 last_invariant r r' r'' w w' p p' read line slice buf whole n st more none e =
     relined r r'' w w' p p' read read line slice whole
     (subst (λ came. LoopInvariant r r'' w w' p p' came read line whole) (append-nil read)
-    (came_more r r' r'' w w' p p' read line [] whole st (subst (λ m. Consumes r' r'' (take m buf)) none more))) e
+    (came_more r r' r'' w w' p p' read line [] whole st (subst (λ m. Receives r' r'' (take m buf)) none more))) e
 
 -- what came, at the byte at i
 pub came_at : (before bytes : List ℕ) (i : ℕ) → i < length bytes → before ++ bytes ≡ (before ++ take i bytes) ++ get_or bytes i 0 ∷ drop (suc i) bytes
@@ -279,13 +279,13 @@ some_left items slice r tested false_r same =
     omega (arith, differs, len)
 
 -- more was gone over, and one of its lines was quit
-pub goes_quit : (from left old new : Option (List ℕ)) (d d' : FrontState) (came line : List ℕ) (whole : ℕ) (quits : Bool) → GoesOn from left old new d d' came line whole (Ok quits) → quits ≡ true
+pub goes_quit : (from left : Incoming) (old new : Outgoing) (d d' : FrontState) (came line : List ℕ) (whole : ℕ) (quits : Bool) → GoesOn from left old new d d' came line whole (Ok quits) → quits ≡ true
     → AnswersLines from left old new d d' (Ok Quit)
 goes_quit from left old new d d' came line whole true goes e = goes
 goes_quit from left old new d d' came line whole false goes e = absurd (false≢true e)
 
 -- or none was
-pub goes_further : (from left old new : Option (List ℕ)) (d d' : FrontState) (came line : List ℕ) (whole : ℕ) (quits : Bool) → GoesOn from left old new d d' came line whole (Ok quits) → quits ≡ false
+pub goes_further : (from left : Incoming) (old new : Outgoing) (d d' : FrontState) (came line : List ℕ) (whole : ℕ) (quits : Bool) → GoesOn from left old new d d' came line whole (Ok quits) → quits ≡ false
     → LoopInvariant from left old new d d' came came line whole
 goes_further from left old new d d' came line whole true goes e = absurd (false≢true (sym e))
 goes_further from left old new d d' came line whole false goes e = goes

@@ -1,11 +1,10 @@
 -- How serving ends, and what is written then.
-use Rattle.std.specs.Prelude.{◌≡◌, ℕ, ◌<◌, ◌≤◌, ◌==◌, ◌&&◌, nat_lt, Bool, true, false, List, [], ◌∷◌, ◌++◌, length, take, filter, Option, Result, Ok, Err, if◌then◌else◌}
+use Rattle.std.specs.Prelude.{◌≡◌, ℕ, ◌<◌, ◌≤◌, ◌==◌, ◌&&◌, nat_lt, Bool, true, false, List, [], ◌∷◌, ◌++◌, length, take, filter, Result, Ok, Err, if◌then◌else◌}
 use Rattle.std.specs.List.{concat, list_any, slice_split}
-use Rattle.std.specs.Io.KnownBytes.{Appends, Consumes, IsAtEnd}
+use Rattle.nr_text.specs.Streams.{Incoming, IsOver, Outgoing, Receives, Sends, saturating_count}
 use Rattle.nr_command.specs.Command.{meaning_of}
 use Rattle.nr_journal.specs.Rule.{StartsWith}
 use Rattle.nr_front.specs.FrontState.{FrontState}
-use Rattle.nr_text.specs.Streams.{saturating_count}
 use Rattle.nr_lines.specs.Turn.{Turn, is_quit}
 use Rattle.nr_lines.specs.declared.ending.End.{End}
 use Rattle.nr_lines.specs.declared.ending.End.TheVariants.{Closed, Quit}
@@ -96,17 +95,17 @@ Ends (Ok Quit) ended d lines out d' = Quitted d lines out d'
 Ends (Err Read) ended d lines out d' = (ended ≡ false) × Answered d lines out d'
 Ends (Err (Write whole part)) ended d lines out d' = WrittenInPart d lines whole part out d'
 
--- From a source that had `from` and has `left` some bytes were read, and to a sink that had `old`
--- and has `new` others were written. Those written answer the lines of those read, by a front that
--- was d and is d' then, and nothing else.
-pub record AnswersLines (from left old new : Option (List ℕ)) (d d' : FrontState)
+-- From a source that was `from` and is `left` some bytes were received, and to a sink that was `old` and
+-- is `new` others were sent. Those sent answer the lines of those received, by a front that was d and
+-- is d' then, and nothing else.
+pub record AnswersLines (from left : Incoming) (old new : Outgoing) (d d' : FrontState)
     (result : Result End LineEnd) : Type 0 where
   pub read : List ℕ
   pub out : List ℕ
   pub ended : Bool
-  pub reads : Consumes from left read
-  pub writes : Appends old new out
-  pub at_end : ended ≡ true → IsAtEnd left
+  pub reads : Receives from left read
+  pub writes : Sends old new out
+  pub at_end : ended ≡ true → IsOver left
   pub ends : Ends result ended d (lines_of ended read) out d'
 
 -- it reports that a read failed

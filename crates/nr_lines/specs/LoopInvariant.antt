@@ -1,8 +1,7 @@
 -- The state of the line loop between two lines.
-use Rattle.std.specs.Prelude.{◌≡◌, ℕ, ◌==◌, Bool, true, false, List, [], ◌∷◌, take, Option, Result, Ok, Err}
+use Rattle.std.specs.Prelude.{◌≡◌, ℕ, ◌==◌, Bool, true, false, List, [], ◌∷◌, take, Result, Ok, Err}
 use Rattle.std.specs.List.{concat, slice_split}
-use Rattle.std.specs.Io.KnownBytes.{Appends, Consumes}
-use Rattle.nr_text.specs.Streams.{saturating_count}
+use Rattle.nr_text.specs.Streams.{Incoming, Outgoing, Receives, Sends, saturating_count}
 use Rattle.nr_front.specs.FrontState.{FrontState}
 use Rattle.nr_lines.specs.Engine.{AnswersLines, Turns, has_quit, lines_of, some_count}
 use Rattle.nr_lines.specs.declared.ending.End.TheVariants.{Quit}
@@ -24,11 +23,11 @@ unfinished_line text = last_part (slice_split (λ b. b == 10) text)
 
 -- Of the bytes that came from a source, these were read. Their whole lines are answered, none of
 -- them quit. The line that is kept is what follows them, up to 257 bytes of it.
-pub record LoopInvariant (from left old new : Option (List ℕ)) (d d' : FrontState)
+pub record LoopInvariant (from left : Incoming) (old new : Outgoing) (d d' : FrontState)
     (came read line : List ℕ) (whole : ℕ) : Type 0 where
   pub texts : List (List ℕ)
-  pub reads : Consumes from left came
-  pub writes : Appends old new (concat texts)
+  pub reads : Receives from left came
+  pub writes : Sends old new (concat texts)
   pub turns : Turns d (whole_lines read) texts d'
   pub no_quit : has_quit (whole_lines read) ≡ false
   pub kept : line ≡ take 257 (unfinished_line read)
@@ -36,7 +35,7 @@ pub record LoopInvariant (from left old new : Option (List ℕ)) (d d' : FrontSt
 
 -- How it goes on when all that came was gone over: it is behind all of it, or it was quit, or a
 -- write failed.
-abbrev pub GoesOn : Option (List ℕ) → Option (List ℕ) → Option (List ℕ) → Option (List ℕ)
+abbrev pub GoesOn : Incoming → Incoming → Outgoing → Outgoing
     → FrontState → FrontState → List ℕ → List ℕ → ℕ → Result Bool LineEnd → Type 0
 GoesOn from left old new d d' came line whole (Ok false) =
     LoopInvariant from left old new d d' came came line whole

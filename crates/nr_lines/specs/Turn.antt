@@ -2,8 +2,7 @@
 use Rattle.std.specs.Prelude.{◌≡◌, ℕ, ◌+◌, ◌<◌, nat_lt, Bool, true, false, List, [], length, take, Option, Some, None, Result, Ok, Err, if◌then◌else◌}
 use Rattle.nr_command.specs.Command.{meaning_of}
 use Rattle.nr_command.specs.Reply.{text_of}
-use Rattle.std.specs.Io.KnownBytes.{Appends}
-use Rattle.nr_text.specs.Streams.{saturating_count}
+use Rattle.nr_text.specs.Streams.{Outgoing, Sends, saturating_count}
 use Rattle.nr_command.specs.declared.command.Line.{Line}
 use Rattle.nr_command.specs.declared.command.Line.TheVariants.{Run, Look, Resume, Quit, Empty}
 use Rattle.nr_command.specs.declared.command.LineFault.{LineFault}
@@ -67,11 +66,11 @@ abbrev pub count_with : ℕ → List ℕ → ℕ
 count_with n text = if nat_lt 0 (length text) then saturating_count (n + 1) else n
 
 -- The first n bytes of the text are out, and not the next, and this count reports n.
-abbrev pub StopsAt : Option (List ℕ) → Option (List ℕ) → List ℕ → ℕ → Type 0
+abbrev pub StopsAt : Outgoing → Outgoing → List ℕ → ℕ → Type 0
 StopsAt old new text part =
-    (n : ℕ) × (n < length text) × (part ≡ saturating_count n) × Appends old new (take n text)
+    (n : ℕ) × (n < length text) × (part ≡ saturating_count n) × Sends old new (take n text)
 
 -- A write failed inside this text, and that was reported, with the count of the whole texts before.
-abbrev pub StopsInside : LineEnd → ℕ → List ℕ → Option (List ℕ) → Option (List ℕ) → Type 0
+abbrev pub StopsInside : LineEnd → ℕ → List ℕ → Outgoing → Outgoing → Type 0
 StopsInside ends.Read count text old new = ⊥
 StopsInside (ends.Write whole part) count text old new = (whole ≡ count) × StopsAt old new text part

@@ -1,9 +1,10 @@
 //! The line loop.
 
-ghost use Rattle.std.specs.Prelude.{◌≡◌, ℕ, List, [], ◌∷◌, ◌++◌, Option, Err, IfErr, OnOk, false, take, true};
+ghost use Rattle.std.specs.Prelude.{◌≡◌, ℕ, List, [], ◌∷◌, ◌++◌, Err, IfErr, OnOk, false, take, true};
 ghost use Rattle.nr_front.specs.FrontState.{FrontState};
 ghost use Rattle.nr_lines.specs.Engine.{AnswersLines, is_read_failure, is_write_failure};
 ghost use Rattle.nr_lines.specs.LoopInvariant.{GoesOn, LoopInvariant};
+ghost use Rattle.nr_text.specs.Streams.{Incoming, Outgoing};
 
 use crate::ending::{End, LineEnd};
 use crate::turn::turn;
@@ -42,7 +43,7 @@ where
     requires reader { r.old.failed ≡ false }
     requires writer { w.old.failed ≡ false }
     ensures table { front.new.table ≡ front.old.table }
-    ensures serves { AnswersLines r.old.remaining r.new.remaining w.old.contents w.new.contents
+    ensures serves { AnswersLines r.old r.new w.old w.new
         front.old front.new result }
     ensures reader { r.new.failed ≡ is_read_failure result }
     ensures writer { w.new.failed ≡ is_write_failure result }
@@ -83,10 +84,10 @@ where
     S::Snapshot: Drop + Sync,
     requires { front.old.table ≡ journal.now }
     ensures table { front.new.table ≡ front.old.table }
-    ensures answers { (from left old : Option (List ℕ)) (d : FrontState) (before : List ℕ)
-        → LoopInvariant from left old w.old.contents d front.old
+    ensures answers { (from left : Incoming) (old : Outgoing) (d : FrontState) (before : List ℕ)
+        → LoopInvariant from left old w.old d front.old
         (before ++ bytes.now) before line.old.items whole.old
-        → GoesOn from left old w.new.contents d front.new
+        → GoesOn from left old w.new d front.new
         (before ++ bytes.now) line.new.items whole.new result }
     ensures calm { OnOk result (w.new.failed ≡ w.old.failed) }
     ensures failed { IfErr result (λ e. (w.new.failed ≡ true) × (is_write_failure (Err e) ≡ true)) }

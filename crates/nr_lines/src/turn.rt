@@ -1,7 +1,7 @@
 //! One line and its answer.
 
 ghost use Rattle.std.specs.Prelude.{◌≡◌, ℕ, List, true, IfErr, IfOk, OnErr, OnOk};
-ghost use Rattle.std.specs.Io.KnownBytes.{Appends};
+ghost use Rattle.nr_text.specs.Streams.{Sends};
 ghost use Rattle.nr_command.specs.Command.{meaning_of};
 ghost use Rattle.nr_lines.specs.Turn.{StopsInside, MayReply, Turn, count_with, is_quit, reply_given, resumed, fault_reply};
 
@@ -30,11 +30,11 @@ where
     ensures quits { IfOk result (λ quits. quits ≡ is_quit (meaning_of line.now)) }
     ensures ok { IfOk result (λ _. (text : List ℕ)
         × Turn front.old line.now text front.new
-        × Appends w.old.contents w.new.contents text
+        × Sends w.old w.new text
         × (whole.new ≡ count_with whole.old text)) }
     ensures err { IfErr result (λ e. (text : List ℕ)
         × Turn front.old line.now text front.new
-        × StopsInside e whole.old text w.old.contents w.new.contents) }
+        × StopsInside e whole.old text w.old w.new) }
     ensures calm { OnOk result (w.new.failed ≡ w.old.failed) }
     ensures failed { OnErr result (w.new.failed ≡ true) }
 {

@@ -11,6 +11,6 @@ invariant-loop g l = record {
   reader : l.r.failed ≡ false;
   writer : l.w.failed ≡ false;
   read : List ℕ;
-  invariant_holds : LoopInvariant l.fn.r.remaining l.r.remaining l.fn.w.contents l.w.contents l.fn.front l.front
+  invariant_holds : LoopInvariant l.fn.r l.r l.fn.w l.w l.fn.front l.front
       read read l.line.items l.whole;
 }

@@ -3,7 +3,7 @@ use Rattle.nr_command.specs.Reply.{text_of}
 use Rattle.nr_text.specs.Streams.{saturating_count}
 use Rattle.nr_lines.specs.Turn.{MayReply}
 use Rattle.nr_command.proofs.ReplyLemmas.{has_text}
-use Rattle.std.proofs.KnownBytes.{Appends-nil}
+use Rattle.nr_text.proofs.StreamLemmas.{sends_none}
 use Rattle.nr_lines.proofs.turn.turn.Goals as goal
 
 pub returns-in-Ok-clause-ok : goal.returns-in-Ok-clause-ok
@@ -18,4 +18,4 @@ pub returns-in_default-clause-ok : goal.returns-in_default-clause-ok
 returns-in_default-clause-ok g c =
     let empty : MayReply c.parse-asked.result c.args.front.now None c.reply_to_line.new.front = search rules in
     let asked = subst (λ asked. MayReply asked c.args.front.now None c.reply_to_line.new.front) c.parse-asked.ensures empty in
-    ([], (None, asked, refl), Appends-nil c.args.w.now.contents, refl)
+    ([], (None, asked, refl), sends_none c.args.w.now, refl)
