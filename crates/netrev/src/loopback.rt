@@ -1,9 +1,8 @@
 //! Callers over the loopback.
 
 use crate::arguments::Program;
-use nr_serving::{Connection, Connections, Next, Ports};
+use nr_serving::{Connections, Next, Ports};
 use std::io;
-use std::io::{Read, Write};
 use std::net::{Ipv4Addr, Shutdown, SocketAddr, TcpListener, TcpStream};
 use std::num::NonZeroU32;
 use std::time::Duration;
@@ -11,28 +10,6 @@ use std::time::Duration;
 /// How many milliseconds a read waits once no reply comes any more. A caller who reads up to the end of the replies and
 /// closes is heard in that time; one who stays and says nothing doesn't hold up the next.
 const FAREWELL: u64 = 100;
-
-/// A caller on a port of the loopback.
-#[derive(Drop)]
-pub(crate) struct Caller(TcpStream);
-
-impl Connection for Caller {
-    fn read(&self, buf: &mut [u8]) -> io::Result<usize> {
-        let mut stream = &self.0;
-        stream.read(buf)
-    }
-
-    fn write(&self, bytes: &[u8]) -> io::Result<usize> {
-        let mut stream = &self.0;
-        stream.write(bytes)
-    }
-
-    fn end_replies(&self) -> io::Result<()> {
-        self.0.shutdown(Shutdown::Write)?;
-        self.0
-            .set_read_timeout(Some(Duration::from_millis(FAREWELL)))
-    }
-}
 
 /// The callers at a port, one after the other.
 #[derive(Drop)]
@@ -43,23 +20,34 @@ pub(crate) struct Callers {
     left: Option<u32>,
 }
 
+/// A caller has two handles of its socket.
 impl Connections for Callers {
-    type Connection = Caller;
+    type Reader = TcpStream;
 
-    fn next(&mut self) -> Next<Caller> {
+    type Writer = TcpStream;
+
+    fn next(&mut self) -> Next<TcpStream, TcpStream> {
         if self.left == Some(0) {
             return Next::Ended;
         }
         let Some(listener) = &self.listener else {
             return Next::Failed;
         };
-        let Ok((stream, _)) = listener.accept() else {
+        let Ok((reader, _)) = listener.accept() else {
+            return Next::Failed;
+        };
+        let Ok(writer) = reader.try_clone() else {
             return Next::Failed;
         };
         // replies are short, and go out when they are there; where that can't be set they go out later
-        let _ = stream.set_nodelay(true);
+        let _ = writer.set_nodelay(true);
         self.left = self.left.map(|left| left.saturating_sub(1));
-        Next::Serve(Caller(stream))
+        Next::Serve(reader, writer)
+    }
+
+    fn end_replies(writer: &TcpStream) -> io::Result<()> {
+        writer.shutdown(Shutdown::Write)?;
+        writer.set_read_timeout(Some(Duration::from_millis(FAREWELL)))
     }
 }
 

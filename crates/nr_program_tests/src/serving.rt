@@ -3,11 +3,11 @@ use crate::playing::{Played, record};
 use nr_machine::World;
 use nr_programs::{ExitStatus, Sharing, serve_bytes};
 use nr_replay_tests::{HEADER, WAITS};
-use nr_serving::{Connection, Connections, Next, Ports};
+use nr_serving::{Connections, Next, Ports};
 use nr_text::Sink;
 use std::alloc::{AllocError, Global};
 use std::io;
-use std::io::ErrorKind;
+use std::io::{ErrorKind, Read, Write};
 use std::process::Abort;
 use std::sync::Wait;
 use std::sync::atomic::AtomicU32;
@@ -73,41 +73,48 @@ impl Seen {
 }
 
 /// A caller who plays a part.
-#[derive(Drop)]
+#[derive(Clone, Copy)]
 struct Caller<'a> {
     part: &'a Part,
     seen: &'a Seen,
 }
 
-impl Connection for Caller<'_> {
-    fn read(&self, buf: &mut [u8]) -> io::Result<usize> {
-        let lines = self.part.lines.as_bytes();
-        if self.seen.reads.fetch_add(1, SeqCst) == 0 && lines.len() <= buf.len() {
+/// The lines of a caller.
+#[derive(Drop)]
+struct Lines<'a>(Caller<'a>);
+
+impl Read for Lines<'_> {
+    fn read(&mut self, buf: &mut [u8]) -> io::Result<usize> {
+        let lines = self.0.part.lines.as_bytes();
+        if self.0.seen.reads.fetch_add(1, SeqCst) == 0 && lines.len() <= buf.len() {
             buf[..lines.len()].copy_from_slice(lines);
             return Ok(lines.len());
         }
-        match self.part.then {
+        match self.0.part.then {
             Then::Ends => Ok(0),
             Then::Fails => Err(ErrorKind::Other.into()),
             Then::GoesOn | Then::IsGone => Ok(buf.len()),
         }
     }
+}
 
-    fn write(&self, bytes: &[u8]) -> io::Result<usize> {
-        let count = u32::try_from(bytes.len()).unwrap_or(u32::MAX);
-        let before = self.seen.written.fetch_add(count, SeqCst) as usize;
-        let expected = self.part.replies.as_bytes().get(before..);
-        if expected.is_some_and(|replies| replies.starts_with(bytes)) {
-            let _ = self.seen.right.fetch_add(count, SeqCst);
+/// The replies to a caller.
+#[derive(Drop)]
+struct Replies<'a>(Caller<'a>);
+
+impl Write for Replies<'_> {
+    fn write(&mut self, buf: &[u8]) -> io::Result<usize> {
+        let count = u32::try_from(buf.len()).unwrap_or(u32::MAX);
+        let before = self.0.seen.written.fetch_add(count, SeqCst) as usize;
+        let expected = self.0.part.replies.as_bytes().get(before..);
+        if expected.is_some_and(|replies| replies.starts_with(buf)) {
+            let _ = self.0.seen.right.fetch_add(count, SeqCst);
         }
-        Ok(bytes.len())
+        Ok(buf.len())
     }
 
-    fn end_replies(&self) -> io::Result<()> {
-        match self.part.then {
-            Then::IsGone => Err(ErrorKind::Other.into()),
-            Then::Ends | Then::Fails | Then::GoesOn => Ok(()),
-        }
+    fn flush(&mut self) -> io::Result<()> {
+        Ok(())
     }
 }
 
@@ -119,9 +126,11 @@ struct Callers<'a> {
 }
 
 impl<'a> Connections for Callers<'a> {
-    type Connection = Caller<'a>;
+    type Reader = Lines<'a>;
 
-    fn next(&mut self) -> Next<Caller<'a>> {
+    type Writer = Replies<'a>;
+
+    fn next(&mut self) -> Next<Lines<'a>, Replies<'a>> {
         let Some((part, parts)) = self.parts.split_first() else {
             return Next::Ended;
         };
@@ -130,7 +139,15 @@ impl<'a> Connections for Callers<'a> {
         };
         self.parts = parts;
         self.seen = rest;
-        Next::Serve(Caller { part, seen })
+        let caller = Caller { part, seen };
+        Next::Serve(Lines(caller), Replies(caller))
+    }
+
+    fn end_replies(writer: &Replies<'a>) -> io::Result<()> {
+        match writer.0.part.then {
+            Then::IsGone => Err(ErrorKind::Other.into()),
+            Then::Ends | Then::Fails | Then::GoesOn => Ok(()),
+        }
     }
 }
 

@@ -1,8 +1,8 @@
 //! Callers in memory: each sends its lines at once, and what it is answered is compared.
 
-use nr_serving::{Connection, Connections, Next, Ports};
+use nr_serving::{Connections, Next, Ports};
 use std::io;
-use std::io::ErrorKind;
+use std::io::{ErrorKind, Read, Write};
 use std::sync::atomic::AtomicU32;
 use std::sync::atomic::Ordering::SeqCst;
 
@@ -43,16 +43,20 @@ impl Seen {
 }
 
 /// A caller who plays a part.
-#[derive(Drop)]
+#[derive(Clone, Copy)]
 pub(crate) struct Caller<'a> {
     part: &'a Part,
     seen: &'a Seen,
 }
 
-impl Connection for Caller<'_> {
-    fn read(&self, buf: &mut [u8]) -> io::Result<usize> {
-        let lines = self.part.lines.as_bytes();
-        if self.seen.reads.fetch_add(1, SeqCst) > 0 {
+/// The lines of a caller.
+#[derive(Drop)]
+pub(crate) struct Lines<'a>(Caller<'a>);
+
+impl Read for Lines<'_> {
+    fn read(&mut self, buf: &mut [u8]) -> io::Result<usize> {
+        let lines = self.0.part.lines.as_bytes();
+        if self.0.seen.reads.fetch_add(1, SeqCst) > 0 {
             return Ok(0);
         }
         if lines.len() > buf.len() {
@@ -61,15 +65,25 @@ impl Connection for Caller<'_> {
         buf[..lines.len()].copy_from_slice(lines);
         Ok(lines.len())
     }
+}
 
-    fn write(&self, bytes: &[u8]) -> io::Result<usize> {
-        let count = u32::try_from(bytes.len()).unwrap_or(u32::MAX);
-        let before = self.seen.written.fetch_add(count, SeqCst) as usize;
-        let expected = self.part.replies.as_bytes().get(before..);
-        if expected.is_some_and(|replies| replies.starts_with(bytes)) {
-            let _ = self.seen.right.fetch_add(count, SeqCst);
+/// The replies to a caller.
+#[derive(Drop)]
+pub(crate) struct Replies<'a>(Caller<'a>);
+
+impl Write for Replies<'_> {
+    fn write(&mut self, buf: &[u8]) -> io::Result<usize> {
+        let count = u32::try_from(buf.len()).unwrap_or(u32::MAX);
+        let before = self.0.seen.written.fetch_add(count, SeqCst) as usize;
+        let expected = self.0.part.replies.as_bytes().get(before..);
+        if expected.is_some_and(|replies| replies.starts_with(buf)) {
+            let _ = self.0.seen.right.fetch_add(count, SeqCst);
         }
-        Ok(bytes.len())
+        Ok(buf.len())
+    }
+
+    fn flush(&mut self) -> io::Result<()> {
+        Ok(())
     }
 }
 
@@ -80,11 +94,13 @@ pub(crate) struct Callers<'a> {
 }
 
 impl<'a> Connections for Callers<'a> {
-    type Connection = Caller<'a>;
+    type Reader = Lines<'a>;
 
-    fn next(&mut self) -> Next<Caller<'a>> {
+    type Writer = Replies<'a>;
+
+    fn next(&mut self) -> Next<Lines<'a>, Replies<'a>> {
         match self.caller.take() {
-            Some(caller) => Next::Serve(caller),
+            Some(caller) => Next::Serve(Lines(caller), Replies(caller)),
             None => Next::Ended,
         }
     }

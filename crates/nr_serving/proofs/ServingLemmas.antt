@@ -1,27 +1,33 @@
 -- Callers served one after the other.
-use Rattle.std.proofs.Common.{◌≡◌, List, [], ◌∷◌, ◌++◌, map, Option, Some, None, Result, Bool, ◌||◌, refl, sym, ap, ◌∙◌, subst, append_assoc, append-nil}
+use Rattle.std.proofs.Common.{◌≡◌, List, [], ◌∷◌, ◌++◌, map, Option, Some, None, Bool, ◌||◌, refl, sym, ap, ◌∙◌, subst, append_assoc, append-nil}
 use Rattle.std.specs.List.{list_any}
-use Rattle.std.specs.Prelude.{IfSome, is_err, option_to_list}
+use Rattle.std.specs.Prelude.{IfSome, option_to_list}
 use Rattle.std.proofs.lemmas.List.Folds.{list_any-append}
 use Rattle.std.proofs.Math.Bool.{or-false}
 use Rattle.std.proofs.lemmas.List.{map-append}
 use Rattle.nr_front.specs.FrontState.{FrontState}
-use Rattle.nr_lines.specs.declared.ending.End.{End}
-use Rattle.nr_lines.specs.declared.ending.LineEnd.{LineEnd}
-use Rattle.nr_serving.specs.Fronts.{Adds, AreServed, IsServed, ServesCaller, ServesCallers}
+use Rattle.nr_serving.specs.Fronts.{Adds, AreServed, IsServed, ServesCaller, ServesCallers, came, is_failure}
+use Rattle.nr_serving.specs.Told.{Conversation}
+use Rattle.nr_serving.specs.declared.told.Arrival.{Arrival}
+use Rattle.nr_serving.specs.declared.told.Arrival.TheVariants.{Came}
 use Rattle.nr_serving.specs.declared.fronts.Done.{Done}
 
 -- one caller more
-pub serving_more : (endings : List (Result End LineEnd)) (a b d : FrontState) (ending : Result End LineEnd) → ServesCallers endings a b → ServesCaller ending b d
-    → ServesCallers (endings ++ ending ∷ []) a d
-serving_more [] a b d ending is last = (d, subst (λ (s : FrontState). ServesCaller ending s d) is last, refl)
-serving_more (e ∷ es) a b d ending (mid, first, rest) last = (mid, first, serving_more es mid b d ending rest last)
+pub serving_more : (callers : List Conversation) (a b d : FrontState) (c : Conversation) → ServesCallers callers a b → ServesCaller c b d
+    → ServesCallers (callers ++ c ∷ []) a d
+serving_more [] a b d c is last = (d, subst (λ (s : FrontState). ServesCaller c s d) is last, refl)
+serving_more (one ∷ callers) a b d c (mid, first, rest) last = (mid, first, serving_more callers mid b d c rest last)
 
 -- a failure is reported exactly where one of them ended with one, and so with one more
-pub reported_more : (endings : List (Result End LineEnd)) (ending : Result End LineEnd) (was now : Bool) → was ≡ list_any is_err endings → now ≡ (was || is_err ending)
-    → now ≡ list_any is_err (endings ++ ending ∷ [])
-reported_more endings ending was now reported is =
-    is ∙ ap (λ (t : Bool). t || is_err ending) reported ∙ ap (λ (t : Bool). list_any is_err endings || t) (sym (or-false (is_err ending))) ∙ sym (list_any-append is_err endings (ending ∷ []))
+pub reported_more : (callers : List Conversation) (c : Conversation) (was now : Bool) → was ≡ list_any is_failure callers → now ≡ (was || is_failure c)
+    → now ≡ list_any is_failure (callers ++ c ∷ [])
+reported_more callers c was now reported is =
+    is ∙ ap (λ (t : Bool). t || is_failure c) reported ∙ ap (λ (t : Bool). list_any is_failure callers || t) (sym (or-false (is_failure c))) ∙ sym (list_any-append is_failure callers (c ∷ []))
+
+-- one caller more came and was served
+pub came_more : (callers told : List Conversation) (c : Conversation) (before arrived : List Arrival) → told ≡ callers ++ c ∷ [] → before ≡ came callers → arrived ≡ before ++ Came ∷ []
+    → arrived ≡ came (callers ++ c ∷ [])
+came_more callers told c before arrived is was now = now ∙ ap (λ (l : List Arrival). l ++ Came ∷ []) was ∙ sym (map-append (λ c. Came) callers (c ∷ []))
 
 -- the last of some pairs was taken
 pub last_taken : {A B : Type 0} (old new : List (A × B)) (taken : Option (A × B)) → old ≡ new ++ option_to_list taken
@@ -50,10 +56,10 @@ adds_one starts all old mid new start done whole (more, behind, are) is put = (
 pub adds_none : (starts : List FrontState) (old : List Done) → starts ≡ [] → Adds starts old old
 adds_none starts old none = ([], sym (append-nil old), subst (λ (l : List FrontState). AreServed l []) (sym none) tt)
 
--- what is behind the first nine of some facts
-pub behind_nine : {A B C D E F G H I R : Type 0} → A × (B × (C × (D × (E × (F × (G × (H × (I × R)))))))) → R
-behind_nine (a, (b, (c, (d, (e, (f, (g, (h, (i, rest))))))))) = rest
+-- what is behind the first ten of some facts
+pub behind_ten : {A B C D E F G H I J R : Type 0} → A × (B × (C × (D × (E × (F × (G × (H × (I × (J × R))))))))) → R
+behind_ten (a, (b, (c, (d, (e, (f, (g, (h, (i, (j, rest)))))))))) = rest
 
--- nine facts, and others behind them
-pub nine_before : {A B C D E F G H I R : Type 0} → A × (B × (C × (D × (E × (F × (G × (H × I))))))) → R → A × (B × (C × (D × (E × (F × (G × (H × (I × R))))))))
-nine_before (a, (b, (c, (d, (e, (f, (g, (h, i)))))))) rest = (a, (b, (c, (d, (e, (f, (g, (h, (i, rest)))))))))
+-- ten facts, and others behind them
+pub ten_before : {A B C D E F G H I J R : Type 0} → A × (B × (C × (D × (E × (F × (G × (H × (I × J)))))))) → R → A × (B × (C × (D × (E × (F × (G × (H × (I × (J × R)))))))))
+ten_before (a, (b, (c, (d, (e, (f, (g, (h, (i, j))))))))) rest = (a, (b, (c, (d, (e, (f, (g, (h, (i, (j, rest))))))))))

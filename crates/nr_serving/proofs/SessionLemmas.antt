@@ -31,7 +31,7 @@ ran table r depth workers (s ∷ starts) [] are fresh = absurd are
 ran table r depth workers (s ∷ starts) (d ∷ dones) (is, are) fresh =
     let rest = ran table r depth workers starts dones are (All-tail (IsFresh table r depth workers) s starts fresh) in
     let c = is.course in
-    let tag : c.last.pass_state.tag ≡ s.pass_state.tag = serving_keeps_tag c.endings s c.last is.serving in
+    let tag : c.last.pass_state.tag ≡ s.pass_state.tag = serving_keeps_tag c.callers s c.last is.serving in
     let pass_state : c.last.pass_state ≡ d.pass.pass_state = sym (ap (λ (p : Entered). p.pass_state) is.pass) in
     record {
       courses = c ∷ rest.courses;

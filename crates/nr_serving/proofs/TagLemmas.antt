@@ -10,6 +10,7 @@ use Rattle.nr_lines.specs.declared.ending.LineEnd.{LineEnd}
 use Rattle.nr_lines.specs.declared.ending.LineEnd.TheVariants.{Read, Write}
 use Rattle.nr_lines.proofs.KeptLemmas.{IsKept, turn_keeps, turns_keep}
 use Rattle.nr_serving.specs.Fronts.{ServesCallers}
+use Rattle.nr_serving.specs.Told.{Conversation}
 
 -- the tag is the same
 abbrev HasSameTag : FrontState → FrontState → Type 0
@@ -30,6 +31,6 @@ ends_keep (Err Read) ended d lines out d' e = turns_keep HasSameTag tag d _ _ d'
 ends_keep (Err (Write whole part)) ended d lines out d' e = turn_keeps HasSameTag tag (meaning_of e.line) e.mid e.turn.0 d' e.turn.1 ∙ turns_keep HasSameTag tag d _ _ e.mid e.turns
 
 -- with each caller the front keeps its tag
-pub serving_keeps_tag : (endings : List (Result End LineEnd)) (d d' : FrontState) → ServesCallers endings d d' → d'.pass_state.tag ≡ d.pass_state.tag
+pub serving_keeps_tag : (callers : List Conversation) (d d' : FrontState) → ServesCallers callers d d' → d'.pass_state.tag ≡ d.pass_state.tag
 serving_keeps_tag [] d d' is = ap (λ (t : FrontState). t.pass_state.tag) is
-serving_keeps_tag (ending ∷ endings) d d' (mid, first, rest) = serving_keeps_tag endings mid d' rest ∙ ends_keep ending first.ended d _ _ mid first.ends
+serving_keeps_tag (c ∷ callers) d d' (mid, first, rest) = serving_keeps_tag callers mid d' rest ∙ ends_keep c.ending first.serves.ended d _ _ mid first.serves.ends

@@ -1,3 +1,4 @@
 -- what callers need
 pub mod Fronts
 pub mod Session
+pub mod Told

@@ -58,7 +58,7 @@ pub record BeginsFresh (table : TableId) (r : Recording) (depth workers : ℕ) (
     Type 0 where
   pub start : FrontState
   pub fresh : IsFresh table r depth workers start
-  pub serving : ServesCallers course.endings start course.last
+  pub serving : ServesCallers course.callers start course.last
 
 -- what the front's pass knew in the end
 abbrev pub last_pass_state : Course → PassState

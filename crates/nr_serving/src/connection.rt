@@ -1,6 +1,6 @@
 //! Callers of a front, one after the other.
 
-ghost use Rattle.std.specs.Prelude.{◌≤◌, ◌*◌, ℕ, List, length, IfOk, None};
+ghost use Rattle.std.specs.Prelude.{◌≤◌, ◌*◌, ℕ, List, length};
 ghost use Rattle.std.specs.Io.KnownBytes.{Consumes};
 ghost use Rattle.nr_serving.specs.declared.connection.TheConstants.{AT_ONCE, MOST_READS};
 
@@ -13,27 +13,10 @@ const AT_ONCE: usize = 512;
 /// How often it reads at most.
 const MOST_READS: usize = 64;
 
-/// A caller, who is read and written through a shared reference.
-pub trait Connection {
-    /// Reads some bytes into the buffer, and says how many: none where no more come.
-    fn read(&self, buf: &mut [u8]) -> io::Result<usize>
-        ensures { IfOk result (λ n. n ≤ length buf.new) };
-
-    /// Writes some of the bytes, and says how many.
-    fn write(&self, bytes: &[u8]) -> io::Result<usize>
-        ensures { IfOk result (λ n. n ≤ length bytes.now) };
-
-    /// Says that no reply comes any more: the caller reads an end behind the last one. From then on a read waits for a
-    /// moment at most, and fails where nothing comes. Where this fails, nothing more is read.
-    fn end_replies(&self) -> io::Result<()> {
-        Ok(())
-    }
-}
-
 /// What a front does next.
-pub enum Next<C> {
-    /// It serves this caller.
-    Serve(C),
+pub enum Next<I, O> {
+    /// It serves the caller whose lines come from the one, and the replies to whom go to the other.
+    Serve(I, O),
     /// No caller comes any more.
     Ended,
     /// Its callers can't be had: the port wasn't bound, or a caller wasn't accepted.
@@ -42,36 +25,18 @@ pub enum Next<C> {
 
 /// The callers of a front, one after the other.
 pub trait Connections {
-    type Connection: Connection + Drop + Send;
+    /// Where a caller's lines come from.
+    type Reader: Read + Drop + Send;
+
+    /// Where the replies to a caller go.
+    type Writer: Write + Drop + Send;
 
     /// Waits for the next caller.
-    fn next(&mut self) -> Next<Self::Connection>;
-}
+    fn next(&mut self) -> Next<Self::Reader, Self::Writer>;
 
-/// A connection as a reader. Nothing is known of what it returns.
-#[derive(Drop)]
-pub struct ConnectionReader<'a, C: Connection>(pub &'a C);
-
-impl<C: Connection> Read for ConnectionReader<'_, C> {
-    ghost remaining = { λ _. None };
-
-    fn read(&mut self, buf: &mut [u8]) -> io::Result<usize> {
-        self.0.read(buf)
-    }
-}
-
-/// A connection as a writer. Nothing is known of what it took.
-#[derive(Drop)]
-pub struct ConnectionWriter<'a, C: Connection>(pub &'a C);
-
-impl<C: Connection> Write for ConnectionWriter<'_, C> {
-    ghost contents = { λ _. None };
-
-    fn write(&mut self, buf: &[u8]) -> io::Result<usize> {
-        self.0.write(buf)
-    }
-
-    fn flush(&mut self) -> io::Result<()> {
+    /// Says that no reply comes any more: the caller reads an end behind the last one. From then on a read waits for a
+    /// moment at most, and fails where nothing comes. Where this fails, nothing more is read.
+    fn end_replies(_writer: &Self::Writer) -> io::Result<()> {
         Ok(())
     }
 }

@@ -2,20 +2,18 @@
 
 ghost use Rattle.std.specs.Prelude.{◌≡◌, ◌+◌, ◌≤◌, ◌∷◌, ◌++◌, [], map, vec_len, vec_capacity, IfSome, IfNone};
 ghost use Rattle.std.specs.List.{All};
-ghost use Rattle.nr_lines.specs.Engine as engine;
-ghost use Rattle.nr_serving.specs.Fronts.{Adds, IsServed, ServesCaller};
+ghost use Rattle.nr_serving.specs.Fronts.{Adds, IsServed, ServesCaller, arrival_of};
+ghost use Rattle.nr_serving.specs.Told.{Conversation};
 ghost use denote.Param.Send.{IsSend, IsSync};
 
-use crate::connection::{
-    Connection, ConnectionReader, ConnectionWriter, Connections, Next, read_away,
-};
+use crate::connection::{Connections, Next, read_away};
+use crate::told::{Arrival, Told};
 use nr_front::Front;
 use nr_journal::{Journal, Pass};
 use nr_lines::{End, LineEnd, serve};
 use nr_rev::Worlds;
 use nr_search::Finder;
 use nr_text::{Sink, Source};
-use std::io::{Read, Write};
 use std::sync::Wait;
 use std::thread::{Threads, join};
 
@@ -25,57 +23,35 @@ pub struct Done {
     pub pass: Pass,
     /// Its callers couldn't be had any more, or a read or a write failed.
     pub failed: bool,
+    /// What passed between it and its callers.
+    pub told: Told,
 }
 
-/// How a caller was served, and its streams.
-#[derive(Drop)]
-pub struct Served<I: Read + Drop, O: Write + Drop> {
-    pub ending: Result<End, LineEnd>,
-    pub reader: I,
-    pub writer: O,
-}
-
-/// Answers the lines of a reader by a front, up to the first `quit`, and sends each reply in one piece.
-///
-/// It ends as `nr_lines` says. The reader may be read past the last line that was run.
-pub fn converse<R, I, O, W, F>(
-    rt: &R,
-    reader: I,
-    writer: O,
-    front: &mut Front<'_, W, F>,
-    journal: &Journal,
-) -> Served<I, O>
-where
-    R: Wait,
-    I: Read + Drop,
-    O: Write + Drop,
-    W: Worlds + Drop + Sync,
-    W::Delta: Drop,
-    W::Snapshot: Drop + Sync,
-    F: Finder,
-    requires { front.old.table ≡ journal.now }
-    ensures table { front.new.table ≡ front.old.table }
-    ensures serves { engine.AnswersLines (I.remaining reader) (I.remaining result.reader)
-        (O.contents writer) (O.contents result.writer)
-        front.old front.new result.ending }
+// Waits for the next caller, and notes what came of that.
+fn next_caller<C: Connections>(connections: &mut C, told: &mut Told) -> Next<C::Reader, C::Writer>
+    ensures arrivals { told.new.arrivals ≡ told.old.arrivals ++ arrival_of result ∷ [] }
+    ensures callers { told.new.callers ≡ told.old.callers }
 {
-    let mut source = Source::new(reader);
-    let mut sink = Sink::new(writer);
-    let ending = serve(rt, &mut source, &mut sink, front, journal);
-    Served {
-        ending,
-        reader: source.into_inner(),
-        writer: sink.into_inner(),
-    }
+    let next = connections.next();
+    let arrival = match &next {
+        Next::Serve(_, _) => Arrival::Came,
+        Next::Ended => Arrival::Ended,
+        Next::Failed => Arrival::Failed,
+    };
+    *told = told.arrived(&arrival);
+    next
 }
 
-// Serves a caller. `read_away` drops what it sends after `quit`: closing a connection with unread bytes may lose the
-// last reply on its way.
+// Serves a caller by a front: answers its lines, up to the first `quit`, sends each reply in one piece, and notes what
+// passed. `read_away` drops what it sends after `quit`: closing a connection with unread bytes may lose the last reply on
+// its way.
 fn serve_caller<R, W, F, C>(
     rt: &R,
-    connection: &C,
+    reader: C::Reader,
+    writer: C::Writer,
     front: &mut Front<'_, W, F>,
     journal: &Journal,
+    told: &mut Told,
 ) -> Result<End, LineEnd>
 where
     R: Wait,
@@ -83,25 +59,24 @@ where
     W::Delta: Drop,
     W::Snapshot: Drop + Sync,
     F: Finder,
-    C: Connection,
+    C: Connections,
     requires { front.old.table ≡ journal.now }
     ensures table { front.new.table ≡ front.old.table }
-    ensures serves { ServesCaller result front.old front.new }
+    ensures arrivals { told.new.arrivals ≡ told.old.arrivals }
+    ensures serves { (c : Conversation) × (told.new.callers ≡ told.old.callers ++ c ∷ [])
+        × (c.ending ≡ result) × ServesCaller c front.old front.new }
 {
-    let mut served = converse(
-        rt,
-        ConnectionReader(connection),
-        ConnectionWriter(connection),
-        front,
-        journal,
-    );
-    if matches!(served.ending, Ok(End::Quit)) && connection.end_replies().is_ok() {
-        read_away(&mut served.reader);
+    let mut source = Source::new(reader);
+    let mut sink = Sink::new(writer);
+    let ending = serve(rt, &mut source, &mut sink, front, journal);
+    *told = told.and(&source, &sink, &ending);
+    if matches!(ending, Ok(End::Quit)) && C::end_replies(&sink.into_inner()).is_ok() {
+        read_away(&mut source.into_inner());
     }
-    served.ending
+    ending
 }
 
-// Serves a front's callers one after the other, and returns its pass.
+// Serves a front's callers one after the other, and returns its pass, with what passed.
 fn serve_one<R, W, F, C>(
     rt: &R,
     journal: &Journal,
@@ -119,22 +94,27 @@ where
     ensures { IsServed front.entry result }
 {
     let mut failed = false;
+    let mut told = Told::new();
     for _ in rt.forever() {
-        match connections.next() {
-            Next::Serve(connection) => {
-                let ending = serve_caller(rt, &connection, &mut front, journal);
+        match next_caller(&mut connections, &mut told) {
+            Next::Serve(reader, writer) => {
+                let ending = serve_caller::<R, W, F, C>(
+                    rt, reader, writer, &mut front, journal, &mut told,
+                );
                 failed = failed | ending.is_err();
             }
             Next::Ended => {
                 return Done {
                     pass: front.end(),
                     failed,
+                    told,
                 };
             }
             Next::Failed => {
                 return Done {
                     pass: front.end(),
                     failed: true,
+                    told,
                 };
             }
         }
@@ -176,7 +156,7 @@ where
         move || -> Vec<Done>
             requires { IsSync R.row × IsSend W.row × IsSync W.row × IsSend W.Delta.row
                 × IsSync W.Snapshot.row × IsSend F.row × IsSync F.Runtime.row × IsSync F.Gate.row
-                × IsSend C.row × IsSend C.Connection.row
+                × IsSend C.row × IsSend C.Reader.row × IsSend C.Writer.row
                 × All (λ f. f.0.table ≡ journal.now) fronts.items
                 × (vec_len done + vec_len fronts ≤ vec_capacity done) }
             ensures served { Adds (map (λ f. f.0) fronts.entry.items) done.items result.items }

@@ -4,9 +4,9 @@
 mod connection;
 mod fronts;
 mod session;
+mod told;
 
-pub use connection::{
-    Connection, ConnectionReader, ConnectionWriter, Connections, Next, Ports, read_away,
-};
-pub use fronts::{Done, Served, converse, serve_each};
+pub use connection::{Connections, Next, Ports, read_away};
+pub use fronts::{Done, serve_each};
 pub use session::{Ended, Shape, Unshared, share};
+pub use told::{Arrival, Told};

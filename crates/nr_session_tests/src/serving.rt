@@ -3,11 +3,11 @@
 use nr_machine::World;
 use nr_replay_tests::ticking;
 use nr_search::OneWorker;
-use nr_serving::{Connection, Connections, Ended, Next, Ports, Shape, share};
+use nr_serving::{Connections, Ended, Next, Ports, Shape, share};
 use nr_snaps::Film;
 use std::alloc::Global;
 use std::io;
-use std::io::ErrorKind;
+use std::io::{ErrorKind, Read, Write};
 use std::process::Abort;
 use std::sync::Wait;
 use std::sync::atomic::AtomicBool;
@@ -17,14 +17,13 @@ use std::thread::Threads;
 
 /// Gives its line once, and where it waits, only once the other was written to.
 #[derive(Drop)]
-struct Wire<'a> {
+struct Giving<'a> {
     line: &'a [u8],
     given: &'a AtomicBool,
     waits: Option<&'a AtomicBool>,
-    written: &'a AtomicBool,
 }
 
-impl Wire<'_> {
+impl Giving<'_> {
     fn may_give(&self) -> bool {
         let Some(written) = self.waits else {
             return true;
@@ -38,8 +37,8 @@ impl Wire<'_> {
     }
 }
 
-impl Connection for Wire<'_> {
-    fn read(&self, buf: &mut [u8]) -> io::Result<usize> {
+impl Read for Giving<'_> {
+    fn read(&mut self, buf: &mut [u8]) -> io::Result<usize> {
         if self.given.load(SeqCst) || self.line.len() > buf.len() {
             return Ok(0);
         }
@@ -51,11 +50,28 @@ impl Connection for Wire<'_> {
         buf[..count].copy_from_slice(self.line);
         Ok(count)
     }
+}
 
-    fn write(&self, bytes: &[u8]) -> io::Result<usize> {
-        self.written.store(true, SeqCst);
-        Ok(bytes.len())
+/// Notes that it was written to.
+#[derive(Drop)]
+struct Noting<'a>(&'a AtomicBool);
+
+impl Write for Noting<'_> {
+    fn write(&mut self, buf: &[u8]) -> io::Result<usize> {
+        self.0.store(true, SeqCst);
+        Ok(buf.len())
     }
+
+    fn flush(&mut self) -> io::Result<()> {
+        Ok(())
+    }
+}
+
+/// A caller with one line.
+#[derive(Drop)]
+struct Wire<'a> {
+    giving: Giving<'a>,
+    noting: Noting<'a>,
 }
 
 /// One caller, or none any more.
@@ -65,11 +81,13 @@ struct Caller<'a> {
 }
 
 impl<'a> Connections for Caller<'a> {
-    type Connection = Wire<'a>;
+    type Reader = Giving<'a>;
 
-    fn next(&mut self) -> Next<Wire<'a>> {
+    type Writer = Noting<'a>;
+
+    fn next(&mut self) -> Next<Giving<'a>, Noting<'a>> {
         match self.wire.take() {
-            Some(wire) => Next::Serve(wire),
+            Some(Wire { giving, noting }) => Next::Serve(giving, noting),
             None => Next::Ended,
         }
     }
@@ -91,25 +109,29 @@ impl<'a> Ports for Wires<'a> {
     fn open(&mut self, front: usize) -> Caller<'a> {
         let wire = if front == 0 {
             Wire {
-                line: b"stepi 3\n".as_slice(),
-                given: self.given,
-                waits: if self.first_waits {
-                    Some(self.reported)
-                } else {
-                    None
+                giving: Giving {
+                    line: b"stepi 3\n".as_slice(),
+                    given: self.given,
+                    waits: if self.first_waits {
+                        Some(self.reported)
+                    } else {
+                        None
+                    },
                 },
-                written: self.answered,
+                noting: Noting(self.answered),
             }
         } else {
             Wire {
-                line: b"rsi\n".as_slice(),
-                given: self.more,
-                waits: if self.first_waits {
-                    None
-                } else {
-                    Some(self.answered)
+                giving: Giving {
+                    line: b"rsi\n".as_slice(),
+                    given: self.more,
+                    waits: if self.first_waits {
+                        None
+                    } else {
+                        Some(self.answered)
+                    },
                 },
-                written: self.reported,
+                noting: Noting(self.reported),
             }
         };
         Caller { wire: Some(wire) }

@@ -48,8 +48,8 @@ def play_reset(folder):
 
 
 def play_no_descriptor(_folder):
-    """Four fronts that wait for callers take eleven of them. With room for nine some front finds none, and ends as one that
-    failed; the others are served."""
+    """Four fronts that wait for callers take seven of them, and each caller two. With room for nine some front finds none, and
+    ends as one that failed; the others are served."""
     through = ["sh", "-c", 'ulimit -n 9; exec "$@"', "sh"]
     with Server(FIRST, fronts=4, through=through) as server:
         served = [caller for front in range(4) if (caller := answered(server.port + front)) is not None]

@@ -1,0 +1,100 @@
+-- What passes between a front and its callers.
+use Rattle.std.specs.Prelude.{◌≡◌, ℕ, Bool, true, false, List, Option, Some, None, Result, Ok, Err, refl}
+use Rattle.std.specs.Coded.{Coded, code_by, coded×, coded_ℕ, coded_bool, coded_list, coded_option}
+use mathlib.Core.Path.{ap}
+use Rattle.nr_text.specs.Streams.{Incoming, Outgoing}
+use Rattle.nr_lines.specs.declared.ending.End.{End}
+use Rattle.nr_lines.specs.declared.ending.End.TheVariants.{Closed, Quit}
+use Rattle.nr_lines.specs.declared.ending.LineEnd.{LineEnd}
+use Rattle.nr_lines.specs.declared.ending.LineEnd.TheVariants.{Read, Write}
+use Rattle.nr_serving.specs.declared.told.Arrival.{Arrival}
+use Rattle.nr_serving.specs.declared.told.Arrival.TheVariants as arrivals
+
+-- What passed between a front and a caller: what was received from the caller, what was sent, and how
+-- serving the caller ended.
+pub record Conversation : Type 0 where
+  pub input : Incoming
+  pub output : Outgoing
+  pub ending : Result End LineEnd
+
+-- ---- how the prover stores these
+
+abbrev number_of : Arrival → Option Bool
+number_of arrivals.Came = None
+number_of arrivals.Ended = Some false
+number_of arrivals.Failed = Some true
+
+abbrev arrival_of : Option Bool → Arrival
+arrival_of None = arrivals.Came
+arrival_of (Some false) = arrivals.Ended
+arrival_of (Some true) = arrivals.Failed
+
+pub arrival_of-number_of : (arrival : Arrival) → arrival_of (number_of arrival) ≡ arrival
+arrival_of-number_of arrivals.Came = refl
+arrival_of-number_of arrivals.Ended = refl
+arrival_of-number_of arrivals.Failed = refl
+
+abbrev pub arrivals_code : Coded (List Arrival)
+arrivals_code =
+    coded_list (code_by (Option Bool) (coded_option coded_bool) number_of arrival_of arrival_of-number_of)
+
+abbrev EndingParts : Type 0
+EndingParts = Option (Option (Option (ℕ × ℕ)))
+
+abbrev ending_parts : Result End LineEnd → EndingParts
+ending_parts (Ok Closed) = None
+ending_parts (Ok Quit) = Some None
+ending_parts (Err Read) = Some (Some None)
+ending_parts (Err (Write whole part)) = Some (Some (Some (whole, part)))
+
+abbrev ending_of : EndingParts → Result End LineEnd
+ending_of None = Ok Closed
+ending_of (Some None) = Ok Quit
+ending_of (Some (Some None)) = Err Read
+ending_of (Some (Some (Some p))) = Err (Write p.0 p.1)
+
+pub ending_of-ending_parts : (ending : Result End LineEnd) → ending_of (ending_parts ending) ≡ ending
+ending_of-ending_parts (Ok Closed) = refl
+ending_of-ending_parts (Ok Quit) = refl
+ending_of-ending_parts (Err Read) = refl
+ending_of-ending_parts (Err (Write whole part)) = refl
+
+abbrev InputParts : Type 0
+InputParts = Option (List ℕ) × (List ℕ × (Bool × Bool))
+
+abbrev OutputParts : Type 0
+OutputParts = Option (List ℕ) × (List ℕ × Bool)
+
+abbrev Parts : Type 0
+Parts = InputParts × (OutputParts × EndingParts)
+
+abbrev to_parts : Conversation → Parts
+to_parts c = (
+  (c.input.remaining, (c.input.received, (c.input.ended, c.input.failed))),
+  ((c.output.contents, (c.output.sent, c.output.failed)), ending_parts c.ending),
+)
+
+abbrev from_parts : Parts → Conversation
+from_parts p = record {
+  input = record {
+    remaining = p.0.0;
+    received = p.0.1.0;
+    ended = p.0.1.1.0;
+    failed = p.0.1.1.1;
+  };
+  output = record { contents = p.1.0.0; sent = p.1.0.1.0; failed = p.1.0.1.1 };
+  ending = ending_of p.1.1;
+}
+
+pub from_parts-to_parts : (c : Conversation) → from_parts (to_parts c) ≡ c
+from_parts-to_parts c =
+    ap (λ (e : Result End LineEnd). record { input = c.input; output = c.output; ending = e })
+    (ending_of-ending_parts c.ending)
+
+abbrev pub conversations_code : Coded (List Conversation)
+conversations_code =
+    coded_list (code_by Parts
+    (coded× (coded× (coded_option (coded_list coded_ℕ)) (coded× (coded_list coded_ℕ) (coded× coded_bool coded_bool)))
+    (coded× (coded× (coded_option (coded_list coded_ℕ)) (coded× (coded_list coded_ℕ) coded_bool))
+    (coded_option (coded_option (coded_option (coded× coded_ℕ coded_ℕ))))))
+    to_parts from_parts from_parts-to_parts)
