@@ -1,9 +1,8 @@
 -- What a program does over its file, and what is printed where none runs.
 use Rattle.std.specs.Prelude.{◌≡◌, ℕ, true, List, take, codes}
-use Rattle.std.specs.Io.KnownBytes.{Appends}
 use Rattle.std.specs.declared.io.ErrorKind.{ErrorKind}
 use Rattle.std.specs.declared.io.ErrorKind.TheVariants as kind
-use Rattle.nr_text.specs.Streams.{Incoming, Outgoing}
+use Rattle.nr_text.specs.Streams.{Incoming, Outgoing, Sends}
 use Rattle.nr_recording.specs.Faults.{memory_line}
 use Rattle.nr_programs.specs.Run.{Checks, EndsPrinting, Runs}
 use Rattle.nr_programs.specs.Serving.{ServesAll}
@@ -60,7 +59,7 @@ abbrev pub PrintsUnstarted : Unstarted → Outgoing → Outgoing → Outgoing �
     → Type 0
 PrintsUnstarted unstarted.Usage old new before after status =
     (status ≡ statuses.Usage) × (new ≡ old)
-    × ((n : ℕ) × Appends before.contents after.contents (take n usage_text))
+    × ((n : ℕ) × Sends before after (take n usage_text))
 PrintsUnstarted unstarted.Memory old new before after status =
     EndsPrinting memory_line statuses.Refused old new status × (after ≡ before)
 PrintsUnstarted unstarted.File old new before after status =

@@ -3,5 +3,6 @@ pub mod OpeningLemmas
 pub mod RepliesLemmas
 pub mod ServingLemmas
 pub mod SharedLemmas
-pub mod TranscriptLemmas
+pub mod ShownLemmas
+mod TranscriptLemmas
 pub mod UpgradeLemmas

@@ -1,13 +1,17 @@
 -- Line after line, what is written is the transcript.
-use Rattle.std.proofs.Common.{◌≡◌, ◌⊎◌, inl, inr, ℕ, Bool, true, false, cond, not, ◌||◌, List, [], ◌∷◌, ◌++◌, take, drop, Result, Ok, Err, refl, sym, ap, ◌∙◌, subst, append-nil, append_assoc, take-append-drop}
-use Rattle.std.specs.Io.KnownBytes.{Appends, Consumes, IsAtEnd}
+use Rattle.std.proofs.Common.{Option, None, Some, ◌≡◌, ◌⊎◌, inl, inr, ℕ, Bool, true, false, cond, not, ◌||◌, List, [], ◌∷◌, ◌++◌, take, drop, Result, Ok, Err, refl, sym, ap, ◌∙◌, subst, append-nil, append_assoc, take-append-drop}
+use Rattle.nr_text.specs.Streams.{Incoming, IsOver, Outgoing, Receives, Sends}
 use Rattle.std.specs.List.{All, concat}
-use Rattle.std.proofs.KnownBytes.{Consumes-nil}
+use Rattle.nr_text.proofs.StreamLemmas.{receives_none}
 use Rattle.std.proofs.lemmas.List.Elements.{All-cons, All-head, All-nil, All-push, All-tail}
 use Rattle.std.proofs.lemmas.List.Folds.{concat-append}
 use Rattle.nr_rev.specs.Run.{Recording}
-use Rattle.nr_text.specs.Streams.{Incoming, Outgoing}
-use Rattle.nr_journal.specs.Rule.{StartsWith}
+use Rattle.nr_journal.specs.Rule.{StartsWith, journal_room}
+use Rattle.nr_command.specs.declared.command.Command.{Command}
+use Rattle.nr_command.specs.declared.command.Line.{Line}
+use Rattle.nr_command.specs.declared.command.Line.TheVariants.{Run, Look, Resume, Empty}
+use Rattle.nr_command.specs.declared.command.Line.TheVariants as lines
+use Rattle.nr_command.specs.declared.command.LineFault.{LineFault}
 use Rattle.nr_command.specs.Command.{meaning_of}
 use Rattle.nr_front.specs.FrontState.{FrontState}
 use Rattle.nr_lines.specs.Engine.{Answered, AnswersLines, Quitted, Turns, WrittenInPart, has_quit, is_read_failure, is_write_failure, lines_of}
@@ -21,7 +25,8 @@ use Rattle.nr_recording.specs.declared.fault.ReadFault.TheVariants as read
 use Rattle.nr_snaps.specs.declared.fault.LoadFault.TheVariants as load
 use Rattle.nr_programs.specs.Opening.{IsFirstFault, IsGoodText, fault_line, opened}
 use Rattle.nr_programs.specs.Run.{PrintsFault, Walks, status_after}
-use Rattle.nr_programs.specs.Transcript.{Met, RunsTranscript, Standing, Transcribes, calm, line_answer, replies, replies_over, start, status_of, texts, transcript_by}
+use Rattle.nr_programs.specs.Shared.{MeetsOthers, StartsList, words_seen, words_with}
+use Rattle.nr_programs.specs.Transcript.{AllMayMeet, MayMeet, Met, RunsTranscript, UnlessQuit, SessionState, Transcribes, calm, line_answer, replies, replies_over, start, status_of, texts, transcript_by}
 use Rattle.nr_programs.specs.declared.opening.OpenFault.{OpenFault}
 use Rattle.nr_programs.specs.declared.opening.OpenFault.TheVariants.{Load}
 use Rattle.nr_programs.specs.declared.opening.OpenFault.TheVariants as openings
@@ -30,16 +35,29 @@ use Rattle.nr_programs.specs.declared.run.ExitStatus.TheVariants.{Done, Refused,
 use Rattle.nr_programs.proofs.FaultLemmas.{IsOwn, opened_faulty, opened_good}
 use Rattle.nr_programs.proofs.TranscriptLemmas.{Stands, line_given}
 
+-- what was written is all of it
+pub all_of : (whole out : List ℕ) → out ≡ whole → StartsWith whole out
+all_of whole out is = ([], sym is ∙ sym (append-nil out))
+
 -- one line: its text, and where the front stands then
-record Goes (r : Recording) (s : Standing) (d : FrontState) (line text : List ℕ) (d' : FrontState) : Type 0 where
+record Goes (r : Recording) (s : SessionState) (d : FrontState) (line text : List ℕ) (d' : FrontState) : Type 0 where
   pub met : Met
-  pub after : Standing
+  pub after : SessionState
   pub there : Stands r after d'
   pub company : d'.pass_state.alone ≡ d.pass_state.alone
   pub no_others : d.pass_state.alone ≡ true → met.others ≡ []
   pub text_is : (lines : List (List ℕ)) (more : List Met) → texts r s (line ∷ lines) (met ∷ more) ≡ text ∷ cond (is_quit (meaning_of line)) [] (texts r after lines more)
+  pub tag : d'.pass_state.tag ≡ d.pass_state.tag
+  pub seen : d'.pass_state.seen ≡ d.pass_state.seen ++ words_with d.pass_state.tag s.owed (meaning_of line) met
+  pub words_are : (tag : ℕ) (lines : List (List ℕ)) (more : List Met)
+      → words_seen tag r s (line ∷ lines) (met ∷ more) ≡ words_with tag s.owed (meaning_of line) met ++ cond (is_quit (meaning_of line)) [] (words_seen tag r after lines more)
+  pub theirs : MeetsOthers d.pass_state.tag met
+  pub table : d'.table ≡ d.table
+  pub may : MayMeet r (journal_room d.table) s.owed (meaning_of line) met s
+  pub may_be : (room : ℕ) (lines : List (List ℕ)) (more : List Met) → MayMeet r room s.owed (meaning_of line) met s → UnlessQuit (is_quit (meaning_of line)) (AllMayMeet r room after lines more)
+      → AllMayMeet r room s (line ∷ lines) (met ∷ more)
 
-goes : (r : Recording) (s : Standing) (d : FrontState) (line text : List ℕ) (d' : FrontState) → Stands r s d → Turn d line text d' → Goes r s d line text d'
+goes : (r : Recording) (s : SessionState) (d : FrontState) (line text : List ℕ) (d' : FrontState) → Stands r s d → Turn d line text d' → Goes r s d line text d'
 goes r s d line text d' here turn =
     let given = line_given r s d here (meaning_of line) turn.0 d' turn.1 in
     let a = line_answer r s.owed (meaning_of line) given.met s in
@@ -50,6 +68,13 @@ goes r s d line text d' here turn =
       company = given.company;
       no_others = given.no_others;
       text_is = λ lines more. ap (λ (t : List ℕ). t ∷ cond (is_quit (meaning_of line)) [] (texts r a.1 lines more)) (ap text_or_none given.reply_is ∙ sym turn.2);
+      tag = given.tag;
+      seen = given.seen;
+      words_are = λ tag lines more. refl;
+      theirs = given.theirs;
+      table = given.table;
+      may = given.may;
+      may_be = λ room lines more one later. (one, later);
     }
 
 neither : (a b : Bool) → (a || b) ≡ false → (a ≡ false) × (b ≡ false)
@@ -61,15 +86,31 @@ abbrev pub MeetsNoOther : Met → Type 0
 MeetsNoOther m = m.others ≡ []
 
 -- lines none of which is quit
-record GoOn (r : Recording) (s : Standing) (d : FrontState) (lines given : List (List ℕ)) (d' : FrontState) : Type 0 where
+record GoOn (r : Recording) (s : SessionState) (d : FrontState) (lines given : List (List ℕ)) (d' : FrontState) : Type 0 where
   pub met : List Met
-  pub after : Standing
+  pub after : SessionState
   pub there : Stands r after d'
   pub company : d'.pass_state.alone ≡ d.pass_state.alone
   pub no_others : d.pass_state.alone ≡ true → All MeetsNoOther met
   pub texts_are : (later : List (List ℕ)) (more : List Met) → texts r s (lines ++ later) (met ++ more) ≡ given ++ texts r after later more
+  pub tag : d'.pass_state.tag ≡ d.pass_state.tag
+  pub words : List ℕ
+  pub seen : d'.pass_state.seen ≡ d.pass_state.seen ++ words
+  pub words_are : (later : List (List ℕ)) (more : List Met)
+      → words_seen d.pass_state.tag r s (lines ++ later) (met ++ more) ≡ words ++ words_seen d.pass_state.tag r after later more
+  pub theirs : All (MeetsOthers d.pass_state.tag) met
+  pub table : d'.table ≡ d.table
+  pub may_be : (later : List (List ℕ)) (more : List Met) → AllMayMeet r (journal_room d.table) after later more → AllMayMeet r (journal_room d.table) s (lines ++ later) (met ++ more)
 
-go_on : (r : Recording) (s : Standing) (d : FrontState) (lines given : List (List ℕ)) (d' : FrontState) → Stands r s d → has_quit lines ≡ false → Turns d lines given d' → GoOn r s d lines given d'
+unless_not : (quits : Bool) {later : Type 0} → quits ≡ false → later → UnlessQuit quits later
+unless_not true is later = cc
+unless_not false is later = later
+
+unless_quit : (quits : Bool) (later : Type 0) → quits ≡ true → UnlessQuit quits later
+unless_quit true later is = tt
+unless_quit false later is = cc
+
+go_on : (r : Recording) (s : SessionState) (d : FrontState) (lines given : List (List ℕ)) (d' : FrontState) → Stands r s d → has_quit lines ≡ false → Turns d lines given d' → GoOn r s d lines given d'
 go_on r s d [] [] d' here none is = record {
   met = [];
   after = s;
@@ -77,6 +118,13 @@ go_on r s d [] [] d' here none is = record {
   company = ap (λ (x : FrontState). x.pass_state.alone) is;
   no_others = λ _. All-nil MeetsNoOther;
   texts_are = λ later more. refl;
+  tag = ap (λ (x : FrontState). x.pass_state.tag) is;
+  words = [];
+  seen = ap (λ (x : FrontState). x.pass_state.seen) is ∙ sym (append-nil d.pass_state.seen);
+  words_are = λ later more. refl;
+  theirs = All-nil (MeetsOthers d.pass_state.tag);
+  table = ap (λ (x : FrontState). x.table) is;
+  may_be = λ later more may. may;
 }
 go_on r s d [] (text ∷ given) d' here none h = absurd h
 go_on r s d (line ∷ lines) [] d' here none h = absurd h
@@ -84,6 +132,7 @@ go_on r s d (line ∷ lines) (text ∷ given) d' here none h =
     let no = neither (is_quit (meaning_of line)) (has_quit lines) none in
     let one = goes r s d line text h.0 here h.1 in
     let rest = go_on r one.after h.0 lines given d' one.there no.1 h.2 in
+    let here_words = words_with d.pass_state.tag s.owed (meaning_of line) one.met in
     record {
       met = one.met ∷ rest.met;
       after = rest.after;
@@ -92,6 +141,21 @@ go_on r s d (line ∷ lines) (text ∷ given) d' here none h =
       no_others = λ alone. All-cons MeetsNoOther one.met rest.met (one.no_others alone) (rest.no_others (one.company ∙ alone));
       texts_are = λ later more. one.text_is (lines ++ later) (rest.met ++ more) ∙ ap (λ q. text ∷ cond q [] (texts r one.after (lines ++ later) (rest.met ++ more))) no.0
           ∙ ap (λ (l : List (List ℕ)). text ∷ l) (rest.texts_are later more);
+      tag = rest.tag ∙ one.tag;
+      words = here_words ++ rest.words;
+      seen = rest.seen ∙ ap (λ (l : List ℕ). l ++ rest.words) one.seen ∙ append_assoc d.pass_state.seen here_words rest.words;
+      words_are = λ later more. one.words_are d.pass_state.tag (lines ++ later) (rest.met ++ more)
+          ∙ ap (λ q. here_words ++ cond q [] (words_seen d.pass_state.tag r one.after (lines ++ later) (rest.met ++ more))) no.0
+          ∙ ap (λ (l : List ℕ). here_words ++ l) (subst (λ (t : ℕ). words_seen t r one.after (lines ++ later) (rest.met ++ more) ≡ rest.words ++ words_seen t r rest.after later more) one.tag (rest.words_are later more))
+          ∙ sym (append_assoc here_words rest.words (words_seen d.pass_state.tag r rest.after later more));
+      theirs = All-cons (MeetsOthers d.pass_state.tag) one.met rest.met one.theirs (subst (λ (t : ℕ). All (MeetsOthers t) rest.met) one.tag rest.theirs);
+      table = rest.table ∙ one.table;
+      may_be = λ later more may.
+          let room : journal_room h.0.table ≡ journal_room d.table = ap journal_room one.table in
+          one.may_be (journal_room d.table) (lines ++ later) (rest.met ++ more) one.may
+          (unless_not (is_quit (meaning_of line)) no.0
+          (subst (λ (k : ℕ). AllMayMeet r k one.after (lines ++ later) (rest.met ++ more)) room
+          (rest.may_be later more (subst (λ (k : ℕ). AllMayMeet r k rest.after later more) (sym room) may))));
     }
 
 -- the turns of lines and of one more
@@ -124,16 +188,82 @@ lines_behind ended text front line back split =
     (back ++ more.0, more.1 ∙ ap (λ (l : List (List ℕ)). l ++ more.0) split ∙ append_assoc front (line ∷ back) more.0)
 
 -- what was written, and where the front stands then
-pub record Replied (r : Recording) (s : Standing) (d d' : FrontState) (says : List Met → Type 0) : Type 0 where
+pub record Replied (r : Recording) (s : SessionState) (d d' : FrontState) (lines : List (List ℕ)) (out : List ℕ) (says : List Met → Type 0) : Type 0 where
   pub met : List Met
+  pub ran : List (List ℕ)
+  pub first : StartsList lines ran
+  pub told : StartsWith (concat (texts r s ran met)) out
+  pub seen : d'.pass_state.seen ≡ d.pass_state.seen ++ words_seen d.pass_state.tag r s ran met
+  pub tag : d'.pass_state.tag ≡ d.pass_state.tag
+  pub theirs : All (MeetsOthers d.pass_state.tag) met
+  pub may : AllMayMeet r (journal_room d.table) s lines met
+  pub table : d'.table ≡ d.table
   pub no_others : d.pass_state.alone ≡ true → All MeetsNoOther met
-  pub after : Standing
+  pub after : SessionState
   pub there : Stands r after d'
   pub says_it : says met
 
-module _ (r : Recording) (s : Standing) (d d' : FrontState) (here : Stands r s d) (read out : List ℕ) where
+-- the words that were seen with lines and with one more
+seen_with : (r : Recording) (s : SessionState) (d : FrontState) (front : List (List ℕ)) (line : List ℕ) (given : List (List ℕ)) (text : List ℕ) (mid d' : FrontState) (on : GoOn r s d front given mid)
+    → (last : Goes r on.after mid line text d') → d'.pass_state.seen ≡ d.pass_state.seen ++ words_seen d.pass_state.tag r s (front ++ line ∷ []) (on.met ++ last.met ∷ [])
+seen_with r s d front line given text mid d' on last =
+    let own = words_with mid.pass_state.tag on.after.owed (meaning_of line) last.met in
+    let alone : words_seen mid.pass_state.tag r on.after (line ∷ []) (last.met ∷ []) ≡ own =
+    last.words_are mid.pass_state.tag [] [] ∙ ap (λ (l : List ℕ). own ++ l) (none_behind (is_quit (meaning_of line))) ∙ append-nil own in
+    let same : words_seen d.pass_state.tag r on.after (line ∷ []) (last.met ∷ []) ≡ own = subst (λ (t : ℕ). words_seen t r on.after (line ∷ []) (last.met ∷ []) ≡ own) on.tag alone in
+    last.seen ∙ ap (λ (l : List ℕ). l ++ own) on.seen ∙ append_assoc d.pass_state.seen on.words own
+    ∙ ap (λ (l : List ℕ). d.pass_state.seen ++ l) (sym (on.words_are (line ∷ []) (last.met ∷ []) ∙ ap (λ (l : List ℕ). on.words ++ l) same))
+  where
+    none_behind : (quits : Bool) → cond quits [] (words_seen mid.pass_state.tag r last.after [] []) ≡ []
+    none_behind true = refl
+    none_behind false = refl
+
+-- the texts of lines and of one more
+texts_with : (r : Recording) (s : SessionState) (d : FrontState) (front : List (List ℕ)) (line : List ℕ) (given : List (List ℕ)) (text : List ℕ) (mid d' : FrontState) (on : GoOn r s d front given mid)
+    → (last : Goes r on.after mid line text d') → texts r s (front ++ line ∷ []) (on.met ++ last.met ∷ []) ≡ given ++ text ∷ []
+texts_with r s d front line given text mid d' on last =
+    on.texts_are (line ∷ []) (last.met ∷ []) ∙ ap (λ (l : List (List ℕ)). given ++ l) (last.text_is [] [] ∙ ap (λ (l : List (List ℕ)). text ∷ l) (none_behind (is_quit (meaning_of line))))
+  where
+    none_behind : (quits : Bool) → cond quits [] (texts r last.after [] []) ≡ []
+    none_behind true = refl
+    none_behind false = refl
+
+-- each line may meet nothing
+calm_one : (r : Recording) (room : ℕ) (s : SessionState) (owed : Option Command) (asked : Result Line LineFault) → MayMeet r room owed asked calm s
+calm_one r room s None (Ok (Run command)) = tt
+calm_one r room s None (Ok (Look query)) = tt
+calm_one r room s None (Ok Resume) = refl
+calm_one r room s None (Ok lines.Quit) = refl
+calm_one r room s None (Ok Empty) = refl
+calm_one r room s None (Err fault) = refl
+calm_one r room s (Some owed) (Ok (Run command)) = refl
+calm_one r room s (Some owed) (Ok (Look query)) = refl
+calm_one r room s (Some owed) (Ok Resume) = (refl, tt)
+calm_one r room s (Some owed) (Ok lines.Quit) = refl
+calm_one r room s (Some owed) (Ok Empty) = refl
+calm_one r room s (Some owed) (Err fault) = refl
+
+unless_calm : (quits : Bool) {later : Type 0} → later → UnlessQuit quits later
+unless_calm true later = tt
+unless_calm false later = later
+
+calm_may : (r : Recording) (room : ℕ) (s : SessionState) (lines : List (List ℕ)) → AllMayMeet r room s lines []
+calm_may r room s [] = tt
+calm_may r room s (line ∷ lines) =
+    (calm_one r room s s.owed (meaning_of line), unless_calm (is_quit (meaning_of line)) (calm_may r room (line_answer r s.owed (meaning_of line) calm s).1 lines))
+
+-- so may lines and one more
+may_with : (r : Recording) (s : SessionState) (d : FrontState) (front : List (List ℕ)) (line : List ℕ) (given : List (List ℕ)) (text : List ℕ) (mid d' : FrontState) (on : GoOn r s d front given mid)
+    → (last : Goes r on.after mid line text d') (later all : List (List ℕ)) → all ≡ front ++ line ∷ later
+    → UnlessQuit (is_quit (meaning_of line)) (AllMayMeet r (journal_room mid.table) last.after later []) → AllMayMeet r (journal_room d.table) s all (on.met ++ last.met ∷ [])
+may_with r s d front line given text mid d' on last later all is then =
+    subst (λ (l : List (List ℕ)). AllMayMeet r (journal_room d.table) s l (on.met ++ last.met ∷ [])) (sym is)
+    (on.may_be (line ∷ later) (last.met ∷ [])
+    (subst (λ (k : ℕ). AllMayMeet r k on.after (line ∷ later) (last.met ∷ [])) (ap journal_room on.table) (last.may_be (journal_room mid.table) later [] last.may then)))
+
+module _ (r : Recording) (s : SessionState) (d d' : FrontState) (here : Stands r s d) (read out : List ℕ) where
   -- all lines were answered
-  pub all_answered : (ended : Bool) → Answered d (lines_of ended read) out d' → Replied r s d d' (λ met. out ≡ replies r s ended read met)
+  pub all_answered : (ended : Bool) → Answered d (lines_of ended read) out d' → Replied r s d d' (lines_of ended read) out (λ met. out ≡ replies r s ended read met)
   all_answered ended h =
       let lines = lines_of ended read in
       let on = go_on r s d lines h.texts d' here h.no_quit h.turns in
@@ -141,6 +271,15 @@ module _ (r : Recording) (s : Standing) (d d' : FrontState) (here : Stands r s d
       ap (λ (l : List (List ℕ)). texts r s l (on.met ++ [])) (sym (append-nil lines)) ∙ on.texts_are [] [] ∙ append-nil h.texts in
       record {
         met = on.met ++ [];
+        ran = lines;
+        first = ([], sym (append-nil lines));
+        told = all_of (concat (texts r s lines (on.met ++ []))) out (h.written ∙ ap concat (sym whole));
+        seen = on.seen ∙ ap (λ (l : List ℕ). d.pass_state.seen ++ l)
+            (sym (ap (λ (l : List (List ℕ)). words_seen d.pass_state.tag r s l (on.met ++ [])) (sym (append-nil lines)) ∙ on.words_are [] [] ∙ append-nil on.words));
+        tag = on.tag;
+        table = on.table;
+        theirs = subst (All (MeetsOthers d.pass_state.tag)) (sym (append-nil on.met)) on.theirs;
+        may = subst (λ (l : List (List ℕ)). AllMayMeet r (journal_room d.table) s l (on.met ++ [])) (append-nil lines) (on.may_be [] [] tt);
         no_others = λ alone. subst (All MeetsNoOther) (sym (append-nil on.met)) (on.no_others alone);
         after = on.after;
         there = on.there;
@@ -148,7 +287,7 @@ module _ (r : Recording) (s : Standing) (d d' : FrontState) (here : Stands r s d
       }
 
   -- one was quit
-  pub up_to_quit : (ended : Bool) → Quitted d (lines_of ended read) out d' → Replied r s d d' (λ met. out ≡ replies r s true read met)
+  pub up_to_quit : (ended : Bool) → Quitted d (lines_of ended read) out d' → Replied r s d d' (lines_of true read) out (λ met. out ≡ replies r s true read met)
   up_to_quit ended h =
       let by = ends_by d h.front h.line h.texts d' h.turns in
       let on = go_on r s d h.front by.front by.mid here h.no_quit by.turns in
@@ -161,6 +300,14 @@ module _ (r : Recording) (s : Standing) (d d' : FrontState) (here : Stands r s d
       ∙ sym by.given_is in
       record {
         met = met;
+        ran = h.front ++ h.line ∷ [];
+        first = (later.0, later.1 ∙ sym (append_assoc h.front (h.line ∷ []) later.0));
+        told = all_of (concat (texts r s (h.front ++ h.line ∷ []) met)) out (h.written ∙ ap concat (by.given_is ∙ sym (texts_with r s d h.front h.line by.front by.text by.mid d' on last)));
+        seen = seen_with r s d h.front h.line by.front by.text by.mid d' on last;
+        tag = last.tag ∙ on.tag;
+        table = last.table ∙ on.table;
+        theirs = All-push (MeetsOthers d.pass_state.tag) on.met last.met on.theirs (subst (λ (t : ℕ). MeetsOthers t last.met) on.tag last.theirs);
+        may = may_with r s d h.front h.line by.front by.text by.mid d' on last later.0 (lines_of true read) later.1 (unless_quit (is_quit (meaning_of h.line)) _ h.quit);
         no_others = λ alone. All-push MeetsNoOther on.met last.met (on.no_others alone) (last.no_others (on.company ∙ alone));
         after = last.after;
         there = last.there;
@@ -168,7 +315,7 @@ module _ (r : Recording) (s : Standing) (d d' : FrontState) (here : Stands r s d
       }
 
   -- a write failed in the text of one
-  pub up_to_failure : (ended : Bool) (whole part : ℕ) → WrittenInPart d (lines_of ended read) whole part out d' → Replied r s d d' (λ met. StartsWith (replies r s true read met) out)
+  pub up_to_failure : (ended : Bool) (whole part : ℕ) → WrittenInPart d (lines_of ended read) whole part out d' → Replied r s d d' (lines_of true read) out (λ met. StartsWith (replies r s true read met) out)
   up_to_failure ended whole part h =
       let on = go_on r s d h.front h.texts h.mid here h.no_quit h.turns in
       let last = goes r on.after h.mid h.line h.text d' on.there h.turn in
@@ -182,6 +329,19 @@ module _ (r : Recording) (s : Standing) (d d' : FrontState) (here : Stands r s d
       ap (λ (t : List ℕ). t ++ concat beyond) (sym (take-append-drop h.n h.text)) ∙ append_assoc (take h.n h.text) (drop h.n h.text) (concat beyond) in
       record {
         met = met;
+        ran = h.front ++ h.line ∷ [];
+        first = (later.0, later.1 ∙ sym (append_assoc h.front (h.line ∷ []) later.0));
+        told = (
+          drop h.n h.text,
+          ap concat (texts_with r s d h.front h.line h.texts h.text h.mid d' on last) ∙ concat-append h.texts (h.text ∷ [])
+              ∙ ap (λ (t : List ℕ). concat h.texts ++ t) (append-nil h.text ∙ sym (take-append-drop h.n h.text)) ∙ sym (append_assoc (concat h.texts) (take h.n h.text) (drop h.n h.text))
+              ∙ ap (λ (t : List ℕ). t ++ drop h.n h.text) (sym h.written),
+        );
+        seen = seen_with r s d h.front h.line h.texts h.text h.mid d' on last;
+        tag = last.tag ∙ on.tag;
+        table = last.table ∙ on.table;
+        theirs = All-push (MeetsOthers d.pass_state.tag) on.met last.met on.theirs (subst (λ (t : ℕ). MeetsOthers t last.met) on.tag last.theirs);
+        may = may_with r s d h.front h.line h.texts h.text h.mid d' on last later.0 (lines_of true read) later.1 (unless_calm (is_quit (meaning_of h.line)) (calm_may r (journal_room h.mid.table) last.after later.0));
         no_others = λ alone. All-push MeetsNoOther on.met last.met (on.no_others alone) (last.no_others (on.company ∙ alone));
         after = last.after;
         there = last.there;
@@ -199,12 +359,8 @@ not_done e = cc
 refused_is_not_done : ¬ (Refused ≡ Done)
 refused_is_not_done e = cc
 
-true_is_false : ¬ (true ≡ false)
+pub true_is_false : ¬ (true ≡ false)
 true_is_false e = cc
-
--- what was written is all of it
-pub all_of : (whole out : List ℕ) → out ≡ whole → StartsWith whole out
-all_of whole out is = ([], sym is ∙ sym (append-nil out))
 
 -- one of the lines is quit
 quit_among : (front : List (List ℕ)) (line : List ℕ) (back : List (List ℕ)) → is_quit (meaning_of line) ≡ true → has_quit (front ++ line ∷ back) ≡ true
@@ -213,18 +369,26 @@ quit_among (x ∷ front) line back quit =
     elim (is_quit (meaning_of x)) as (λ t. (t || has_quit (front ++ line ∷ back)) ≡ true) [ true ↦ refl | false ↦ quit_among front line back quit ]
 
 -- what a session of one read and wrote, by how it ended
-module _ (recording : List ℕ) (r : Recording) (opening : opened recording ≡ Ok r) (from left : Incoming) (old new : Outgoing) (d d' : FrontState) (here : Stands r start d) (alone : d.pass_state.alone ≡ true) where
+module _ (recording : List ℕ) (r : Recording) (opening : opened recording ≡ Ok r) (from left : Incoming) (old new : Outgoing) (d d' : FrontState) (here : Stands r start d) (alone : d.pass_state.alone ≡ true) (room : journal_room d.table ≡ 65536) where
   over : (ended : Bool) (commands : List ℕ) (met : List Met) → transcript_by recording ended commands met ≡ replies r start ended commands met
   over ended commands met = ap (λ o. replies_over o ended commands met) opening
 
   never_refused : (commands : List ℕ) (fault : OpenFault) → opened recording ≡ Err fault → commands ≡ []
   never_refused commands fault e = let both = sym opening ∙ e in absurd cc
 
+  may_meet : (failed : Bool) (commands : List ℕ) (met : List Met) → left.failed ≡ failed → AllMayMeet r (journal_room d.table) start (lines_of (not failed) commands) met → (x : Recording) → opened recording ≡ Ok x
+      → AllMayMeet x 65536 start (lines_of (not left.failed) commands) met
+  may_meet failed commands met is may x e =
+      let same : r ≡ x = let both = sym opening ∙ e in cc in
+      subst (λ (y : Recording). AllMayMeet y 65536 start (lines_of (not left.failed) commands) met) same
+      (subst (λ (f : Bool). AllMayMeet r 65536 start (lines_of (not f) commands) met) (sym is)
+      (subst (λ (k : ℕ). AllMayMeet r k start (lines_of (not failed) commands) met) room may))
+
   -- no write failed
-  whole_transcript : (status : ExitStatus) (commands written : List ℕ) (met : List Met) (failed : Bool) → All MeetsNoOther met → Consumes from.remaining left.remaining commands → Appends old.contents new.contents written → left.failed ≡ failed
-      → new.failed ≡ false → written ≡ replies r start (not failed) commands met → status ≡ status_of (Ok r) failed false → (status ≡ Done → IsAtEnd left.remaining ⊎ (has_quit (lines_of true commands) ≡ true))
+  whole_transcript : (status : ExitStatus) (commands written : List ℕ) (met : List Met) (failed : Bool) → AllMayMeet r (journal_room d.table) start (lines_of (not failed) commands) met → All MeetsNoOther met → Receives from left commands → Sends old new written → left.failed ≡ failed
+      → new.failed ≡ false → written ≡ replies r start (not failed) commands met → status ≡ status_of (Ok r) failed false → (status ≡ Done → IsOver left ⊎ (has_quit (lines_of false commands) ≡ true))
       → Transcribes recording from left old new status
-  whole_transcript status commands written met failed no_others reads writes is unfailed all ends complete =
+  whole_transcript status commands written met failed may no_others reads writes is unfailed all ends complete =
       let whole : written ≡ transcript_by recording (not left.failed) commands met = all ∙ ap (λ f. replies r start (not f) commands met) (sym is) ∙ sym (over (not left.failed) commands met) in
       record {
         commands = commands;
@@ -233,6 +397,7 @@ module _ (recording : List ℕ) (r : Recording) (opening : opened recording ≡ 
         reads = reads;
         writes = writes;
         alone = no_others;
+        may = may_meet failed commands met is may;
         begins = all_of (transcript_by recording (not left.failed) commands met) written whole;
         whole = λ _. whole;
         complete = complete;
@@ -240,21 +405,23 @@ module _ (recording : List ℕ) (r : Recording) (opening : opened recording ≡ 
         ends = ends ∙ ap (λ f. status_of (Ok r) f false) (sym is) ∙ ap (status_of (Ok r) left.failed) (sym unfailed) ∙ ap (λ o. status_of o left.failed new.failed) (sym opening);
       }
 
-  transcribes : (ending : Result End LineEnd) → AnswersLines from.remaining left.remaining old.contents new.contents d d' ending → left.failed ≡ is_read_failure ending → new.failed ≡ is_write_failure ending
+  transcribes : (ending : Result End LineEnd) → AnswersLines from left old new d d' ending → left.failed ≡ is_read_failure ending → new.failed ≡ is_write_failure ending
       → Transcribes recording from left old new (status_after ending)
   transcribes (Ok Closed) h read write =
       let lines : Answered d (lines_of true h.read) h.out d' = subst (λ e. Answered d (lines_of e h.read) h.out d') h.ends.0 h.ends.1 in
       let all = all_answered r start d d' here h.read h.out true lines in
-      whole_transcript Done h.read h.out all.met false (all.no_others alone) h.reads h.writes read write all.says_it refl (λ _. inl (h.at_end h.ends.0))
+      whole_transcript Done h.read h.out all.met false all.may (all.no_others alone) h.reads h.writes read write all.says_it refl (λ _. inl (h.at_end h.ends.0))
   transcribes (Ok Quit) h read write =
       let all = up_to_quit r start d d' here h.read h.out h.ended h.ends in
-      let later = lines_behind h.ended h.read h.ends.front h.ends.line h.ends.back h.ends.split in
-      let quits : has_quit (lines_of true h.read) ≡ true = ap has_quit later.1 ∙ quit_among h.ends.front h.ends.line later.0 h.ends.quit in
-      whole_transcript Done h.read h.out all.met false (all.no_others alone) h.reads h.writes read write all.says_it refl (λ _. inr quits)
+      whole_transcript Done h.read h.out all.met false all.may (all.no_others alone) h.reads h.writes read write all.says_it refl (λ _. ends_well h.ended refl)
+    where
+      ends_well : (ended : Bool) → h.ended ≡ ended → IsOver left ⊎ (has_quit (lines_of false h.read) ≡ true)
+      ends_well true is = inl (h.at_end is)
+      ends_well false is = inr (ap (λ e. has_quit (lines_of e h.read)) (sym is) ∙ ap has_quit h.ends.split ∙ quit_among h.ends.front h.ends.line h.ends.back h.ends.quit)
   transcribes (Err Read) h read write =
       let lines : Answered d (lines_of false h.read) h.out d' = subst (λ e. Answered d (lines_of e h.read) h.out d') h.ends.0 h.ends.1 in
       let all = all_answered r start d d' here h.read h.out false lines in
-      whole_transcript StreamFailed h.read h.out all.met true (all.no_others alone) h.reads h.writes read write all.says_it refl (λ e. absurd (not_done (sym e)))
+      whole_transcript StreamFailed h.read h.out all.met true all.may (all.no_others alone) h.reads h.writes read write all.says_it refl (λ e. absurd (not_done (sym e)))
   transcribes (Err (Write whole part)) h read write =
       let part_of = up_to_failure r start d d' here h.read h.out h.ended whole part h.ends in
       let all : transcript_by recording (not left.failed) h.read part_of.met ≡ replies r start true h.read part_of.met = over (not left.failed) h.read part_of.met ∙ ap (λ f. replies r start (not f) h.read part_of.met) read in
@@ -265,6 +432,7 @@ module _ (recording : List ℕ) (r : Recording) (opening : opened recording ≡ 
         reads = h.reads;
         writes = h.writes;
         alone = part_of.no_others alone;
+        may = may_meet false h.read part_of.met read part_of.may;
         begins = subst (λ t. StartsWith t h.out) (sym all) part_of.says_it;
         whole = λ unfailed. absurd (true_is_false (sym write ∙ unfailed));
         complete = λ e. absurd (not_done (sym e));
@@ -277,15 +445,16 @@ pub walks_transcribe : (bytes : List ℕ) (r : Recording) (from left : Incoming)
     → Transcribes bytes from left old new status
 walks_transcribe bytes r from left old new status is w =
     subst (λ (x : ExitStatus). Transcribes bytes from left old new x) (sym w.ends)
-    (transcribes bytes r (opened_good bytes r is) from left old new _ w.last (record { recording = refl; placed = refl; owed = refl; at = refl }) refl w.ending w.serves w.read_failed w.write_failed)
+    (transcribes bytes r (opened_good bytes r is) from left old new _ w.last (record { recording = refl; placed = refl; owed = refl; at = refl }) refl w.room_is w.ending w.serves w.read_failed w.write_failed)
 
 -- of a recording with a fault it is the fault's line
 pub fault_transcribes : (bytes : List ℕ) (fault : OpenFault) (from left : Incoming) (old new : Outgoing) (status : ExitStatus) → IsOwn fault → IsFirstFault bytes fault → old.failed ≡ false
     → PrintsFault (fault_line fault) from left old new status → Transcribes bytes from left old new status
 fault_transcribes bytes fault from left old new status own is unfailed prints =
     let opening = opened_faulty bytes fault own is in
+    let never_good : (r : Recording) → ¬ (opened bytes ≡ Ok r) = λ r good. (let both = sym opening ∙ good in cc) in
     let over : transcript_by bytes (not left.failed) [] [] ≡ fault_line fault = ap (λ o. replies_over o (not left.failed) [] []) opening in
-    let unread : Consumes from.remaining left.remaining [] = subst (λ (x : Incoming). Consumes from.remaining x.remaining []) (sym prints.unread) (Consumes-nil from.remaining) in
+    let unread : Receives from left [] = subst (λ (x : Incoming). Receives from x []) (sym prints.unread) (receives_none from) in
     let ends : status_of (opened bytes) left.failed new.failed ≡ status_of (Err fault) left.failed new.failed = ap (λ o. status_of o left.failed new.failed) opening in
     elim prints.printed as (λ _. Transcribes bytes from left old new status) [
       | inl all ↦ record {
@@ -295,6 +464,7 @@ fault_transcribes bytes fault from left old new status own is unfailed prints =
         reads = unread;
         writes = all.1.0;
         alone = All-nil MeetsNoOther;
+        may = λ r good. absurd (never_good r good);
         begins = all_of (transcript_by bytes (not left.failed) [] []) (fault_line fault) (sym over);
         whole = λ _. sym over;
         complete = λ e. absurd (refused_is_not_done (sym all.0 ∙ e));
@@ -310,6 +480,7 @@ fault_transcribes bytes fault from left old new status own is unfailed prints =
             reads = unread;
             writes = cut.out;
             alone = All-nil MeetsNoOther;
+            may = λ r good. absurd (never_good r good);
             begins = (drop cut.n (fault_line fault), over ∙ sym (take-append-drop cut.n (fault_line fault)));
             whole = λ still. absurd (true_is_false (sym cut.failed ∙ still));
             complete = λ e. absurd (not_done (sym e ∙ part.0));
@@ -329,7 +500,7 @@ refused_transcribes bytes (Load (load.OtherAnswer step)) from left old new statu
 
 -- ---- lines that meet nothing
 
-texts_calm : (r : Recording) (s : Standing) (lines : List (List ℕ)) (met : List Met) → All (λ m. m ≡ calm) met → texts r s lines met ≡ texts r s lines []
+texts_calm : (r : Recording) (s : SessionState) (lines : List (List ℕ)) (met : List Met) → All (λ m. m ≡ calm) met → texts r s lines met ≡ texts r s lines []
 texts_calm r s [] met all = refl
 texts_calm r s (line ∷ lines) [] all = refl
 texts_calm r s (line ∷ lines) (m ∷ met) all =

@@ -1,12 +1,12 @@
 -- The callers of a shared session are answered by the transcript.
 use Rattle.std.proofs.Common.{◌≡◌, ◌≤◌, ℕ, Bool, true, false, not, List, [], ◌∷◌, ◌++◌, length, map, Some, Result, Ok, Err, refl, sym, ap, ◌∙◌, subst, arith, append-nil, append_assoc, length-append}
-use Rattle.std.specs.List.{All}
+use Rattle.std.specs.List.{All, concat}
 use Rattle.std.proofs.lemmas.List.Elements.{All-cons, All-head, All-nil, All-tail}
 use Rattle.atomic_table.specs.Seated.{TableId}
 use Rattle.nr_rev.specs.Run.{Recording}
-use Rattle.nr_journal.specs.Rule.{StartsWith}
+use Rattle.nr_journal.specs.Rule.{StartsWith, journal_room}
 use Rattle.nr_front.specs.FrontState.{FrontState}
-use Rattle.nr_lines.specs.Engine.{Answered, Grows, is_read_failure, lines_of}
+use Rattle.nr_lines.specs.Engine.{Answered, Ends, Grows, is_read_failure, is_write_failure, lines_of}
 use Rattle.nr_lines.specs.declared.ending.End.{End}
 use Rattle.nr_lines.specs.declared.ending.End.TheVariants.{Closed, Quit}
 use Rattle.nr_lines.specs.declared.ending.LineEnd.{LineEnd}
@@ -14,10 +14,12 @@ use Rattle.nr_lines.specs.declared.ending.LineEnd.TheVariants.{Read, Write}
 use Rattle.nr_lines.proofs.GrowLemmas.{turns_grow}
 use Rattle.nr_lines.proofs.TurnLemmas.{turns_more}
 use Rattle.nr_serving.specs.Fronts.{Course, ServesCaller, ServesCallers}
+use Rattle.nr_serving.specs.Told.{Conversation}
 use Rattle.nr_serving.specs.Session.{BeginsFresh, HasOwn, IsShared, last_pass_state}
-use Rattle.nr_programs.specs.Shared.{AreAnswered, IsAnswered}
-use Rattle.nr_programs.specs.Transcript.{Standing, replies, start}
-use Rattle.nr_programs.proofs.RepliesLemmas.{Replied, all_answered, all_of, up_to_failure, up_to_quit}
+use Rattle.nr_serving.proofs.TagLemmas.{serving_keeps_tag}
+use Rattle.nr_programs.specs.Shared.{AreAnswered, IsAnswered, StandsIn, StartsList, tag_at_end, words_seen}
+use Rattle.nr_programs.specs.Transcript.{AllMayMeet, Met, SessionState, replies, start, texts}
+use Rattle.nr_programs.proofs.RepliesLemmas.{Replied, all_answered, all_of, true_is_false, up_to_failure, up_to_quit}
 use Rattle.nr_programs.proofs.TranscriptLemmas.{Stands}
 
 starts_trans : (a b c : List ℕ) → StartsWith b a → StartsWith c b → StartsWith c a
@@ -29,91 +31,138 @@ starts_long a b one = omega (arith, ap length one.1, length-append a one.0)
 -- ---- one caller
 
 -- the words that are seen go on
-caller_grows : (ending : Result End LineEnd) (d d' : FrontState) → ServesCaller ending d d' → Grows d d'
-caller_grows (Ok Closed) d d' h = turns_grow d _ _ d' h.ends.1.turns
-caller_grows (Ok Quit) d d' h = turns_grow d _ _ d' h.ends.turns
-caller_grows (Err Read) d d' h = turns_grow d _ _ d' h.ends.1.turns
-caller_grows (Err (Write whole part)) d d' h =
-    turns_grow d _ _ d' (turns_more d h.ends.front h.ends.texts h.ends.mid h.ends.line h.ends.text d' h.ends.turns h.ends.turn)
+caller_grows : (c : Conversation) (d d' : FrontState) → ServesCaller c d d' → Grows d d'
+caller_grows c d d' h = lines_grow c.ending h.serves.ended d _ _ d' h.serves.ends
+  where
+    lines_grow : (ending : Result End LineEnd) (ended : Bool) (d : FrontState) (lines : List (List ℕ)) (out : List ℕ) (d' : FrontState) → Ends ending ended d lines out d' → Grows d d'
+    lines_grow (Ok Closed) ended d lines out d' e = turns_grow d _ _ d' e.1.turns
+    lines_grow (Ok Quit) ended d lines out d' e = turns_grow d _ _ d' e.turns
+    lines_grow (Err Read) ended d lines out d' e = turns_grow d _ _ d' e.1.turns
+    lines_grow (Err (Write whole part)) ended d lines out d' e =
+        turns_grow d _ _ d' (turns_more d e.front e.texts e.mid e.line e.text d' e.turns e.turn)
 
 -- it is answered, and the front stands somewhere then
-record Goes (r : Recording) (ending : Result End LineEnd) (s : Standing) (d' : FrontState) : Type 0 where
-  pub answered : IsAnswered r ending s
-  pub after : Standing
+record Goes (r : Recording) (c : Conversation) (s : SessionState) (d d' : FrontState) : Type 0 where
+  pub answered : IsAnswered r (journal_room d.table) d.pass_state.tag c s
+  pub after : SessionState
   pub there : Stands r after d'
+  pub seen : d'.pass_state.seen ≡ d.pass_state.seen ++ words_seen d.pass_state.tag r s answered.ran answered.met
+  pub tag : d'.pass_state.tag ≡ d.pass_state.tag
+  pub table : d'.table ≡ d.table
 
--- no write failed
-whole_of : (r : Recording) (ending : Result End LineEnd) (s : Standing) (d d' : FrontState) (commands written : List ℕ) → Replied r s d d' (λ met. written ≡ replies r s (not (is_read_failure ending)) commands met)
-    → Goes r ending s d'
-whole_of r ending s d d' commands written all = record {
-  answered = record {
-    commands = commands;
-    written = written;
-    met = all.met;
-    begins = all_of (replies r s (not (is_read_failure ending)) commands all.met) written all.says_it;
-    whole = λ _. all.says_it;
-  };
-  after = all.after;
-  there = all.there;
-}
+-- one caller, of whom these bytes were received and to whom these were sent
+module _ (r : Recording) (c : Conversation) (s : SessionState) (d d' : FrontState) (read out : List ℕ) (received : c.input.received ≡ read) (sent : c.output.sent ≡ out) where
+  replies_are : (failed : Bool) (met : List Met) → c.input.failed ≡ failed → replies r s (not failed) read met ≡ replies r s (not c.input.failed) c.input.received met
+  replies_are failed met is = ap (λ (bytes : List ℕ). replies r s (not failed) bytes met) (sym received) ∙ ap (λ (f : Bool). replies r s (not f) c.input.received met) (sym is)
 
-caller_goes : (r : Recording) (ending : Result End LineEnd) (s : Standing) (d d' : FrontState) → Stands r s d → ServesCaller ending d d' → Goes r ending s d'
-caller_goes r (Ok Closed) s d d' here h =
-    whole_of r (Ok Closed) s d d' h.read h.out (all_answered r s d d' here h.read h.out true (subst (λ e. Answered d (lines_of e h.read) h.out d') h.ends.0 h.ends.1))
-caller_goes r (Ok Quit) s d d' here h = whole_of r (Ok Quit) s d d' h.read h.out (up_to_quit r s d d' here h.read h.out h.ended h.ends)
-caller_goes r (Err Read) s d d' here h =
-    whole_of r (Err Read) s d d' h.read h.out (all_answered r s d d' here h.read h.out false (subst (λ e. Answered d (lines_of e h.read) h.out d') h.ends.0 h.ends.1))
-caller_goes r (Err (Write whole part)) s d d' here h =
-    let part_of = up_to_failure r s d d' here h.read h.out h.ended whole part h.ends in
-    record {
-      answered = record { commands = h.read; written = h.out; met = part_of.met; begins = part_of.says_it; whole = λ calm. absurd cc };
-      after = part_of.after;
-      there = part_of.there;
-    }
+  lines : (failed : Bool) → c.input.failed ≡ failed → lines_of (not failed) read ≡ lines_of (not c.input.failed) c.input.received
+  lines failed is = ap (λ (bytes : List ℕ). lines_of (not failed) bytes) (sym received) ∙ ap (λ (f : Bool). lines_of (not f) c.input.received) (sym is)
+
+  -- no write failed
+  whole_of : (failed : Bool) → c.input.failed ≡ failed → Replied r s d d' (lines_of (not failed) read) out (λ met. out ≡ replies r s (not failed) read met) → Goes r c s d d'
+  whole_of failed is all =
+      let says : c.output.sent ≡ replies r s (not c.input.failed) c.input.received all.met = sent ∙ all.says_it ∙ replies_are failed all.met is in
+      record {
+        answered = record {
+          met = all.met;
+          may = subst (λ (l : List (List ℕ)). AllMayMeet r (journal_room d.table) s l all.met) (lines failed is) all.may;
+          begins = all_of (replies r s (not c.input.failed) c.input.received all.met) c.output.sent says;
+          whole = λ _. says;
+          ran = all.ran;
+          first = subst (λ (l : List (List ℕ)). StartsList l all.ran) (lines failed is) all.first;
+          told = subst (StartsWith (concat (texts r s all.ran all.met))) (sym sent) all.told;
+          others = all.theirs;
+        };
+        after = all.after;
+        there = all.there;
+        seen = all.seen;
+        tag = all.tag;
+        table = all.table;
+      }
+
+  -- one failed
+  cut_of : c.input.failed ≡ false → c.output.failed ≡ true → Replied r s d d' (lines_of true read) out (λ met. StartsWith (replies r s true read met) out) → Goes r c s d d'
+  cut_of is failed part = record {
+    answered = record {
+      met = part.met;
+      may = subst (λ (l : List (List ℕ)). AllMayMeet r (journal_room d.table) s l part.met) (lines false is) part.may;
+      begins = subst (λ (t : List ℕ). StartsWith t c.output.sent) (replies_are false part.met is) (subst (StartsWith (replies r s true read part.met)) (sym sent) part.says_it);
+      whole = λ calm. absurd (true_is_false (sym failed ∙ calm));
+      ran = part.ran;
+      first = subst (λ (l : List (List ℕ)). StartsList l part.ran) (lines false is) part.first;
+      told = subst (StartsWith (concat (texts r s part.ran part.met))) (sym sent) part.told;
+      others = part.theirs;
+    };
+    after = part.after;
+    there = part.there;
+    seen = part.seen;
+    tag = part.tag;
+    table = part.table;
+  }
+
+  -- by how it ended
+  goes_by : (ending : Result End LineEnd) (ended : Bool) → Stands r s d → c.input.failed ≡ is_read_failure ending → c.output.failed ≡ is_write_failure ending → Ends ending ended d (lines_of ended read) out d'
+      → Goes r c s d d'
+  goes_by (Ok Closed) ended here reading writing e = whole_of false reading (all_answered r s d d' here read out true (subst (λ t. Answered d (lines_of t read) out d') e.0 e.1))
+  goes_by (Ok Quit) ended here reading writing e = whole_of false reading (up_to_quit r s d d' here read out ended e)
+  goes_by (Err Read) ended here reading writing e = whole_of true reading (all_answered r s d d' here read out false (subst (λ t. Answered d (lines_of t read) out d') e.0 e.1))
+  goes_by (Err (Write whole part)) ended here reading writing e = cut_of reading writing (up_to_failure r s d d' here read out ended whole part e)
+
+caller_goes : (r : Recording) (c : Conversation) (s : SessionState) (d d' : FrontState) → Stands r s d → ServesCaller c d d' → Goes r c s d d'
+caller_goes r c s d d' here h =
+    let a = h.serves in
+    goes_by r c s d d' a.read a.out a.reads.received a.writes.sent c.ending a.ended here h.read_failed h.write_failed a.ends
 
 -- ---- one after the other
 
-callers_grow : (endings : List (Result End LineEnd)) (d d' : FrontState) → ServesCallers endings d d' → StartsWith d'.pass_state.seen d.pass_state.seen
+callers_grow : (callers : List Conversation) (d d' : FrontState) → ServesCallers callers d d' → StartsWith d'.pass_state.seen d.pass_state.seen
 callers_grow [] d d' is = subst (λ (x : FrontState). StartsWith x.pass_state.seen d.pass_state.seen) (sym is) ([], sym (append-nil d.pass_state.seen))
-callers_grow (ending ∷ endings) d d' h =
-    starts_trans d.pass_state.seen h.0.pass_state.seen d'.pass_state.seen (caller_grows ending d h.0 h.1).words (callers_grow endings h.0 d' h.2)
+callers_grow (c ∷ callers) d d' h =
+    starts_trans d.pass_state.seen h.0.pass_state.seen d'.pass_state.seen (caller_grows c d h.0 h.1).words (callers_grow callers h.0 d' h.2)
 
-callers_answered : (r : Recording) (history : List ℕ) (endings : List (Result End LineEnd)) (s : Standing) (d d' : FrontState) → Stands r s d → ServesCallers endings d d' → StartsWith history d'.pass_state.seen
-    → AreAnswered r history s endings
+callers_answered : (r : Recording) (history : List ℕ) (callers : List Conversation) (s : SessionState) (d d' : FrontState) → Stands r s d → ServesCallers callers d d' → StartsWith history d'.pass_state.seen
+    → AreAnswered r (journal_room d.table) d.pass_state.tag history s d.pass_state.seen callers
 callers_answered r history [] s d d' here h prefix = tt
-callers_answered r history (ending ∷ endings) s d d' here h prefix =
+callers_answered r history (c ∷ callers) s d d' here h prefix =
     let mid = h.0 in
-    let one = caller_goes r ending s d mid here h.1 in
-    let longer = starts_long d.pass_state.seen mid.pass_state.seen (caller_grows ending d mid h.1).words in (
+    let one = caller_goes r c s d mid here h.1 in
+    let stands : StandsIn r history mid.pass_state.seen one.after = record {
+      prefix = starts_trans mid.pass_state.seen d'.pass_state.seen history (callers_grow callers mid d' h.2) prefix;
+      placed = one.there.placed;
+      at = one.there.at;
+    } in
+    let later : AreAnswered r (journal_room d.table) d.pass_state.tag history one.after mid.pass_state.seen callers =
+    subst (λ (k : ℕ). AreAnswered r k d.pass_state.tag history one.after mid.pass_state.seen callers) (ap journal_room one.table)
+    (subst (λ (t : ℕ). AreAnswered r (journal_room mid.table) t history one.after mid.pass_state.seen callers) one.tag (callers_answered r history callers one.after mid d' one.there h.2 prefix)) in (
       one.answered,
       one.after,
-      record {
-        seen = mid.pass_state.seen;
-        prefix = starts_trans mid.pass_state.seen d'.pass_state.seen history (callers_grow endings mid d' h.2) prefix;
-        placed = one.there.placed;
-        at = one.there.at;
-      },
-      omega (arith, here.placed, one.there.placed, longer),
-      callers_answered r history endings one.after mid d' one.there h.2 prefix,
+      subst (λ (l : List ℕ). StandsIn r history l one.after) one.seen stands,
+      subst (λ (l : List ℕ). AreAnswered r (journal_room d.table) d.pass_state.tag history one.after l callers) one.seen later,
     )
 
 -- ---- all fronts
 
 front_answered : (table : TableId) (r : Recording) (depth workers : ℕ) (history : List ℕ) (course : Course) → BeginsFresh table r depth workers course → HasOwn history (last_pass_state course)
-    → AreAnswered r history start course.endings
+    → AreAnswered r (journal_room table) (tag_at_end course) history start [] course.callers
 front_answered table r depth workers history course begins own =
     let here : Stands r start begins.start = subst (Stands r start) (sym begins.fresh.2) (record { recording = refl; placed = refl; owed = refl; at = refl }) in
-    callers_answered r history course.endings start begins.start course.last here begins.serving (own.0, own.1)
+    let none : begins.start.pass_state.seen ≡ [] = ap (λ (x : FrontState). x.pass_state.seen) begins.fresh.2 in
+    let table_is : begins.start.table ≡ table = ap (λ (x : FrontState). x.table) begins.fresh.2 in
+    subst (λ (k : ℕ). AreAnswered r k (tag_at_end course) history start [] course.callers) (ap journal_room table_is)
+    (subst (λ (t : ℕ). AreAnswered r (journal_room begins.start.table) t history start [] course.callers) (sym (serving_keeps_tag course.callers begins.start course.last begins.serving))
+    (subst (λ (l : List ℕ). AreAnswered r (journal_room begins.start.table) begins.start.pass_state.tag history start l course.callers) none
+    (callers_answered r history course.callers start begins.start course.last here begins.serving (own.0, own.1))))
 
 all_answered_so : (table : TableId) (r : Recording) (depth workers : ℕ) (history : List ℕ) (courses : List Course) → All (BeginsFresh table r depth workers) courses → All (HasOwn history) (map last_pass_state courses)
-    → All (λ course. AreAnswered r history start course.endings) courses
-all_answered_so table r depth workers history [] served own = All-nil (λ (course : Course). AreAnswered r history start course.endings)
+    → All (λ course. AreAnswered r (journal_room table) (tag_at_end course) history start [] course.callers) courses
+all_answered_so table r depth workers history [] served own = All-nil (λ (course : Course). AreAnswered r (journal_room table) (tag_at_end course) history start [] course.callers)
 all_answered_so table r depth workers history (course ∷ courses) served own =
-    All-cons (λ (x : Course). AreAnswered r history start x.endings) course courses
+    All-cons (λ (x : Course). AreAnswered r (journal_room table) (tag_at_end x) history start [] x.callers) course courses
     (front_answered table r depth workers history course (All-head (BeginsFresh table r depth workers) course courses served) (All-head (HasOwn history) (last_pass_state course) (map last_pass_state courses) own))
     (all_answered_so table r depth workers history courses (All-tail (BeginsFresh table r depth workers) course courses served) (All-tail (HasOwn history) (last_pass_state course) (map last_pass_state courses) own))
 
 pub shared_answered : (r : Recording) (room fronts depth workers : ℕ) (history : List ℕ) (failed : Bool) → (shared : IsShared r room fronts depth workers (Some history) failed)
-    → All (λ course. AreAnswered r history start course.endings) shared.courses
+    → All (λ course. AreAnswered r room (tag_at_end course) history start [] course.callers) shared.courses
 shared_answered r room fronts depth workers history failed shared =
-    all_answered_so shared.table r depth workers history shared.courses shared.served shared.one_history.own
+    subst (λ (k : ℕ). All (λ course. AreAnswered r k (tag_at_end course) history start [] course.callers) shared.courses) shared.room_is
+    (all_answered_so shared.table r depth workers history shared.courses shared.served shared.one_history.own)

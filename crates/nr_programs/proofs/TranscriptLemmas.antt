@@ -1,8 +1,8 @@
 -- What the lines of a front are answered is the transcript.
-use Rattle.std.proofs.Common.{◌≡◌, inl, inr, ℕ, ◌+◌, true, List, [], ◌∷◌, ◌++◌, length, Option, Some, None, Result, Ok, Err, refl, sym, ap, ◌∙◌, subst, length-append}
+use Rattle.std.proofs.Common.{◌≡◌, inl, inr, ℕ, ◌+◌, true, List, [], ◌∷◌, ◌++◌, length, Option, Some, None, Result, Ok, Err, refl, sym, ap, ◌∙◌, subst, append-nil, append_assoc, length-append}
 use Rattle.std.proofs.lemmas.List.{same_from_push}
 use Rattle.nr_rev.specs.Run.{Recording}
-use Rattle.nr_command.specs.Debugger.{after_words, opening, query_reply, run}
+use Rattle.nr_command.specs.Debugger.{Searches, after_words, opening, query_reply, run}
 use Rattle.nr_command.specs.Word.{word_of}
 use Rattle.nr_command.specs.declared.command.Command.{Command}
 use Rattle.nr_command.specs.declared.command.Line.{Line}
@@ -14,7 +14,7 @@ use Rattle.nr_command.specs.declared.reply.Fault.TheVariants as faults
 use Rattle.nr_command.specs.declared.reply.Reply.{Reply}
 use Rattle.nr_command.specs.declared.reply.Reply.TheVariants.{NothingOwed, Bye, Fault}
 use Rattle.nr_front.specs.FrontState.{FrontState, IsAt, IsBehind, RepliesLast, own_pending, owed_command, pending_command}
-use Rattle.nr_front.specs.Front.{Executes, IsLeftOwed, Learns, Looks, PlacesCommand, RepliesToLook, Resumes, StaysOwed, with_walker_state, without_pending}
+use Rattle.nr_front.specs.Front.{Executes, IsLeftOwed, IsStillOwed, Learns, Looks, PlacesCommand, RepliesToLook, Resumes, StaysOwed, with_walker_state, without_pending}
 use Rattle.nr_front.specs.Replica.{WalkerState}
 use Rattle.nr_front.specs.declared.fault.FrontFault.{FrontFault}
 use Rattle.nr_front.specs.declared.fault.FrontFault.TheVariants.{Memory, Placed, Full}
@@ -22,22 +22,31 @@ use Rattle.nr_front.specs.declared.pending.Pending.{Pending}
 use Rattle.nr_front.specs.declared.pending.Pending.TheVariants.{Nothing, Others, Own}
 use Rattle.nr_front.proofs.FrontStateLemmas.{after_words-append, run_last}
 use Rattle.nr_lines.specs.Turn.{MayReply, reply_given, resumed}
-use Rattle.nr_programs.specs.Transcript.{Answered, Met, Standing, Supply, enough, no_memory, no_memory_to_search, no_room, calm, behind_others, line_answer, owing}
+use Rattle.nr_journal.specs.Rule.{IsOthers, journal_room}
+use Rattle.nr_journal.specs.declared.view.PassState.{PassState}
+use Rattle.std.proofs.lemmas.List.Elements.{All-nil}
+use Rattle.nr_programs.specs.Shared.{MeetsOthers, own_word, words_with}
+use Rattle.nr_programs.specs.Transcript.{Answered, MayMeet, Met, SessionState, Supply, enough, no_memory, no_memory_to_search, no_room, calm, behind_others, line_answer, owing}
 
 -- the front is where it stands by the transcript
-pub record Stands (r : Recording) (s : Standing) (d : FrontState) : Type 0 where
+pub record Stands (r : Recording) (s : SessionState) (d : FrontState) : Type 0 where
   pub recording : d.recording ≡ r
   pub placed : s.placed ≡ length d.pass_state.seen
   pub owed : s.owed ≡ owed_command d
   pub at : IsAt r d.pass_state.seen s.owed s.debugger
 
 -- a line may be answered so, by what it meets; and a pass that is alone meets nothing of others
-pub record MayGive (r : Recording) (owed : Option Command) (asked : Result Line LineFault) (s : Standing) (d : FrontState) (reply : Option Reply) (d' : FrontState) : Type 0 where
+pub record MayGive (r : Recording) (owed : Option Command) (asked : Result Line LineFault) (s : SessionState) (d : FrontState) (reply : Option Reply) (d' : FrontState) : Type 0 where
   pub met : Met
   pub reply_is : (line_answer r owed asked met s).0 ≡ reply
   pub there : Stands r (line_answer r owed asked met s).1 d'
   pub company : d'.pass_state.alone ≡ d.pass_state.alone
   pub no_others : d.pass_state.alone ≡ true → met.others ≡ []
+  pub tag : d'.pass_state.tag ≡ d.pass_state.tag
+  pub seen : d'.pass_state.seen ≡ d.pass_state.seen ++ words_with d.pass_state.tag owed asked met
+  pub theirs : MeetsOthers d.pass_state.tag met
+  pub table : d'.table ≡ d.table
+  pub may : MayMeet r (journal_room d.table) owed asked met s
 
 -- the command that is due is the own one that is owed
 due_command : (pending : Pending) (owed due : Command) → own_pending pending ≡ Some owed → pending_command pending ≡ Some due → due ≡ owed
@@ -50,7 +59,18 @@ one_behind : (r : Recording) (words : List ℕ) (command : Command) (a b : Debug
 one_behind r words command a b one other =
     one.behind ∙ ap (after_words r opening) (same_from_push one.before other.before one.word other.word (sym one.last ∙ other.last)).0 ∙ sym other.behind
 
-module _ (r : Recording) (s : Standing) (d : FrontState) (here : Stands r s d) where
+module _ (r : Recording) (s : SessionState) (d : FrontState) (here : Stands r s d) where
+  -- others' words were seen, and none of the own
+  seen_others : (words own : List ℕ) (d' : FrontState) → d'.pass_state.seen ≡ d.pass_state.seen ++ words → own ≡ [] → d'.pass_state.seen ≡ d.pass_state.seen ++ (words ++ own)
+  seen_others words own d' seen none = seen ∙ ap (λ (l : List ℕ). d.pass_state.seen ++ l) (sym (ap (λ (l : List ℕ). words ++ l) none ∙ append-nil words))
+
+  -- nothing was seen
+  seen_none : (own : List ℕ) (d' : FrontState) → d'.pass_state ≡ d.pass_state → own ≡ [] → d'.pass_state.seen ≡ d.pass_state.seen ++ ([] ++ own)
+  seen_none own d' same none = seen_others [] own d' (ap (λ (x : PassState). x.seen) same ∙ sym (append-nil d.pass_state.seen)) none
+
+  none_theirs : (supply : Supply) → MeetsOthers d.pass_state.tag (record { others = []; supply = supply })
+  none_theirs supply = All-nil (IsOthers d.pass_state.tag)
+
   -- nothing is owed
   none_owed : owed_command d ≡ None → s.owed ≡ None
   none_owed unowed = here.owed ∙ unowed
@@ -111,6 +131,11 @@ module _ (r : Recording) (s : Standing) (d : FrontState) (here : Stands r s d) w
         };
         company = p.alone;
         no_others = p.none_between;
+        tag = p.tag;
+        seen = p.placed ∙ append_assoc d.pass_state.seen p.between (word_of d.pass_state.tag command ∷ []);
+        theirs = p.others;
+        table = p.same.table;
+        may = tt;
       }
 
   -- one that was placed, and whose reply is owed
@@ -132,44 +157,61 @@ module _ (r : Recording) (s : Standing) (d : FrontState) (here : Stands r s d) w
         };
         company = p.alone;
         no_others = p.none_between;
+        tag = p.tag;
+        seen = p.placed ∙ append_assoc d.pass_state.seen p.between (word_of d.pass_state.tag command ∷ []);
+        theirs = p.others;
+        table = p.same.table;
+        may = subst (Searches r command) (sym same) (subst (λ (x : Command). Searches r x left.wanted.debugger) due (subst (λ (x : Recording). Searches x left.wanted.command left.wanted.debugger) is left.wanted.searches));
       }
 
   -- others' words were seen, and then there was no memory or no room
-  refused : (asked : Result Line LineFault) (reply : Option Reply) (supply : Supply) (d' : FrontState) → (l : Learns d d')
+  refused : (asked : Result Line LineFault) (reply : Option Reply) (supply : Supply) (d' : FrontState) → (l : Learns d d') → own_word d.pass_state.tag None asked supply ≡ []
+      → MayMeet r (journal_room d.table) None asked (record { others = l.sees_others.0; supply = supply }) s
       → line_answer r None asked (record { others = l.sees_others.0; supply = supply }) s ≡ (reply, behind_others r l.sees_others.0 s) → MayGive r s.owed asked s d reply d'
-  refused asked reply supply d' l is =
+  refused asked reply supply d' l none may is =
       subst (λ o. MayGive r o asked s d reply d') (sym (none_owed l.unowed)) (record {
         met = record { others = l.sees_others.0; supply = supply };
         reply_is = ap (λ (a : Answered). a.0) is;
         there = subst (λ (a : Answered). Stands r a.1 d') (sym is) (learnt d' l);
         company = l.sees_others.5;
         no_others = l.sees_others.6;
+        tag = l.sees_others.3;
+        seen = seen_others l.sees_others.0 _ d' l.sees_others.1 none;
+        theirs = l.sees_others.2;
+        table = l.same.table;
+        may = may;
       })
 
   -- a reply was owed, and nothing was done
   stays_owed : (asked : Result Line LineFault) (supply : Supply) (d' : FrontState) (place : ℕ) → (stays : StaysOwed d d' place)
+      → MayMeet r (journal_room d.table) (Some stays.command) asked (record { others = []; supply = supply }) s
       → line_answer r (Some stays.command) asked (record { others = []; supply = supply }) s ≡ owing s → MayGive r s.owed asked s d (Some (Fault (faults.Placed place))) d'
-  stays_owed asked supply d' place stays is =
+  stays_owed asked supply d' place stays may is =
       subst (λ o. MayGive r o asked s d (Some (Fault (faults.Placed place))) d') (sym (here.owed ∙ stays.still_owed)) (record {
         met = record { others = []; supply = supply };
         reply_is = ap (λ (a : Answered). a.0) is ∙ ap (λ n. Some (Fault (faults.Placed n))) (here.placed ∙ sym stays.at);
         there = subst (λ (a : Answered). Stands r a.1 d') (sym is) (subst (Stands r s) (sym stays.unchanged) here);
         company = ap (λ (x : FrontState). x.pass_state.alone) stays.unchanged;
         no_others = λ _. refl;
+        tag = ap (λ (x : FrontState). x.pass_state.tag) stays.unchanged;
+        seen = seen_none _ d' (ap (λ (x : FrontState). x.pass_state) stays.unchanged) refl;
+        theirs = none_theirs supply;
+        table = ap (λ (x : FrontState). x.table) stays.unchanged;
+        may = may;
       })
 
   -- a command
   executed : (command : Command) (d' : FrontState) (given : Result Reply FrontFault) → Executes command d d' given → MayGive r s.owed (Ok (Run command)) s d (Some (reply_given given)) d'
   executed command d' (Ok reply) h =
       subst (λ o. MayGive r o (Ok (Run command)) s d (Some reply) d') (sym (none_owed h.places.unowed)) (command_run command d' reply h.places h.replies h.run)
-  executed command d' (Err Memory) h = refused (Ok (Run command)) (Some (Fault faults.Memory)) no_memory d' h.learns refl
+  executed command d' (Err Memory) h = refused (Ok (Run command)) (Some (Fault faults.Memory)) no_memory d' h.learns refl tt refl
   executed command d' (Err (Placed place)) (inl left) =
       subst (λ o. MayGive r o (Ok (Run command)) s d (Some (Fault (faults.Placed place))) d') (sym (none_owed left.places.unowed)) (command_owed command d' place left)
-  executed command d' (Err (Placed place)) (inr stays) = stays_owed (Ok (Run command)) enough d' place stays refl
-  executed command d' (Err Full) h = refused (Ok (Run command)) (Some (Fault faults.JournalFull)) no_room d' h.learns refl
+  executed command d' (Err (Placed place)) (inr stays) = stays_owed (Ok (Run command)) enough d' place stays refl refl
+  executed command d' (Err Full) h = refused (Ok (Run command)) (Some (Fault faults.JournalFull)) no_room d' h.learns refl ((learnt d' h.learns).placed ∙ h.full) refl
 
   -- the walker doesn't matter
-  walked : (s' : Standing) (walker_state : WalkerState) (mid d' : FrontState) → d' ≡ with_walker_state walker_state mid → Stands r s' mid → Stands r s' d'
+  walked : (s' : SessionState) (walker_state : WalkerState) (mid d' : FrontState) → d' ≡ with_walker_state walker_state mid → Stands r s' mid → Stands r s' d'
   walked s' walker_state mid d' is there =
       subst (Stands r s') (sym is) (record { recording = there.recording; placed = there.placed; owed = there.owed; at = there.at })
 
@@ -186,13 +228,18 @@ module _ (r : Recording) (s : Standing) (d : FrontState) (here : Stands r s d) w
         there = walked (behind_others r l.sees_others.0 s) _ h.caught_up d' h.led (learnt h.caught_up l);
         company = ap (λ (x : FrontState). x.pass_state.alone) h.led ∙ l.sees_others.5;
         no_others = l.sees_others.6;
+        tag = ap (λ (x : FrontState). x.pass_state.tag) h.led ∙ l.sees_others.3;
+        seen = seen_others l.sees_others.0 _ d' (ap (λ (x : FrontState). x.pass_state.seen) h.led ∙ l.sees_others.1) refl;
+        theirs = l.sees_others.2;
+        table = ap (λ (x : FrontState). x.table) h.led ∙ l.same.table;
+        may = tt;
       }
 
   -- a look
   looked_at : (query : Query) (d' : FrontState) (given : Result Reply FrontFault) → Looks query d d' given → MayGive r s.owed (Ok (Look query)) s d (Some (reply_given given)) d'
   looked_at query d' (Ok reply) h =
       subst (λ o. MayGive r o (Ok (Look query)) s d (Some reply) d') (sym (none_owed h.catches_all.learns.unowed)) (look_given query d' reply h)
-  looked_at query d' (Err Memory) (inl h) = refused (Ok (Look query)) (Some (Fault faults.Memory)) no_memory d' h.learns refl
+  looked_at query d' (Err Memory) (inl h) = refused (Ok (Look query)) (Some (Fault faults.Memory)) no_memory d' h.learns refl tt refl
   looked_at query d' (Err Memory) (inr h) =
       let l = h.catches_all.learns in
       subst (λ o. MayGive r o (Ok (Look query)) s d (Some (Fault faults.Memory)) d') (sym (none_owed l.unowed)) (record {
@@ -201,8 +248,13 @@ module _ (r : Recording) (s : Standing) (d : FrontState) (here : Stands r s d) w
         there = walked (behind_others r l.sees_others.0 s) _ h.caught_up d' h.moved (learnt h.caught_up l);
         company = ap (λ (x : FrontState). x.pass_state.alone) h.moved ∙ l.sees_others.5;
         no_others = l.sees_others.6;
+        tag = ap (λ (x : FrontState). x.pass_state.tag) h.moved ∙ l.sees_others.3;
+        seen = seen_others l.sees_others.0 _ d' (ap (λ (x : FrontState). x.pass_state.seen) h.moved ∙ l.sees_others.1) refl;
+        theirs = l.sees_others.2;
+        table = ap (λ (x : FrontState). x.table) h.moved ∙ l.same.table;
+        may = tt;
       })
-  looked_at query d' (Err (Placed place)) stays = stays_owed (Ok (Look query)) enough d' place stays refl
+  looked_at query d' (Err (Placed place)) stays = stays_owed (Ok (Look query)) enough d' place stays refl refl
   looked_at query d' (Err Full) h = absurd h
 
   -- the reply that is owed
@@ -222,7 +274,24 @@ module _ (r : Recording) (s : Standing) (d : FrontState) (here : Stands r s d) w
         });
         company = ap (λ (x : FrontState). x.pass_state.alone) now;
         no_others = λ _. refl;
+        tag = ap (λ (x : FrontState). x.pass_state.tag) now;
+        seen = seen_none _ d' (ap (λ (x : FrontState). x.pass_state) now) refl;
+        theirs = none_theirs enough;
+        table = ap (λ (x : FrontState). x.table) now;
+        may = (refl, tt);
       }
+
+  -- the command whose reply is still owed searches
+  searches_still : (d' : FrontState) (place : ℕ) → (h : IsStillOwed d d' place) → Searches r h.stays.command s.debugger
+  searches_still d' place h =
+      let command = h.stays.command in
+      let owed = here.owed ∙ h.stays.still_owed in
+      let due = due_command d.pending command h.wanted.command h.stays.still_owed h.wanted.pending in
+      let mine : IsBehind r d.pass_state.seen command s.debugger = subst (λ o. IsAt r d.pass_state.seen o s.debugger) owed here.at in
+      let theirs : IsBehind r d.pass_state.seen command h.wanted.debugger =
+      subst (λ x. IsBehind x d.pass_state.seen command h.wanted.debugger) here.recording (subst (λ c. IsBehind d.recording d.pass_state.seen c h.wanted.debugger) due h.wanted.behind) in
+      subst (Searches r command) (one_behind r d.pass_state.seen command h.wanted.debugger s.debugger theirs mine)
+      (subst (λ (x : Command). Searches r x h.wanted.debugger) due (subst (λ (x : Recording). Searches x h.wanted.command h.wanted.debugger) here.recording h.wanted.searches))
 
   -- `resume`
   resumes : (d' : FrontState) (given : Result (Option Reply) FrontFault) → Resumes d d' given → MayGive r s.owed (Ok Resume) s d (Some (resumed given)) d'
@@ -233,23 +302,34 @@ module _ (r : Recording) (s : Standing) (d : FrontState) (here : Stands r s d) w
         there = subst (Stands r s) (sym h.unchanged) here;
         company = ap (λ (x : FrontState). x.pass_state.alone) h.unchanged;
         no_others = λ _. refl;
+        tag = ap (λ (x : FrontState). x.pass_state.tag) h.unchanged;
+        seen = seen_none _ d' (ap (λ (x : FrontState). x.pass_state) h.unchanged) refl;
+        theirs = none_theirs enough;
+        table = ap (λ (x : FrontState). x.table) h.unchanged;
+        may = refl;
       })
   resumes d' (Ok (Some reply)) h =
       let owed = here.owed ∙ h.was_owed in
       subst (λ o. MayGive r o (Ok Resume) s d (Some reply) d') (sym owed) (owed_run h.command d' reply owed h.replies h.now)
   resumes d' (Err Memory) h = absurd h
-  resumes d' (Err (Placed place)) h = stays_owed (Ok Resume) no_memory d' place h.stays refl
+  resumes d' (Err (Placed place)) h = stays_owed (Ok Resume) no_memory d' place h.stays (refl, searches_still d' place h) refl
   resumes d' (Err Full) h = absurd h
 
   -- what is answered the same, whether a reply is owed or not
-  quiet : (asked : Result Line LineFault) (reply given : Option Reply) (d' : FrontState) → ((o : Option Command) → line_answer r o asked calm s ≡ (reply, s)) → given ≡ reply → d' ≡ d → MayGive r s.owed asked s d given d'
-  quiet asked reply given d' each is same =
+  quiet : (asked : Result Line LineFault) (reply given : Option Reply) (d' : FrontState) → ((o : Option Command) → line_answer r o asked calm s ≡ (reply, s))
+      → ((o : Option Command) → own_word d.pass_state.tag o asked enough ≡ []) → ((o : Option Command) → MayMeet r (journal_room d.table) o asked calm s) → given ≡ reply → d' ≡ d → MayGive r s.owed asked s d given d'
+  quiet asked reply given d' each none may is same =
       let e = each s.owed in record {
         met = calm;
         reply_is = ap (λ (a : Answered). a.0) e ∙ sym is;
         there = subst (Stands r (line_answer r s.owed asked calm s).1) (sym same) (subst (λ x. Stands r x d) (sym (ap (λ (a : Answered). a.1) e)) here);
         company = ap (λ (x : FrontState). x.pass_state.alone) same;
         no_others = λ _. refl;
+        tag = ap (λ (x : FrontState). x.pass_state.tag) same;
+        seen = seen_none _ d' (ap (λ (x : FrontState). x.pass_state) same) (none s.owed);
+        theirs = none_theirs enough;
+        table = ap (λ (x : FrontState). x.table) same;
+        may = may s.owed;
       }
 
   -- any line
@@ -257,6 +337,12 @@ module _ (r : Recording) (s : Standing) (d : FrontState) (here : Stands r s d) w
   line_given (Ok (Run command)) reply d' h = subst (λ x. MayGive r s.owed (Ok (Run command)) s d x d') (sym h.2) (executed command d' h.0 h.1)
   line_given (Ok (Look query)) reply d' h = subst (λ x. MayGive r s.owed (Ok (Look query)) s d x d') (sym h.2) (looked_at query d' h.0 h.1)
   line_given (Ok Resume) reply d' h = subst (λ x. MayGive r s.owed (Ok Resume) s d x d') (sym h.2) (resumes d' h.0 h.1)
-  line_given (Ok Quit) reply d' h = quiet (Ok Quit) (Some Bye) reply d' (λ o. elim o as (λ k. line_answer r k (Ok Quit) calm s ≡ (Some Bye, s)) [ None ↦ refl | Some c ↦ refl ]) h.0 h.1
-  line_given (Ok Empty) reply d' h = quiet (Ok Empty) None reply d' (λ o. elim o as (λ k. line_answer r k (Ok Empty) calm s ≡ (None, s)) [ None ↦ refl | Some c ↦ refl ]) h.0 h.1
-  line_given (Err fault) reply d' h = quiet (Err fault) (Some (Fault (faults.Line fault))) reply d' (λ o. elim o as (λ k. line_answer r k (Err fault) calm s ≡ (Some (Fault (faults.Line fault)), s)) [ None ↦ refl | Some c ↦ refl ]) h.0 h.1
+  line_given (Ok Quit) reply d' h = quiet (Ok Quit) (Some Bye) reply d' (λ o. elim o as (λ k. line_answer r k (Ok Quit) calm s ≡ (Some Bye, s)) [ None ↦ refl | Some c ↦ refl ])
+      (λ o. elim o as (λ k. own_word d.pass_state.tag k (Ok Quit) enough ≡ []) [ None ↦ refl | Some c ↦ refl ])
+      (λ o. elim o as (λ k. MayMeet r (journal_room d.table) k (Ok Quit) calm s) [ None ↦ refl | Some c ↦ refl ]) h.0 h.1
+  line_given (Ok Empty) reply d' h = quiet (Ok Empty) None reply d' (λ o. elim o as (λ k. line_answer r k (Ok Empty) calm s ≡ (None, s)) [ None ↦ refl | Some c ↦ refl ])
+      (λ o. elim o as (λ k. own_word d.pass_state.tag k (Ok Empty) enough ≡ []) [ None ↦ refl | Some c ↦ refl ])
+      (λ o. elim o as (λ k. MayMeet r (journal_room d.table) k (Ok Empty) calm s) [ None ↦ refl | Some c ↦ refl ]) h.0 h.1
+  line_given (Err fault) reply d' h = quiet (Err fault) (Some (Fault (faults.Line fault))) reply d' (λ o. elim o as (λ k. line_answer r k (Err fault) calm s ≡ (Some (Fault (faults.Line fault)), s)) [ None ↦ refl | Some c ↦ refl ])
+      (λ o. elim o as (λ k. own_word d.pass_state.tag k (Err fault) enough ≡ []) [ None ↦ refl | Some c ↦ refl ])
+      (λ o. elim o as (λ k. MayMeet r (journal_room d.table) k (Err fault) calm s) [ None ↦ refl | Some c ↦ refl ]) h.0 h.1

@@ -1,10 +1,9 @@
 -- What is written of a recording, and what may follow it.
 use Rattle.std.proofs.Common.{◌≡◌, ℕ, ◌+◌, Bool, true, false, ◌||◌, List, ◌++◌, length, take, inl, inr, refl, sym, subst, ◌∙◌, length-append, arith}
-use Rattle.std.proofs.KnownBytes.{Appends-trans}
+use Rattle.nr_text.proofs.StreamLemmas.{sends_then}
 use Rattle.std.proofs.Math.Seq.{take-append-add}
-use Rattle.std.specs.Io.KnownBytes.{Appends}
-use Rattle.nr_recording.specs.Writing.{AppendsPart}
-use Rattle.nr_text.specs.Streams.{Outgoing, WritesPrefix, saturating_count}
+use Rattle.nr_recording.specs.Writing.{SendsPart}
+use Rattle.nr_text.specs.Streams.{Outgoing, Sends, WritesPrefix, saturating_count}
 use Rattle.nr_programs.specs.Run.{EndsPrinting}
 use Rattle.nr_programs.specs.declared.run.ExitStatus.{ExitStatus}
 use Rattle.nr_programs.specs.declared.run.ExitStatus.TheVariants.{StreamFailed}
@@ -14,7 +13,7 @@ unfailed true b e = e
 unfailed false b e = e
 
 -- the whole text, and no failure
-pub wrote_all : (text : List ℕ) (wanted : ExitStatus) (old new : Outgoing) → Appends old.contents new.contents text → new.failed ≡ (old.failed || false) → EndsPrinting text wanted old new wanted
+pub wrote_all : (text : List ℕ) (wanted : ExitStatus) (old new : Outgoing) → Sends old new text → new.failed ≡ (old.failed || false) → EndsPrinting text wanted old new wanted
 wrote_all text wanted old new out calm = inl (refl, (out, unfailed old.failed new.failed calm))
 
 failed_at : (a b : Bool) → b ≡ (a || true) → b ≡ true
@@ -22,7 +21,7 @@ failed_at true b e = e
 failed_at false b e = e
 
 -- a part of a text behind what was written
-prefix_behind : (lines text : List ℕ) (old mid new : Outgoing) (count : ℕ) → Appends old.contents mid.contents lines → (part : WritesPrefix mid new text count)
+prefix_behind : (lines text : List ℕ) (old mid new : Outgoing) (count : ℕ) → Sends old mid lines → (part : WritesPrefix mid new text count)
     → WritesPrefix old new (lines ++ text) (saturating_count (length lines + part.n))
 prefix_behind lines text old mid new count before part =
     let front : take (length lines + part.n) (lines ++ text) ≡ lines ++ take part.n text = take-append-add lines text part.n in
@@ -30,12 +29,12 @@ prefix_behind lines text old mid new count before part =
       n = length lines + part.n;
       within = omega (arith, part.within, length-append lines text);
       count_is = refl;
-      out = subst (Appends old.contents new.contents) (sym front) (Appends-trans old.contents mid.contents new.contents lines (take part.n text) before part.out);
+      out = subst (Sends old new) (sym front) (sends_then old mid new lines (take part.n text) before part.out);
       failed = part.failed;
     }
 
 -- a part of it, and a failure
-pub wrote_part : (text : List ℕ) (wanted : ExitStatus) (old new : Outgoing) → AppendsPart old.contents new.contents text → new.failed ≡ (old.failed || true) → EndsPrinting text wanted old new StreamFailed
+pub wrote_part : (text : List ℕ) (wanted : ExitStatus) (old new : Outgoing) → SendsPart old new text → new.failed ≡ (old.failed || true) → EndsPrinting text wanted old new StreamFailed
 wrote_part text wanted old new part failed =
     let prefix : WritesPrefix old new text (saturating_count part.0) = record {
       n = part.0;
@@ -47,10 +46,10 @@ wrote_part text wanted old new part failed =
     inr (refl, (saturating_count part.0, prefix))
 
 -- a text behind what was written
-pub behind : (lines text : List ℕ) (wanted status : ExitStatus) (old mid new : Outgoing) → Appends old.contents mid.contents lines → mid.failed ≡ (old.failed || false)
+pub behind : (lines text : List ℕ) (wanted status : ExitStatus) (old mid new : Outgoing) → Sends old mid lines → mid.failed ≡ (old.failed || false)
     → EndsPrinting text wanted mid new status → EndsPrinting (lines ++ text) wanted old new status
 behind lines text wanted status old mid new before calm prints =
     elim prints [
-      | inl all ↦ inl (all.0, (Appends-trans old.contents mid.contents new.contents lines text before all.1.0, all.1.1 ∙ unfailed old.failed mid.failed calm))
+      | inl all ↦ inl (all.0, (sends_then old mid new lines text before all.1.0, all.1.1 ∙ unfailed old.failed mid.failed calm))
       | inr part ↦ (let prefix = prefix_behind lines text old mid new part.1.0 before part.1.1 in inr (part.0, (saturating_count (length lines + part.1.1.n), prefix)))
     ]

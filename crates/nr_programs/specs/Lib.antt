@@ -6,5 +6,6 @@ pub mod Serving
 pub mod Shared
 pub mod Sharing
 pub mod ShortRuns
+pub mod Shown
 pub mod Transcript
 pub mod Upgrade

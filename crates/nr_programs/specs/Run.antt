@@ -45,7 +45,7 @@ pub record Walks (from left : Incoming) (old new : Outgoing) (r : Recording) (st
   pub last : FrontState
   pub ending : Result End LineEnd
   pub serves :
-      AnswersLines from.remaining left.remaining old.contents new.contents
+      AnswersLines from left old new
       (opened_front (record { table = table; pass_state = entering_alone }) r 1
       (at_start COPY_EVERY DELTAS_KEPT))
       last ending

@@ -1,35 +1,83 @@
 -- What the callers of a shared session are answered.
-use Rattle.std.specs.Prelude.{◌≡◌, ◌≤◌, ℕ, false, not, List, [], ◌∷◌, length, Result, ⊤}
+use Rattle.std.specs.Prelude.{◌≡◌, ℕ, false, not, List, [], ◌∷◌, ◌++◌, length, drop, Option, None, Result, Ok, ⊤, if◌then◌else◌}
+use Rattle.std.specs.List.{All, concat}
 use Rattle.nr_rev.specs.Run.{Recording}
-use Rattle.nr_journal.specs.Rule.{StartsWith}
+use Rattle.nr_journal.specs.Rule.{IsOthers, StartsWith}
+use Rattle.nr_command.specs.Command.{meaning_of}
+use Rattle.nr_command.specs.Word.{word_of}
+use Rattle.nr_command.specs.declared.command.Command.{Command}
+use Rattle.nr_command.specs.declared.command.Line.{Line}
+use Rattle.nr_command.specs.declared.command.Line.TheVariants.{Run}
+use Rattle.nr_command.specs.declared.command.LineFault.{LineFault}
 use Rattle.nr_front.specs.FrontState.{IsAt}
-use Rattle.nr_lines.specs.Engine.{is_read_failure, is_write_failure}
-use Rattle.nr_lines.specs.declared.ending.End.{End}
-use Rattle.nr_lines.specs.declared.ending.LineEnd.{LineEnd}
-use Rattle.nr_programs.specs.Transcript.{Met, Standing, replies}
+use Rattle.nr_lines.specs.Engine.{lines_of}
+use Rattle.nr_lines.specs.Turn.{is_quit}
+use Rattle.nr_serving.specs.Fronts.{Course}
+use Rattle.nr_serving.specs.Told.{Conversation}
+use Rattle.nr_programs.specs.Transcript.{AllMayMeet, Met, SessionState, Supply, enough, line_answer, next_met, no_memory_to_search, replies, texts}
 
--- One caller of a front, by how serving it ended: it sent commands, and what was written to it is a
--- prefix of the replies to them from where the front stood; all of it unless a write failed.
-pub record IsAnswered (r : Recording) (ending : Result End LineEnd) (s : Standing) : Type 0 where
-  pub commands : List ℕ
-  pub written : List ℕ
-  pub met : List Met
-  pub begins : StartsWith (replies r s (not (is_read_failure ending)) commands met) written
-  pub whole : is_write_failure ending ≡ false
-      → written ≡ replies r s (not (is_read_failure ending)) commands met
+-- the lines begin with these
+abbrev pub StartsList : List (List ℕ) → List (List ℕ) → Type 0
+StartsList lines front = (more : List (List ℕ)) × (lines ≡ front ++ more)
+
+-- the word of a line's own command, where the line places it
+abbrev pub own_word : ℕ → Option Command → Result Line LineFault → Supply → List ℕ
+own_word tag None (Ok (Run command)) enough = word_of tag command ∷ []
+own_word tag None (Ok (Run command)) no_memory_to_search = word_of tag command ∷ []
+own_word tag owed asked supply = []
+
+-- The words that a front sees with a line: those that others placed before it, and then the line's
+-- own.
+abbrev pub words_with : ℕ → Option Command → Result Line LineFault → Met → List ℕ
+words_with tag owed asked m = m.others ++ own_word tag owed asked m.supply
+
+-- the words that a front with this tag sees with some lines, up to the first `quit`
+abbrev pub words_seen : ℕ → Recording → SessionState → List (List ℕ) → List Met → List ℕ
+words_seen tag r s [] met = []
+words_seen tag r s (line ∷ lines) met =
+    let asked = meaning_of line in
+    let a = line_answer r s.owed asked (next_met met) s in
+    words_with tag s.owed asked (next_met met)
+    ++ (if is_quit asked then [] else words_seen tag r a.1 lines (drop 1 met))
+
+-- what a line met of others has none of the front's own words
+abbrev pub MeetsOthers : ℕ → Met → Type 0
+MeetsOthers tag m = All (IsOthers tag) m.others
+
+-- One caller of a front: what was sent to it is a prefix of the replies to what was received from it,
+-- from where the front stood; all of it unless a write failed. Where a read failed, an unfinished
+-- last line is no command. These lines were run: the first ones, up to one that is `quit`, or whose
+-- reply wasn't written, or all; nothing was sent but their texts. They met what lines may meet, where the journal has this room.
+pub record IsAnswered (r : Recording) (room tag : ℕ) (c : Conversation) (s : SessionState) : Type 0
+  where
+    pub met : List Met
+    pub may : AllMayMeet r room s (lines_of (not c.input.failed) c.input.received) met
+    pub begins : StartsWith (replies r s (not c.input.failed) c.input.received met) c.output.sent
+    pub whole : c.output.failed ≡ false
+        → c.output.sent ≡ replies r s (not c.input.failed) c.input.received met
+    pub ran : List (List ℕ)
+    pub first : StartsList (lines_of (not c.input.failed) c.input.received) ran
+    pub told : StartsWith (concat (texts r s ran met)) c.output.sent
+    pub others : All (MeetsOthers tag) met
 
 -- The front stands behind a prefix of the history: its debugger is that of these words, less the
 -- last where its reply is owed.
-pub record StandsIn (r : Recording) (history : List ℕ) (s : Standing) : Type 0 where
-  pub seen : List ℕ
+pub record StandsIn (r : Recording) (history seen : List ℕ) (s : SessionState) : Type 0 where
   pub prefix : StartsWith history seen
   pub placed : s.placed ≡ length seen
   pub at : IsAt r seen s.owed s.debugger
 
--- The callers of a front, one after the other: behind each the front stands in the one history, and
--- no further back.
-abbrev pub AreAnswered : Recording → List ℕ → Standing → List (Result End LineEnd) → Type 0
-AreAnswered r history s [] = ⊤
-AreAnswered r history s (ending ∷ endings) =
-    IsAnswered r ending s × (next : Standing) × StandsIn r history next × (s.placed ≤ next.placed)
-    × AreAnswered r history next endings
+-- The callers of a front, one after the other, where it had seen these words. Behind each the front
+-- stands in the one history, and further on by the words that it saw with the caller's lines: those
+-- of others before each, and each placed command's own, once.
+abbrev pub AreAnswered : Recording → ℕ → ℕ → List ℕ → SessionState → List ℕ → List Conversation
+    → Type 0
+AreAnswered r room tag history s seen [] = ⊤
+AreAnswered r room tag history s seen (c ∷ callers) =
+    (one : IsAnswered r room tag c s) × (next : SessionState)
+    × StandsIn r history (seen ++ words_seen tag r s one.ran one.met) next
+    × AreAnswered r room tag history next (seen ++ words_seen tag r s one.ran one.met) callers
+
+-- the tag of a front's words
+abbrev pub tag_at_end : Course → ℕ
+tag_at_end course = course.last.pass_state.tag

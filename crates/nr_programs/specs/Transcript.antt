@@ -1,13 +1,12 @@
 -- The transcript: what the lines of a front are answered, as a function of the bytes.
-use Rattle.std.specs.Prelude.{◌≡◌, ◌⊎◌, ℕ, ◌+◌, Bool, true, false, not, ◌||◌, List, [], ◌∷◌, length, drop, Option, Some, None, Result, Ok, Err, if◌then◌else◌}
-use Rattle.std.specs.Io.KnownBytes.{Appends, Consumes, IsAtEnd}
+use Rattle.std.specs.Prelude.{◌≡◌, ◌⊎◌, ℕ, ◌+◌, Bool, true, false, not, ◌||◌, List, [], ◌∷◌, length, drop, Option, Some, None, Result, Ok, Err, ⊤, if◌then◌else◌}
+use Rattle.nr_text.specs.Streams.{Incoming, IsOver, Outgoing, Receives, Sends}
 use Rattle.std.specs.List.{All, concat}
 use Rattle.nr_rev.specs.Run.{Recording}
 use Rattle.nr_journal.specs.Rule.{StartsWith}
-use Rattle.nr_text.specs.Streams.{Incoming, Outgoing}
 use Rattle.nr_recording.specs.Faults.{memory_line}
 use Rattle.nr_command.specs.Command.{meaning_of}
-use Rattle.nr_command.specs.Debugger.{Ran, after_words, opening, query_reply, run}
+use Rattle.nr_command.specs.Debugger.{Ran, Searches, after_words, opening, query_reply, run}
 use Rattle.nr_command.specs.declared.command.Command.{Command}
 use Rattle.nr_command.specs.declared.command.Line.{Line}
 use Rattle.nr_command.specs.declared.command.Line.TheVariants.{Run, Look, Resume, Quit, Empty}
@@ -53,21 +52,21 @@ next_met (m ∷ met) = m
 
 -- The debugger that the words placed so far lead to, how many these are, and the command whose reply
 -- is owed. Where one is, its word is the last, and the debugger is that of the words before it.
-pub record Standing : Type 0 where
+pub record SessionState : Type 0 where
   pub debugger : Debugger
   pub placed : ℕ
   pub owed : Option Command
 
 -- before the first line
-abbrev pub start : Standing
+abbrev pub start : SessionState
 start = record { debugger = opening; placed = 0; owed = None }
 
 -- what a line is answered, if anything, and the front behind it
 abbrev pub Answered : Type 0
-Answered = Option Reply × Standing
+Answered = Option Reply × SessionState
 
 -- behind words that others placed
-abbrev pub behind_others : Recording → List ℕ → Standing → Standing
+abbrev pub behind_others : Recording → List ℕ → SessionState → SessionState
 behind_others r words s = record s {
   debugger = after_words r s.debugger words;
   placed = s.placed + length words;
@@ -78,11 +77,11 @@ abbrev pub with_run : Ran → ℕ → Answered
 with_run ran placed = (Some ran.0, record { debugger = ran.1; placed = placed; owed = None })
 
 -- the reply to the last word is owed
-abbrev pub owing : Standing → Answered
+abbrev pub owing : SessionState → Answered
 owing s = (Some (Fault (faults.Placed s.placed)), s)
 
 -- a command is placed and run
-abbrev pub command_answer : Recording → Command → Supply → Standing → Answered
+abbrev pub command_answer : Recording → Command → Supply → SessionState → Answered
 command_answer r command enough s = with_run (run r command s.debugger) (s.placed + 1)
 command_answer r command no_memory s = (Some (Fault faults.Memory), s)
 command_answer r command no_memory_to_search s =
@@ -90,12 +89,12 @@ command_answer r command no_memory_to_search s =
 command_answer r command no_room s = (Some (Fault faults.JournalFull), s)
 
 -- a look shows what the debugger shows
-abbrev pub look_answer : Recording → Query → Supply → Standing → Answered
+abbrev pub look_answer : Recording → Query → Supply → SessionState → Answered
 look_answer r query enough s = (Some (query_reply r s.debugger query), s)
 look_answer r query _ s = (Some (Fault faults.Memory), s)
 
 -- a line where no reply is owed
-abbrev pub answer : Recording → Result Line LineFault → Met → Standing → Answered
+abbrev pub answer : Recording → Result Line LineFault → Met → SessionState → Answered
 answer r (Ok (Run command)) m s = command_answer r command m.supply (behind_others r m.others s)
 answer r (Ok (Look query)) m s = look_answer r query m.supply (behind_others r m.others s)
 answer r (Ok Resume) m s = (Some NothingOwed, s)
@@ -104,36 +103,85 @@ answer r (Ok Empty) m s = (None, s)
 answer r (Err fault) m s = (Some (Fault (faults.Line fault)), s)
 
 -- `resume` gives the reply that is owed
-abbrev pub resume_answer : Recording → Command → Supply → Standing → Answered
+abbrev pub resume_answer : Recording → Command → Supply → SessionState → Answered
 resume_answer r command enough s = with_run (run r command s.debugger) s.placed
 resume_answer r command _ s = owing s
 
 -- a line where the reply to this command is owed
-abbrev pub answer_owing : Recording → Command → Result Line LineFault → Met → Standing → Answered
+abbrev pub answer_owing : Recording → Command → Result Line LineFault → Met → SessionState → Answered
 answer_owing r command (Ok (Run next)) m s = owing s
 answer_owing r command (Ok (Look query)) m s = owing s
 answer_owing r command (Ok Resume) m s = resume_answer r command m.supply s
 answer_owing r command asked m s = answer r asked m s
 
 -- a line, by whether a reply is owed
-abbrev pub line_answer : Recording → Option Command → Result Line LineFault → Met → Standing
+abbrev pub line_answer : Recording → Option Command → Result Line LineFault → Met → SessionState
     → Answered
 line_answer r None asked m s = answer r asked m s
 line_answer r (Some command) asked m s = answer_owing r command asked m s
 
+-- ---- what a line may meet
+
+-- A command may meet this, as the line finds the session: its search runs out of memory only where it
+-- searches by copies of worlds, and there is no room only where the journal has so many words.
+abbrev pub CommandMayMeet : Recording → ℕ → Command → Supply → SessionState → Type 0
+CommandMayMeet r room command enough s = ⊤
+CommandMayMeet r room command no_memory s = ⊤
+CommandMayMeet r room command no_memory_to_search s = Searches r command s.debugger
+CommandMayMeet r room command no_room s = s.placed ≡ room
+
+-- a look may run out of memory
+abbrev pub LookMayMeet : Supply → Type 0
+LookMayMeet enough = ⊤
+LookMayMeet no_memory = ⊤
+LookMayMeet no_memory_to_search = ⊥
+LookMayMeet no_room = ⊥
+
+-- the search of the command whose reply is owed may run out of memory once more
+abbrev pub ResumeMayMeet : Recording → Command → Supply → SessionState → Type 0
+ResumeMayMeet r command enough s = ⊤
+ResumeMayMeet r command no_memory s = Searches r command s.debugger
+ResumeMayMeet r command no_memory_to_search s = ⊥
+ResumeMayMeet r command no_room s = ⊥
+
+-- What a line may meet, by whether a reply is owed, where the journal has room for so many words. All
+-- lines that place no command and show nothing meet nothing.
+abbrev pub MayMeet : Recording → ℕ → Option Command → Result Line LineFault → Met → SessionState
+    → Type 0
+MayMeet r room None (Ok (Run command)) m s =
+    CommandMayMeet r room command m.supply (behind_others r m.others s)
+MayMeet r room None (Ok (Look query)) m s = LookMayMeet m.supply
+MayMeet r room (Some command) (Ok Resume) m s =
+    (m.others ≡ []) × ResumeMayMeet r command m.supply s
+MayMeet r room owed asked m s = m ≡ calm
+
 -- ---- line after line
 
 -- the texts of lines, one for each, up to the first `quit`
-abbrev pub texts : Recording → Standing → List (List ℕ) → List Met → List (List ℕ)
+abbrev pub texts : Recording → SessionState → List (List ℕ) → List Met → List (List ℕ)
 texts r s [] met = []
 texts r s (line ∷ lines) met =
     let asked = meaning_of line in
     let a = line_answer r s.owed asked (next_met met) s in
     text_or_none a.0 ∷ (if is_quit asked then [] else texts r a.1 lines (drop 1 met))
 
+-- what holds behind a line, unless it is `quit`
+abbrev pub UnlessQuit : Bool → Type 0 → Type 0
+UnlessQuit true later = ⊤
+UnlessQuit false later = later
+
+-- each of some lines, up to the first `quit`, met what it may
+abbrev pub AllMayMeet : Recording → ℕ → SessionState → List (List ℕ) → List Met → Type 0
+AllMayMeet r room s [] met = ⊤
+AllMayMeet r room s (line ∷ lines) met =
+    let asked = meaning_of line in
+    let a = line_answer r s.owed asked (next_met met) s in
+    MayMeet r room s.owed asked (next_met met) s
+    × UnlessQuit (is_quit asked) (AllMayMeet r room a.1 lines (drop 1 met))
+
 -- The replies to the lines of a text, by what they meet. Where the text isn't at its end, what
 -- follows the last line feed is no line yet.
-abbrev pub replies : Recording → Standing → Bool → List ℕ → List Met → List ℕ
+abbrev pub replies : Recording → SessionState → Bool → List ℕ → List Met → List ℕ
 replies r s ended commands met = concat (texts r s (lines_of ended commands) met)
 
 -- the replies to commands over the run that was opened, or the line of its fault
@@ -166,14 +214,16 @@ pub record Transcribes (recording : List ℕ) (from left : Incoming) (old new : 
   pub commands : List ℕ
   pub written : List ℕ
   pub met : List Met
-  pub reads : Consumes from.remaining left.remaining commands
-  pub writes : Appends old.contents new.contents written
+  pub reads : Receives from left commands
+  pub writes : Sends old new written
   pub alone : All (λ m. m.others ≡ []) met
+  pub may : (r : Recording) → opened recording ≡ Ok r
+      → AllMayMeet r 65536 start (lines_of (not left.failed) commands) met
   pub begins : StartsWith (transcript_by recording (not left.failed) commands met) written
   pub whole : new.failed ≡ false
       → written ≡ transcript_by recording (not left.failed) commands met
   pub complete : status ≡ Done
-      → IsAtEnd left.remaining ⊎ (has_quit (lines_of true commands) ≡ true)
+      → IsOver left ⊎ (has_quit (lines_of false commands) ≡ true)
   pub unread : (fault : OpenFault) → opened recording ≡ Err fault → commands ≡ []
   pub ends : status ≡ status_of (opened recording) left.failed new.failed
 
