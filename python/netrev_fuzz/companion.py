@@ -27,8 +27,9 @@ from nrdb.session import Session
 
 from .cases import Case
 from .counts import Met
+from .pressing import confined, heard, pressed
 from .randomsteps import Author
-from .slow import Slow, passed_over, pressed
+from .slow import Slow
 from .views import Judge
 
 # what may happen at a point, how often in comparison, and how often Ctrl-C is pressed then
@@ -107,7 +108,7 @@ def played(program: str, case: Case, folder: Path, met: Met) -> str:
     weather = Weather(dice, dice.choice([0, 0.01, 0.03, 0.1]))
     path = folder / "recording.jsonl"
     path.write_bytes(case.recording)
-    with passed_over():
+    with confined():
         wrong = followed(program, str(path), case.script.decode().split("\n"), weather, judge, met.nrdb)
     met.nrdb.update(weather.met)
     return wrong
@@ -147,7 +148,7 @@ def followed(program: str, path: str, lines: Sequence[str], weather: Weather, ju
 def told_all(session: Session, line: str) -> str:
     """Answers a line; how the session ended, where it did."""
     try:
-        session.run(line)
+        heard(lambda: session.run(line))
     except GivenUp:
         return "given up"
     except Ended:

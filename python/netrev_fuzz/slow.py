@@ -3,14 +3,14 @@
 import signal
 import threading
 import time
-from contextlib import contextmanager
-from typing import Callable, Iterator, Optional
+from typing import Callable, Optional
 
 from nrdb.interrupts import Interrupts
 from nrdb.netrev import Own
 
+from .pressing import MEANWHILE, undisturbed
+
 MOMENT = 0.002  # seconds
-MEANWHILE = "netrev is stopped"  # the name of threads that may press Ctrl-C
 
 
 class Slow(Own):
@@ -40,9 +40,10 @@ class Slow(Own):
             for happens in happening:
                 happens()
             return
-        self._process.send_signal(signal.SIGSTOP)
-        self._meanwhile = threading.Thread(target=self._go_on_behind, args=happening, name=MEANWHILE)
-        self._meanwhile.start()
+        with undisturbed():
+            self._process.send_signal(signal.SIGSTOP)
+            self._meanwhile = threading.Thread(target=self._go_on_behind, args=happening, name=MEANWHILE)
+            self._meanwhile.start()
 
     def _go_on_behind(self, *happening: Callable[[], None]) -> None:
         for happens in happening:
@@ -53,37 +54,11 @@ class Slow(Own):
 
     def kill(self) -> None:
         """Ends the process, and nothing else."""
-        self._process.kill()
+        with undisturbed():
+            self._process.kill()
 
     def close(self) -> Optional[int]:
-        if self._meanwhile:
-            self._meanwhile.join()
+        with undisturbed():
+            if self._meanwhile:
+                self._meanwhile.join()
         return super().close()
-
-
-def pressed() -> None:
-    """Ctrl-C, as the main thread has it."""
-    signal.pthread_kill(threading.main_thread().ident or 0, signal.SIGINT)
-
-
-def settle() -> None:
-    """Waits until all that was begun has happened."""
-    for thread in threading.enumerate():
-        if thread.name == MEANWHILE:
-            thread.join()
-
-
-def nothing(*_: object) -> None:
-    """What a Ctrl-C does that is passed over."""
-
-
-@contextmanager
-def passed_over() -> Iterator[None]:
-    """Within, a Ctrl-C that comes while no session holds it back, since one has just ended, does nothing. None comes later."""
-    before = signal.signal(signal.SIGINT, nothing)
-    try:
-        yield
-    finally:
-        signal.signal(signal.SIGINT, nothing)  # (a session that was given up may have left its own)
-        settle()
-        signal.signal(signal.SIGINT, before)

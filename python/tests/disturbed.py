@@ -96,6 +96,10 @@ class Disturbances(unittest.TestCase, Generic[Of]):
         """A netrev over the example, to which this happens."""
         raise NotImplementedError
 
+    def told_by(self, played: Played, command: str) -> Events:
+        """What a command tells to which something happens."""
+        return played.run(command)
+
     def settle(self) -> None:
         """Waits until what has begun to happen has happened."""
 
@@ -135,7 +139,7 @@ class Disturbances(unittest.TestCase, Generic[Of]):
             played = self.begun()
             played.weather.left, played.weather.action = point, action
             try:
-                told = played.run(command)
+                told = self.told_by(played, command)
                 played.weather.left = None
                 self.settle()
                 played.session.stands()  # (a netrev that is gone may be met here only)

@@ -1,7 +1,9 @@
 """The fuzzer finds what differs, keeps it small, and finds nothing where nothing does."""
 
 import io
+import signal
 import tempfile
+import threading
 import unittest
 from contextlib import contextmanager, redirect_stdout
 from pathlib import Path
@@ -14,9 +16,13 @@ from netrev_fuzz.companion import played, visit
 from netrev_fuzz.counts import Met
 from netrev_fuzz.keeping import kept
 from netrev_fuzz.playing import difference
+from netrev_fuzz.pressing import confined, heard, nothing, pressed
+from netrev_fuzz.slow import Slow
 from netrev_model import polling, reading, steps
 from netrev_model.machine import Refused
+from nrdb.interrupts import GivenUp, Interrupts
 from nrdb.scout import Scout
+from tests.disturbed import EXAMPLE
 
 from .sharing import NETREV
 
@@ -136,6 +142,71 @@ class Companion(unittest.TestCase):
     def test_a_mark_that_a_walk_leaves_is_found(self):
         with mock.patch.object(Scout, "_unwatch", lambda scout, mark: None):
             self.assertNotEqual(self.played(12)[0], [])
+
+
+class Pressing(unittest.TestCase):
+    """The fuzzer's Ctrl-C comes to the session for which it is pressed, and to nothing else."""
+
+    def setUp(self):
+        self.came = 0
+        self.addCleanup(signal.signal, signal.SIGINT, signal.signal(signal.SIGINT, self.comes))
+
+    def comes(self, *_):
+        """A Ctrl-C has come that no session and no case had."""
+        self.came += 1
+
+    def give_up(self, happens):
+        """Asks a netrev, of which the session is given up by what happens then, and ends it."""
+        interrupts = Interrupts()
+        with confined():
+            netrev = Slow(NETREV, str(EXAMPLE), interrupts, happens)
+
+            def ask():
+                with interrupts.held():
+                    netrev.ask("info position")
+
+            self.assertRaises(GivenUp, heard, ask)
+            netrev.drop()
+
+    def test_a_session_that_is_given_up_while_it_closes_leaves_no_ctrl_c_behind(self):
+        is_over, is_pressed = threading.Event(), threading.Event()
+
+        def late():
+            is_over.wait(0.3)
+            pressed()
+            is_pressed.set()
+
+        def closes(netrev):
+            netrev.while_stopped(pressed, pressed, late)
+            netrev.close()
+
+        self.give_up(closes)
+        is_over.set()
+        self.assertTrue(is_pressed.wait(10))
+        self.assertEqual(self.came, 0)
+
+    def test_a_session_that_is_given_up_while_a_thread_begins_can_be_closed(self):
+        begin, begun = threading.Thread.start, []
+
+        def begins(thread):
+            pressed()
+            begin(thread)
+            begun.append(thread)
+
+        def stops(netrev):
+            pressed()
+            with mock.patch.object(threading.Thread, "start", begins):
+                netrev.while_stopped(nothing)
+
+        self.give_up(stops)
+        self.assertEqual([thread.is_alive() for thread in begun], [False])
+
+    def test_what_is_pressed_within_a_case_is_gone_behind_it(self):
+        with confined():
+            pressed()
+        self.assertEqual(self.came, 0)
+        pressed()
+        self.assertEqual(self.came, 1)
 
 
 if __name__ == "__main__":

@@ -3,8 +3,9 @@ conversation with the built program, that of the session and that of the scout."
 
 import unittest
 
-from netrev_fuzz.slow import Slow, passed_over, pressed, settle
-from tests.disturbed import EXAMPLE, Disturbances, Weather
+from netrev_fuzz.pressing import confined, heard, pressed, settle
+from netrev_fuzz.slow import Slow
+from tests.disturbed import EXAMPLE, Disturbances, Events, Played, Weather
 from tests.program.sharing import NETREV
 
 COMMANDS = ("history lock 0 all", "until gor 0 *", "reverse-continue", "goto 3")
@@ -29,11 +30,14 @@ class EveryPoint(Disturbances[Slow]):
     def opened(self, weather: Weather[Slow]) -> Slow:
         return Slow(NETREV, str(EXAMPLE), weather.interrupts, weather.happens)
 
+    def told_by(self, played: Played, command: str) -> Events:
+        return heard(lambda: played.run(command))
+
     def settle(self) -> None:
         settle()
 
     def test_a_slow_netrev_is_told_right(self) -> None:
-        with passed_over():
+        with confined():
             given_up = self.check(COMMANDS, (slow_and_interrupted, slow_and_given_up, slow_and_killed))
         self.assertGreater(given_up, 20)  # (on a busy machine two Ctrl-C may come as one)
 
