@@ -8,8 +8,8 @@
 # the edit takes away. And the program that was built has to stand scripts/refused.sh and what python/tests/program plays,
 # play examples/shared.sh and each example, and pass the tests of nrdb, the companion, which play the hunts of
 # examples/hunts, and those of the recorder and the fuzzer. Both worlds have to agree on the recordings of examples/
-# (scripts/agree.sh). What docs/THEOREM.md quotes has to stand in the source (scripts/theorem.py), and black and mypy have
-# nothing to say of what is written in Python, where they are here (scripts/lint.sh). The last line is that of `rt ci`, with
+# (scripts/agree.sh). The pages have to say what the tree has (scripts/pages.py), and black and mypy have nothing to say of what
+# is written in Python, where they are here (scripts/lint.sh). The last line is that of `rt ci`, with
 # one more failed for each of these that fails. Where none does, the sum of the program that was played is in out/gate.sum,
 # for scripts/package.sh.
 set -eu
@@ -36,17 +36,13 @@ if grep -E "BAD EDIT|only by a limit of the prover|only because a proof file nam
 	echo "These edits say nothing of a contract: change a value and keep the names." >&2
 	more=$((more + 1))
 fi
-python3 scripts/theorem.py || more=$((more + 1))
-python3 scripts/surface.py || more=$((more + 1))
-sh scripts/lint.sh --if-there || more=$((more + 1))
-python3 -m unittest || more=$((more + 1))
-sh scripts/refused.sh || more=$((more + 1))
-sh scripts/agree.sh || more=$((more + 1))
-for name in each_call refused_serving loopback hostile upgrades system lengths sizes; do
-	python3 python "tests.program.$name" || more=$((more + 1))
-done
-python3 python tests.side_by_side tests/program || more=$((more + 1))
-sh examples/play_all.sh || more=$((more + 1))
+# Side by side, those first that take longest; alone what measures time or memory, or is told a port that another may take.
+python3 python tests.side_by_side \
+	tests.program.hostile tests.program.each_call tests.program.refused_serving "sh scripts/refused.sh" \
+	"python3 -m unittest" "sh scripts/lint.sh --if-there" tests/program \
+	tests.program.loopback tests.program.upgrades tests.program.lengths "sh scripts/agree.sh" \
+	"python3 scripts/pages.py" "python3 scripts/surface.py" \
+	--alone tests.program.system tests.program.sizes "sh examples/play_all.sh" || more=$((more + $?))
 
 # what it took, crate by crate: `python3 scripts/minutes.py out/minutes.tsv`
 python3 scripts/minutes.py out/minutes.tsv | tail -n 2

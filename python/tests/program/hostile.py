@@ -20,9 +20,9 @@ import argparse
 import subprocess
 import sys
 import tempfile
-from concurrent.futures import ThreadPoolExecutor
 from pathlib import Path
 
+from .beginnings import WALK, beginnings, wanted_of
 from .sharing import NETREV, PATIENCE, ROOT, Wrong, expect
 
 HEADER = '{"buf":16,"desc":1,"gor":2,"netrev":1,"sock":1}'
@@ -261,15 +261,6 @@ COMMANDS = (
     ("Stepi", UNKNOWN),
     ("step", UNKNOWN),
 )
-WALK = "scripts/recordings/woken-by-an-event.jsonl"  # twelve steps
-
-BEGUN = tuple(
-    str(path.relative_to(ROOT))
-    for pattern in ("*.jsonl", "real/*.jsonl")
-    for path in sorted((ROOT / "examples").glob(pattern))
-) + (WALK,)
-DIFFERS = {"examples/other-answer.jsonl": 11}  # the step whose recorded answer isn't the machine's
-AT_A_TIME = 8
 
 
 def printed(words, text=b""):
@@ -279,16 +270,11 @@ def printed(words, text=b""):
     return ran.returncode, ran.stdout.decode()
 
 
-def check(folder, text, name="recording"):
+def check(folder, text):
     """What `check` says of a text."""
-    path = Path(folder) / f"{name}.jsonl"
+    path = Path(folder) / "recording.jsonl"
     path.write_bytes(text)
     return printed(["check", path])
-
-
-def wanted_of(place, fault):
-    """What is printed of a fault, or of so many steps."""
-    return (0, f"ok {fault} steps\n") if isinstance(fault, int) else (1, f"{place}: fault {fault}\n")
 
 
 def text_of(lines):
@@ -345,37 +331,6 @@ def both(folder, text, wanted):
     expect("check", wanted, check(folder, text))
     if wanted[0]:
         expect("upgrade", wanted, printed(["upgrade", Path(folder) / "recording.jsonl"]))
-
-
-def beginning(text, differs):
-    """What is said of a beginning: its last line is whole, or no JSON. Where all are whole, a step may answer otherwise."""
-    lines = text.split(b"\n")
-    if not lines[-1] and len(lines) > 1:
-        steps = len(lines) - 2
-        return wanted_of(f"step {differs}", "109 answer") if differs and steps >= differs else wanted_of("", steps)
-    if not lines[-1]:
-        return wanted_of("line 1", "101 header")
-    return wanted_of(f"line {len(lines)}", "102 not JSON")
-
-
-def beginnings(folder):
-    for name in BEGUN:
-        whole = (ROOT / name).read_bytes()
-        differs = DIFFERS.get(name)
-        yield f"beginning of {name}: each of {len(whole)}", lambda t=whole, d=differs: every_beginning(folder, t, d)
-
-
-def every_beginning(folder, whole, differs):
-    """Cuts the text at each byte. Where all of a line but its line feed is there, it is read with it."""
-
-    def cut(size):
-        text = whole[:size]
-        ended = text + b"\n" if whole[size : size + 1] == b"\n" else text
-        expect(f"check of the first {size} bytes", beginning(ended, differs), check(folder, text, size % AT_A_TIME))
-
-    for first in range(0, len(whole) + 1, AT_A_TIME):
-        with ThreadPoolExecutor(AT_A_TIME) as pool:
-            list(pool.map(cut, range(first, min(first + AT_A_TIME, len(whole) + 1))))
 
 
 def faulty_commands(_folder):

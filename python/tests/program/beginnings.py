@@ -1,0 +1,94 @@
+"""Every beginning of each short recording, byte by byte, as hostile.py plays them: it is read where it ends with a line, else
+refused at its last line.
+
+There are some thirty thousand, and Python takes longer to start netrev than netrev to check one. So a shell is given many
+in a row, and as many shells run as there are processors."""
+
+import os
+import signal
+import subprocess
+from concurrent.futures import ThreadPoolExecutor
+from functools import partial
+from pathlib import Path
+from typing import Callable, Iterator, Optional, Sequence
+
+from tests.examples import REFUSED
+
+from .sharing import NETREV, PATIENCE, ROOT, Wrong, expect
+
+WALK = "scripts/recordings/woken-by-an-event.jsonl"  # twelve steps
+BEGUN = tuple(
+    str(path.relative_to(ROOT))
+    for pattern in ("*.jsonl", "real/*.jsonl")
+    for path in sorted((ROOT / "examples").glob(pattern))
+) + (WALK,)
+# the steps whose recorded answers aren't the machine's
+DIFFERS = {f"examples/{name}.jsonl": step for name, step in REFUSED.items()}
+IN_A_ROW = 64
+# what netrev prints of each file, on both of its streams, and its status
+EACH = 'netrev=$1; shift; for file; do "$netrev" check "$file" 2>&1; echo "status $?"; done'
+
+Printed = tuple[int, str]  # the status, and what is printed
+
+
+def wanted_of(place: object, fault: object) -> Printed:
+    """What is printed of a fault, or of so many steps."""
+    return (0, f"ok {fault} steps\n") if isinstance(fault, int) else (1, f"{place}: fault {fault}\n")
+
+
+def beginning(text: bytes, differs: Optional[int]) -> Printed:
+    """What is said of a beginning: its last line is whole, or no JSON. Where all are whole, a step may answer otherwise."""
+    lines = text.split(b"\n")
+    if not lines[-1] and len(lines) > 1:
+        steps = len(lines) - 2
+        return wanted_of(f"step {differs}", "109 answer") if differs and steps >= differs else wanted_of("", steps)
+    if not lines[-1]:
+        return wanted_of("line 1", "101 header")
+    return wanted_of(f"line {len(lines)}", "102 not JSON")
+
+
+def beginnings(folder: str) -> Iterator[tuple[str, Callable[[], None]]]:
+    """A case for each recording."""
+    for name in BEGUN:
+        whole = (ROOT / name).read_bytes()
+        play = partial(every_beginning, folder, whole, DIFFERS.get(name))
+        yield f"beginning of {name}: each of {len(whole)}", play
+
+
+def every_beginning(folder: str, whole: bytes, differs: Optional[int]) -> None:
+    """Cuts the text at each byte. Where all of a line but its line feed is there, it is read with it."""
+
+    def cut(sizes: range) -> None:
+        paths = [Path(folder) / f"beginning-{size}.jsonl" for size in sizes]
+        wanted = []
+        for size, path in zip(sizes, paths):
+            path.write_bytes(whole[:size])
+            ended = whole[:size] + b"\n" if whole[size : size + 1] == b"\n" else whole[:size]
+            status, output = beginning(ended, differs)
+            wanted.append(f"{output}status {status}\n")
+        expect_in_turn(sizes, wanted, printed_in_turn(paths))
+        for path in paths:
+            path.unlink()
+
+    all_sizes = range(len(whole) + 1)
+    with ThreadPoolExecutor(os.cpu_count()) as pool:
+        list(pool.map(cut, (all_sizes[first : first + IN_A_ROW] for first in all_sizes[::IN_A_ROW])))
+
+
+def expect_in_turn(sizes: Sequence[int], wanted: Sequence[str], came: str) -> None:
+    """Sees that what came of these beginnings is what was wanted of each."""
+    for size, one in zip(sizes, wanted):
+        expect(f"check of the first {size} bytes", one, came[: len(one)] if came.startswith(one) else came[:500])
+        came = came[len(one) :]
+    expect("behind the last of them", "", came)
+
+
+def printed_in_turn(paths: Sequence[Path]) -> str:
+    """What netrev prints of each file, with its status."""
+    words = ["sh", "-c", EACH, "sh", NETREV, *map(str, paths)]
+    with subprocess.Popen(words, stdin=subprocess.DEVNULL, stdout=subprocess.PIPE, start_new_session=True) as shell:
+        try:
+            return shell.communicate(timeout=PATIENCE)[0].decode()
+        except subprocess.TimeoutExpired:
+            os.killpg(shell.pid, signal.SIGKILL)
+            raise Wrong(f"{len(paths)} checks took more than {PATIENCE} s, from {paths[0].name} on") from None
