@@ -1,0 +1,1 @@
+"""The rules of scripts/pages.py, a module for each sort."""

@@ -1,0 +1,116 @@
+"""Definitions of the crates: which modules of specs/ a caller needs, and which names two crates have.
+
+`specs/Lib.antt` of a crate names its modules under two headings: what callers need, and what is inside. A caller needs a module
+that another crate imports, or that a contract of the crate's public functions and types cites.
+"""
+
+import re
+from collections import defaultdict
+from collections.abc import Iterator
+from pathlib import PurePosixPath
+
+from page_rules.markdown import CODE, blocks
+from page_rules.sources import DEFINED, FUNCTION, OWNER, functions_of, without_comments
+from page_rules.tree import Finding, Tree, has_word
+
+GLOSSARY = "docs/GLOSSARY.md"
+SHARED = "Names that several crates have"
+FOR_CALLERS, INSIDE = "what callers need", "inner"
+
+IMPORT = re.compile(r"use Rattle\.(\w+)\.specs\.([A-Z]\w*)(?:\.\{([^}]*)\}| as (\w+))")
+EXPORT = re.compile(r"^pub (mod|use) ([^;]+);", re.MULTILINE)
+MEMBER = re.compile(r"^    ghost (\w+) = (.*(?:\n        .*)*)", re.MULTILINE)
+# members that no caller reads: laws, which are as their trait has them, and what a type keeps to itself
+NOT_READ = re.compile(
+    r".*_is_unique|.*_unique|.*_are|refused_has_no_step|memory_is_.*|means_well_formed|allowance_is_within|invariant"
+)
+
+
+def _exports(tree: Tree, crate: str) -> tuple[set[str], set[str]]:
+    """The modules of a crate that are public, and the names that it exports. A program exports to its `main` alone."""
+    if not tree.has(f"crates/{crate}/src/lib.rt"):
+        return {PurePosixPath(path).stem for path in tree.matching(f"crates/{crate}/src/*.rt")}, set()
+    found = EXPORT.findall(tree.text(f"crates/{crate}/src/lib.rt"))
+    modules = {what for kind, what in found if kind == "mod"}
+    return modules, {name for kind, what in found if kind == "use" for name in re.findall(r"\w+", what)}
+
+
+def _public_contracts(tree: Tree, crate: str, path: str) -> str:
+    """What contracts say that a caller sees: of public functions, and of what public types are seen as."""
+    modules, names = _exports(tree, crate)
+    text = without_comments(tree.text(path))
+    is_public = PurePosixPath(path).stem in {*modules, "lib"}
+    seen = []
+    for one in functions_of(path, text):
+        if one.is_public and (is_public or (one.owner or one.name) in names):
+            seen.append(one.contract)
+    for block in re.split(r"^(?=impl|pub trait)", text, flags=re.MULTILINE)[1:]:
+        owner = OWNER.match(block)
+        if owner and (is_public or (owner["type"] or owner["owner"]) in names):
+            seen += [value for name, value in MEMBER.findall(block) if not NOT_READ.fullmatch(name)]
+            seen += re.findall(r"^    ghost \w+: .*(?:\n        .*)*", block, re.MULTILINE)
+    return "\n".join(seen)
+
+
+def needed(tree: Tree) -> dict[str, set[str]]:
+    """The modules that callers need, by crate."""
+    found: dict[str, set[str]] = defaultdict(set)
+    for path in tree.matching("crates/*.rt", "crates/*.antt"):
+        own = path.split("/")[1]
+        imports = [one for one in IMPORT.findall(tree.text(path)) if one[0] != own or path.endswith(".rt")]
+        contracts = ""
+        for crate, module, names, alias in imports:
+            if crate != own:
+                found[crate].add(module)
+                continue
+            contracts = contracts or _public_contracts(tree, own, path) + " "
+            if any(has_word(name).search(contracts) for name in [*map(str.strip, names.split(",")), alias] if name):
+                found[crate].add(module)
+    return found
+
+
+def groups(tree: Tree) -> Iterator[Finding]:
+    """Modules that are under the wrong heading of a crate's `specs/Lib.antt`."""
+    wanted = needed(tree)
+    for crate in tree.crates:
+        path = f"crates/{crate}/specs/Lib.antt"
+        heading = ""
+        for number, line in tree.lines(path) if tree.has(path) else ():
+            heading = line.removeprefix("-- ") if line.startswith("-- ") else heading
+            module = line.removeprefix("pub mod ")
+            if module == line:
+                continue
+            if heading.startswith(INSIDE) and module in wanted[crate]:
+                yield Finding(path, number, f"callers need {module}")
+            elif heading.startswith(FOR_CALLERS) and module not in wanted[crate]:
+                yield Finding(path, number, f"no other crate imports {module}, and no public contract cites it")
+
+
+def defined(tree: Tree) -> dict[str, dict[str, tuple[str, int]]]:
+    """Where each name is defined: by crate the file and the line."""
+    found: dict[str, dict[str, tuple[str, int]]] = defaultdict(dict)
+    for path in tree.matching("crates/*/specs/*.antt"):
+        for number, line in enumerate(without_comments(tree.text(path)).split("\n"), 1):
+            for name in DEFINED.findall(line):
+                found[name].setdefault(path.split("/")[1], (path, number))
+    return found
+
+
+def shared_names(tree: Tree) -> Iterator[Finding]:
+    """Names that definitions of two crates have, and that the glossary doesn't list with each of these crates."""
+    if not tree.has(GLOSSARY):
+        return
+    together: dict[int, set[str]] = defaultdict(set)  # what an item or a row of a table has in code font
+    for block in blocks(tree.text(GLOSSARY)):
+        if block.heading == SHARED:
+            together[block.line].update(CODE.findall(block.text))
+    listed: dict[str, set[str]] = defaultdict(set)
+    for words in together.values():
+        for word in words:
+            listed[word] |= words
+    for name, places in defined(tree).items():
+        left_out = set(places) - listed[name]
+        if len(places) > 1 and left_out:
+            path, number = next(places[crate] for crate in places if crate in left_out)
+            others = ", ".join(sorted(places))
+            yield Finding(path, number, f"{name} is defined in {others}, and {GLOSSARY} doesn't list it so")

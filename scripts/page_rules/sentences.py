@@ -1,0 +1,61 @@
+"""Rules of single sentences and lines: none is too long, and no comment leans on the one before it."""
+
+import re
+from collections.abc import Iterator
+
+from page_rules.markdown import prose, sentences
+from page_rules.tree import Finding, Tree
+
+MOST_WORDS = 40
+MOST_COLUMNS = 100
+
+WORD = re.compile(r"\w")
+# the first line of a comment: of a doc comment, of one of a definition, of a docstring
+FIRST = re.compile(r"^(?P<indent>\s*)(?P<mark>///|--|\"\"\") ?(?P<text>\S.*)$")
+# how a comment begins that says nothing alone
+LEANS = re.compile(
+    r"the same(?! \w)|the same (of|for|where|with|in|but|by)\b|so (are|is|do|does|did|has|have|can|may)\b"
+    r"|those (who|that|which)\b|likewise\b|ditto\b"
+    # a sentence that ends where it would have to say what: "The timers of both sides are."
+    r"|the (?!.*\b(that|which|it|they)\b)\w[\w ]* (are|is|do|does|has|have)\.$",
+    re.IGNORECASE,
+)
+
+
+def long_sentences(tree: Tree) -> Iterator[Finding]:
+    """Sentences of pages that have too many words."""
+    for path in tree.pages:
+        for block in prose(tree.text(path)):
+            for sentence in sentences(block):
+                words = sum(bool(WORD.search(word)) for word in sentence.split())
+                if words > MOST_WORDS:
+                    yield Finding(path, block.line, f"a sentence of {words} words: {sentence[:60]!r} ..")
+
+
+def long_lines(tree: Tree) -> Iterator[Finding]:
+    """Lines of definitions that are too long."""
+    for path in tree.matching("crates/*/specs/*.antt"):
+        for number, line in tree.lines(path):
+            if len(line) > MOST_COLUMNS and not line.startswith("use "):
+                yield Finding(path, number, f"a line of {len(line)} columns")
+
+
+def _leaning(tree: Tree, paths: list[str]) -> Iterator[Finding]:
+    for path in paths:
+        before = ""
+        for number, line in tree.lines(path):
+            first = FIRST.match(line)
+            follows = before.lstrip().startswith(("///", "--")) and first is not None and first["mark"] != '"""'
+            if first and not follows and LEANS.match(first["text"]):
+                yield Finding(path, number, f"leans on the comment before it: {first['text'][:60]!r}")
+            before = line
+
+
+def leaning_docstrings(tree: Tree) -> Iterator[Finding]:
+    """Docstrings of Python that say nothing without what is before them."""
+    return _leaning(tree, tree.matching("python/*.py", "scripts/*.py"))
+
+
+def leaning_comments(tree: Tree) -> Iterator[Finding]:
+    """Comments of the crates that say nothing without the one before."""
+    return _leaning(tree, tree.matching("crates/*/src/*.rt", "crates/*/specs/*.antt"))

@@ -1,0 +1,95 @@
+#!/usr/bin/env python3
+"""Reads the pages against the tree:  scripts/pages.py [--source] [--diagram] [RULE ..]
+
+The gate runs all rules of the first list. They are of pages and Python, and of what pages say of the source:
+
+    quotes, texts, runs  what docs/THEOREM.md quotes, and the computed sessions, are as in their files
+    words                words that docs/GLOSSARY.md gives up are nowhere in pages and Python, as its table says
+    promises, names      the functions, clauses and definitions that pages cite are there
+    in-files             a name is in the file that a page says it is in: `Step` in `nr_rev/src/step.rt`
+    links, paths         each link, anchor and path leads somewhere
+    shared-names         a name that two crates define is in the glossary's list, with each of these crates
+    tables               a file that names most kinds, cells or commands is in a list of docs/ARCHITECTURE.md
+    diagram              the crates of docs/ARCHITECTURE.md are those of crates.txt
+    docstrings           no docstring leans on what is before it
+    sentences            no sentence of a page has more than 40 words
+
+The source doesn't pass these rules yet, so the gate leaves them out, and `--source` runs them too:
+
+    source-words         words that are given up, in the crates, and on docs/THEOREM.md, which quotes them
+    modules              the two groups of a specs/Lib.antt are what callers need, and what is inside
+    comments             no comment leans on the one before it: "The same."
+    lines                no line of specs/ has more than 100 columns
+
+`--diagram` prints the diagram of the crates. RULE .. runs just these. Prints each finding with its file and line, and ends with
+status 1 where there is one.
+"""
+
+import argparse
+import sys
+from collections.abc import Callable, Iterator
+from pathlib import Path
+
+from page_rules import citations, definitions, links, lists, quotes, sentences, words
+from page_rules.tree import Finding, Tree
+
+Rule = Callable[[Tree], Iterator[Finding]]
+
+# what the rules of pages are about: without one of them they would find nothing
+NEEDED = ("docs/THEOREM.md", "docs/GLOSSARY.md", "docs/PROMISES.md", "docs/ARCHITECTURE.md", "crates.txt")
+
+
+def given_up(tree: Tree) -> Iterator[Finding]:
+    """Words that are given up, in pages and in Python."""
+    yield from words.in_pages(tree)
+    yield from words.in_python(tree)
+
+
+OF_PAGES: dict[str, Rule] = {
+    "quotes": quotes.quotes,
+    "texts": quotes.texts,
+    "runs": quotes.runs,
+    "words": given_up,
+    "promises": citations.promises,
+    "names": citations.names,
+    "in-files": citations.in_files,
+    "links": links.links,
+    "paths": links.paths,
+    "shared-names": definitions.shared_names,
+    "tables": lists.named_many,
+    "diagram": lists.diagram,
+    "docstrings": sentences.leaning_docstrings,
+    "sentences": sentences.long_sentences,
+}
+OF_SOURCE: dict[str, Rule] = {
+    "source-words": words.in_source,
+    "modules": definitions.groups,
+    "comments": sentences.leaning_comments,
+    "lines": sentences.long_lines,
+}
+
+
+def main(given_words: list[str] | None = None) -> int:
+    """Runs the rules that are asked for, by these words or by those of the command line."""
+    given = argparse.ArgumentParser(description=__doc__, formatter_class=argparse.RawDescriptionHelpFormatter)
+    given.add_argument("--source", action="store_true", help="the rules too that the source doesn't pass yet")
+    given.add_argument("--diagram", action="store_true", help="print the diagram of the crates")
+    given.add_argument("--root", type=Path, default=Path(__file__).resolve().parent.parent, help=argparse.SUPPRESS)
+    given.add_argument("rules", nargs="*", metavar="RULE", help="just these")
+    asked = given.parse_args(given_words)
+    if unknown := [name for name in asked.rules if name not in OF_PAGES | OF_SOURCE]:
+        given.error(f"there is no rule {', '.join(unknown)}")
+    tree = Tree(asked.root)
+    if asked.diagram:
+        print(lists.drawn(tree), end="")
+        return 0
+    rules = {**OF_PAGES, **(OF_SOURCE if asked.source or asked.rules else {})}
+    names = asked.rules or list(rules)
+    faults = [f"there is no {path}" for path in NEEDED if not asked.rules and not tree.has(path)]
+    faults += [f"{finding} [{name}]" for name in names for finding in sorted(rules[name](tree))]
+    print(*faults, f"pages: {len(tree.pages)} pages, {len(names)} rules, {len(faults)} findings", sep="\n")
+    return 1 if faults else 0
+
+
+if __name__ == "__main__":
+    sys.exit(main())
