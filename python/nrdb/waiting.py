@@ -18,7 +18,7 @@ QUEUES = {"r": "rq", "w": "wq"}
 
 
 class Queue:
-    """Those who wait for one side of a socket's lock, as they are seen for one table."""
+    """The goroutines that wait for one side of a socket's lock, as they are seen for one table."""
 
     def __init__(self, world: World, socket: int, side: str):
         self._world, self._socket, self._side = world, socket, side

@@ -1,4 +1,4 @@
-"""Values of cells in words: lock words, summaries, statuses, poll words and deadlines."""
+"""Values of cells in words: lock words, summaries, statuses, wait words and deadlines."""
 
 import json
 from dataclasses import dataclass

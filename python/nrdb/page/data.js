@@ -1,5 +1,5 @@
-// What the page holds, and how it is looked up: runs of cells, steps, and where something changes.
-const D = JSON.parse(document.getElementById("data").textContent);
+// What the page holds, D, and how it is looked up: runs of cells, steps, and where something changes. LIVE is null where the page is
+// a file; else it has the session that the page is of.
 const $ = (name) => document.getElementById(name);
 const COUNT = D.last - D.first + 1;
 const CELLS = Object.keys(D.cells);

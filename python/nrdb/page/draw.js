@@ -68,6 +68,7 @@ function drawColumns(wide, high) {
   X.globalAlpha = 1;
   X.fillStyle = ink["accent-ground"];
   if (xOf(V.chosen) >= labels() - step) X.fillRect(xOf(V.chosen), V.head, Math.max(step, 2), high);
+  if (LIVE) drawStand(high);
 }
 
 // Draws the rows in view; where the middle of each is.
@@ -221,6 +222,7 @@ function drawOverview(wide) {
   X.fillRect(from, 6, span, 26);
   X.strokeRect(from + 0.5, 6.5, span - 1, 25);
   X.fillRect(x(V.chosen), 6, 1.5, 26);
+  if (LIVE) drawStandAbove(x(D.position));
   X.fillStyle = ink.soft;
   X.font = `11px ${SANS}`;
   X.fillText(COUNT <= D.length ? "this part" : left < 100 ? "run" : "the whole run", 12, 19);

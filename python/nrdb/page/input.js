@@ -88,7 +88,7 @@ const KEY = {
   0: () => show(D.first, COUNT),
   n: () => match(1), N: () => match(-1),
   "]": () => change(1), "[": () => change(-1),
-  c: copy,
+  c: goThere,
   "/": () => $("find").focus(),
   "?": () => { $("help").hidden = !$("help").hidden; },
   Escape: forget,
@@ -102,7 +102,7 @@ function forget() {
 }
 
 addEventListener("keydown", (event) => {
-  if (event.target === $("find") || event.ctrlKey || event.metaKey || event.altKey) return;
+  if (/^(text|search)$/.test(event.target.type) || event.ctrlKey || event.metaKey || event.altKey) return;
   const does = KEY[event.key];
   if (!does) return;
   event.preventDefault();
@@ -140,6 +140,8 @@ function chosenByAddress() {
   return named !== null;
 }
 
+if (LIVE) D.position = LIVE.position();
+V.chosen = within(D.position);
 $("name").textContent = D.name ? `netrev · ${D.name}` : "netrev";
 document.title = D.name ? `${D.name} · netrev` : "netrev timeline";
 readColours();

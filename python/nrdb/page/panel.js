@@ -10,7 +10,7 @@ const KEYS = [
   ["n N", "next match, one before"],
   ["[ ]", "change of the row before, next"],
   ["↑ ↓", "other rows"],
-  ["c", "copy goto for the prompt"],
+  ["c", LIVE ? "goto it" : "copy goto for the prompt"],
   ["Esc", "forget what was found"],
 ];
 const SOURCE = [
@@ -21,8 +21,8 @@ const SOURCE = [
 function fillPanel() {
   const at = V.chosen, panel = $("panel");
   const go = element("button", `goto ${at}`, "go");
-  go.title = "copies the line for nrdb's prompt (c)";
-  go.onclick = copy;
+  go.title = LIVE ? "leads the session there (c)" : "copies the line for nrdb's prompt (c)";
+  go.onclick = goThere;
   panel.replaceChildren(go, element("h1", `position ${at}`));
   panel.append(stepLine("last step", at > D.first || at > 0 ? stepAt(at) : "", at, "(start)"));
   panel.append(stepLine("next step", at < D.length ? stepAt(at + 1) : "", at + 1, "(end)"));
@@ -73,6 +73,12 @@ function fillTable(title, cells, values, before) {
 function timeWords(cell, value) {
   if (cell !== "clock" && cell !== "least") return "";
   return value === "absent" ? "no timer" : time(Number(value));
+}
+
+// Leads a live session to the chosen position; a page alone copies the line that does.
+function goThere() {
+  if (LIVE) LIVE.ask(`goto ${V.chosen}`);
+  else copy();
 }
 
 function copy() {

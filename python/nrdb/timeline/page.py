@@ -17,7 +17,7 @@ from .story import Connections, Data, lines_data, marks_of, suspects_data, wakes
 
 MOST = 20_000
 PAGE = Path(__file__).parents[1] / "page"
-SCRIPTS = ("data", "rows", "view", "draw", "panel", "input")
+SCRIPTS = ("data", "rows", "view", "draw", "standing", "panel", "input")
 
 
 def write_timeline(session: Session, path: str, first: Optional[int] = None, last: Optional[int] = None) -> str:
@@ -40,12 +40,13 @@ def write_timeline(session: Session, path: str, first: Optional[int] = None, las
 def page(data: Data) -> str:
     """The page of these data."""
     told = json.dumps(plainly(data), separators=(",", ":")).replace("<", "\\u003c")
-    script = "\n".join(_read(f"{name}.js") for name in SCRIPTS)
-    text = _read("timeline.html").replace("/*STYLE*/", _read("timeline.css")).replace("/*SCRIPT*/", script)
+    script = "\n".join(read_part(f"{name}.js") for name in SCRIPTS)
+    text = read_part("timeline.html").replace("/*STYLE*/", read_part("timeline.css")).replace("/*SCRIPT*/", script)
     return text.replace("/*DATA*/", told)
 
 
-def _read(name: str) -> str:
+def read_part(name: str) -> str:
+    """The text of a file of which pages are made."""
     return (PAGE / name).read_text(encoding="utf-8")
 
 

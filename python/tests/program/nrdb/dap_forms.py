@@ -80,7 +80,7 @@ def misfit(value: Any, form: Form, where: str) -> str:
 
 
 def misfit_of_object(value: Any, form: dict[str, Form], where: str) -> str:
-    """The same of an object."""
+    """Where an object isn't of a form; empty where it is."""
     if not isinstance(value, dict):
         return f"{where} is no object"
     fields = {name.rstrip("?"): one for name, one in form.items()}

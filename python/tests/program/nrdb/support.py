@@ -11,12 +11,12 @@ from functools import lru_cache
 from netrev_model.vocabulary import CELLS, DUMPS, Of
 from nrdb.cli import main
 from nrdb.recording import Recording
+from tests.examples import ALL
 from tests.program.sharing import NETREV, ROOT
 
 EXAMPLES = ROOT / "examples"
 HUNTS = EXAMPLES / "hunts"
 NRDB = str(ROOT / "nrdb")
-DIFFERING = ("other-answer", "early-arrival")
 PATIENCE = 60  # seconds
 BESIDE = ("changed", "timer")  # topics of the tables that follow each move
 
@@ -38,7 +38,7 @@ def nrdb(*words, lines=(), status=0):
 
 
 def nrdb_process(*words, lines=()):
-    """The same by a process: what it prints, what it says on standard error, and its exit status."""
+    """What nrdb does in a process of its own with these words and lines: what it prints, what it says on standard error, and its exit status."""
     ended = subprocess.run(
         [NRDB, "--netrev", NETREV, *map(str, words)],
         input="".join(f"{line}\n" for line in lines),
@@ -122,5 +122,4 @@ def shown(path):
 
 def recordings():
     """The recordings of examples/ and its folders that netrev takes: those with an answer that differs are left out."""
-    found = sorted(EXAMPLES.glob("**/*.jsonl"))
-    return [path for path in found if path.stem not in DIFFERING]
+    return sorted(example.path for example in ALL if not example.refused_at)

@@ -1,0 +1,167 @@
+"use strict";
+function timeline(D, LIVE) {
+/*TIMELINE*/
+return { stand, setMarks };
+}
+
+// The page of a shared session: what comes by events, and the line to type. Texts of others become text nodes, and nothing else.
+(() => {
+const $ = (name) => document.getElementById(name);
+const TOKEN = new URLSearchParams(location.search).get("token") || "";
+const MOST = 2000; // lines of the log
+const SLOW = 1000; // milliseconds after which a line without a reply is told of
+const AGAIN = 2000; // milliseconds until nrdb is asked again
+const LOST = "nrdb doesn't answer: what is typed isn't answered. Where it was ended, begin it anew, and open the address that it prints";
+const S = { you: "", number: 0, picture: null, isAsked: false, stands: null, marks: [], slow: 0, typed: [], at: 0 };
+
+// Adds a line to the log, which stays at its end where it was there.
+function say(text, kind) {
+  const log = $("log"), isAtEnd = log.scrollTop + log.clientHeight >= log.scrollHeight - 30;
+  const made = document.createElement("div");
+  made.textContent = text;
+  made.className = kind;
+  log.append(made);
+  while (log.childElementCount > MOST) log.firstElementChild.remove();
+  if (isAtEnd) log.scrollTop = log.scrollHeight;
+}
+
+function tellGone(text) {
+  $("gone").textContent = text;
+  $("gone").hidden = !text;
+}
+
+// Tells that a line has no reply yet, once it takes long.
+function wait(text) {
+  clearTimeout(S.slow);
+  $("busy").textContent = "";
+  if (text) S.slow = setTimeout(() => { $("busy").textContent = text; }, SLOW);
+}
+
+const EVENTS = {
+  you(event) {
+    $("log").replaceChildren();
+    Object.assign(S, { you: event.who, number: event.number });
+    $("you").textContent = `${event.who}>`;
+    document.title = event.recording ? `${event.recording} · netrev` : "netrev";
+    load();
+  },
+  browsers(event) {
+    const others = event.here.filter((name) => name !== S.you);
+    $("here").textContent = others.length ? `with ${others.join(", ")}` : "no other browser is here";
+  },
+  line(event) {
+    say(`${event.who}> ${event.line}`, event.who === S.you ? "asked own" : "asked");
+    wait(`no reply yet to ${event.who}'s ${event.line}`);
+  },
+  said(event) {
+    for (const line of event.lines) say(line, line.startsWith("|") ? "added" : "reply");
+  },
+  answered() {
+    wait("");
+  },
+  unanswered(event) {
+    wait("");
+    say(`not answered: ${event.who}'s ${event.line}: ${event.why}`, "bad");
+  },
+  moved(event) {
+    say(`${event.who} moved from ${event.from} to ${event.to}${event.line ? `: ${event.line}` : ""}`, "moved");
+  },
+  stands(event) {
+    S.stands = event;
+    $("stands").textContent = `at ${event.position} of ${event.steps}${event.direction === "reverse" ? ", reverse" : ""}`;
+    showStand();
+  },
+  marks(event) {
+    S.marks = event.marks;
+    if (S.picture) S.picture.setMarks(S.marks);
+  },
+  netrev(event) {
+    tellGone(event.there ? "" : event.says);
+    if (!event.there) wait("");
+    else load();
+  },
+};
+
+// Shows in the timeline where the session stands, or that this part of it isn't shown.
+function showStand() {
+  if (!S.picture || !S.stands) return;
+  const isShown = S.picture.stand(S.stands.position, $("follow").checked);
+  $("part").hidden = isShown;
+  if (isShown) return;
+  const button = document.createElement("button");
+  button.textContent = "show the part round it";
+  button.onclick = () => location.reload();
+  $("part").replaceChildren(`the session stands at ${S.stands.position}, outside of what is shown: `, button);
+}
+
+// Has the timeline, once.
+async function load() {
+  if (S.picture || S.isAsked) return;
+  S.isAsked = true;
+  try {
+    const answer = await fetch("/timeline", { headers: { "Netrev-Token": TOKEN } });
+    if (!answer.ok) throw new Error(await answer.text());
+    S.picture = timeline(await answer.json(), { ask, position: () => (S.stands ? S.stands.position : 0) });
+    S.picture.setMarks(S.marks);
+    showStand();
+  } catch (error) {
+    $("panel").textContent = error.message;
+  }
+  S.isAsked = false;
+}
+
+// Sends a line. What comes of it comes by events.
+async function ask(line) {
+  let why = LOST;
+  wait(`no reply yet to ${line}`);
+  try {
+    const headers = { "Netrev-Token": TOKEN, "Netrev-Browser": String(S.number), "Content-Type": "text/plain;charset=utf-8" };
+    const answer = await fetch("/line", { method: "POST", headers, body: line });
+    why = answer.ok ? "" : await answer.text();
+  } catch {
+    tellGone(LOST);
+  }
+  if (!why) return;
+  wait("");
+  say(`not answered: ${line}: ${why}`, "bad");
+}
+
+// Listens to the events. Where they end it is tried again; why they can't be had an answer says, if there is one.
+function listen() {
+  const address = `/events?token=${encodeURIComponent(TOKEN)}`, events = new EventSource(address);
+  events.onopen = () => tellGone("");
+  events.onmessage = (message) => {
+    const event = JSON.parse(message.data);
+    EVENTS[event.event](event);
+  };
+  events.onerror = async () => {
+    wait("");
+    tellGone(LOST);
+    if (events.readyState !== EventSource.CLOSED) return;
+    setTimeout(listen, AGAIN);
+    const answer = await fetch(address).catch(() => null);
+    if (answer && !answer.ok) tellGone(await answer.text());
+    else if (answer) answer.body.cancel();
+  };
+}
+
+$("ask").addEventListener("submit", (event) => {
+  event.preventDefault();
+  const line = $("line").value.trim();
+  if (!line) return;
+  S.typed.push(line);
+  S.at = S.typed.length;
+  $("line").value = "";
+  $("log").scrollTop = $("log").scrollHeight;
+  ask(line);
+});
+$("line").addEventListener("keydown", (event) => {
+  const way = { ArrowUp: -1, ArrowDown: 1 }[event.key];
+  if (!way) return;
+  event.preventDefault();
+  S.at = Math.min(Math.max(S.at + way, 0), S.typed.length);
+  $("line").value = S.typed[S.at] || "";
+});
+$("follow").onchange = showStand;
+listen();
+})();

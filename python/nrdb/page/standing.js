@@ -1,0 +1,34 @@
+// Where a live session stands, whoever moved it, and its marks.
+function drawStand(high) {
+  if (D.position < D.first || D.position > D.last || xOf(D.position) < labels()) return;
+  X.fillStyle = ink.hit;
+  X.fillRect(xOf(D.position), V.head, 2, high);
+}
+
+function drawStandAbove(x) {
+  if (D.position < D.first || D.position > D.last) return;
+  X.fillStyle = ink.hit;
+  X.fillRect(x - 1, 2, 3, 34);
+}
+
+// The session has moved; with `follows` the chosen position goes along.
+function stand(position, follows) {
+  D.position = position;
+  if (follows) choose(position, true);
+  else draw();
+  return position >= D.first && position <= D.last;
+}
+
+// The positions of a mark, as far as they are shown: behind the changes of a cell, before a step, before the steps of a kind.
+function hitsOf(what) {
+  const [sort, ...rest] = what.split(" "), marked = rest.join(" ");
+  if (sort === "watch") return (D.cells[marked] || []).slice(1).map(([position]) => position);
+  if (marked.startsWith("@")) return [Number(marked.slice(1)) - 1].filter((position) => position >= D.first && position <= D.last);
+  return D.steps.flatMap((step, at) => (at && step.split(" ")[0] === marked ? [D.first + at - 1] : []));
+}
+
+function setMarks(marks) {
+  D.marks = marks.map((mark) => ({ ...mark, hits: hitsOf(mark.what) }));
+  fillPanel();
+  draw();
+}

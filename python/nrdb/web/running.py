@@ -1,0 +1,191 @@
+"""Runs the session of the page, in the thread that called: lines one after the other, looks at what others did, and what is said
+while netrev is gone, until it is there again."""
+
+import json
+import queue
+import secrets
+import time
+from concurrent.futures import Future
+from pathlib import Path
+from typing import Callable, Optional
+
+from ..interrupts import Interrupted
+from ..netrev import Ended, Netrev
+from ..output import Printer
+from ..recording import NoRecording
+from ..scout import Lost
+from ..session import Mismatched, Misused, Session
+from ..shapes import Refused, Strange
+from ..timeline.page import MOST, collected, plainly
+from ..timeline.runs import Window
+from .document import document
+from .requests import Gate
+from .serving import LOOPBACK, Server, Unavailable, listening
+from .shared import Shared
+from .streams import Streams
+
+DONE, FAILED = 0, 3
+MOST_WAITING = 32  # lines that wait for those before them
+EVERY = 1.0  # second, after which it is looked again what others did
+LATEST = 30.0  # seconds between two tries to find netrev again; the first are shorter
+HALF = MOST // 2
+UNNAMED = "for the timeline the recording has to be named: nrdb --web PORT --join HOST:PORT FILE"
+GONE = "netrev has ended"
+Opening = Callable[[Printer], Netrev]
+
+
+def serve_page(session: Session, port: int, opened: Opening) -> int:
+    """Serves the page of a session until Ctrl-C; the exit status. `opened` opens the same netrev again."""
+    streams = Streams(Path(session.path).name if session.path else "")
+    try:
+        at = listening(port)
+    except OSError as error:
+        session.printer.note(f"port {port}: {error.strerror}")
+        return FAILED
+    token = secrets.token_urlsafe(32)
+    number = at.getsockname()[1]
+    running = Running(Shared.over(session, streams), opened, streams)
+    server = Server(at, Gate(number, token), document(), streams, running)
+    server.start()
+    try:
+        session.printer.note(f"the page, until Ctrl-C: http://{LOOPBACK}:{number}/?token={token}")
+        running.run()
+    except KeyboardInterrupt:
+        pass
+    finally:
+        server.stop()
+        running.session.netrev.drop()
+    return DONE
+
+
+def window_of(position: int, length: int) -> Window:
+    """The positions that the timeline shows: all, or of a long recording those round the session's."""
+    first = max(min(position // HALF * HALF - HALF // 2, length - MOST), 0)
+    return Window(first, min(first + MOST, length))
+
+
+class Running:
+    """The lines that wait, and the session that answers them."""
+
+    def __init__(self, session: Shared, opened: Opening, streams: Streams):
+        self.session = session
+        self._opened, self._streams = opened, streams
+        self._work: queue.Queue[Callable[[], None]] = queue.Queue(MOST_WAITING)
+        self._gone = ""
+        self._pause, self._next_try = EVERY, 0.0
+        self._made: Optional[tuple[Window, bytes]] = None
+
+    # --- for the server's thread
+
+    def post(self, who: str, line: str) -> None:
+        """Takes a line, which is answered by events; Unavailable where netrev is gone, or too many lines wait."""
+        if self._gone:
+            raise Unavailable(self._gone)
+        self._take(lambda: self._answer(who, line))
+
+    def timeline(self) -> "Future[bytes]":
+        """The timeline's data, as JSON; Unavailable where it can't be had."""
+        wanted: Future[bytes] = Future()
+
+        def answer() -> None:
+            try:
+                wanted.set_result(self._timeline())
+            except Unavailable as why:
+                wanted.set_exception(why)
+
+        self._take(answer)
+        return wanted
+
+    def _take(self, work: Callable[[], None]) -> None:
+        try:
+            self._work.put_nowait(work)
+        except queue.Full:
+            raise Unavailable(f"{MOST_WAITING} lines wait for their replies already") from None
+
+    # --- for the session's
+
+    def run(self) -> None:
+        """Answers what comes, until Ctrl-C."""
+        self._look()
+        while True:
+            self.turn()
+
+    def turn(self) -> None:
+        """Answers what comes next. Where nothing does for a while, looks what others did, if somebody wants to know."""
+        try:
+            work = self._work.get(timeout=EVERY)
+        except queue.Empty:
+            if self._streams.listening():
+                self._look()
+            return
+        work()
+
+    def _answer(self, who: str, line: str) -> None:
+        """Answers a line, or tells that it isn't answered."""
+        self._streams.tell("line", who=who, line=line)
+        if not self._gone:
+            self._guarded(lambda: self.session.run_for(who, line))
+        if self._gone:
+            self._streams.tell("unanswered", who=who, line=line, why=self._gone)
+        else:
+            self._streams.tell("answered", who=who, line=line)
+
+    def _look(self) -> None:
+        """Looks what others did; where netrev is gone, whether it is there again."""
+        if not self._gone:
+            self._guarded(self.session.look_round)
+        elif time.monotonic() >= self._next_try:
+            self._try_again()
+
+    def _guarded(self, does: Callable[[], None]) -> None:
+        """Does something with netrev, which may be gone before the end."""
+        try:
+            does()
+        except NoRecording as wrong:
+            self.session.printer.note(str(wrong))
+        except (Ended, Strange) as why:
+            self._lose(str(why) if isinstance(why, Strange) else GONE)
+
+    def _lose(self, why: str) -> None:
+        """From now on netrev is gone."""
+        self.session.netrev.drop()
+        self._gone = f"{why}: lines aren't answered until it is there again"
+        self._next_try = time.monotonic() + self._pause
+        self._streams.tell("netrev", there=False, says=self._gone)
+
+    def _try_again(self) -> None:
+        """Goes on with another netrev, if one can be had."""
+        self._pause = min(2 * self._pause, LATEST)
+        self._next_try = time.monotonic() + self._pause
+        try:
+            self.session.begin_anew(self._opened(self.session.printer))
+        except OSError:
+            return
+        except (Ended, Mismatched, Refused, Strange) as why:
+            self._lose(GONE if isinstance(why, Ended) else str(why))
+            return
+        self._gone, self._pause = "", EVERY
+        self._streams.tell("netrev", there=True, says="netrev is there again, with the marks that it has now")
+
+    def _timeline(self) -> bytes:
+        """The timeline's data; Unavailable where they can't be had."""
+        session, recording = self.session, self.session.recording
+        if recording is None:
+            raise Unavailable(UNNAMED)
+        window = window_of(session.stood, recording.length)
+        if self._made is None or self._made[0] != window:
+            if self._gone:
+                raise Unavailable(self._gone)
+            self._guarded(lambda: self._make(window))
+        if self._made is None or self._made[0] != window:
+            raise Unavailable(self._gone or "the timeline can't be had: interrupted")
+        return self._made[1]
+
+    def _make(self, window: Window) -> None:
+        session = self.session
+        try:
+            with session.interrupts.held():
+                data = collected(session, session.text(), window)
+        except (Interrupted, Lost, Misused, Refused) as why:
+            raise Unavailable(str(why) or "interrupted") from None
+        self._made = window, json.dumps(plainly(data), separators=(",", ":")).encode("ascii")

@@ -1,0 +1,157 @@
+"""The page's server: it listens at the loopback alone, in a thread of its own, and answers four requests. It does nothing by itself
+with the session, which is asked by the thread that runs it."""
+
+import asyncio
+import socket
+import threading
+from concurrent.futures import Future
+from contextlib import suppress
+from http import HTTPStatus
+from typing import Protocol
+
+from .document import Document
+from .requests import BROWSER, EVENTS, LINE, PAGE, Gate, Request, Rejected, line_of
+from .streams import Stream, Streams
+from .wire import EVENT_STREAM, JSON, LONGEST_HEAD, Wire
+
+LOOPBACK = "127.0.0.1"
+MOST_CONNECTIONS = 64
+PULSE = 15.0  # seconds after which a browser is sent something, so that one that is gone is found out
+LAST, ENDING = 0.02, 4.0  # seconds, in which connections come that were taken already; that the end may take
+BEGINNING = b"retry: 1000\n\n"
+UNAVAILABLE = HTTPStatus.SERVICE_UNAVAILABLE
+
+
+class Unavailable(Exception):
+    """What was asked for can't be had now: why."""
+
+
+class Runner(Protocol):
+    """Who runs the session. Each call returns at once."""
+
+    def post(self, who: str, line: str) -> None:
+        """Takes a line, which is answered by events; Unavailable where it can't be."""
+
+    def timeline(self) -> "Future[bytes]":
+        """The timeline's data, as JSON; Unavailable where it can't be had."""
+
+
+def listening(port: int) -> socket.socket:
+    """A socket that listens at a port of the loopback, 0 for any that is free; an OSError where it can't."""
+    made = socket.socket()
+    try:
+        made.setsockopt(socket.SOL_SOCKET, socket.SO_REUSEADDR, 1)
+        made.bind((LOOPBACK, port))
+        made.listen(2 * MOST_CONNECTIONS)
+    except OverflowError as error:
+        made.close()
+        raise OSError(0, str(error)) from None
+    except OSError:
+        made.close()
+        raise
+    return made
+
+
+class Server:
+    """Serves the page at a socket, from `start` to `stop`."""
+
+    def __init__(self, at: socket.socket, gate: Gate, document: Document, streams: Streams, session: Runner):
+        self._socket, self._gate, self._document = at, gate, document
+        self._streams, self._session = streams, session
+        self._open: dict[asyncio.Task[None], asyncio.StreamWriter] = {}
+        self._asking: dict[asyncio.Task[None], None] = {}  # whose requests haven't come whole, the oldest first
+        self._closing: dict[asyncio.Task[None], None] = {}  # that were answered
+        self._ready = threading.Event()
+        self._thread = threading.Thread(target=lambda: asyncio.run(self._serve()), daemon=True)
+
+    def start(self) -> None:
+        """Serves from now on."""
+        self._thread.start()
+        self._ready.wait()
+
+    def stop(self) -> None:
+        """Ends all connections, and serves no more. Whatever happens there, nobody waits long for it."""
+        self._loop.call_soon_threadsafe(self._ended.set)
+        self._thread.join(ENDING)
+
+    async def _serve(self) -> None:
+        self._loop, self._ended = asyncio.get_running_loop(), asyncio.Event()
+        self._streams.begin(self._loop)
+        server = await asyncio.start_server(self._accept, sock=self._socket, limit=LONGEST_HEAD)
+        self._ready.set()
+        await self._ended.wait()
+        self._loop.remove_reader(self._socket)  # (closed at once, the server would lose those that it has just taken)
+        await asyncio.sleep(LAST)
+        server.close()
+        limit = self._loop.time() + ENDING / 2
+        while self._open and self._loop.time() < limit:
+            for task in self._open:
+                task.cancel()
+            await asyncio.sleep(0)
+
+    def _accept(self, reader: asyncio.StreamReader, writer: asyncio.StreamWriter) -> None:
+        """Takes a connection. Where there are too many, one has to go: that was answered, or has taken longest to ask."""
+        is_full = len(self._open) >= MOST_CONNECTIONS
+        if is_full and (spared := self._closing or self._asking):
+            longest = next(iter(spared))
+            del spared[longest]
+            is_full = not longest.cancel()
+        task = self._loop.create_task(self._connected(Wire(reader, writer, self._document.policy), is_full))
+        self._open[task] = writer
+        self._asking[task] = None
+        task.add_done_callback(self._leave)
+
+    def _leave(self, task: "asyncio.Task[None]") -> None:
+        """A connection is done with."""
+        self._asking.pop(task, None)
+        self._closing.pop(task, None)
+        self._open.pop(task).transport.abort()
+
+    async def _connected(self, wire: Wire, is_full: bool) -> None:
+        """Answers a connection's request, or says why not."""
+        task = asyncio.current_task()
+        assert task
+        with suppress(ConnectionError, EOFError):
+            try:
+                if is_full:
+                    raise Rejected(UNAVAILABLE, "too many ask at once")
+                request = await wire.head()
+                self._gate.check(request)
+                body = await wire.body(request.length())
+                self._asking.pop(task, None)
+                await self._answer(wire, request, body)
+            except Rejected as why:
+                await wire.answer(why.status, str(why).encode("utf-8"))
+            except Unavailable as why:
+                await wire.answer(UNAVAILABLE, str(why).encode("utf-8"))
+        self._asking.pop(task, None)
+        self._closing[task] = None
+        await wire.close()
+
+    async def _answer(self, wire: Wire, request: Request, body: bytes) -> None:
+        """Answers a request that is let in."""
+        if request.path == PAGE:
+            await wire.answer(HTTPStatus.OK, self._document.data, "text/html; charset=utf-8")
+        elif request.path == EVENTS:
+            with self._streams.joined() as stream:
+                await self._tell(wire, stream)
+        elif request.path == LINE:
+            self._session.post(self._streams.name_of(request.headers.get(BROWSER, "")), line_of(body))
+            await wire.answer(HTTPStatus.ACCEPTED, b"")
+        else:
+            await wire.answer(HTTPStatus.OK, await asyncio.wrap_future(self._session.timeline()), JSON)
+
+    async def _tell(self, wire: Wire, stream: Stream) -> None:
+        """Tells a browser what happens until it goes, or is too far behind."""
+        await wire.begin(HTTPStatus.OK, EVENT_STREAM)
+        await wire.send(BEGINNING)
+        gone = asyncio.create_task(wire.gone())
+        try:
+            while not gone.done() and not stream.is_behind:
+                came = asyncio.create_task(stream.come())
+                await asyncio.wait({came, gone}, timeout=PULSE, return_when=asyncio.FIRST_COMPLETED)
+                came.cancel()
+                await wire.send(stream.take() or b":\n\n")
+        finally:
+            gone.cancel()
+            await asyncio.wait({gone})  # (two may not read at a time)

@@ -1,0 +1,144 @@
+"""The session that the page's browsers share: nrdb's own, which tells besides who moved, and to where. Of those at other fronts
+netrev says nothing but where they left the session: so their moves are seen when somebody looks."""
+
+from dataclasses import dataclass, field, fields
+from typing import Any, Optional, Protocol, Sequence
+
+from ..answers import ANSWERS
+from ..commands import whole_words
+from ..dap.collecting import Collecting
+from ..netrev import Netrev, Reply
+from ..output import Place, Table
+from ..session import Answering, Misused, Session
+from ..shapes import Listed, Position, Refused
+
+OTHERS = "another front"
+WITH_FILES = ("source", "timeline", "trace", "reduce", "report")
+NO_FILES = "the page reads and writes no files: that is for nrdb's prompt"
+NO_LINES = "the page takes one line at a time: `commands` is for nrdb's prompt"
+NO_END = "the session goes on when you close the page; where nrdb runs, Ctrl-C ends it"
+
+
+class Telling(Protocol):
+    """Whom events are told."""
+
+    def tell(self, event: str, **values: Any) -> None:
+        """Tells an event of that name with these values."""
+
+
+def refusing(why: str) -> Answering:
+    """The answer of a command that the page doesn't have."""
+
+    def answer(session: Session, words: list[str]) -> None:
+        raise Misused(why)
+
+    return answer
+
+
+OF_THE_PAGE = {**ANSWERS, **{name: refusing(NO_FILES) for name in WITH_FILES}, "commands": refusing(NO_LINES)}
+
+
+class Saying(Collecting):
+    """Tells what nrdb prints, as text, by events."""
+
+    def __init__(self, streams: Telling):
+        super().__init__()
+        self._streams = streams
+
+    def _said(self, of: str) -> None:
+        if lines := self.take().splitlines():
+            self._streams.tell("said", of=of, lines=lines)
+
+    def echo(self, line: str) -> None:
+        self.write(f"(netrev) {line}")
+        self._said("echo")
+
+    def reply(self, line: str, reply: Reply, words: str) -> None:
+        super().reply(line, reply, words)
+        self._said("reply")
+
+    def place(self, place: Place) -> None:
+        super().place(place)
+        self._said("place")
+
+    def note(self, text: str) -> None:
+        super().note(text)
+        self._said("note")
+
+    def table(self, table: Table) -> None:
+        super().table(table)
+        self._said(table.topic)
+
+
+@dataclass
+class Shared(Session):
+    """A session whose lines come from several people."""
+
+    streams: Telling = field(kw_only=True)
+    who: str = ""
+    part: str = ""  # of a line, which is being answered
+    told: Optional[Position] = None
+    told_marks: Optional[list[Listed]] = None
+
+    @classmethod
+    def over(cls, session: Session, streams: Telling) -> "Shared":
+        """The same session, for the page."""
+        made = cls(**{one.name: getattr(session, one.name) for one in fields(session)}, streams=streams)
+        made.printer, made.answers = Saying(streams), OF_THE_PAGE
+        return made
+
+    def run_for(self, who: str, line: str) -> None:
+        """Answers a line of somebody's, and then looks what it left."""
+        self.who = who
+        self.run(line)
+        self.look_round()
+
+    def attempt_one(self, line: str) -> bool:
+        self.part = line
+        return super().attempt_one(line)
+
+    def answer(self, line: str) -> bool:
+        if whole_words(line.split())[0] == "quit":
+            raise Misused(NO_END)
+        return super().answer(line)
+
+    def arrive(self, position: int, numbers: Sequence[str] = (), stood: Sequence[Listed] = ()) -> None:
+        self._tell_move(self.who, self.part, position)
+        super().arrive(position, numbers, stood)
+
+    def tell_of_others(self) -> None:
+        self.look_round()
+
+    def look_round(self) -> None:
+        """Looks where the session stands, and which marks it has. Where it isn't where it was left, somebody else has moved it.
+        Where netrev has no memory for it, that is seen next time."""
+        try:
+            now = self.stands()
+            marks = self.netrev.marks()
+        except Refused:
+            return
+        self._tell_move(OTHERS, None, now.position)
+        self.stood = now.position
+        if now != self.told:
+            self.told = now
+            self.streams.tell("stands", **now._asdict())
+        if marks != self.told_marks:
+            self.told_marks = marks
+            listed = [{"mark": int(mark.number), "what": f"{mark.sort} {mark.what}"} for mark in marks]
+            self.streams.tell("marks", marks=listed)
+
+    def begin_anew(self, netrev: Netrev) -> None:
+        """Goes on with another netrev, wherever that stands."""
+        self.netrev, self.told, self.told_marks = netrev, None, None
+        self.attached.pending.clear()
+        self.begin(self.ask("info position"))
+        self.look_round()
+
+    def _tell_move(self, who: str, line: Optional[str], position: int) -> None:
+        """Tells of a move, if it is one."""
+        if position == self.stood:
+            return
+        self.streams.tell("moved", who=who, line=line, **{"from": self.stood, "to": position})
+        if self.told:
+            self.told = self.told._replace(position=position)
+            self.streams.tell("stands", **self.told._asdict())

@@ -1,0 +1,129 @@
+"""What happens in a session is told to all browsers that listen: events, as JSON. Whoever comes later is told what was said last.
+All but `tell` is called in the server's own thread."""
+
+import asyncio
+import json
+from collections import deque
+from contextlib import contextmanager
+from http import HTTPStatus
+from itertools import count
+from typing import Any, Callable, Iterator
+
+from ..timeline.page import plainly
+from .requests import Rejected
+
+MOST_STREAMS = 16
+MOST_KEPT, KEPT_BYTES = 400, 2**20  # events that whoever comes later is told, and all of their bytes
+WAITING_BYTES = 8 * 2**20  # that may wait for a browser that is slow
+STATES = ("stands", "marks", "netrev")  # of which the last one says how things are
+
+Event = dict[str, Any]
+
+
+def message(event: Event) -> bytes:
+    """An event as it is sent. Each text in it is made fit to be shown."""
+    return f"data: {json.dumps(plainly(event), separators=(',', ':'))}\n\n".encode("ascii")
+
+
+class Stream:
+    """A browser that listens, by its number."""
+
+    def __init__(self, number: int) -> None:
+        self.number = number
+        self.is_behind = False
+        self._waiting: deque[bytes] = deque()
+        self._bytes = 0
+        self._came = asyncio.Event()
+
+    @property
+    def name(self) -> str:
+        """What it is called."""
+        return f"browser {self.number}"
+
+    def put(self, data: bytes) -> None:
+        """Has the browser told this, unless too much waits for it already: then it is behind, and is to be ended."""
+        if self._waiting and self._bytes + len(data) > WAITING_BYTES:
+            self.is_behind = True
+        else:
+            self._waiting.append(data)
+            self._bytes += len(data)
+        self._came.set()
+
+    async def come(self) -> None:
+        """Returns when there is something to be told."""
+        await self._came.wait()
+
+    def take(self) -> bytes:
+        """What is to be told."""
+        data = b"".join(self._waiting)
+        self._waiting.clear()
+        self._bytes = 0
+        self._came.clear()
+        return data
+
+
+class Streams:
+    """All browsers that listen, and what was told last."""
+
+    def __init__(self, recording: str) -> None:
+        self._recording = recording
+        self._streams: dict[int, Stream] = {}
+        self._numbers = count(1)
+        self._kept: deque[bytes] = deque()
+        self._bytes = 0
+        self._states: dict[str, bytes] = {}
+        self._soon: Callable[[Event], object] = self._tell
+
+    def begin(self, loop: asyncio.AbstractEventLoop) -> None:
+        """From now on events are told in this loop."""
+        self._soon = lambda event: loop.call_soon_threadsafe(self._tell, event)
+
+    def tell(self, event: str, **values: Any) -> None:
+        """Tells all browsers of an event. Any thread may call it."""
+        self._soon({"event": event, **values})
+
+    def listening(self) -> int:
+        """How many browsers listen."""
+        return len(self._streams)
+
+    def name_of(self, number: str) -> str:
+        """Who it is that gives this number."""
+        stream = self._streams.get(int(number)) if number.isdecimal() and len(number) < 10 else None
+        return stream.name if stream else "somebody"
+
+    @contextmanager
+    def joined(self) -> Iterator[Stream]:
+        """A browser's stream, for as long as it listens; Rejected where there are too many."""
+        if len(self._streams) >= MOST_STREAMS:
+            raise Rejected(HTTPStatus.SERVICE_UNAVAILABLE, f"{MOST_STREAMS} browsers are here already")
+        stream = Stream(next(self._numbers))
+        you = {"event": "you", "who": stream.name, "number": stream.number, "recording": self._recording or None}
+        stream.put(b"".join([message(you), *self._kept, *self._states.values()]))
+        self._streams[stream.number] = stream
+        self._tell_who_is_here()
+        try:
+            yield stream
+        finally:
+            del self._streams[stream.number]
+            self._tell_who_is_here()
+
+    def _tell_who_is_here(self) -> None:
+        data = message({"event": "browsers", "here": [stream.name for stream in self._streams.values()]})
+        for stream in self._streams.values():
+            stream.put(data)
+
+    def _tell(self, event: Event) -> None:
+        data = message(event)
+        if event["event"] in STATES:
+            self._states[event["event"]] = data
+        else:
+            self._keep(data)
+        for stream in self._streams.values():
+            stream.put(data)
+
+    def _keep(self, data: bytes) -> None:
+        """Keeps an event for those who come later, and forgets the first ones where there are too many."""
+        self._kept.append(data)
+        self._bytes += len(data)
+        while len(self._kept) > MOST_KEPT or self._bytes > KEPT_BYTES:
+            self._bytes -= len(self._kept.popleft())

@@ -1,0 +1,38 @@
+"""`nrdb --web` in a process of its own, and whoever else is in its session."""
+
+from __future__ import annotations
+
+import signal
+import subprocess
+
+from tests.web_client import Address
+
+from .support import NRDB, PATIENCE
+
+
+class Web:
+    """A page that is served, from `with` to its end."""
+
+    def __init__(self, *words: object):
+        called = [NRDB, "--web", "0", *map(str, words)]
+        self.process = subprocess.Popen(called, stdout=subprocess.PIPE, stderr=subprocess.PIPE, text=True)
+        assert self.process.stdout
+        said = ""
+        while "/?token=" not in said:
+            line = self.process.stdout.readline()
+            assert line, said
+            said += line
+        self.said, self.address = said, Address.printed(said)
+
+    def __enter__(self) -> Web:
+        return self
+
+    def __exit__(self, *_: object) -> None:
+        self.process.kill()
+        self.process.communicate()
+
+    def ends(self) -> tuple[int, str, str]:
+        """Its exit status behind Ctrl-C, and what it said since it was there, on both streams."""
+        self.process.send_signal(signal.SIGINT)
+        said, wrong = self.process.communicate(timeout=PATIENCE)
+        return self.process.returncode, said, wrong

@@ -1,0 +1,278 @@
+"""The session behind the page, with a netrev that the model plays: who moved and to where, what the page doesn't do, and what is
+said while netrev is gone and when it is there again."""
+
+import unittest
+from pathlib import Path
+from typing import Any, Callable
+from unittest import mock
+
+from nrdb.answers import ANSWERS
+from nrdb.interrupts import Interrupts
+from nrdb.netrev import Netrev
+from nrdb.output import Printer
+from nrdb.recording import Recording
+from nrdb.scout import Scout
+from nrdb.session import Session
+from nrdb.timeline.page import MOST
+from nrdb.web.running import MOST_WAITING, Running, window_of
+from nrdb.web.serving import Unavailable
+from nrdb.web.shared import NO_END, NO_FILES, NO_LINES, Saying, Shared
+
+from .modelled import Modelled, recording_at
+
+EXAMPLES = Path(__file__).resolve().parents[2] / "examples"
+FIRST, OTHER = EXAMPLES / "first.jsonl", EXAMPLES / "lost-wakeup.jsonl"
+MODEL, OTHER_MODEL = recording_at(FIRST), recording_at(OTHER)
+TEXT = Recording.read(str(FIRST))
+
+
+class Streams:
+    """Browsers that write down what they are told."""
+
+    def __init__(self) -> None:
+        self.events: list[dict[str, Any]] = []
+        self.browsers = 1
+
+    def tell(self, event: str, **values: Any) -> None:
+        self.events.append({"event": event, **values})
+
+    def listening(self) -> int:
+        return self.browsers
+
+    def take(self) -> list[dict[str, Any]]:
+        """The events since the last time."""
+        taken, self.events = self.events, []
+        return taken
+
+
+class Played(unittest.TestCase):
+    def setUp(self) -> None:
+        patched = mock.patch("nrdb.web.running.EVERY", 0.0)
+        patched.start()
+        self.addCleanup(patched.stop)
+        self.streams, self.interrupts = Streams(), Interrupts()
+        self.netrev = self.modelled()
+        scout = Scout(self.modelled)
+        session = Session(self.netrev, TEXT, scout, Saying(self.streams), self.interrupts, ANSWERS)
+        session.begin(session.ask("info position"))
+        self.opened: Callable[[Printer], Netrev] = self.refused
+        self.running = Running(Shared.over(session, self.streams), lambda p: self.opened(p), self.streams)  # type: ignore
+        self.running._pause = 0.0
+        self.look()
+        self.streams.take()
+
+    def modelled(self) -> Modelled:
+        return Modelled(MODEL, self.interrupts, lambda _: None)
+
+    def refused(self, _: Printer) -> Netrev:
+        raise ConnectionRefusedError(111, "Connection refused")
+
+    def types(self, line: str, who: str = "browser 1") -> list[dict[str, Any]]:
+        """The events that a line brings."""
+        self.running.post(who, line)
+        self.running.turn()
+        return self.streams.take()
+
+    def says(self, line: str) -> list[str]:
+        """What is said to a line."""
+        return [text for event in self.types(line) if event["event"] == "said" for text in event["lines"]]
+
+    def look(self) -> list[dict[str, Any]]:
+        """The events of a look at what others did."""
+        self.running.turn()
+        return self.streams.take()
+
+    def elsewhere(self, line: bytes) -> None:
+        """Somebody at another front moves the session."""
+        self.netrev._session.answer(line)
+
+
+class Moves(Played):
+    def test_a_line_is_told_with_who_moved_to_where(self) -> None:
+        events = self.types("stepi 6")
+        self.assertEqual(events[0], {"event": "line", "who": "browser 1", "line": "stepi 6"})
+        self.assertEqual(events[1], {"event": "said", "of": "reply", "lines": ["at 6"]})
+        moved = {"event": "moved", "who": "browser 1", "line": "stepi 6", "from": 0, "to": 6}
+        stands = {"event": "stands", "position": 6, "steps": 10, "direction": "forward"}
+        self.assertEqual(events[2:4], [moved, stands])
+        self.assertEqual(events[4]["of"], "place")
+        self.assertEqual(events[-1], {"event": "answered", "who": "browser 1", "line": "stepi 6"})
+
+    def test_each_part_of_a_line_is_a_move_of_its_own(self) -> None:
+        events = self.types("goto 3; reverse-stepi; until lock 0 18; print lock 0", "browser 7")
+        moves = [tuple(event.values())[1:] for event in events if event["event"] == "moved"]
+        self.assertEqual(
+            moves,
+            [
+                ("browser 7", "goto 3", 0, 3),
+                ("browser 7", "reverse-stepi", 3, 2),
+                ("browser 7", "until lock 0 18", 2, 5),
+            ],
+        )
+
+    def test_others_are_seen_where_they_left_the_session(self) -> None:
+        self.elsewhere(b"stepi 2")
+        self.elsewhere(b"stepi 2")
+        events = self.look()
+        self.assertEqual(events[0], {"event": "moved", "who": "another front", "line": None, "from": 0, "to": 4})
+        self.assertEqual(events[1], {"event": "stands", "position": 4, "steps": 10, "direction": "forward"})
+        self.assertEqual(self.look(), [])
+        self.elsewhere(b"set exec-direction reverse")
+        self.assertEqual([event["direction"] for event in self.look()], ["reverse"])
+
+    def test_others_are_seen_before_a_line_is_answered(self) -> None:
+        self.elsewhere(b"stepi 4")
+        events = [event for event in self.types("stepi") if event["event"] == "moved"]
+        self.assertEqual([(event["who"], event["from"], event["to"]) for event in events][0], ("another front", 0, 4))
+        self.assertEqual([(event["who"], event["from"], event["to"]) for event in events][1], ("browser 1", 4, 5))
+
+    def test_marks_are_told_when_they_change(self) -> None:
+        events = self.types("watch lock 0; tbreak @7")
+        marks = [{"mark": 1, "what": "watch lock 0"}, {"mark": 2, "what": "tbreak @7"}]
+        self.assertIn({"event": "marks", "marks": marks}, events)
+        self.elsewhere(b"delete 1")
+        self.assertEqual(self.look(), [{"event": "marks", "marks": marks[1:]}])
+
+    def test_nobody_listens(self) -> None:
+        self.streams.browsers = 0
+        self.elsewhere(b"stepi 2")
+        self.assertEqual(self.look(), [])
+
+
+class NotHere(Played):
+    def test_files_several_lines_and_the_end(self) -> None:
+        for line in (
+            "source /etc/passwd",
+            "timeline x.html",
+            "trace x.json",
+            "reduce x.jsonl",
+            "report x.md",
+            "rep x.md",
+        ):
+            self.assertEqual(self.says(line), [f"| {NO_FILES}"], line)
+        self.types("break @3")
+        self.assertEqual(self.says("commands 1"), [f"| {NO_LINES}"])
+        for line in ("quit", "q", "exit", "qui", "stepi; quit"):
+            self.assertEqual(self.says(line)[-1], f"| {NO_END}")
+        self.assertEqual(self.says("info position")[0], "at 1 of 10 forward")
+
+    def test_a_line_that_is_none_of_nrdbs(self) -> None:
+        self.assertEqual(self.says("nonsense")[0], "fault 201 unknown command")
+        self.assertEqual(
+            self.says("info holders"), ["| info holders S: who holds the references of socket S, and since which step"]
+        )
+        self.assertEqual(self.says(""), [])
+        self.assertEqual(self.says("#comment"), [])
+
+    def test_too_many_lines_wait(self) -> None:
+        for _ in range(MOST_WAITING):
+            self.running.post("browser 1", "info position")
+        with self.assertRaisesRegex(Unavailable, f"{MOST_WAITING} lines wait"):
+            self.running.post("browser 2", "info position")
+        with self.assertRaises(Unavailable):
+            self.running.timeline()
+        self.running.turn()
+        self.running.post("browser 2", "info position")
+
+
+class Stopped(Played):
+    def test_a_walk_is_stopped_and_the_session_goes_on(self) -> None:
+        came = iter([self.interrupts.came])  # Ctrl-C where nrdb runs, once
+        walking = Modelled(MODEL, self.interrupts, lambda _: next(came, lambda: None)())
+        self.running.session.scout = Scout(lambda: walking)
+        self.assertEqual(self.says("history lock 0 all"), ["| interrupted; the session goes on"])
+        self.running.session.scout = Scout(self.modelled)
+        self.assertEqual(self.says("stepi 2")[0], "at 2")
+
+
+class Gone(Played):
+    GONE = "netrev has ended: lines aren't answered until it is there again"
+
+    def test_it_is_said_and_lines_arent_answered(self) -> None:
+        self.running.post("browser 2", "print clock")  # which was taken before anybody knew
+        self.netrev.has_ended = True
+        self.assertEqual(
+            self.look()[-2:], [{"event": "netrev", "there": False, "says": self.GONE}, self.unanswered("print clock")]
+        )
+        with self.assertRaisesRegex(Unavailable, "netrev has ended"):
+            self.running.post("browser 1", "stepi")
+        self.assertEqual(self.look(), [])
+
+    def unanswered(self, line: str) -> dict[str, Any]:
+        return {"event": "unanswered", "who": "browser 2", "line": line, "why": self.GONE}
+
+    def test_a_look_finds_it_gone(self) -> None:
+        self.netrev.has_ended = True
+        self.assertEqual(self.look(), [{"event": "netrev", "there": False, "says": self.GONE}])
+
+    def test_it_goes_on_where_the_next_one_stands(self) -> None:
+        self.types("stepi 6")
+        self.netrev.has_ended = True
+        self.look()
+        self.assertEqual(self.look(), [])
+        again = self.modelled()
+        again._session.answer(b"stepi 2")
+        again._session.answer(b"watch lock 0")
+        self.opened = lambda _: again
+        events = self.look()
+        self.assertEqual(events[0], {"event": "said", "of": "reply", "lines": ["at 2 of 10 forward"]})
+        self.assertIn({"event": "stands", "position": 2, "steps": 10, "direction": "forward"}, events)
+        self.assertIn({"event": "marks", "marks": [{"mark": 1, "what": "watch lock 0"}]}, events)
+        self.assertEqual((events[-1]["event"], events[-1]["there"]), ("netrev", True))
+        self.assertEqual([event for event in events if event["event"] == "moved"], [])
+        self.assertEqual(self.says("stepi")[0], "at 3")
+
+    def test_another_recording_is_served_there(self) -> None:
+        self.netrev.has_ended = True
+        self.look()
+        self.opened = lambda _: Modelled(OTHER_MODEL, self.interrupts, lambda _: None)
+        (told,) = self.look()
+        self.assertIn("the recording has 10 steps, and that of the session 22", told["says"])
+        with self.assertRaises(Unavailable):
+            self.running.post("browser 1", "stepi")
+
+    def test_what_answers_there_isnt_netrev(self) -> None:
+        strange = self.modelled()
+        self.netrev.has_ended = True
+        self.look()
+        with mock.patch.object(Modelled, "_next", lambda *_: "220 mail.example ESMTP"):
+            self.opened = lambda _: strange
+            (told,) = self.look()
+        self.assertIn("what answers isn't netrev", told["says"])
+        self.assertTrue(strange.has_ended)
+
+
+class Timeline(Played):
+    def made(self) -> bytes:
+        wanted = self.running.timeline()
+        self.running.turn()
+        return wanted.result(0)
+
+    def test_the_data_are_made_once(self) -> None:
+        first = self.made()
+        self.assertIn(b'"length":10', first)
+        self.types("stepi 3")
+        with mock.patch("nrdb.web.running.collected", side_effect=AssertionError):
+            self.assertIs(self.made(), first)
+
+    def test_netrev_is_gone_meanwhile(self) -> None:
+        self.netrev.has_ended = True
+        with self.assertRaisesRegex(Unavailable, "netrev has ended"):
+            self.made()
+        self.assertEqual([event["event"] for event in self.look()], ["netrev"])
+
+    def test_without_the_recording_there_is_none(self) -> None:
+        self.running.session.recording = None
+        with self.assertRaisesRegex(Unavailable, "has to be named"):
+            self.made()
+
+    def test_of_a_long_recording_it_shows_the_part_round_the_session(self) -> None:
+        for length in (0, 10, MOST, MOST + 1, 3 * MOST + 7):
+            for position in {0, length // 3, length // 2, max(length - 1, 0), length}:
+                window = window_of(position, length)
+                self.assertTrue(0 <= window.first <= position <= window.last <= length, (window, position))
+                self.assertEqual(window.last - window.first, min(length, MOST))
+
+
+if __name__ == "__main__":
+    unittest.main()
