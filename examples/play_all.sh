@@ -1,15 +1,16 @@
 #!/bin/sh
-# Plays all examples, and last a session that two share. NETREV names the program, as for play.sh.
+# Plays all examples of the list in README.md, and last a session that two share:  examples/play_all.sh [--alone]
+#
+# NETREV names the program, as for play.sh. With --alone no session is shared.
 set -eu
 here=$(dirname "$0")
-for script in "$here"/*.script "$here"/real/*.script; do
-	name=${script#"$here"/}
-	name=${name%.script}
-	[ "$name" != shared ] || continue
+for name in $(sed -n 's/^| `\([^`]*\)` |.*/\1/p' "$here/README.md"); do
+	[ -e "$here/$name.script" ] || continue
 	echo
 	echo "== $name"
 	sh "$here/play.sh" "$name"
 done
+[ "${1-}" != --alone ] || exit 0
 echo
 echo "== shared"
 sh "$here/shared.sh"

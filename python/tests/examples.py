@@ -1,0 +1,42 @@
+"""The examples, by the one list of them, examples/README.md."""
+
+import re
+from pathlib import Path
+from typing import NamedTuple, Optional
+
+from nrdb.suspects.found import Rule
+
+EXAMPLES = Path(__file__).resolve().parents[2] / "examples"
+LIST = EXAMPLES / "README.md"
+ROW = re.compile(r"\| `([\w/-]+)` \| (.+) \| (.+) \| \[.+\]\(.+\) \|")
+REFUSED_AT = re.compile(r"refused at step (\d+)")
+
+
+class Example(NamedTuple):
+    """A row of the list."""
+
+    name: str  # in the folder, without its ending
+    suspect: Optional[Rule]  # the rule whose suspect is named first
+    refused_at: Optional[int]  # the step that netrev refuses
+
+    @property
+    def path(self) -> Path:
+        """The recording."""
+        return self.beside("jsonl")
+
+    def beside(self, ending: str) -> Path:
+        """The file beside it with this ending."""
+        return EXAMPLES / f"{self.name}.{ending}"
+
+
+def example_of(name: str, said: str) -> Example:
+    """The row of this name whose column of suspects says this."""
+    refused = REFUSED_AT.fullmatch(said)
+    if refused:
+        return Example(name, None, int(refused[1]))
+    return Example(name, None if said == "none" else Rule(said), None)
+
+
+ALL = tuple(example_of(row[1], row[3]) for row in map(ROW.fullmatch, LIST.read_text().splitlines()) if row)
+KNOWN = {example.name: example.suspect for example in ALL if example.suspect}
+REFUSED = {example.name: example.refused_at for example in ALL if example.refused_at}

@@ -1,0 +1,35 @@
+"""netrev_model.version has the version, and all that says one says that."""
+
+import json
+import subprocess
+import sys
+import unittest
+from pathlib import Path
+
+from netrev_model.version import VERSION
+
+ROOT = Path(__file__).resolve().parents[2]
+
+
+def said(*command: str) -> str:
+    """What a command prints, at the top of the repository."""
+    return subprocess.run(command, cwd=ROOT, capture_output=True, text=True, check=True).stdout
+
+
+class Version(unittest.TestCase):
+    def test_programs_say_it(self) -> None:
+        for program in ("nrdb", "tools/go/netrev-go"):
+            self.assertEqual(said(f"./{program}", "--version"), f"{Path(program).name} {VERSION}\n")
+
+    def test_the_man_page_says_it(self) -> None:
+        first = said(sys.executable, "scripts/man.py").splitlines()[0]
+        self.assertEqual(first, f'.TH NETREV 1 "" "netrev {VERSION}" "User commands"')
+
+    def test_packages_are_named_for_it(self) -> None:
+        self.assertEqual(said("make", "-s", "--eval", "version: ; @echo $(VERSION)", "version"), f"{VERSION}\n")
+        self.assertIn('version = { attr = "netrev_model.version.VERSION" }\n', (ROOT / "pyproject.toml").read_text())
+        self.assertEqual(json.loads((ROOT / "editors/vscode/package.json").read_text())["version"], VERSION)
+
+    def test_the_newest_changes_are_of_it(self) -> None:
+        headings = [line for line in (ROOT / "CHANGELOG.md").read_text().splitlines() if line.startswith("## ")]
+        self.assertEqual(headings[0], f"## {VERSION}")

@@ -1,0 +1,77 @@
+#!/usr/bin/env python3
+"""Tries the programs of docs/USING.md:  scripts/using.py [NAME ..]
+
+Makes a repository in a folder of its own, of copies of the crates and of the page's programs, and runs each, or those of these
+names, by `rt try` over examples/first.jsonl. Ends with status 1 where one prints something else than the page says. Nothing is
+proved by it, and each takes a minute of processor time to compile.
+"""
+
+import re
+import shutil
+import subprocess
+import sys
+import tempfile
+from pathlib import Path
+from typing import NamedTuple
+
+ROOT = Path(__file__).resolve().parent.parent
+PAGE = ROOT / "docs/USING.md"
+FIRST = ROOT / "examples/first.jsonl"
+PROGRAM = re.compile(r"`(using_(\w+)): ([\w ]+)`\n\n```rust\n(.*?)```\n\nIt prints:\n\n((?:    [^\n]*\n)+)", re.DOTALL)
+SECONDS = 300
+
+
+class Program(NamedTuple):
+    """A program of the page."""
+
+    crate: str
+    name: str
+    imports: str
+    source: str
+    printed: str
+
+
+def programs(page: str) -> list[Program]:
+    """The programs of the page, and what it says that they print."""
+    return [
+        Program(found[1], found[2], found[3], found[4], re.sub("^    ", "", found[5], flags=re.MULTILINE))
+        for found in PROGRAM.finditer(page)
+    ]
+
+
+def make_repository(folder: Path, made: list[Program]) -> None:
+    """Puts the crates into the folder, without what is built of them, and these programs."""
+    shutil.copytree(ROOT / "crates", folder / "crates", ignore=shutil.ignore_patterns("out", "must-fail"))
+    shutil.copy(ROOT / "HANDLES", folder)
+    rows = [f"{program.crate}: {program.imports}\n" for program in made]
+    (folder / "crates.txt").write_text((ROOT / "crates.txt").read_text() + "".join(rows))
+    for program in made:
+        source = folder / "crates" / program.crate / "src/main.rt"
+        source.parent.mkdir(parents=True)
+        source.write_text(program.source)
+
+
+def prints_it(folder: Path, program: Program) -> bool:
+    """Whether the program prints what the page says; else shows what it does."""
+    with FIRST.open("rb") as recording:
+        command = ["rt", "try", "--seconds", str(SECONDS)]
+        place = folder / "crates" / program.crate
+        ran = subprocess.run(command, cwd=place, stdin=recording, capture_output=True, text=True, check=False)
+    is_right = ran.returncode == 0 and ran.stdout.startswith(program.printed)
+    print(f"{program.name}: {'as the page says' if is_right else ran.stdout + ran.stderr}", flush=True)
+    return is_right
+
+
+def main() -> int:
+    """Tries those that are named, or all."""
+    found = programs(PAGE.read_text(encoding="utf-8"))
+    asked = [program for program in found if program.name in sys.argv[1:] or not sys.argv[1:]]
+    if not asked or len(asked) < len(sys.argv[1:]):
+        sys.exit(f"{PAGE.name} has {', '.join(program.name for program in found)}")
+    with tempfile.TemporaryDirectory() as name:
+        make_repository(Path(name), asked)
+        return int(not all([prints_it(Path(name), program) for program in asked]))
+
+
+if __name__ == "__main__":
+    sys.exit(main())
