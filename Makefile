@@ -2,7 +2,7 @@
 # a C compiler and Python (3.10 or later). What is written in Python is run by `python3 python NAME`.
 
 BUILT = crates/netrev/out/netrev
-VERSION = 0-$(shell git rev-parse --short HEAD 2>/dev/null || echo unknown)
+VERSION = $(shell sed -n 's/^VERSION = "\(.*\)"/\1/p' python/netrev_model/version.py)
 FILE = examples/first.jsonl
 PREFIX = /usr/local
 MINUTES = 5
@@ -150,7 +150,7 @@ install-files:
 	python3 scripts/man.py > $(DESTDIR)$(PREFIX)/share/man/man1/netrev.1
 
 # Makes out/netrev-VERSION-linux-x86_64.tar.gz of the program that the gate left, or of NETREV=FILE, with nrdb and the examples,
-# for machines without the toolchain, and tries it: `make package VERSION=1`. The gate has to have passed with that program.
+# for machines without the toolchain, and tries it: `make package`, or `make package VERSION=other`. The gate has to have passed with that program.
 # netrev is proved only where none is built here.
 package:
 	@sh scripts/package.sh $(VERSION) $(GIVEN)

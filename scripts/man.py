@@ -10,10 +10,14 @@ import pathlib
 import re
 import sys
 
-COMMANDS = pathlib.Path(__file__).resolve().parents[1] / "docs/COMMANDS.md"
+ROOT = pathlib.Path(__file__).resolve().parents[1]
+COMMANDS = ROOT / "docs/COMMANDS.md"
+sys.path.insert(0, str(ROOT / "python"))
 
-HEAD = r""".TH NETREV 1 "" netrev "User commands"
-.SH NAME
+from netrev_model.version import VERSION  # noqa: E402
+
+TITLE = f'.TH NETREV 1 "" "netrev {VERSION}" "User commands"\n'
+HEAD = r""".SH NAME
 netrev \- walk a recorded schedule of a Go program's network poller in both directions
 .SH SYNOPSIS
 .B netrev run
@@ -90,7 +94,7 @@ def block(lines: list[str]) -> list[str]:
 def page(markdown: str) -> str:
     """The whole page, block by block: a blank line ends one."""
     blocks = [part.splitlines() for part in re.split(r"\n\n+", markdown.strip())]
-    return HEAD + "\n".join(line for lines in blocks for line in block(lines)) + "\n" + TAIL
+    return TITLE + HEAD + "\n".join(line for lines in blocks for line in block(lines)) + "\n" + TAIL
 
 
 if __name__ == "__main__":

@@ -28,7 +28,7 @@ CHECKS = ("check", "build")
 
 
 def processes():
-    """Those that run now: by number, the parent's number and the ticks that it and its ended children have used."""
+    """The processes that run now: by number, the parent's number and the ticks that it and its ended children have used."""
     found = {}
     for name in filter(str.isdigit, os.listdir("/proc")):
         try:

@@ -3,7 +3,7 @@
 
 The gate tries each edit of crates/CRATE/must-fail alone, over the whole crate. Here those of different functions go into one
 copy of the repository, and just their functions are checked, each for itself: what a function is proved of doesn't rest on
-another's body. So all edits of a crate are tried in minutes while one writes. It is for the desk and no part of the gate.
+another's body. So all edits of a crate are tried in minutes while one writes. It is for whoever writes, and no part of the gate.
 
 An edit is refused where a function that it changes isn't proved by a goal of its own; that it calls another one which isn't
 proved doesn't count. An edit that changes more than bodies (a constant, a type, a definition) is named and left to

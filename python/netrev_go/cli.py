@@ -11,6 +11,7 @@ import subprocess
 import sys
 
 from netrev_model.plain import plain
+from netrev_model.version import VERSION
 
 from .converting import Wish, convert
 from .doctor import doctor
@@ -34,6 +35,9 @@ What stands behind run, test and build is Go's own. Nothing has to be changed in
 def parser() -> argparse.ArgumentParser:
     made = argparse.ArgumentParser(
         prog="netrev-go", usage=argparse.SUPPRESS, description=HELP, formatter_class=argparse.RawTextHelpFormatter
+    )
+    made.add_argument(
+        "--version", action="version", version=f"netrev-go {VERSION}", help="prints the version, and ends"
     )
     made.add_argument("-o", metavar="NAME", help="the recording is NAME.jsonl, its lines NAME.where (else: recording)")
     made.add_argument("-n", metavar="SECONDS", type=float, help="a program that runs so long is ended by SIGQUIT")

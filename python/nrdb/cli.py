@@ -11,6 +11,7 @@ from typing import Any, Callable, NoReturn, Optional, Sequence
 
 from netrev_model.built import BUILT, netrev_program
 from netrev_model.plain import plain
+from netrev_model.version import VERSION
 
 from .answers import ANSWERS
 from .dap import serve_port, serve_streams
@@ -26,6 +27,7 @@ from .shapes import POSITION, Refused, Strange
 from .suspects import suspects_table
 from .terminal import Terminal
 from .timeline import write_timeline, write_trace
+from .web import serve_page
 
 DONE, REFUSED, USAGE, FAILED, SUSPECTS = range(5)
 SILENT = "no reply yet: somebody else is at this front, or netrev goes through what all have searched; nrdb waits"
@@ -51,6 +53,7 @@ def parser() -> Words:
         prog="nrdb",
         description="The companion at netrev's prompt: what it adds to netrev's replies begins with | and is unproved.",
     )
+    made.add_argument("--version", action="version", version=f"nrdb {VERSION}", help="prints the version, and ends")
     made.add_argument("file", nargs="?", metavar="FILE", help="the recording")
     made.add_argument(
         "-x", dest="lines", action=InOrder, const="source", metavar="FILE", help="takes lines from a file"
@@ -72,6 +75,12 @@ def parser() -> Words:
     )
     made.add_argument(
         "--dap-port", metavar="PORT", type=int, help="the same at a port of the loopback, one after the other"
+    )
+    made.add_argument(
+        "--web",
+        metavar="PORT",
+        type=int,
+        help="serves a page for browsers at a port of the loopback, in place of a prompt",
     )
     made.add_argument("--netrev", default=netrev_program() or str(BUILT), metavar="PROGRAM", help="netrev's program")
     return made
@@ -120,7 +129,7 @@ def run(wanted: argparse.Namespace, printer: Printer) -> int:
     except OSError as error:
         printer.note(f"{error.filename or wanted.join or wanted.file}: {error.strerror or error}")
         if error.filename == wanted.netrev:
-            printer.note("`make netrev` builds netrev; NETREV or --netrev names another one")
+            printer.note("`make netrev` builds netrev; NETREV or --netrev names another one; `make look` needs none")
         status = FAILED
     printer.end(status)
     return status
@@ -154,7 +163,8 @@ def begun(wanted: argparse.Namespace, netrev: Netrev, interrupts: Interrupts, pr
     finally:
         if scout:
             scout.drop()
-    return netrev.close() or status
+    ended = netrev.close()
+    return status if wanted.web is not None else ended or status  # (the page may have gone on with another netrev)
 
 
 def fault_of(netrev: str, path: str) -> str:
@@ -197,6 +207,8 @@ def played(session: Session, wanted: argparse.Namespace) -> int:
     for name, write in WRITERS.items():
         if file := getattr(wanted, name):
             return made(session, file, write)
+    if wanted.web is not None:
+        return serve_page(session, wanted.web, lambda printer: opened(wanted, session.interrupts, printer))
     if not wanted.batch:
         typed(session)
     return DONE

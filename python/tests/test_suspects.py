@@ -3,7 +3,6 @@ examples are named first; bugs that are planted at random are, and traffic witho
 
 import json
 import unittest
-from pathlib import Path
 from typing import Any, NamedTuple
 
 from netrev_fuzz.injections import Bug, Count, counted
@@ -12,8 +11,8 @@ from netrev_model.steps import apply
 from nrdb.recording import Recording
 from nrdb.suspects import suspects_of
 from nrdb.suspects.found import Rule, Suspect
+from tests.examples import ALL, REFUSED
 
-EXAMPLES = Path(__file__).resolve().parents[2] / "examples"
 LIMITS = Limits(gor=4, sock=2, desc=2, buf=16)
 Steps = list[list[Any]]
 
@@ -85,24 +84,6 @@ PAIRS = {
         OPEN + USED_AGAIN + [["pollevent", 0, 2, "rw", 0], ["pollevent", 0, 1, "rw", 1]],
     ),
 }
-# the bugs of the recordings that are kept, by folder; those that aren't here have none that a rule can find
-KNOWN = {
-    "lost-wakeup": Rule.LOST_WAKE_UP,
-    "past-deadline": Rule.TAKEN_BACK,
-    "reused-descriptor": Rule.ERROR_EVENT,
-    "leaked-reference": Rule.LEAKED_REFERENCE,
-    "shut-write-side": Rule.WRITE_BEHIND_SHUT,
-    "hunts/blocked-control": Rule.LEAKED_REFERENCE,
-    "hunts/extended-deadline": Rule.TAKEN_BACK,
-    "hunts/hijacked-deadline": Rule.LEFT_BEHIND,
-    "hunts/missed-release": Rule.MISSED_RELEASE,
-    "real/past": Rule.TAKEN_BACK,
-    "real/lost": Rule.LOST_WAKE_UP,
-    "real/leak": Rule.LEAKED_REFERENCE,
-    "real/half": Rule.WRITE_BEHIND_SHUT,
-    "real/hijacked": Rule.LEFT_BEHIND,
-}
-REFUSED = ("other-answer", "hunts/early-arrival")  # by netrev, so that there is nothing to look at
 
 
 def recording_of(steps: Steps) -> Recording:
@@ -131,13 +112,11 @@ class Rules(unittest.TestCase):
                 self.assertEqual([suspect.sentence() for suspect in shown(recording_of(pair.good))], [])
 
     def test_the_bug_of_each_example_is_named_first(self) -> None:
-        files = sorted(EXAMPLES.glob("**/*.jsonl"))
-        names = {str(file.relative_to(EXAMPLES).with_suffix("")): file for file in files}
-        self.assertLessEqual({*KNOWN, *REFUSED}, set(names))
-        for name in set(names) - set(REFUSED):
-            with self.subTest(name):
-                found = [suspect.rule for suspect in shown(Recording.read(str(names[name])))]
-                self.assertEqual(found[:1], [KNOWN[name]] if name in KNOWN else [])
+        for example in ALL:
+            if example.name not in REFUSED:  # (there is nothing to look at)
+                with self.subTest(example.name):
+                    found = [suspect.rule for suspect in shown(Recording.read(str(example.path)))]
+                    self.assertEqual(found[:1], [example.suspect] if example.suspect else [])
 
     def test_planted_bugs_are_named_first_and_good_traffic_has_no_suspect(self) -> None:
         self.assertEqual(counted(None, range(100, 106)), Count())

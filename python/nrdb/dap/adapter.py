@@ -11,12 +11,12 @@ from ..netrev import Ended
 from ..scout import Lost
 from ..session import Misused
 from ..shapes import Refused, Strange
-from . import filters
+from . import breakpoints, filters
 from .debuggee import debuggee
 from .looking import maker_of, thread_of
-from .marks import Sort, cell_wish, kind_wish, wish_of
 from .messages import Body, Request, Unanswerable, Wire
 from .moving import Stop
+from .numbering import Numbering
 from .target import Launch, Target
 
 CAPABILITIES: Body = {
@@ -36,7 +36,6 @@ CAPABILITIES: Body = {
     "completionTriggerCharacters": [" "],
 }
 FIXED = "a recording is what happened: no value in it can be changed"
-MOST_TARGETS = 1_000  # lines that are looked through for those with a step
 
 
 def shown(text: str) -> str:
@@ -59,17 +58,21 @@ class Adapter:
         self._wire, self._program = wire, program
         self._opened = ExitStack()
         self._target_or_none: Optional[Target] = None
-        self._first_line = 1
+        self._numbering = Numbering()
+        of_target = self._of_target
         self._answers: dict[str, Callable[[Request], Outcome]] = {
             "initialize": self._initialize, "launch": self._launch, "attach": self._attach,
             "configurationDone": self._configured, "terminate": self._terminate, "disconnect": self._disconnect,
             "restart": self._restart, "continue": self._continue, "reverseContinue": self._reverse_continue,
             "stepIn": self._step_in, "stepBack": self._step_back, "next": self._next, "stepOut": self._step_out,
             "pause": self._pause, "gotoTargets": self._goto_targets, "goto": self._goto,
-            "setBreakpoints": self._set_lines, "setFunctionBreakpoints": self._set_functions,
-            "setDataBreakpoints": self._set_data, "dataBreakpointInfo": self._data_info,
-            "setExceptionBreakpoints": self._set_filters, "exceptionInfo": self._exception_info,
-            "breakpointLocations": self._locations, "threads": self._threads, "stackTrace": self._stack,
+            "setBreakpoints": of_target(breakpoints.set_lines),
+            "setFunctionBreakpoints": of_target(breakpoints.set_functions),
+            "setDataBreakpoints": of_target(breakpoints.set_data),
+            "dataBreakpointInfo": of_target(breakpoints.data_info),
+            "setExceptionBreakpoints": of_target(breakpoints.set_filters),
+            "exceptionInfo": of_target(breakpoints.exception_info),
+            "breakpointLocations": of_target(breakpoints.locations), "threads": self._threads, "stackTrace": self._stack,
             "scopes": self._scopes, "variables": self._variables, "evaluate": self._evaluate,
             "completions": self._completions, "setVariable": self._refuse_change, "setExpression": self._refuse_change,
         }  # fmt: skip
@@ -118,6 +121,10 @@ class Adapter:
             raise Unanswerable("no recording is open: launch comes first")
         return self._target_or_none
 
+    def _of_target(self, answer: Callable[[Target, Numbering, Request], Body]) -> Callable[[Request], Outcome]:
+        """What is answered of the recording that is open, and moves nothing."""
+        return lambda request: Outcome(answer(self._target, self._numbering, request))
+
     def _stopped(self, stop: Stop) -> None:
         """Tells that the session stands somewhere else, and what is said of it."""
         target = self._target
@@ -148,7 +155,7 @@ class Adapter:
     # --- the beginning and the end
 
     def _initialize(self, request: Request) -> Outcome:
-        self._first_line = 0 if request.arguments.get("linesStartAt1") is False else 1
+        self._numbering = Numbering(0 if request.arguments.get("linesStartAt1") is False else 1)
         return Outcome(CAPABILITIES)
 
     def _launch(self, request: Request) -> Outcome:
@@ -204,11 +211,15 @@ class Adapter:
         return Outcome(stop=Stop("pause", f"at {self._target.debuggee.position}"))
 
     def _goto_targets(self, request: Request) -> Outcome:
-        step = self._target.debuggee.step_at(self._line_from(request, "line"))
+        step = self._target.debuggee.step_at(self._numbering.asked(request, "line"))
         if step is None:
             raise Unanswerable("no step stands in that line, or behind it")
         position = step.number - 1
-        named = {"id": position, "label": f"position {position}, before {step.kind}", "line": self._line_to(step.line)}
+        named = {
+            "id": position,
+            "label": f"position {position}, before {step.kind}",
+            "line": self._numbering.to(step.line),
+        }
         return Outcome({"targets": [named]})
 
     def _goto(self, request: Request) -> Outcome:
@@ -216,64 +227,6 @@ class Adapter:
         if not 0 <= position <= self._target.debuggee.length:
             raise Unanswerable(f"the recording has {self._target.debuggee.length} steps")
         return Outcome(stop=self._target.moves.goto(position))
-
-    # --- breakpoints
-
-    def _set_lines(self, request: Request) -> Outcome:
-        target, asked = self._target, request.objects("breakpoints")
-        if not self._is_the_recording(request):
-            said = "breakpoints are set in the recording's text: a line of the program has many steps"
-            return Outcome({"breakpoints": [{"verified": False, "message": said} for _ in asked]})
-        steps = [target.debuggee.step_at(self._line_of(one)) for one in asked]
-        wishes = [
-            wish_of(f"@{step.number if step else target.debuggee.length + 1}", one.get("condition"))
-            for step, one in zip(steps, asked)
-        ]
-        made = target.marks.replace(Sort.LINE, wishes)
-        lines = [{"line": self._line_to(step.line)} if step else {} for step in steps]
-        return Outcome({"breakpoints": [one | line for one, line in zip(made, lines)]})
-
-    def _is_the_recording(self, request: Request) -> bool:
-        source = request.arguments.get("source")
-        path = source.get("path") if isinstance(source, dict) else None
-        return isinstance(path, str) and self._target.debuggee.is_at(path)
-
-    def _set_functions(self, request: Request) -> Outcome:
-        wishes = [kind_wish(one.get("name"), one.get("condition")) for one in request.objects("breakpoints")]
-        return Outcome({"breakpoints": self._target.marks.replace(Sort.FUNCTION, wishes)})
-
-    def _data_info(self, request: Request) -> Outcome:
-        name = request.text("name")
-        if self._target.looks.value(name) is None:
-            return Outcome({"dataId": None, "description": f"{plain(name)} is no cell"})
-        return Outcome({"dataId": name, "description": name, "accessTypes": ["write"], "canPersist": True})
-
-    def _set_data(self, request: Request) -> Outcome:
-        wishes = [cell_wish(one.get("dataId"), one.get("condition")) for one in request.objects("breakpoints")]
-        return Outcome({"breakpoints": self._target.marks.replace(Sort.DATA, wishes)})
-
-    def _set_filters(self, request: Request) -> Outcome:
-        names = request.arguments.get("filters") or []
-        if not isinstance(names, list):
-            raise Unanswerable("filters has to be a list")
-        return Outcome({"breakpoints": self._target.filters.replace(names)})
-
-    def _exception_info(self, request: Request) -> Outcome:
-        wrong = self._target.filters.at(self._target.debuggee.position)
-        if not wrong:
-            raise Unanswerable("nothing of the filters that are set is here")
-        says = "; ".join(plain(one.says) for one in wrong)
-        return Outcome({"exceptionId": wrong[0].sort, "description": says, "breakMode": "always"})
-
-    def _locations(self, request: Request) -> Outcome:
-        first = self._line_from(request, "line")
-        last = self._line_from(request, "endLine") if "endLine" in request.arguments else first
-        found: list[Body] = []
-        step = self._target.debuggee.step_at(first)
-        while step is not None and step.line <= last and len(found) < MOST_TARGETS:
-            found.append({"line": self._line_to(step.line)})
-            step = self._target.debuggee.step(step.number + 1)
-        return Outcome({"breakpoints": found})
 
     # --- looks
 
@@ -287,7 +240,7 @@ class Adapter:
 
     def _placed(self, frame: Body) -> Body:
         """A frame with its line as the editor counts; one that has none keeps 0."""
-        return frame | ({"line": self._line_to(frame["line"])} if frame["line"] else {})
+        return frame | ({"line": self._numbering.to(frame["line"])} if frame["line"] else {})
 
     def _scopes(self, request: Request) -> Outcome:
         return Outcome({"scopes": self._target.looks.scopes(request.whole_number("frameId"))})
@@ -326,26 +279,12 @@ class Adapter:
 
     def _completions(self, request: Request) -> Outcome:
         text, column = request.text("text"), request.whole_number("column")
-        typed = text[: max(column - self._first_line, 0)]
+        typed = text[: max(column - self._numbering.first, 0)]
         *before, last = typed.split(" ")
         found = candidates([word for word in before if word], self._target.debuggee.numbers)
         labels = sorted({one for one in found if one.startswith(last)})
-        start = len(typed) - len(last) + self._first_line
+        start = len(typed) - len(last) + self._numbering.first
         return Outcome({"targets": [{"label": one, "start": start, "length": len(last)} for one in labels]})
 
     def _refuse_change(self, request: Request) -> Outcome:
         raise Unanswerable(FIXED)
-
-    # --- lines, as the editor counts them
-
-    def _line_to(self, line: int) -> int:
-        return line - 1 + self._first_line
-
-    def _line_from(self, request: Request, name: str) -> int:
-        return request.whole_number(name) + 1 - self._first_line
-
-    def _line_of(self, breakpoint_: Body) -> int:
-        line = breakpoint_.get("line")
-        if not isinstance(line, int):
-            raise Unanswerable("a breakpoint has a line")
-        return line + 1 - self._first_line

@@ -22,12 +22,13 @@ from typing import Union
 
 from netrev_model.observing import Observer
 from netrev_model.program import printed
+from tests import examples
 
 from .sharing import NETREV, PATIENCE, ROOT, Wrong, expect
 
 WOKEN = ROOT / "scripts/recordings/woken-by-an-event.jsonl"
 ANSWERS, OTHER, SHUT = (ROOT / f"examples/{name}.jsonl" for name in ("answers", "other-answer", "shut-write-side"))
-DIFFERS = b"step 11: fault 109 answer\n"
+DIFFERS = f"step {examples.REFUSED['other-answer']}: fault 109 answer\n".encode()
 
 # a program and its file, the status, and what is printed: a text, or what is in a file
 STORED: tuple[tuple[str, Path, int, Union[bytes, Path]], ...] = (

@@ -8,9 +8,9 @@ import unittest
 from pathlib import Path
 
 from netrev_fuzz.long_hunts import made
-from tests.test_suspects import KNOWN
+from tests.examples import KNOWN, REFUSED
 
-from .support import DIFFERING, EXAMPLES, HUNTS, nrdb, nrdb_process
+from .support import EXAMPLES, HUNTS, nrdb, nrdb_process
 
 MOST = 5
 LONG = {"keeper": 50_000, "refused": 500_000}  # steps, or a few more, until all that can end has done so
@@ -24,8 +24,9 @@ class Hunts(unittest.TestCase):
             with self.subTest(hunt.stem):
                 self.assertLessEqual(len(hunt.read_text().splitlines()), MOST)
                 kept = hunt.with_suffix(".session").read_text()
+                name = str(hunt.relative_to(EXAMPLES).with_suffix(""))
                 played = nrdb_process("--batch", "-x", hunt, hunt.with_suffix(".jsonl"))
-                self.assertEqual(played, (kept, "", int(hunt.stem in DIFFERING)))
+                self.assertEqual(played, (kept, "", int(name in REFUSED)))
 
     def test_those_that_a_rule_knows_take_the_line_that_it_says(self):
         hunts = [EXAMPLES / f"{name}.nrdb" for name in KNOWN if "/" in name]

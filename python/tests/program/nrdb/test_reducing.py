@@ -10,7 +10,7 @@ from netrev_fuzz.injections import Bug, Traffic
 from nrdb.recording import Recording
 from nrdb.suspects import suspects_of
 from nrdb.suspects.found import Suspect
-from tests.test_suspects import KNOWN
+from tests.examples import KNOWN
 
 from .support import EXAMPLES, HUNTS, ROOT, netrev, nrdb
 from .test_suspects import checked

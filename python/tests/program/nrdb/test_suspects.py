@@ -9,7 +9,8 @@ from pathlib import Path
 
 from netrev_fuzz.injections import Bug, Traffic
 from tests.program.sharing import NETREV
-from tests.test_suspects import KNOWN, PAIRS, REFUSED, recording_of
+from tests.examples import KNOWN, REFUSED
+from tests.test_suspects import PAIRS, recording_of
 
 from .support import EXAMPLES, nrdb, nrdb_process
 

@@ -1,0 +1,26 @@
+"""Lines of a recording as the editor counts them: from 1, or from 0 where it says so."""
+
+from typing import NamedTuple
+
+from .messages import Body, Request, Unanswerable
+
+
+class Numbering(NamedTuple):
+    """How the editor counts lines and columns; a recording's are counted from 1."""
+
+    first: int = 1
+
+    def to(self, line: int) -> int:
+        """The editor's number of a line."""
+        return line - 1 + self.first
+
+    def asked(self, request: Request, name: str) -> int:
+        """The line that a request names."""
+        return request.whole_number(name) + 1 - self.first
+
+    def of(self, breakpoint_: Body) -> int:
+        """The line of a breakpoint."""
+        line = breakpoint_.get("line")
+        if not isinstance(line, int):
+            raise Unanswerable("a breakpoint has a line")
+        return line + 1 - self.first
