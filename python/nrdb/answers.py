@@ -9,6 +9,7 @@ from netrev_model.vocabulary import CELLS, KINDS, REASONS, Of, cell_of, number_o
 from .answers_of_calls import OF_CALLS, answer_errors, arrive, taken_most, usage
 from .changes import history_table
 from .commands import ALL_TOPICS, COMMANDS, OF_NETREV, OF_NRDB, TOPICS, Origin, whole_command
+from .exploring import answer_explore
 from .holders import holders_table
 from .output import Row, Table
 from .places import descriptors_table, sockets_table, timers_table
@@ -239,6 +240,7 @@ ANSWERS: dict[str, Answering] = {
     "trace": answer_trace,
     "reduce": answer_reduce,
     "report": answer_report,
+    "explore": answer_explore,
     "source": answer_source,
     "info": answer_info,
     **OF_CALLS,

@@ -1,5 +1,5 @@
 """How nrdb is called, and its exit status, which is netrev's: 0 done, 1 the recording was refused, 2 other words, 3 the
-file, the program or the connection failed; and 4 where --suspects prints some."""
+file, the program or the connection failed; and 4 where --suspects prints some, or --explore."""
 
 import argparse
 import io
@@ -15,6 +15,7 @@ from netrev_model.version import VERSION
 
 from .answers import ANSWERS
 from .dap import serve_port, serve_streams
+from .exploring import explored
 from .interrupts import GivenUp, Interrupted, Interrupts
 from .netrev import Ended, Joined, Netrev, Own, Reply
 from .output import JsonPrinter, Printer, TextPrinter
@@ -68,6 +69,12 @@ def parser() -> Words:
     made.add_argument("--trace", metavar="OUT.json", help="writes all steps for Perfetto, behind -x and -ex, and ends")
     made.add_argument(
         "--reduce", metavar="OUT.jsonl", help="writes the least recording with its first suspect, and ends"
+    )
+    made.add_argument(
+        "--explore",
+        action="store_true",
+        help="plays schedules near the recorded one, behind -x and -ex, prints which of them end with a suspect, and ends: with "
+        "status 4 if any",
     )
     made.add_argument("--join", metavar="HOST:PORT", help="joins a session that `netrev serve` has")
     made.add_argument(
@@ -204,6 +211,8 @@ def played(session: Session, wanted: argparse.Namespace) -> int:
             return DONE
     if wanted.suspects:
         return suspected(session)
+    if wanted.explore:
+        return schedules_tried(session)
     for name, write in WRITERS.items():
         if file := getattr(wanted, name):
             return made(session, file, write)
@@ -224,6 +233,18 @@ def suspected(session: Session) -> int:
         return FAILED
     session.printer.table(table)
     return SUSPECTS if table.rows else DONE
+
+
+def schedules_tried(session: Session) -> int:
+    """Explores; the exit status."""
+    try:
+        with session.interrupts.held():
+            said = explored(session)
+    except (Interrupted, Misused, Refused) as stopped:
+        session.printer.note(str(stopped) or "interrupted")
+        return FAILED
+    session.printer.note(said.text)
+    return SUSPECTS if said.found else DONE
 
 
 def made(session: Session, path: str, write: Callable[[Session, str], str]) -> int:

@@ -59,6 +59,10 @@ OF_NRDB = {
             "reduce OUT.jsonl [N | CELL VALUE]", "writes the least recording in which suspect N, or this value, shows"
         ),
         command("report OUT.md [N | CELL VALUE]", "the same, with what is said of it in Markdown beside it"),
+        command(
+            "explore [N]",
+            "plays N schedules near the recorded one, 3000 without N, and writes those that end with a suspect",
+        ),
         command("source FILE", "takes lines from a file"),
     )
 }

@@ -3,7 +3,7 @@
 from collections import Counter
 from fnmatch import fnmatchcase
 from pathlib import Path
-from typing import NamedTuple, Optional
+from typing import Callable, NamedTuple, Optional
 
 from netrev_model.machine import Limits
 from netrev_model.vocabulary import cell_of, number_of
@@ -45,22 +45,35 @@ class Reduced(NamedTuple):
         return f"{self.path}: {len(self.numbers)} of {steps} steps, accepted by netrev; {left}{more}"
 
 
+class Reducing(NamedTuple):
+    """What is reduced: a recording, netrev's program, and what looks whether Ctrl-C came."""
+
+    recording: Recording
+    program: str
+    check: Callable[[], None]
+
+
 def reduced(session: Session, path: str, wanted: Wanted) -> Reduced:
     """Writes the reduced recording to the path, with its NAME.where; Misused where the target doesn't show."""
-    recording = session.text()
     if Path(path).exists() and session.path and Path(path).samefile(session.path):
         raise Misused(f"{path} is the recording itself; name another file")
-    answered = _answered(session, recording, wanted.until)
+    return reduced_of(Reducing(session.text(), session.program, session.interrupts.check), path, wanted)
+
+
+def reduced_of(reducing: Reducing, path: str, wanted: Wanted) -> Reduced:
+    """Writes what is left of any recording to the path, as `reduced` does."""
+    recording, program, check = reducing
+    answered = answered_recording(program, recording, wanted.until)
     events = Events(answered)
     units = units_of(events)
     limits = Limits(*(answered.limits[key] for key in Limits._fields))
-    player = Player(events, units, limits, session.interrupts.check)
+    player = Player(events, units, limits, check)
     shrinking = Shrinking(player, events, units, _target(events, answered, wanted))
     try:
         kept = shrinking.run()
     except NotReproduced:
         raise Misused("it doesn't show where the steps are played again; that is an error of nrdb's") from None
-    data = taken(session.program, player, recording.has_answers)
+    data = taken(program, player, recording.has_answers)
     numbers = [events.all[place].number for place in player.chosen]
     written(path, data)
     write_lines(path, recording.lines, numbers)
@@ -68,9 +81,9 @@ def reduced(session: Session, path: str, wanted: Wanted) -> Reduced:
     return Reduced(path, numbers, left_out, not shrinking.is_done)
 
 
-def _answered(session: Session, recording: Recording, until: int) -> Recording:
+def answered_recording(program: str, recording: Recording, until: int) -> Recording:
     """The first so many steps of the recording with netrev's answers."""
-    status, text = answered_by(session.program, "upgrade", recording.data)
+    status, text = answered_by(program, "upgrade", recording.data)
     if status:
         raise Misused(f"netrev doesn't take the recording: {text.decode('utf-8', 'replace').strip()}")
     return Recording(b"".join(text.splitlines(keepends=True)[: until + 1]))

@@ -7,7 +7,7 @@ import tempfile
 from pathlib import Path
 from typing import Any, Sequence
 
-from netrev_model.machine import Limits
+from netrev_model.machine import Answer, Limits, Step, World
 from netrev_model.writing import line_of
 
 from ..session import Misused
@@ -29,7 +29,7 @@ def answered_by(program: str, command: str, data: bytes) -> tuple[int, bytes]:
 
 def taken(program: str, player: Player, has_answers: bool) -> bytes:
     """The text of what the player has played, as netrev takes it; with netrev's own answers where the recording had such."""
-    text = text_of(player, has_answers)
+    text = text_of(player.world, player.limits.buf, player.steps, has_answers)
     status, said = answered_by(program, "upgrade" if has_answers else "check", text)
     if status:
         fault = said.decode("utf-8", "replace").strip()
@@ -37,20 +37,19 @@ def taken(program: str, player: Player, has_answers: bool) -> bytes:
     return said if has_answers else text
 
 
-def text_of(player: Player, has_answers: bool) -> bytes:
-    """The text of what the player has played. The limits are those that it needs."""
-    world = player.world
+def text_of(world: World, buf: int, steps: Sequence[tuple[Step, Answer]], has_answers: bool) -> bytes:
+    """The text of steps that led to this state. The limits are those that it needs."""
     gor, sock, desc = (max(len(made), 1) for made in (world.goroutines, world.sockets, world.descs))
-    limits = Limits(gor, sock, desc, player.limits.buf)
-    header = {"netrev": 2 if has_answers or _needs_answers(player) else 1, **limits._asdict()}
+    limits = Limits(gor, sock, desc, buf)
+    header = {"netrev": 2 if has_answers or _needs_answers(steps) else 1, **limits._asdict()}
     lines = [json.dumps(header, separators=(",", ":"))]
-    lines += [line_of(step, answer if header["netrev"] == 2 else None) for step, answer in player.steps]
+    lines += [line_of(step, answer if header["netrev"] == 2 else None) for step, answer in steps]
     return "".join(f"{line}\n" for line in lines).encode()
 
 
-def _needs_answers(player: Player) -> bool:
+def _needs_answers(steps: Sequence[tuple[Step, Answer]]) -> bool:
     """Whether a step is there that only recordings of version 2 have."""
-    return any(step[0] == "closewrite" for step, _ in player.steps)
+    return any(step[0] == "closewrite" for step, _ in steps)
 
 
 def where_text(lines: Lines, numbers: Sequence[int]) -> str:

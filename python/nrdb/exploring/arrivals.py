@@ -1,0 +1,65 @@
+"""When bytes came and went. A recorder of Go doesn't see that, and writes it just before the read or the write that shows it; but
+the event that told of it came before. So for other schedules such bytes come with that event."""
+
+from dataclasses import replace
+from typing import NamedTuple, Optional
+
+from ..reducing.events import Event
+from .scripts import Item, Operation, Script, Sort
+
+SIDE_OF = {"arrive": "r", "peerclose": "r", "drain": "w"}
+TRYING = {Sort.READ: ("sysread", "r"), Sort.WRITE: ("syswrite", "w")}
+JUST_BEFORE = 0.4
+
+
+class Tries(NamedTuple):
+    """The tries of a socket's side, and those that found nothing, which the opening is too: numbers that rise."""
+
+    all: list[int]
+    in_vain: list[int]
+
+
+def with_events(script: Script) -> Script:
+    """The script, in which what came without an event behind it comes with the event before it."""
+    tries = _tries(script)
+    network = {}
+    for s, row in script.network.items():
+        told = [item.event for item in row if item.event.kind == "pollevent"]
+        moved = [item._replace(due=_due(item, told, tries.get((s, SIDE_OF.get(item.event.kind, ""))))) for item in row]
+        network[s] = sorted(moved, key=lambda item: item.due)
+    return replace(script, network=network)
+
+
+def _tries(script: Script) -> dict[tuple[int, str], Tries]:
+    """The tries of each socket's sides."""
+    found: dict[tuple[int, str], Tries] = {}
+    for operations in script.goroutines:
+        for operation in operations:
+            if operation.sort in TRYING:
+                _note(script, operation, found)
+    return {of: Tries(sorted(one.all), sorted(one.in_vain)) for of, one in found.items()}
+
+
+def _note(script: Script, operation: Operation, found: dict[tuple[int, str], Tries]) -> None:
+    kind, side = TRYING[operation.sort]
+    tries = found.setdefault((operation.socket, side), Tries([], []))
+    for number, one in zip(operation.steps, operation.kinds):
+        if one == kind:
+            tries.all.append(number)
+            if script.answers[number - 1] == ("again",):
+                tries.in_vain.append(number)
+
+
+def _due(item: Item, told: list[Event], tries: Optional[Tries]) -> float:
+    """When it is due: just before the first event since the last try in vain, if a try comes before the next event."""
+    if tries is None:
+        return item.due
+    number, side = item.event.number, SIDE_OF[item.event.kind]
+    events = [event.number for event in told if side in event.arguments[2]]
+    following = min((event for event in events if event > number), default=None)
+    shown = min((one for one in tries.all if one > number), default=None)
+    if shown is None or (following is not None and following < shown):
+        return item.due
+    since = max((one for one in tries.in_vain if one < number), default=0)
+    first = min((event for event in events if since < event < number), default=None)
+    return item.due if first is None else first - JUST_BEFORE

@@ -1,0 +1,134 @@
+"""The command `explore`, and what `nrdb --explore` prints."""
+
+import sys
+import time
+from pathlib import Path
+from typing import Callable, NamedTuple
+
+from netrev_model.vocabulary import number_of
+
+from ..calls import book_of
+from ..interrupts import Interrupted
+from ..recording import Recording
+from ..reducing.reduced import Reducing, Wanted, answered_recording, reduced_of
+from ..reducing.writing import answered_by, text_of, write_lines, written
+from ..session import Misused, Session
+from ..suspects import suspects_of
+from ..suspects.found import Suspect
+from .finding import Exploring, Finding
+from .making import script_of
+from .telling import Telling, summary
+
+USAGE = "explore [N]: N is how many schedules are played, from 1 to 1000000"
+MOST, GREATEST = 3_000, 1_000_000
+MOST_STEPS = 100_000
+SECONDS = 0.2  # between two lines of progress
+
+
+def answer_explore(session: Session, words: list[str]) -> None:
+    number = number_of(words[0]) if len(words) == 1 else MOST if not words else None
+    if number is None or not 0 < number <= GREATEST:
+        raise Misused(USAGE)
+    session.printer.note(explored(session, number).text)
+
+
+class Explored(NamedTuple):
+    """What is said of the schedules, and how many findings there are."""
+
+    text: str
+    found: int
+
+
+def explored(session: Session, most: int = MOST) -> Explored:
+    """Plays schedules near the recorded one, and writes those that end with a suspect."""
+    recording = session.text()
+    if recording.length > MOST_STEPS:
+        raise Misused(f"explore takes at most {MOST_STEPS} steps: reduce the recording, or record less")
+    answered = answered_recording(session.program, recording, recording.length)
+    answered.lines = recording.lines
+    begun = time.monotonic()
+    exploring = Exploring(script_of(answered), recording.lines.words)
+    progress = Progress(exploring, most, session.interrupts.check)
+    is_stopped = False
+    try:
+        exploring.run(most, progress.tell)
+    except Interrupted:
+        is_stopped = True
+    progress.end()
+    lines = [summary(exploring, time.monotonic() - begun, is_stopped)]
+    keeping = Keeping(session, Telling(recording, book_of(recording), exploring.script))
+    for at, finding in enumerate(exploring.found.values(), 1):
+        lines += keeping.kept(at, exploring.least(finding), exploring.times[finding.key])
+    return Explored("\n".join(lines), len(exploring.found))
+
+
+class Progress:
+    """A line on a terminal that says how far it is."""
+
+    def __init__(self, exploring: Exploring, most: int, check: Callable[[], None]) -> None:
+        self.exploring, self.most, self.check = exploring, most, check
+        self._next = time.monotonic() + SECONDS if sys.stderr.isatty() else float("inf")
+        self._width = 0
+
+    def tell(self) -> None:
+        """Behind each schedule."""
+        if time.monotonic() >= self._next:
+            self._next = time.monotonic() + SECONDS
+            found = len(self.exploring.found)
+            self._show(f"{self.exploring.played} of {self.most} schedules, {found} found; Ctrl-C ends it")
+        self.check()
+
+    def _show(self, text: str) -> None:
+        sys.stderr.write(f"\r{text.ljust(self._width)}\r" if not text else f"\r{text.ljust(self._width)}")
+        sys.stderr.flush()
+        self._width = len(text)
+
+    def end(self) -> None:
+        """Takes the line away."""
+        if self._width:
+            self._show("")
+
+
+class Keeping:
+    """Writes the recordings of what was found into the folder where nrdb runs, and tells of each."""
+
+    def __init__(self, session: Session, telling: Telling) -> None:
+        self.session, self.telling = session, telling
+
+    def kept(self, at: int, finding: Finding, times: int) -> list[str]:
+        """Writes a finding's recording, and of a suspect the reduced one; what to say of it."""
+        recording, played = self.telling.recording, finding.played
+        file = f"{Path(self.session.path).stem}-other-{at}.jsonl"
+        data = text_of(played.world, played.world.limits.buf, played.pairs(), recording.has_answers)
+        status, said = answered_by(self.session.program, "check", data)
+        if status:
+            fault = said.decode("utf-8", "replace").strip()
+            return [f"{at}. netrev doesn't take a schedule: {fault}. That is an error of nrdb's; it isn't kept"]
+        self._write(file, data)
+        write_lines(file, recording.lines, [made.number for made in played.steps])
+        accepted = said.decode("utf-8", "replace").strip()
+        *lines, unless = self.telling.finding(at, finding, times, file)
+        lines.append(f"   netrev: {file}: {accepted}, so it is a run of the machine")
+        if finding.suspect:
+            lines.append(f"   short:  {self._shortened(file, finding.suspect)}")
+        return [*lines, unless]
+
+    def _write(self, file: str, data: bytes) -> None:
+        """Writes a file, but not over the recording."""
+        if Path(file).exists() and Path(file).samefile(self.session.path):
+            raise Misused(f"{file} is the recording itself; rename it")
+        written(file, data)
+
+    def _shortened(self, file: str, suspect: Suspect) -> str:
+        """Reduces what was kept; what to say of that."""
+        whole = Recording.read(file)
+        short = f"{Path(file).stem}-short.jsonl"
+        if Path(short).exists() and Path(short).samefile(self.session.path):
+            raise Misused(f"{short} is the recording itself; rename it")
+        shown = [one for one in suspects_of(whole).suspects if one.is_shown]
+        number = next((at for at, one in enumerate(shown, 1) if one.subject == suspect.subject), 1)
+        reducing = Reducing(whole, self.session.program, self.session.interrupts.check)
+        try:
+            return reduced_of(reducing, short, Wanted(number, "", "", whole.length)).words(whole.length)
+        except Misused as wrong:
+            return str(wrong)

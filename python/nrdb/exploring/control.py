@@ -1,0 +1,218 @@
+"""The control flow of a goroutine's calls: which step it makes next, by its operation and its status, and where it goes on by the
+machine's answer."""
+
+from bisect import bisect_right
+from typing import Any, NamedTuple, Optional
+
+from netrev_model.machine import Answer, World
+
+from .scripts import Operation, Sort
+
+BY_STATUS = {
+    "acquiring": "acquire",
+    "owing": "release",
+    "entering": "blockarm",
+    "armed": "blockcheck",
+    "parking": "parkcommit",
+    "swapping": "blockswap",
+    "checking": "waitcheck",
+}
+BY_SORT = {
+    Sort.LOCK: "rwlock",
+    Sort.UNLOCK: "rwunlock",
+    Sort.REFER: "incref",
+    Sort.GIVE_UP: "decref",
+    Sort.CLOSE: "increfclose",
+    Sort.SHUT: "closewrite",
+    Sort.OPEN: "pollopen",
+    Sort.RESET: "pollreset",
+    Sort.EVICT: "evict",
+    Sort.DESTROY: "pollclose",
+    Sort.SET: "setdeadline",
+    Sort.EXIT: "exit",
+    Sort.MAKE: "sockopen",
+}
+OF_SOCKETS = frozenset((Sort.LOCK, Sort.UNLOCK, Sort.REFER, Sort.GIVE_UP, Sort.CLOSE, Sort.SHUT, Sort.OPEN))
+
+
+class Place(NamedTuple):
+    """Where a goroutine is: its operation, how many of that one's recorded steps it has made, how far it is in what that one tries,
+    and whether it waits, or has to destroy."""
+
+    operation: int = 0
+    made: int = 0
+    tries: int = 0  # of a read: those that got all; of a write: its bytes
+    waits: int = 0  # how often it has begun to wait
+    is_waiting: bool = False
+    destroys: int = -1  # the use whose descriptor it has to free
+
+
+class Stream:
+    """What a write writes: at each of its bytes the tries that were made there."""
+
+    def __init__(self, operation: Operation) -> None:
+        self.tries: dict[int, list[bytes]] = {}
+        self.bytes = b""
+        moved = operation.moved or [0]
+        for data, count in zip(operation.values, moved):
+            self.tries.setdefault(len(self.bytes), []).append(data)
+            self.bytes += data[:count]
+        if not moved[-1]:
+            self.bytes += operation.values[-1]
+        self._starts = sorted(self.tries)
+
+    def at(self, place: int, turn: int) -> bytes:
+        """What is tried at that byte, the next time."""
+        if tries := self.tries.get(place):
+            return tries[min(turn, len(tries) - 1)]
+        following = bisect_right(self._starts, place)
+        return self.bytes[place : self._starts[following] if following < len(self._starts) else len(self.bytes)]
+
+
+class Numbers:
+    """The numbers that sockets and uses of descriptors have in a schedule, where they are there; and of each use its `fdseq`."""
+
+    def __init__(self) -> None:
+        self.sockets: dict[int, int] = {}
+        self.descriptors: dict[int, int] = {}
+        self.fdseqs: dict[int, int] = {}
+        self.use_of: dict[int, int] = {}  # of a socket that is open
+
+    def copy(self) -> "Numbers":
+        made = Numbers()
+        made.sockets, made.descriptors = dict(self.sockets), dict(self.descriptors)
+        made.fdseqs, made.use_of = dict(self.fdseqs), dict(self.use_of)
+        return made
+
+
+class NotMade(Exception):
+    """What a step is about isn't there yet: another goroutine has still to make it."""
+
+
+Step = tuple[Any, ...]
+
+
+def next_step(
+    world: World, numbers: Numbers, g: int, place: Place, operation: Operation, stream: Optional[Stream]
+) -> Step:
+    """The step that a goroutine makes next; NotMade where it waits for another to make what it is about."""
+    status = world.goroutines[g]
+    if kind := BY_STATUS.get(status[0]):
+        return kind, g
+    if status[0] == "relock":
+        return "rwlock", g, *status[1:]
+    if place.destroys >= 0:
+        return "pollclose", g, numbers.descriptors[place.destroys]
+    sort = operation.sort
+    if place.is_waiting or sort is Sort.WAIT:
+        return "waitbegin", g, _of(numbers.descriptors, operation.use), operation.side
+    if sort is Sort.READ:
+        return "sysread", g, _of(numbers.sockets, operation.socket), operation.values[place.tries]
+    if sort is Sort.WRITE:
+        assert stream
+        return "syswrite", g, _of(numbers.sockets, operation.socket), stream.at(place.tries, place.waits)
+    kind = BY_SORT[sort]
+    if sort in OF_SOCKETS:
+        side = (operation.side,) if operation.side else ()
+        return kind, g, _of(numbers.sockets, operation.socket), *side
+    if sort is Sort.MAKE:
+        return kind, *operation.values
+    if sort is Sort.EXIT:
+        return kind, g
+    side = (operation.side,) if operation.side else ()
+    return kind, g, _of(numbers.descriptors, operation.use), *side, *operation.values
+
+
+def _of(numbers: dict[int, int], which: int) -> int:
+    if which not in numbers:
+        raise NotMade
+    return numbers[which]
+
+
+def behind(
+    place: Place, operation: Operation, kind: str, answer: Answer, status: str, stream: Optional[Stream]
+) -> Place:
+    """Where a goroutine is behind a step of this kind."""
+    handler = WAITING.get(kind)
+    if handler is not None:
+        return handler(place, operation, answer)
+    if kind == "pollclose" and operation.sort is not Sort.DESTROY:
+        return _following(place._replace(destroys=-1), status)
+    if kind == "release":
+        return _following(place, status)
+    if kind == "acquire":
+        return place
+    if kind == "sysread":
+        return _read(place, operation, answer)
+    if kind == "syswrite":
+        assert stream
+        return _written(place, operation, answer, stream)
+    if answer == ("wait",):
+        return place
+    if answer == ("no",) or (kind == "pollreset" and answer[1]):
+        return Place(operation.on_failure)
+    return _following(place, status)
+
+
+def _following(place: Place, status: str) -> Place:
+    """The next operation, where this one is over."""
+    return place if status == "owing" or place.destroys >= 0 else Place(place.operation + 1)
+
+
+def _begun(place: Place, operation: Operation, answer: Answer) -> Place:
+    if answer[1]:
+        return Place(operation.on_failure)
+    return place._replace(is_waiting=True, waits=place.waits + 1)
+
+
+def _armed(place: Place, operation: Operation, answer: Answer) -> Place:
+    return place if answer == ("wait",) else _ready(place, operation)
+
+
+def _swapped(place: Place, operation: Operation, answer: Answer) -> Place:
+    return _ready(place, operation) if answer == ("yes",) else place
+
+
+def _ready(place: Place, operation: Operation) -> Place:
+    """The wait is over."""
+    if operation.sort is Sort.WAIT:
+        return Place(place.operation + 1)
+    if operation.ends_unread and place.waits >= operation.kinds.count("waitbegin"):
+        return Place(operation.on_failure)
+    return place._replace(is_waiting=False)
+
+
+def _checked(place: Place, operation: Operation, answer: Answer) -> Place:
+    return Place(operation.on_failure) if answer[1] else place
+
+
+def _stays(place: Place, operation: Operation, answer: Answer) -> Place:
+    return place
+
+
+WAITING = {
+    "waitbegin": _begun,
+    "blockarm": _armed,
+    "blockcheck": _stays,
+    "parkcommit": _stays,
+    "blockswap": _swapped,
+    "waitcheck": _checked,
+}
+
+
+def _read(place: Place, operation: Operation, answer: Answer) -> Place:
+    if answer == ("again",):
+        return place._replace(is_waiting=True)
+    if answer[0] == "eof":
+        return Place(operation.on_failure)
+    is_more = answer[1] == operation.values[place.tries] and place.tries + 1 < len(operation.values)
+    return place._replace(tries=place.tries + 1) if is_more else Place(place.operation + 1)
+
+
+def _written(place: Place, operation: Operation, answer: Answer, stream: Stream) -> Place:
+    if answer == ("again",):
+        return place._replace(is_waiting=True)
+    if answer[0] == "pipe":
+        return Place(operation.on_failure)
+    tries = place.tries + answer[1]
+    return place._replace(tries=tries, waits=0) if tries < len(stream.bytes) else Place(place.operation + 1)

@@ -1,0 +1,206 @@
+"""Plays schedules, and keeps of those that end with a suspect, or with a call that hangs, one for each rule and place."""
+
+from collections import Counter
+from dataclasses import replace
+from typing import Any, Callable, Iterator, NamedTuple, Optional
+
+from netrev_model.machine import SIDES, Answer, Limits, Status, World
+
+from ..recording import Recording
+from ..suspects import suspects_of
+from ..suspects.found import Rule, Suspect
+from ..suspects.ranking import WOKEN_WRONGLY
+from .arrivals import with_events
+from .control import Place, Step
+from .playing import Player
+from .runs import Delay, Impossible, Made
+from .schedules import Schedule, schedules, single_delays
+from .scripts import Script
+
+COPIES, MOST_COPIES = 200, 2_000  # of the recorded run, from which schedules go on
+APART = 10  # steps between two copies, as long as there aren't more of them
+LONGER = 4  # how much longer than the recording a schedule may be
+HANG = "a call that hangs"
+ORDERED = (Rule.LOST_WAKE_UP, Rule.TAKEN_BACK, Rule.LEFT_BEHIND, Rule.WRITE_BEHIND_SHUT)  # what an order decides
+
+Key = tuple[Any, ...]
+
+
+class Played(NamedTuple):
+    """A schedule that was played: its steps, and who has which numbers."""
+
+    steps: list[Made]
+    world: World
+    places: list[Place]
+    sockets: dict[int, int]  # by their numbers in the recording
+
+    def pairs(self) -> list[tuple[Step, Answer]]:
+        return [(made.step, made.answer) for made in self.steps]
+
+
+class Steps(Recording):
+    """Steps for the rules."""
+
+    def __init__(self, steps: list[Made]) -> None:
+        super().__init__(b"")
+        self._steps = [made.step for made in steps]
+
+    @property
+    def has_answers(self) -> bool:
+        return False
+
+    def arrays(self) -> Iterator[list[Any]]:
+        for step in self._steps:
+            yield [part.hex() if isinstance(part, bytes) else part for part in step]
+
+
+class Finding(NamedTuple):
+    """What a schedule ends with: a suspect, or a goroutine that hangs."""
+
+    key: Key
+    suspect: Optional[Suspect]
+    hangs: int  # the goroutine, -1 where there is a suspect
+    schedule: Schedule
+    played: Played
+
+
+class Exploring:
+    """The schedules that were played so far, and what was found."""
+
+    def __init__(self, script: Script, line_of: Callable[[int], str]) -> None:
+        self.script, self.line_of = with_events(replace(script, limits=_wide(script.limits))), line_of
+        self.found: dict[Key, Finding] = {}
+        self.times: Counter[Key] = Counter()  # how many schedules end with each
+        self.played = self.left = 0  # schedules in all, and those in which a step doesn't apply
+        self._most = LONGER * script.length + 200
+        self._copies: list[tuple[float, Player]] = []
+        self.delays = single_delays(self.script)
+        self._recorded = self._play_recorded()
+        self.known = {finding.key for finding in self._findings(Schedule((), 0), self._recorded)}
+
+    def _play_recorded(self) -> Played:
+        """Plays the recorded schedule, and keeps copies on the way."""
+        player = Player(self.script)
+        length = self.script.length
+        every = max(length // MOST_COPIES, min(length // COPIES, APART), 1)
+        for time in range(0, length + 1, every):
+            player.run(time, self._most)
+            self._copies.append((time, player.copy(())))
+        player.end(self._most)
+        self._steps = player.steps
+        return self._all_of(player)
+
+    def _all_of(self, player: Player) -> Played:
+        steps = self._steps[: player.before] + player.steps
+        return Played(steps, player.world, player.places, player.numbers.sockets)
+
+    def run(self, most: int, tell: Callable[[], None]) -> None:
+        """Plays so many schedules; `tell` is called behind each."""
+        for schedule in schedules(self.delays, most):
+            self.play(schedule)
+            tell()
+
+    def play(self, schedule: Schedule) -> None:
+        """Plays a schedule, and keeps what it ends with."""
+        self.played += 1
+        try:
+            played = self._play(schedule.delays)
+        except Impossible:
+            self.left += 1
+            return
+        for finding in self._findings(schedule, played) if played else ():
+            if finding.key in self.known:
+                continue
+            self.times[finding.key] += 1
+            if finding.key not in self.found or len(schedule.delays) < len(self.found[finding.key].schedule.delays):
+                self.found[finding.key] = finding
+
+    def least(self, finding: Finding) -> Finding:
+        """A finding without the delays that it doesn't need."""
+        delays = finding.schedule.delays
+        for left_out in delays if len(delays) > 1 else ():
+            schedule = finding.schedule._replace(delays=tuple(delay for delay in delays if delay != left_out))
+            for found in self._ends(schedule):
+                if found.key == finding.key:
+                    return self.least(found)
+        return finding
+
+    def _ends(self, schedule: Schedule) -> list[Finding]:
+        """What a schedule ends with."""
+        try:
+            played = self._play(schedule.delays)
+        except Impossible:
+            return []
+        return list(self._findings(schedule, played)) if played else []
+
+    def _play(self, delays: tuple[Delay, ...]) -> Optional[Played]:
+        """Plays a schedule from the last copy before its first delay; None where it comes back to the recorded run."""
+        first = min(delay.before for delay in delays)
+        at = max(at for at, (time, _) in enumerate(self._copies) if time < first or at == 0)
+        player = self._copies[at][1].copy(delays)
+        last = max(delay.until for delay in delays)
+        for time, copy in self._copies[at + 1 :]:
+            player.run(time, self._most)
+            if time > last and player.is_as(copy):
+                return None
+        player.end(self._most)
+        return self._all_of(player)
+
+    # ---- what it ends with
+
+    def _findings(self, schedule: Schedule, played: Played) -> Iterator[Finding]:
+        suspects = [one for one in suspects_of(Steps(played.steps)).suspects if self._counts(one, played)]
+        for suspect in suspects:
+            yield Finding(self._key(suspect, played), suspect, -1, schedule, played)
+        named = {suspect.goroutine for suspect in suspects}
+        for g in range(len(played.world.goroutines)):
+            if g not in named and self._hangs(g, played):
+                operation = self.script.goroutines[g][played.places[g].operation]
+                number = operation.steps[0] if operation.steps else 0
+                yield Finding((HANG, self.line_of(number) or (g, operation.socket)), None, g, schedule, played)
+
+    def _counts(self, suspect: Suspect, played: Played) -> bool:
+        """Whether it is one that an order decides, and who was woken wrongly doesn't go on by itself."""
+        if not suspect.is_shown or suspect.rule not in ORDERED:
+            return False
+        if suspect.rule not in WOKEN_WRONGLY or suspect.goroutine is None:
+            return True
+        status = played.world.goroutines[suspect.goroutine]
+        if status[0] != "parked":
+            return False
+        is_cut_off = suspect.rule is Rule.TAKEN_BACK and self._waits_for_ever(status, played.world)
+        return is_cut_off or self._has_come(status, played.world)
+
+    @staticmethod
+    def _waits_for_ever(status: Status, world: World) -> bool:
+        return not world.descs[status[1]].deadlines[SIDES.index(status[2])]
+
+    @staticmethod
+    def _has_come(status: Status, world: World) -> bool:
+        """Whether what who is parked waits for is there."""
+        socket = world.sockets[world.descs[status[1]].socket]
+        return status[2] == "r" and (bool(socket.buffers[0]) or socket.peer_closed)
+
+    def _key(self, suspect: Suspect, played: Played) -> Key:
+        """The rule and the place: the program's line at fault if that is known, else whom it is about."""
+        if line := self.line_of(played.steps[suspect.step - 1].number):
+            return suspect.rule, line
+        back = {number: socket for socket, number in played.sockets.items()}
+        return suspect.rule, suspect.goroutine, back.get(suspect.socket if suspect.socket is not None else -1)
+
+    def _hangs(self, g: int, played: Played) -> bool:
+        """Whether a goroutine is parked without a deadline, in a call that ended in the recording without having got or put
+        anything: since its deadline had passed, its socket was closed."""
+        status = played.world.goroutines[g]
+        if status[0] != "parked" or not self._waits_for_ever(status, played.world):
+            return False
+        operation = self.script.goroutines[g][played.places[g].operation]
+        if not operation.steps:
+            return True
+        answer = self.script.answers[operation.steps[-1] - 1]
+        return operation.kinds[-1] in ("waitcheck", "waitbegin") and answer[1] != 0
+
+
+def _wide(limits: Limits) -> Limits:
+    """Limits with a descriptor for each socket: more may be open at once than in the recorded run."""
+    return limits._replace(desc=max(limits.desc, limits.sock))

@@ -1,0 +1,64 @@
+"""Makes the script of a recording."""
+
+from netrev_model.machine import Limits
+
+from ..recording import Recording
+from ..reducing.events import Events
+from .scripts import Item, Script
+from .taking_apart import goroutines_of
+
+CLOCK = ("tick", "pop", "fire")
+CAUSES = ("syswrite", "closewrite", "pollopen", "evict", "pollclose")  # what the network may answer
+
+
+def script_of(recording: Recording) -> Script:
+    """The script of a recording, which has to have answers."""
+    events = Events(recording)
+    limits = Limits(*(recording.limits[key] for key in Limits._fields))
+    seen: dict[int, int] = {}
+    ordinals = []
+    for use in events.uses:
+        ordinals.append(seen.get(use.descriptor, 0))
+        seen[use.descriptor] = ordinals[-1] + 1
+    openers = {event.arguments[1] for event in events.all if event.kind == "pollopen"}
+    network, clock, made = _others(events, openers)
+    count = 1 + sum(event.kind == "spawn" for event in events.all)
+    causes: list[list[int]] = [[] for _ in range(count)]
+    for event in events.all:
+        if event.kind in CAUSES:
+            causes[event.arguments[0]].append(event.number)
+    return Script(
+        limits,
+        len(events.all),
+        goroutines_of(events, count),
+        network,
+        clock,
+        made,
+        [use.socket for use in events.uses],
+        ordinals,
+        causes,
+        [event.answer for event in events.all],
+    )
+
+
+def _others(events: Events, openers: set[int]) -> tuple[dict[int, list[Item]], list[Item], list[Item]]:
+    """What no goroutine did: the network's, the clock's, and what was made by nobody that is known."""
+    network: dict[int, list[Item]] = {}
+    clock: list[Item] = []
+    made: list[Item] = []
+    sockets = 0
+    for event in events.all:
+        item = Item(event.number, event, event.timer)
+        if event.kind in CLOCK:
+            clock.append(item)
+        elif event.kind == "spawn":
+            made.append(item)
+        elif event.kind == "sockopen":
+            if sockets not in openers:
+                made.append(item)
+            sockets += 1
+        elif event.kind == "pollevent":
+            network.setdefault(events.uses[event.arguments[0]].socket, []).append(item)
+        elif event.kind in ("arrive", "peerclose", "drain"):
+            network.setdefault(event.arguments[0], []).append(item)
+    return network, clock, made

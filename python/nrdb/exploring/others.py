@@ -1,0 +1,147 @@
+"""What the network does to each socket, timers and the clock, and what is made by nobody that is known: each in its own recorded
+order."""
+
+from collections import defaultdict
+from typing import Iterator, Optional
+
+from netrev_model.machine import World
+
+from .control import NotMade, Numbers, Step
+from .scripts import Item, Script
+
+CLOCK, MADE, NETWORK = 1, 2, 3
+MOST_TRIES = 200
+
+
+class Others:
+    """How far each of them is."""
+
+    def __init__(self, script: Script) -> None:
+        self.script = script
+        self.places: dict[tuple[int, int], int] = defaultdict(int)
+        self.told: set[int] = set()  # the events that came, by their numbers in the recording
+        self.fresh: dict[
+            tuple[int, str], bool
+        ] = {}  # of a socket's number and side: something came that no event told of
+        self.closed: set[int] = set()  # sockets, by their numbers, in which nobody begins to wait any more
+        self.tries: dict[int, int] = {}
+
+    def copy(self) -> "Others":
+        made = Others(self.script)
+        made.places, made.told = defaultdict(int, self.places), set(self.told)
+        made.fresh, made.tries, made.closed = dict(self.fresh), dict(self.tries), set(self.closed)
+        return made
+
+    def is_as(self, other: "Others") -> bool:
+        """Whether both are as far."""
+        return self._untold() == other._untold() and self.places == other.places
+
+    def _untold(self) -> set[tuple[int, str]]:
+        return {which for which, is_fresh in self.fresh.items() if is_fresh and which[0] not in self.closed}
+
+    def _row(self, actor: int, which: int) -> list[Item]:
+        if actor == NETWORK:
+            return self.script.network[which]
+        return self.script.clock if actor == CLOCK else self.script.made
+
+    def beginnings(self) -> Iterator[tuple[int, int, float]]:
+        """Each of them, and when it begins."""
+        for actor, which in [(CLOCK, 0), (MADE, 0), *((NETWORK, s) for s in self.script.network)]:
+            if row := self._row(actor, which):
+                yield actor, which, row[0].due
+
+    def next(self, actor: int, which: int) -> Optional[Item]:
+        """What one of them does next."""
+        row, at = self._row(actor, which), self.places[actor, which]
+        return row[at] if at < len(row) else None
+
+    def done(self, actor: int, which: int) -> None:
+        """It has done that."""
+        item = self.next(actor, which)
+        if item and item.event.kind == "pollevent":
+            self.told.add(item.event.number)
+        self.places[actor, which] += 1
+
+    def see(self, step: Step, world: World) -> None:
+        """Behind each step: what came that no event has told of yet."""
+        kind = step[0]
+        if kind in ("arrive", "peerclose"):
+            self.fresh[step[1], "r"] = True
+        elif kind == "drain":
+            self.fresh[step[1], "w"] = True
+        elif kind == "increfclose":
+            self.closed.add(step[2])
+        elif kind == "pollevent" and world.is_open(step[1]):
+            desc = world.descs[step[1]]
+            if step[2] == desc.fdseq:
+                for side in step[3]:
+                    self.fresh[desc.socket, side] = False
+
+    # ---- steps
+
+    def steps_of(self, item: Item, world: World, numbers: Numbers) -> Optional[list[Step]]:
+        """The steps of what is due: none where it has no place in this schedule; None where it has to wait, and NotMade where what
+        it is about isn't made yet."""
+        kind, arguments = item.event.kind, item.event.arguments
+        if kind in ("spawn", "sockopen"):
+            return [(kind, *arguments)]
+        if kind == "tick":
+            return [(kind, arguments[0])] if arguments[0] >= world.clock else []
+        if kind == "pop":
+            return self._pops(item, world, numbers)
+        if kind == "fire":
+            return self._fires(item, world, numbers)
+        if kind == "pollevent":
+            return self._event(item, numbers)
+        if arguments[0] not in numbers.sockets:
+            raise NotMade
+        return self._moves(item, world, numbers.sockets[arguments[0]])
+
+    def _pops(self, item: Item, world: World, numbers: Numbers) -> list[Step]:
+        """The timers that go off up to this one."""
+        assert item.timer
+        wanted = numbers.descriptors.get(item.timer[0]), item.timer[1]
+        due = [timer for timer in world.timers if timer.when <= world.clock]
+        at = next((at for at, timer in enumerate(due) if (timer.desc, timer.side) == wanted), None)
+        return [] if at is None else [("pop",)] * (at + 1)
+
+    def _fires(self, item: Item, world: World, numbers: Numbers) -> list[Step]:
+        assert item.timer
+        wanted = numbers.descriptors.get(item.timer[0]), item.timer[1]
+        places = [at for at, firing in enumerate(world.firings) if (firing.desc, firing.side) == wanted]
+        return [("fire", places[0])] if places else []
+
+    def _event(self, item: Item, numbers: Numbers) -> list[Step]:
+        use, tag, mode, error = item.event.arguments
+        if use not in numbers.descriptors:
+            raise NotMade
+        offset = tag - (self.script.ordinals[use] + 1)
+        return [("pollevent", numbers.descriptors[use], max(numbers.fdseqs[use] + offset, 0), mode, error)]
+
+    def _moves(self, item: Item, world: World, s: int) -> Optional[list[Step]]:
+        """Bytes that come or go, or the peer's close."""
+        kind, value = item.event.kind, item.event.arguments[1:]
+        socket = world.sockets[s]
+        if kind != "drain" and socket.peer_closed:
+            return []
+        if kind == "arrive" and len(socket.buffers[0]) + len(value[0]) > socket.capacities[0]:
+            return self._again(item)
+        if kind == "drain" and len(socket.buffers[1]) < value[0]:
+            return self._again(item)
+        return [(kind, s, *value)]
+
+    def _again(self, item: Item) -> Optional[list[Step]]:
+        """There is no room, or there are too few bytes: it waits, and is left out where that doesn't change."""
+        number = item.event.number
+        self.tries[number] = self.tries.get(number, 0) + 1
+        return None if self.tries[number] < MOST_TRIES else []
+
+    def left(self, world: World, numbers: Numbers) -> Iterator[Step]:
+        """What is left to them where nobody else goes on: timers that are due, and events of what came."""
+        if world.firings:
+            yield "fire", 0
+        if world.timers and world.timers[0].when <= world.clock:
+            yield ("pop",)
+        for status in world.goroutines:
+            if status[0] == "parked" and self.fresh.get((world.descs[status[1]].socket, status[2])):
+                yield "pollevent", status[1], world.descs[status[1]].fdseq, status[2], 0

@@ -1,0 +1,295 @@
+"""Plays a script under a schedule. Time is counted in steps of the recording: each step of it is due when it was made, and what it
+doesn't have at once; who is held is due later. What isn't due waits, and what can't be yet: who sleeps, and who needs what another
+has still to make."""
+
+from heapq import heappop, heappush
+from typing import Optional
+
+from netrev_model.machine import Answer, Refused, World
+from netrev_model.steps import apply
+
+from .comparing import Alike, alike
+from .control import NotMade, Numbers, Place, Step, Stream, behind, next_step
+from .others import Others
+from .runs import Delay, Impossible, Made
+from .scripts import Script, Sort
+
+ASLEEP = ("parked", "queued")
+WAKING = frozenset(("pollevent", "setdeadline", "evict", "fire", "release"))
+MAKING = frozenset(("spawn", "sockopen", "pollopen"))
+NEVER = float("inf")
+GOROUTINE, CLOCK, MADE, NETWORK = range(4)  # who acts
+
+
+class Player:
+    """A script that is played under delays."""
+
+    def __init__(self, script: Script, delays: tuple[Delay, ...] = ()) -> None:
+        self.script = script
+        self.until = {delay.before: delay.until + 0.5 for delay in delays}
+        self.world = World(script.limits)
+        self.numbers = Numbers()
+        self.before = 0  # steps of the player that it is a copy of
+        self.steps: list[Made] = []  # those behind them
+        self.places = [Place() for _ in script.goroutines]
+        self.following: dict[int, Step] = {}  # of a goroutine that is put where it is due, its step
+        self.off: set[int] = set()  # who has made steps that the recording doesn't have
+        self.held: dict[int, float] = {}  # who pauses, until when
+        self.asleep: set[int] = set()
+        self.lacking: list[tuple[int, int]] = []  # who waits for what isn't made
+        self.others = Others(script)
+        self.now = 0.0
+        self._heap: list[tuple[float, int, int, int]] = []
+        self._count = 0
+        self._alike: Optional[Alike] = None
+        self._streams: dict[tuple[int, int], Stream] = {}
+        self._push_goroutine(0)
+        for actor, which, due in self.others.beginnings():
+            self._push(due, actor, which)
+
+    def copy(self, delays: tuple[Delay, ...]) -> "Player":
+        """It as it is, to go on from here under other delays."""
+        made = object.__new__(Player)
+        made.__dict__.update(self.__dict__)
+        made.until = {delay.before: delay.until + 0.5 for delay in delays}
+        made.numbers, made.others = self.numbers.copy(), self.others.copy()
+        made.before, made.steps, made.places = self.before + len(self.steps), [], list(self.places)
+        made.held, made.asleep, made.lacking = dict(self.held), set(self.asleep), list(self.lacking)
+        made.off, made.following = set(self.off), dict(self.following)
+        made._heap = list(self._heap)
+        return made
+
+    def is_as(self, other: "Player") -> bool:
+        """Whether it is where the other is, so that both go on alike."""
+        return (
+            self.places == other.places
+            and self.off == other.off
+            and not self.held
+            and self.others.is_as(other.others)
+            and sorted(one[::2] + one[3:] for one in self._heap) == sorted(one[::2] + one[3:] for one in other._heap)
+            and self.alike() == other.alike()
+        )
+
+    def alike(self) -> Alike:
+        """What it has in common with those that go on alike."""
+        if self._alike is None:
+            self._alike = alike(self.world, self.numbers)
+        return self._alike
+
+    # ---- what is due
+
+    def _push(self, due: float, actor: int, which: int) -> None:
+        self._count += 1
+        heappush(self._heap, (due if due > self.now else self.now, self._count, actor, which))
+
+    @property
+    def due(self) -> Optional[float]:
+        """When the next is due; None where nothing is."""
+        return self._heap[0][0] if self._heap else None
+
+    def run(self, until: float, most: int) -> None:
+        """Plays all that is due before a time, and stops behind so many steps."""
+        heap = self._heap
+        most -= self.before
+        self._alike = None
+        while heap and heap[0][0] < until and len(self.steps) < most:
+            self.now, _, actor, which = heappop(heap)
+            if actor == GOROUTINE:
+                self._turn(which)
+            else:
+                self._other(actor, which)
+
+    def end(self, most: int) -> None:
+        """Plays all there is, and then timers that are due and what the poller has still to tell, as long as anybody goes on."""
+        while True:
+            self.run(NEVER, most)
+            if self.before + len(self.steps) >= most or not self._goes_on():
+                return
+
+    def _goes_on(self) -> bool:
+        """Makes what is left to others at the end; whether there was anything."""
+        for step in self.others.left(self.world, self.numbers):
+            self._apply(step, 0)
+            return True
+        return False
+
+    # ---- goroutines
+
+    def number_of(self, g: int, step_kind: str) -> int:
+        """The number in the recording of the step that a goroutine makes next, or 0."""
+        place = self.places[g]
+        operation = self.script.goroutines[g][place.operation]
+        made = place.made
+        return operation.steps[made] if made < len(operation.kinds) and operation.kinds[made] == step_kind else 0
+
+    def next_number(self, g: int) -> float:
+        """The number of the next step of the recording that a goroutine has still to make."""
+        operations, place = self.script.goroutines[g], self.places[g]
+        made = place.made
+        for at in range(place.operation, len(operations)):
+            if made < len(operations[at].steps):
+                return operations[at].steps[made]
+            made = 0
+        return NEVER
+
+    def _stream(self, g: int, at: int) -> Optional[Stream]:
+        operation = self.script.goroutines[g][at]
+        if operation.sort is not Sort.WRITE:
+            return None
+        if (g, at) not in self._streams:
+            self._streams[g, at] = Stream(operation)
+        return self._streams[g, at]
+
+    def _next(self, g: int) -> Optional[Step]:
+        """The step that a goroutine makes next; None where it has no more, sleeps or isn't there."""
+        world = self.world
+        if g >= len(world.goroutines) or g in self.asleep:
+            return None
+        operations = self.script.goroutines[g]
+        while True:
+            place = self.places[g]
+            if place.operation >= len(operations):
+                return None
+            operation = operations[place.operation]
+            if operation.sort is not Sort.WAIT or place.is_waiting or not self._has_come(g):
+                break
+            self.places[g] = Place(place.operation + 1)
+        return next_step(world, self.numbers, g, place, operation, self._stream(g, place.operation))
+
+    def _has_come(self, g: int) -> bool:
+        """Whether what a goroutine would wait for has come already, so that its call went on without a wait."""
+        operation = self.script.goroutines[g][self.places[g].operation]
+        if operation.is_brief:
+            d = self.numbers.descriptors.get(operation.use)
+            return d is None or self.world.descs[d].words["rw".index(operation.side)] != "ready"
+        return operation.cause is not None and operation.cause in self.others.told
+
+    def _push_goroutine(self, g: int) -> None:
+        """Puts a goroutine's next step where it is due."""
+        try:
+            step = self._next(g)
+        except NotMade:
+            self.lacking.append((GOROUTINE, g))
+            return
+        if step is None:
+            return
+        self.following[g] = step
+        number = self.number_of(g, step[0])
+        due = float(number)
+        if not number and g not in self.off and self.next_number(g) == NEVER:
+            due = self.script.length + 1.0  # what it did then isn't recorded, since the recording ended
+        elif number in self.until:
+            due = max(due, self.until[number])
+            self.held[g] = due
+        self._push(due, GOROUTINE, g)
+
+    def _turn(self, g: int) -> None:
+        """Lets a goroutine make its step."""
+        if self.held:
+            self.held.pop(g, None)
+        step: Optional[Step] = self.following.pop(g)
+        if step is None or step[0] == "waitbegin":  # (what it would wait for may have come meanwhile)
+            step = self._next(g)
+        if step is None:
+            return
+        number = self.number_of(g, step[0])
+        answer = self._apply(step, number)
+        place = self.places[g]
+        operation = self.script.goroutines[g][place.operation]
+        if number:
+            place = place._replace(made=place.made + 1)
+            self.off.discard(g)
+        else:
+            self.off.add(g)
+        if answer == ("last",) and operation.socket in self.numbers.use_of:
+            place = place._replace(destroys=self.numbers.use_of[operation.socket])
+        status = self.world.goroutines[g][0]
+        self.places[g] = behind(place, operation, step[0], answer, status, self._stream(g, place.operation))
+        if self.places[g].operation != place.operation and place.made < len(operation.steps):
+            self.off.add(g)
+        self._made_by(g, step, answer, operation.socket, operation.use)
+        if status in ASLEEP:
+            self.asleep.add(g)
+        elif status != "gone":
+            self._push_goroutine(g)
+
+    def _made_by(self, g: int, step: Step, answer: Answer, socket: int, use: int) -> None:
+        """What a goroutine has made or freed."""
+        if step[0] == "sockopen":
+            self.numbers.sockets[socket] = answer[1]
+        elif step[0] == "pollopen":
+            d = answer[1]
+            self.numbers.descriptors[use] = d
+            self.numbers.fdseqs[use] = self.world.descs[d].fdseq
+            self.numbers.use_of[socket] = use
+        elif step[0] == "pollclose":
+            self.numbers.use_of.pop(socket, None)
+        if step[0] in MAKING:
+            self._look_again()
+
+    def _look_again(self) -> None:
+        """Something was made: who lacked it may go on."""
+        lacking, self.lacking = self.lacking, []
+        for actor, which in lacking:
+            if actor == GOROUTINE:
+                self._push_goroutine(which)
+            else:
+                self._push(self.now, actor, which)
+
+    # ---- steps
+
+    def _apply(self, step: Step, number: int) -> Answer:
+        """Makes a step, and wakes who is woken by it."""
+        try:
+            self.world, answer = apply(self.world, step)
+        except Refused as refused:
+            raise Impossible(f"{step}: reason {refused.reason}") from None
+        self.steps.append(Made(step, answer, number))
+        self.others.see(step, self.world)
+        if step[0] in WAKING and self.asleep:
+            statuses = self.world.goroutines
+            for g in sorted(g for g in self.asleep if statuses[g][0] not in ASLEEP):
+                self.asleep.discard(g)
+                self._push_goroutine(g)
+        return answer
+
+    def _other(self, actor: int, which: int) -> None:
+        """Lets the network, the clock or nobody known do what is due."""
+        item = self.others.next(actor, which)
+        if item is None:
+            return
+        if actor != CLOCK and (until := self._held_back(actor, item.event.number)):
+            self._push(until + 0.25, actor, which)
+            return
+        try:
+            steps = self.others.steps_of(item, self.world, self.numbers)
+        except NotMade:
+            self.lacking.append((actor, which))
+            return
+        if steps is None:
+            self._push(self.now + 5, actor, which)
+            return
+        self.others.done(actor, which)
+        for step in steps:
+            number = item.event.number if step[0] == item.event.kind else 0
+            answer = self._apply(step, number)
+            if step[0] == "sockopen":
+                self.numbers.sockets[item.event.answer[1]] = answer[1]
+            if step[0] == "spawn":
+                self._push_goroutine(answer[1])
+            if step[0] in MAKING:
+                self._look_again()
+        if (following := self.others.next(actor, which)) is not None:
+            self._push(following.due, actor, which)
+
+    def _held_back(self, actor: int, number: int) -> float:
+        """Until when somebody pauses who has still to make a step that this one may come of; 0 where nobody does."""
+        until = 0.0
+        for g, due in self.held.items():
+            first = self.next_number(g)
+            if first < number and (actor == MADE or self._causes(g, first, number)):
+                until = max(until, due)
+        return until
+
+    def _causes(self, g: int, first: float, number: int) -> bool:
+        return any(first <= cause < number for cause in self.script.causes[g])

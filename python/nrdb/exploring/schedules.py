@@ -1,0 +1,103 @@
+"""Which schedules are tried: the recorded one but for a few delays. Who pauses does so until somebody else has made a step
+about the same thing of the same socket; all such delays alone, and then two and three of them, drawn by a seed."""
+
+import random
+from bisect import bisect_left, bisect_right
+from itertools import islice
+from typing import Iterator, NamedTuple
+
+from .runs import Delay
+from .scripts import Script
+
+NEAR = 4  # steps of others about the same thing, until which one pauses
+AROUND = 40  # steps, within which several delays are drawn
+LOCK, WAIT, BYTES = "lock", "wait", "bytes"  # the things of a socket that a step is about
+OF_THING = {
+    LOCK: ("rwlock", "rwunlock", "increfclose", "acquire", "release"),
+    WAIT: (
+        *("pollreset", "waitbegin", "blockarm", "blockcheck", "parkcommit", "blockswap", "waitcheck"),
+        *("setdeadline", "evict", "pollevent", "fire"),
+    ),
+    BYTES: ("sysread", "syswrite", "closewrite", "arrive", "peerclose", "drain"),
+}
+THING_OF = {kind: thing for thing, kinds in OF_THING.items() for kind in kinds}
+SIDE_OF = {"arrive": "r", "peerclose": "r", "sysread": "r", "drain": "w", "syswrite": "w", "closewrite": "w"}
+# of two steps about a wait one has to be such: who waits lets nobody else in
+TO_OTHERS = frozenset(("setdeadline", "evict", "pollevent", "fire"))
+
+Thing = tuple[int, str, str]  # a socket, which thing of it, and the side
+
+
+class Schedule(NamedTuple):
+    """The delays, and the seed that drew them; 0 where there is but one."""
+
+    delays: tuple[Delay, ...]
+    seed: int
+
+
+class Touched(NamedTuple):
+    """A recorded step about a thing, and who made it, -1 the network or a timer."""
+
+    number: int
+    who: int
+    kind: str
+
+    def matters_to(self, other: "Touched") -> bool:
+        """Whether it is another's, so that the order of both may decide something."""
+        if self.who == other.who:
+            return False
+        return THING_OF[self.kind] != WAIT or self.kind in TO_OTHERS or other.kind in TO_OTHERS
+
+
+def touched(script: Script) -> dict[Thing, list[Touched]]:
+    """The steps about each thing, in their order."""
+    found: dict[Thing, list[Touched]] = {}
+
+    def note(socket: int, sides: str, step: Touched) -> None:
+        for side in sides if step.kind in THING_OF else "":
+            found.setdefault((socket, THING_OF[step.kind], side), []).append(step)
+
+    for g, operations in enumerate(script.goroutines):
+        for operation in operations:
+            for number, kind in zip(operation.steps, operation.kinds):
+                note(operation.socket, operation.side or SIDE_OF.get(kind, "rw"), Touched(number, g, kind))
+    for s, row in script.network.items():
+        for item in row:
+            kind = item.event.kind
+            note(s, SIDE_OF.get(kind) or item.event.arguments[2], Touched(item.event.number, -1, kind))
+    for item in script.clock:
+        if item.timer:
+            note(script.sockets[item.timer[0]], "rw", Touched(item.event.number, -1, item.event.kind))
+    return {thing: sorted(steps) for thing, steps in found.items()}
+
+
+def single_delays(script: Script) -> list[Delay]:
+    """All delays of one step until one of others, the nearest first."""
+    by_distance: list[set[Delay]] = [set() for _ in range(NEAR)]
+    for steps in touched(script).values():
+        for at, one in enumerate(steps):
+            if one.who >= 0:
+                others = (other.number for other in steps[at + 1 :] if other.matters_to(one))
+                for distance, number in enumerate(islice(others, NEAR)):
+                    by_distance[distance].add(Delay(one.number, number))
+    return list(dict.fromkeys(delay for delays in by_distance for delay in sorted(delays)))
+
+
+def schedules(delays: list[Delay], most: int) -> Iterator[Schedule]:
+    """So many schedules at most, of delays of which the nearest come first."""
+    for delay in delays[:most]:
+        yield Schedule((delay,), 0)
+    in_order = sorted(delays)
+    for seed in range(1, most - len(delays) + 1) if delays else ():
+        yield Schedule(drawn(delays, in_order, seed), seed)
+
+
+def drawn(delays: list[Delay], in_order: list[Delay], seed: int) -> tuple[Delay, ...]:
+    """Two or three delays, short ones rather than long ones, that are near each other."""
+    dice = random.Random(seed)
+    first = delays[int(len(delays) * dice.random() ** 2)]
+    begin = bisect_left(in_order, Delay(first.before - AROUND, 0))
+    near = in_order[begin : bisect_right(in_order, Delay(first.before + AROUND, 0))]
+    near.sort(key=lambda delay: delay.until - delay.before)
+    chosen = [first, *(near[int(len(near) * dice.random() ** 2)] for _ in range(dice.choice((1, 2))))]
+    return tuple(sorted({delay.before: delay for delay in chosen}.values()))

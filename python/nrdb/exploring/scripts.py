@@ -1,0 +1,78 @@
+"""What each goroutine, the network and the clock did in a recording, without the order in which they did it: a script. A
+goroutine's is a row of operations, which its calls are made of; it goes on to another than the next where the machine answers
+otherwise than it did."""
+
+from dataclasses import dataclass, field
+from enum import Enum, auto
+from typing import Any, NamedTuple, Optional
+
+from netrev_model.machine import Limits
+
+from ..reducing.events import Event, Timer
+
+
+class Sort(Enum):
+    """What an operation is. A read, a write and a wait go round until they are done."""
+
+    MAKE = auto()
+    OPEN = auto()
+    LOCK = auto()
+    UNLOCK = auto()
+    RESET = auto()
+    WAIT = auto()
+    READ = auto()
+    WRITE = auto()
+    REFER = auto()
+    GIVE_UP = auto()
+    CLOSE = auto()
+    EVICT = auto()
+    DESTROY = auto()
+    SET = auto()
+    SHUT = auto()
+    EXIT = auto()
+
+
+ENDS = {Sort.UNLOCK: (Sort.LOCK,), Sort.GIVE_UP: (Sort.REFER, Sort.CLOSE)}  # what each of these ends
+
+
+@dataclass
+class Operation:
+    """A part of a call: what it is about, its recorded steps, and where its goroutine goes on where it fails."""
+
+    sort: Sort
+    socket: int
+    use: int = -1  # of a descriptor
+    side: str = ""
+    values: tuple[Any, ...] = ()  # the arguments behind those
+    steps: list[int] = field(default_factory=list)
+    kinds: list[str] = field(default_factory=list)
+    moved: list[int] = field(default_factory=list)  # bytes, by each try of a write
+    on_failure: int = 0
+    cause: Optional[int] = None  # the step of the event that ended a wait behind which nothing was read or written
+    is_brief: bool = False  # such a wait that took a readiness which was there
+    ends_unread: bool = False  # behind its last wait nothing was tried that is a step
+
+
+class Item(NamedTuple):
+    """What the network, the clock or nobody known did: a recorded step, and when it is due."""
+
+    due: float
+    event: Event
+    timer: Optional[Timer] = None
+
+
+@dataclass
+class Script:
+    """The operations of each goroutine; what the network did to each socket; timers and the clock; and what was made by nobody
+    that is known, as goroutines. Numbers are those of the recording, but for descriptors: of these there are uses."""
+
+    limits: Limits
+    length: int
+    goroutines: list[list[Operation]]
+    network: dict[int, list[Item]]
+    clock: list[Item]
+    made: list[Item]
+    sockets: list[int]  # of each use
+    ordinals: list[int]  # which use of its descriptor each is, from 0
+    causes: list[list[int]]  # of each goroutine the steps that somebody else may answer
+    answers: list[tuple[Any, ...]]

@@ -1,0 +1,105 @@
+"""`explore` with netrev: what it keeps is accepted by netrev, ends with what it says, and is reduced; each finding says that it is
+possible; and `--explore`, whose exit status says whether there are any."""
+
+import json
+import os
+import re
+import shutil
+import tempfile
+import unittest
+from pathlib import Path
+
+from nrdb.exploring.telling import UNLESS
+from nrdb.recording import Recording
+from nrdb.reducing.writing import answered_by
+from nrdb.suspects import suspects_of
+from nrdb.suspects.found import Rule
+from tests.program.sharing import NETREV
+
+from .support import EXAMPLES, ROOT, nrdb
+from .test_suspects import checked
+
+SOME = 4
+GOOD = EXAMPLES / "cancelled-read.jsonl"
+
+
+class Exploring(unittest.TestCase):
+    def setUp(self) -> None:
+        folder = tempfile.TemporaryDirectory()
+        self.addCleanup(folder.cleanup)
+        self.addCleanup(os.chdir, os.getcwd())
+        os.chdir(folder.name)
+
+    def test_what_is_kept_is_a_run_that_ends_with_the_suspect(self) -> None:
+        said = nrdb("--explore", GOOD, status=SOME)
+        files = re.findall(r"netrev: (\S+\.jsonl): ok (\d+) steps, so it is a run of the machine", said)
+        self.assertEqual(len(files), 2)
+        for name, steps in files:
+            self.assertEqual(checked(Path(name)), f"ok {steps} steps\n")
+        for name in ("cancelled-read-other-1.jsonl", "cancelled-read-other-1-short.jsonl"):
+            suspect = suspects_of(Recording.read(name)).suspects[0]
+            self.assertEqual((suspect.rule, suspect.goroutine), (Rule.TAKEN_BACK, 1))
+        self.assertLess(Recording.read("cancelled-read-other-1-short.jsonl").length, Recording.read(files[0][0]).length)
+        self.assertEqual(said.count(UNLESS), said.count("pauses before"))
+        self.assertEqual(len(re.findall(r"^\| \d\. ", said, re.MULTILINE)), said.count(UNLESS))
+
+    def test_nothing_is_written_where_nothing_is_found(self) -> None:
+        said = nrdb("--batch", "-ex", "explore 300", EXAMPLES / "temporary-break.jsonl")
+        self.assertIn("| 300 schedules near the recorded one in ", said)
+        self.assertIn("; nothing found\n", said)
+        self.assertEqual(os.listdir("."), [])
+        nrdb("--explore", EXAMPLES / "temporary-break.jsonl")
+
+    def test_answers_and_lines_of_the_program_go_along(self) -> None:
+        recording, line = upgraded_with_lines(Path("good.jsonl"))
+        said = nrdb("--explore", recording, status=SOME)
+        self.assertIn(f"|    Go:     step 18, setdeadline: {line}\n", said)
+        whole = Recording.read("good-other-1.jsonl")
+        self.assertTrue(whole.has_answers)
+        at = next(n for n in range(1, whole.length + 1) if whole.lines.words(n) == line)
+        self.assertEqual(whole.step(at).kind, "setdeadline")
+        self.assertEqual(checked(Path("good-other-1.jsonl")), f"ok {whole.length} steps\n")
+
+    def test_other_words_and_the_recording_itself_are_refused(self) -> None:
+        said = nrdb("--batch", "-ex", "explore many", "-ex", "explore 0", "-ex", "explore 3 4", GOOD)
+        self.assertEqual(said.count("| explore [N]: N is how many schedules are played, from 1 to 1000000"), 3)
+        shutil.copy(GOOD, "x-other-1.jsonl")
+        os.symlink("x-other-1.jsonl", "x.jsonl")
+        said = nrdb("--explore", "x.jsonl", status=3)
+        self.assertIn("x-other-1.jsonl is the recording itself; rename it", said)
+        self.assertEqual(Path("x.jsonl").read_bytes(), GOOD.read_bytes())
+
+    def test_the_page_shows_what_is_printed(self) -> None:
+        text = (ROOT / "docs/NRDB.md").read_text(encoding="utf-8")
+        found = re.search(r"    \$ ./nrdb --explore (\S+)\n((?:    \| .*\n)+)", text)
+        assert found
+        said = nrdb("--explore", ROOT / found[1], status=SOME).splitlines()[2:]
+        timed = re.compile(r"in [\d.]+ s")
+        shown = [timed.sub("", line[4:]) for line in found[2].splitlines()]
+        self.assertEqual([timed.sub("", line) for line in said][: len(shown)], shown)
+
+
+def upgraded_with_lines(path: Path) -> tuple[Path, str]:
+    """The good recording with answers, and lines of a program for its deadlines."""
+    lines = GOOD.read_text().splitlines()
+    path.write_text("".join(f"{line}\n" for line in lines))
+    steps = len(lines) - 1
+    stacks = [1 if json.loads(line)[0] == "setdeadline" else 0 for line in lines[1:]]
+    told = [
+        {"where": 1, "steps": steps},
+        {"call": 1, "function": "main.main", "file": "main.go", "line": 43, "of": "program"},
+        {"stack": 1, "calls": [1]},
+        {"step": 1, "stacks": stacks},
+    ]
+    path.with_suffix(".where").write_text("".join(f"{json.dumps(one)}\n" for one in told))
+    upgrade(path)
+    return path, "main.go:43 main.main"
+
+
+def upgrade(path: Path) -> None:
+    """Gives a recording netrev's answers."""
+    path.write_bytes(answered_by(NETREV, "upgrade", path.read_bytes())[1])
+
+
+if __name__ == "__main__":
+    unittest.main()
