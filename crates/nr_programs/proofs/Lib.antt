@@ -1,5 +1,6 @@
 pub mod FaultLemmas
 pub mod OpeningLemmas
+pub mod PlacedLemmas
 pub mod RepliesLemmas
 pub mod ServingLemmas
 pub mod SharedLemmas

@@ -40,6 +40,15 @@ words_seen tag r s (line ∷ lines) met =
     words_with tag s.owed asked (next_met met)
     ++ (if is_quit asked then [] else words_seen tag r a.1 lines (drop 1 met))
 
+-- the words of the commands that some lines placed, up to the first `quit`
+abbrev pub placed_words : ℕ → Recording → SessionState → List (List ℕ) → List Met → List ℕ
+placed_words tag r s [] met = []
+placed_words tag r s (line ∷ lines) met =
+    let asked = meaning_of line in
+    let a = line_answer r s.owed asked (next_met met) s in
+    own_word tag s.owed asked (next_met met).supply
+    ++ (if is_quit asked then [] else placed_words tag r a.1 lines (drop 1 met))
+
 -- what a line met of others has none of the front's own words
 abbrev pub MeetsOthers : ℕ → Met → Type 0
 MeetsOthers tag m = All (IsOthers tag) m.others

@@ -1,6 +1,6 @@
 //! Laws: public functions with empty bodies, whose contracts are the laws.
 
-ghost use Rattle.std.specs.Prelude.{◌≡◌, ℕ, Bool, List, [], Some, true, slice_get};
+ghost use Rattle.std.specs.Prelude.{◌≡◌, ℕ, Bool, List, [], Some, true, slice_get, filter, ◌<◌, ◌==◌};
 ghost use Rattle.std.specs.List.{All};
 ghost use Rattle.nr_rev.specs.Run.{Recording};
 ghost use Rattle.nr_rev.specs.declared.answer.Answer.{Answer};
@@ -11,7 +11,8 @@ ghost use Rattle.nr_command.specs.Looking.{is_at_world};
 ghost use Rattle.nr_command.specs.declared.command.Query.{Query};
 ghost use Rattle.nr_serving.specs.Session.{IsShared};
 ghost use Rattle.nr_programs.specs.Opening.{IsGoodText};
-ghost use Rattle.nr_programs.specs.Shared.{AreAnswered, tag_at_end};
+ghost use Rattle.nr_programs.specs.Shared.{AreAnswered, MeetsOthers, placed_words, tag_at_end, words_seen};
+ghost use Rattle.nr_journal.specs.Rule.{tag_of};
 ghost use Rattle.nr_programs.specs.Shown.{LeadsOnAt};
 ghost use Rattle.nr_programs.specs.Transcript.{Met, SessionState, calm, enough, look_answer, start, transcript, transcript_by};
 ghost use Rattle.nr_programs.specs.declared.opening.TheConstants.{COPY_EVERY};
@@ -34,6 +35,14 @@ pub fn callers_are_answered_in_one_history()
     ensures { (r : Recording) (room fronts depth workers : ℕ) (history : List ℕ) (failed : Bool)
         → (shared : IsShared r room fronts depth workers (Some history) failed)
         → All (λ course. AreAnswered r room (tag_at_end course) history start [] course.callers) shared.courses }
+{}
+
+/// Of the words that a front sees with its callers' lines its own are those of the commands that the lines placed: in the lines'
+/// order, each once, and no others. So they are in the one history, of which these words are a part.
+pub fn each_placed_command_is_there_once()
+    ensures { (tag : ℕ) (r : Recording) (s : SessionState) (lines : List (List ℕ)) (met : List Met) → tag < 256
+        → All (MeetsOthers tag) met
+        → filter (λ word. tag_of word == tag) (words_seen tag r s lines met) ≡ placed_words tag r s lines met }
 {}
 
 /// What a look at the world shows is decided by the position alone, whatever marks, checkpoints and direction there are, and
