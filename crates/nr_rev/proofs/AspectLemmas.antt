@@ -151,16 +151,16 @@ pub record SocketLeaves (aspects : List Aspect) (old new : Socket) : Type 0 wher
 pub socket_set : (aspects : List Aspect) (w : World) (s : ℕ) (old new : Socket) → slice_get w.sockets s ≡ Some old → SocketLeaves aspects old new → Leaves aspects w (with_socket s new w)
 socket_set aspects w s old new at kept = record { each = each }
   where
-    shown : (value : Socket → CellValue) (k : ℕ) → value new ≡ value old → socket_value k (with_socket s new w) value ≡ socket_value k w value
-    shown value k same = slice_get-set_unseen (value_or_absent value) w.sockets s old new k at same
+    of_value : (value : Socket → CellValue) (k : ℕ) → value new ≡ value old → socket_value k (with_socket s new w) value ≡ socket_value k w value
+    of_value value k same = slice_get-set_unseen (value_or_absent value) w.sockets s old new k at same
 
     each : (c : Cell) → is_among aspects (aspect_of c) ≡ false → cell (with_socket s new w) c ≡ cell w c
-    each (Cell.Lock k) e = shown (λ x. Number (lock_number x.lock)) k (ap (λ l. Number (lock_number l)) (kept.lock e))
-    each (Cell.ReadSemaphore k) e = shown (λ x. Number x.semaphores.read.count) k (ap (λ x. Number x.read.count) (kept.semaphores e))
-    each (Cell.WriteSemaphore k) e = shown (λ x. Number x.semaphores.write.count) k (ap (λ x. Number x.write.count) (kept.semaphores e))
-    each (Cell.Input k) e = shown (λ x. Number (length x.buffers.read.bytes)) k (ap (λ bytes. Number (length bytes)) (kept.input e))
-    each (Cell.Output k) e = shown (λ x. Number (length x.buffers.write.bytes)) k (ap (λ bytes. Number (length bytes)) (kept.output e))
-    each (Cell.Shut k) e = shown (λ x. Number (bit x.shut)) k (ap (λ shut. Number (bit shut)) (kept.shut e))
+    each (Cell.Lock k) e = of_value (λ x. Number (lock_number x.lock)) k (ap (λ l. Number (lock_number l)) (kept.lock e))
+    each (Cell.ReadSemaphore k) e = of_value (λ x. Number x.semaphores.read.count) k (ap (λ x. Number x.read.count) (kept.semaphores e))
+    each (Cell.WriteSemaphore k) e = of_value (λ x. Number x.semaphores.write.count) k (ap (λ x. Number x.write.count) (kept.semaphores e))
+    each (Cell.Input k) e = of_value (λ x. Number (length x.buffers.read.bytes)) k (ap (λ bytes. Number (length bytes)) (kept.input e))
+    each (Cell.Output k) e = of_value (λ x. Number (length x.buffers.write.bytes)) k (ap (λ bytes. Number (length bytes)) (kept.output e))
+    each (Cell.Shut k) e = of_value (λ x. Number (bit x.shut)) k (ap (λ shut. Number (bit shut)) (kept.shut e))
     each c e = refl
 
 -- the aspects that all sockets' cells show
@@ -202,8 +202,8 @@ pub row_set : (aspects : List Aspect) (w : World) (d : ℕ) (old new : Descripto
     → (is_among aspects Timers ≡ false → new.timers ≡ old.timers) → Leaves aspects w (with_row d new w)
 row_set aspects w d old new at kept timers = record { each = each }
   where
-    shown : (value : Descriptor → CellValue) (k : ℕ) → value new.descriptor ≡ value old.descriptor → descriptor_value k (with_row d new w) value ≡ descriptor_value k w value
-    shown value k same = slice_get-set_unseen (value_or_absent (λ (row : DescriptorRow). value row.descriptor)) w.descriptors d old new k at same
+    of_value : (value : Descriptor → CellValue) (k : ℕ) → value new.descriptor ≡ value old.descriptor → descriptor_value k (with_row d new w) value ≡ descriptor_value k w value
+    of_value value k same = slice_get-set_unseen (value_or_absent (λ (row : DescriptorRow). value row.descriptor)) w.descriptors d old new k at same
 
     entries : is_among aspects Timers ≡ false → entries_of (slice_set w.descriptors d new) ≡ entries_of w.descriptors
     entries e = ap (entries_from 0) (map_set_unseen (λ (row : DescriptorRow). row.timers) w.descriptors d old new at (timers e))
@@ -211,14 +211,14 @@ row_set aspects w d old new at kept timers = record { each = each }
     each : (c : Cell) → is_among aspects (aspect_of c) ≡ false → cell (with_row d new w) c ≡ cell w c
     each Cell.Timers e = ap (λ es. Number (length es)) (entries e)
     each Cell.Least e = ap (λ es. value_or_absent (λ (x : Entry). Time x.timer.due) (least_of es)) (entries e)
-    each (Cell.ReadWord k) e = shown (λ x. CellValue.WaitWord x.words.read) k (ap (λ x. CellValue.WaitWord x.read) (kept.words e))
-    each (Cell.WriteWord k) e = shown (λ x. CellValue.WaitWord x.words.write) k (ap (λ x. CellValue.WaitWord x.write) (kept.words e))
-    each (Cell.ReadDeadline k) e = shown (λ x. Time x.deadlines.read) k (ap (λ x. Time x.read) (kept.deadlines e))
-    each (Cell.WriteDeadline k) e = shown (λ x. Time x.deadlines.write) k (ap (λ x. Time x.write) (kept.deadlines e))
-    each (Cell.ReadSequence k) e = shown (λ x. Number x.sequences.read) k (ap (λ x. Number x.read) (kept.sequences e))
-    each (Cell.WriteSequence k) e = shown (λ x. Number x.sequences.write) k (ap (λ x. Number x.write) (kept.sequences e))
-    each (Cell.DescriptorSequence k) e = shown (λ x. Number x.fdseq) k (ap Number (kept.tag e))
-    each (Cell.Info k) e = shown (λ x. Number (summary x)) k (ap Number (kept.info e))
+    each (Cell.ReadWord k) e = of_value (λ x. CellValue.WaitWord x.words.read) k (ap (λ x. CellValue.WaitWord x.read) (kept.words e))
+    each (Cell.WriteWord k) e = of_value (λ x. CellValue.WaitWord x.words.write) k (ap (λ x. CellValue.WaitWord x.write) (kept.words e))
+    each (Cell.ReadDeadline k) e = of_value (λ x. Time x.deadlines.read) k (ap (λ x. Time x.read) (kept.deadlines e))
+    each (Cell.WriteDeadline k) e = of_value (λ x. Time x.deadlines.write) k (ap (λ x. Time x.write) (kept.deadlines e))
+    each (Cell.ReadSequence k) e = of_value (λ x. Number x.sequences.read) k (ap (λ x. Number x.read) (kept.sequences e))
+    each (Cell.WriteSequence k) e = of_value (λ x. Number x.sequences.write) k (ap (λ x. Number x.write) (kept.sequences e))
+    each (Cell.DescriptorSequence k) e = of_value (λ x. Number x.fdseq) k (ap Number (kept.tag e))
+    each (Cell.Info k) e = of_value (λ x. Number (summary x)) k (ap Number (kept.info e))
     each c e = refl
 
 -- a row without timers has no entry in the heap

@@ -138,8 +138,8 @@ module _ (rows : List DescriptorRow) (firings : List Entry) (n m d : ℕ) (old n
             })
       ]
 
-  same_stand : (k k' : ℕ) (s s' : Side) → k ≡ k' → s ≡ s' → ArmedAt k s ≡ ArmedAt k' s'
-  same_stand k k' s s' e f = cc
+  places_agree : (k k' : ℕ) (s s' : Side) → k ≡ k' → s ≡ s' → ArmedAt k s ≡ ArmedAt k' s'
+  places_agree k k' s s' e f = cc
 
   -- no armed entry and no firing are both current
   none_both : (k : ℕ) (s : Side) (j : ℕ) (e f : Entry) → timer_at after firings (ArmedAt k s) ≡ Some e → slice_get firings j ≡ Some f → e.descriptor ≡ f.descriptor → e.side ≡ f.side
@@ -158,7 +158,7 @@ module _ (rows : List DescriptorRow) (firings : List Entry) (n m d : ℕ) (old n
   one_current (ArmedAt k s) (ArmedAt k' s') e f p q same_d same_side e_now f_now =
       let a = armed_names after firings k s e p in
       let b = armed_names after firings k' s' f q in
-      same_stand k k' s s' (sym a.3 ∙ same_d ∙ b.3) (sym a.4 ∙ same_side ∙ b.4)
+      places_agree k k' s s' (sym a.3 ∙ same_d ∙ b.3) (sym a.4 ∙ same_side ∙ b.4)
   one_current (ArmedAt k s) (FiringAt j) e f p q same_d same_side e_now f_now = none_both k s j e f p q same_d same_side e_now f_now
   one_current (FiringAt i) (ArmedAt k s) e f p q same_d same_side e_now f_now = sym (none_both k s i f e q p (sym same_d) (sym same_side) f_now e_now)
   one_current (FiringAt i) (FiringAt j) e f p q same_d same_side e_now f_now =
@@ -199,7 +199,7 @@ module _ (rows : List DescriptorRow) (firings : List Entry) (n m d : ℕ) (old n
             elim (place_known k' s') [
               | inl stays ↦ let b = h.armed_before (ArmedAt k' s') f (stays.is_at f q) in let c = (begins.number e p).0 in absurd (omega arith)
               | inr begins' ↦
-                  same_stand k k' s s' (begins.here ∙ sym begins'.here)
+                  places_agree k k' s s' (begins.here ∙ sym begins'.here)
                   (change.apart s s' e.timer f.timer (begins.timer e p) (begins'.timer f q) (begins.number e p).0 same)
             ]
       ]

@@ -20,5 +20,4 @@ pub mod Reversible
 pub mod Transaction
 pub mod Worlds
 pub mod Worked
--- inner: no contract cites it, only definitions do
 pub mod Weight

@@ -14,7 +14,7 @@ are_in_range l =
     && is_limit MOST_DESCRIPTORS l.descriptors
     && is_limit MOST_BUFFER l.buffer
 
--- the same, as facts
+-- each limit is in its range, as facts
 pub record AreInRange (l : Limits) : Type 0 where
   pub goroutines : 0 < l.goroutines
   pub goroutines_most : l.goroutines ≤ MOST_GOROUTINES

@@ -19,8 +19,8 @@ room_of buffer = buffer.capacity - length buffer.bytes
 abbrev pub output_room : Bool → Buffer → ℕ
 output_room shut output = if shut then 0 else room_of output
 
--- the lock word, the semaphores, the buffers, whether the peer has closed, and whether the write side
--- is shut
+-- the lock word, the semaphores, the buffers, whether the peer has closed, and whether the write
+-- side is shut
 pub record Socket : Type 0 where
   pub lock : Lock
   pub semaphores : Sides Semaphore

@@ -400,27 +400,27 @@ waitbegin g d side w = do
   refused_if (code == 0 && is_waited d side w.goroutines) DoubleWait
   Ok (Code code, if code == 0 then with_status g (Entering d side) w else w)
 
--- reason 2, unless at this place of a wait
+-- the wait of a goroutine that is about to say that it waits: reason 2 elsewhere
 abbrev pub entering_of : Status → Result (ℕ × Side) Refusal
 entering_of (Entering d side) = Ok (d, side)
 entering_of _ = Err NotThere
 
--- the same for armed: about to check once more
+-- the wait of a goroutine that is about to check once more: reason 2 elsewhere
 abbrev pub armed_of : Status → Result (ℕ × Side) Refusal
 armed_of (Armed d side) = Ok (d, side)
 armed_of _ = Err NotThere
 
--- the same for parking: about to commit and park
+-- the wait of a goroutine that is about to commit and park: reason 2 elsewhere
 abbrev pub parking_of : Status → Result (ℕ × Side) Refusal
 parking_of (Parking d side) = Ok (d, side)
 parking_of _ = Err NotThere
 
--- the same for swapping: about to take up the word
+-- the wait of a goroutine that is about to take up the word: reason 2 elsewhere
 abbrev pub swapping_of : Status → Result (ℕ × Side) Refusal
 swapping_of (Swapping d side) = Ok (d, side)
 swapping_of _ = Err NotThere
 
--- the same for checking: about to check why it was woken
+-- the wait of a goroutine that is about to check why it was woken: reason 2 elsewhere
 abbrev pub checking_of : Status → Result (ℕ × Side) Refusal
 checking_of (Checking d side) = Ok (d, side)
 checking_of _ = Err NotThere
@@ -474,8 +474,8 @@ parkcommit g w = do
   row ← row_of d w
   Ok (committed_by g d side (of_side side row.descriptor.words) row w)
 
--- blockswap, by the word that it takes up: ready ends the wait; after any other word g checks why it
--- was woken
+-- blockswap, by the word that it takes up: ready ends the wait; after any other word g checks why
+-- it was woken
 abbrev pub swapped_by : ℕ → ℕ → Side → WaitWord → DescriptorRow → World → Answer × World
 swapped_by g d side WaitWord.Ready row w = (Yes, with_wait g Idle d side WaitWord.Nil row w)
 swapped_by g d side _ row w = (No, with_wait g (Checking d side) d side WaitWord.Nil row w)

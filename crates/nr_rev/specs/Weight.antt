@@ -48,7 +48,7 @@ side_weight side = variant_weight
 abbrev pub sides_weight : {A : Type 0} → (A → ℕ) → Sides A → ℕ
 sides_weight words both = words both.read + words both.write
 
--- a poll word weighs which variant it is, and the goroutine that it holds
+-- a wait word weighs which variant it is, and the goroutine that it holds
 abbrev pub wait_word_weight : WaitWord → ℕ
 wait_word_weight (word.Held g) = variant_weight + number_weight g
 wait_word_weight _ = variant_weight

@@ -160,7 +160,7 @@ pub record GoroutinesFit (goroutines : List Status) (sockets : List Socket)
   pub owed : (g reads writes : ℕ) → HasView owed_of goroutines g (reads, writes)
       → IsField reads × IsField writes × (0 < reads + writes)
 
--- poll words: they hold just the parked goroutines, wait means that somebody is about to park or to
+-- wait words: they hold just the parked goroutines, wait means that somebody is about to park or to
 -- take up the word, and the waiters are counted
 pub record WaitWordsFit (goroutines : List Status) (descriptors : List DescriptorRow) (waiters : ℕ)
     : Type 0 where

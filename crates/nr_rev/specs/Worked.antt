@@ -42,7 +42,8 @@ first_refused k w (step ∷ steps) =
 abbrev pub first_refused_of : Recording → Option (ℕ × Refusal)
 first_refused_of r = first_refused 1 (empty_world r.limits) r.steps
 
--- the same of some steps where there is room for two goroutines, a socket and a descriptor
+-- the number of the first of some steps that is refused, and why, where there is room for two
+-- goroutines, a socket and a descriptor
 abbrev pub reason_of : List Step → Option (ℕ × Refusal)
 reason_of steps =
     first_refused 1
@@ -202,7 +203,7 @@ abbrev pub a_last_sequence : Descriptor
 a_last_sequence =
     record never_opened { sequences = record { read = 3; write = 18446744073709551615 } }
 
--- the same, while a timer runs for writing
+-- that descriptor, while a timer runs for writing
 abbrev pub a_last_sequence_timed : Descriptor
 a_last_sequence_timed =
     record a_last_sequence {

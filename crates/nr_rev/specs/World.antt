@@ -29,7 +29,7 @@ pub record World : Type 0 where
   pub free : List ℕ
   -- now, in nanoseconds from the beginning of the recording
   pub clock : ℤ
-  -- how many poll words hold a parked goroutine: `netpollWaiters`
+  -- how many wait words hold a parked goroutine: `netpollWaiters`
   pub waiters : ℕ
   -- the number that the next timer armed gets: the first one got 1
   pub next_arming : ℕ

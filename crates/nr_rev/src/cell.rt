@@ -99,6 +99,9 @@ fn first_numbered(cells: &[Cell], number: u8) -> Option<Cell>
 }
 
 impl Cell {
+    /// How many cells there are, those of one goroutine, one socket and one descriptor counted.
+    pub const COUNT: usize = 20;
+
     /// Whether it is the same cell as another.
     pub fn is(self, other: Cell) -> bool
         ensures { MatchBool result (self ≡ other) (self ≢ other) }

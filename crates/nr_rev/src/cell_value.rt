@@ -12,7 +12,7 @@ pub enum CellValue {
     Number(u64),
     /// A time in nanoseconds: that of a deadline, of a timer or now.
     Time(i64),
-    /// A poll word.
+    /// A wait word.
     WaitWord(WaitWord),
     /// Where a goroutine is.
     Status(Status),

@@ -8,7 +8,7 @@ use crate::refusal::Refusal;
 use crate::sides::Sides;
 use crate::timer::Timer;
 
-/// A poll word, `rg` or `wg` of `pollDesc`: what is known of one side of a descriptor, or who waits there.
+/// A wait word, `rg` or `wg` of `pollDesc`: what is known of one side of a descriptor, or who waits there.
 #[derive(Clone, Copy, Debug, PartialEq, Eq)]
 pub enum WaitWord {
     /// Nothing is known, and nobody waits.
@@ -35,7 +35,7 @@ impl WaitWord {
 /// A poll descriptor, `pollDesc`.
 #[derive(Clone, Copy, Debug, PartialEq, Eq)]
 pub struct Descriptor {
-    /// The poll words, `rg` and `wg`.
+    /// The wait words, `rg` and `wg`.
     pub words: Sides<WaitWord>,
     /// It is being closed, so that nothing waits on it any more.
     pub closing: bool,

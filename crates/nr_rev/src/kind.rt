@@ -42,7 +42,7 @@ pub enum Kind {
 }
 
 /// Each kind with its name, in the order of their numbers.
-const KINDS: [(Kind, &str); 31] = [
+const KINDS: [(Kind, &str); Kind::COUNT] = [
     (Kind::Spawn, "spawn"),
     (Kind::Exit, "exit"),
     (Kind::SockOpen, "sockopen"),
@@ -77,6 +77,9 @@ const KINDS: [(Kind, &str); 31] = [
 ];
 
 impl Kind {
+    /// How many kinds there are.
+    pub const COUNT: usize = 31;
+
     /// The name that a recording's line begins with, in lower case.
     pub fn name(self) -> &'static str
         ensures { result.now ≡ kind_name self }

@@ -1,7 +1,7 @@
 //! Laws over the definitions: well-formed worlds and what keeps them so, the names and numbers of kinds and cells, what the
 //! weights count, and the greatest limits.
 
-ghost use Rattle.std.specs.Prelude.{All, false, ◌≡◌, ◌≢◌, ◌⊎◌, ℕ, Ok, Err, slice_get, Option, Some, ◌<◌, ◌-◌, List};
+ghost use Rattle.std.specs.Prelude.{All, false, ◌≡◌, ◌≢◌, ◌⊎◌, ℕ, Ok, Err, slice_get, Option, None, Some, ◌<◌, ◌+◌, ◌-◌, List, length};
 ghost use Rattle.nr_rev.specs.declared.answer.Answer.{Answer};
 ghost use Rattle.nr_rev.specs.declared.limits.Limits.{Limits};
 ghost use Rattle.nr_rev.specs.declared.sides.Side.{Side};
@@ -24,8 +24,10 @@ ghost use Rattle.nr_rev.specs.Step.{IsTimely, outcome};
 ghost use Rattle.nr_rev.specs.Cell.{cell};
 ghost use Rattle.nr_rev.specs.Aspect.{can_change};
 ghost use Rattle.nr_rev.specs.declared.cell.Cell.{Cell};
-ghost use Rattle.nr_rev.specs.CellName.{cell_index, cell_name, cell_named, cell_number, cell_numbered};
+ghost use Rattle.nr_rev.specs.declared.cell.TheConstants.Cell.{COUNT as CELL_COUNT};
+ghost use Rattle.nr_rev.specs.CellName.{cell_index, cell_name, cell_named, cell_number, cell_numbered, cells_at};
 ghost use Rattle.nr_rev.specs.declared.kind.Kind.{Kind};
+ghost use Rattle.nr_rev.specs.declared.kind.TheConstants.Kind.{COUNT as KIND_COUNT};
 ghost use Rattle.nr_rev.specs.Kind.{kind_name, kind_named, kind_number, kind_numbered, kind_of, kinds};
 ghost use Rattle.nr_rev.specs.WellFormed.{WellFormed, HasWaitWord, IsInside, HasView, socket_named, TimerPlace, timer_at};
 ghost use Rattle.nr_rev.specs.declared.limits.TheConstants.{MOST_GOROUTINES, MOST_SOCKETS, MOST_DESCRIPTORS, MOST_BUFFER};
@@ -90,6 +92,8 @@ pub fn kinds_are_read_as_spelled()
     ensures counted { (kind : Kind) → kind_numbered (kind_number kind) ≡ Some kind }
     ensures number { (n : ℕ) (kind : Kind) → kind_numbered n ≡ Some kind → n ≡ kind_number kind }
     ensures numbered { (kind : Kind) → slice_get kinds (kind_number kind - 1) ≡ Some kind }
+    ensures all { length kinds ≡ 31 }
+    ensures constant { KIND_COUNT ≡ 31 }
 {}
 
 /// A cell's name and index are read as that cell, and nothing else is; so are its number and index.
@@ -100,6 +104,8 @@ pub fn cells_are_read_as_spelled()
     ensures counted { (cell : Cell) → cell_numbered (cell_number cell) (cell_index cell) ≡ Some cell }
     ensures number { (n : ℕ) (index : Option ℕ) (cell : Cell) → cell_numbered n index ≡ Some cell
         → (n ≡ cell_number cell) × (index ≡ cell_index cell) }
+    ensures all { length (cells_at None) + length (cells_at (Some 0)) ≡ 20 }
+    ensures constant { CELL_COUNT ≡ 20 }
 {}
 
 /// What the weights of a way back count is all that there is: each type that they look into has just the

@@ -2,6 +2,9 @@
 
 ghost use Rattle.std.specs.Prelude.{◌≡◌};
 ghost use Rattle.nr_rev.specs.Refusing.{refusal_number};
+ghost use Rattle.nr_rev.specs.declared.refusal.Refusal.TheVariants.{Memory};
+
+use std::alloc::AllocError;
 
 /// Why a step does not apply. The number is what netrev prints. Of several reasons, that which the definition of the
 /// step tests first is the one reported. Those that go with a panic or a throw of Go are from `internal/poll/fd_mutex.go` and
@@ -62,5 +65,14 @@ impl Refusal {
         ensures { result ≡ refusal_number self }
     {
         self as u8
+    }
+}
+
+/// Memory that was refused is the reason `Memory`.
+impl From<AllocError> for Refusal {
+    ghost from_gives = { λ _ reason. reason ≡ Memory };
+
+    fn from(_error: AllocError) -> Refusal {
+        Refusal::Memory
     }
 }

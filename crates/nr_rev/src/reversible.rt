@@ -72,7 +72,7 @@ pub trait Reversible {
     ghost refused_has_no_step: { (old : Self) (op : Self.Op) (e : Refusal) (answer : Self.Answer)
         (new : Self) → reason old op ≡ Some e → steps old op answer new → ⊥ };
 
-    /// Want of memory is no reason.
+    /// No state has the reason that memory is refused.
     ghost memory_is_no_reason: { (old : Self) (op : Self.Op) → is_well_formed old
         → reason old op ≡ Some Memory → ⊥ };
 

@@ -84,11 +84,11 @@ pub trait Worlds: Reversible<Op = Step, Answer = Answer> + Sized {
         ensures err { IfErr result (λ e. e ≡ Memory) }
         ensures some { OnErr result (HasItems (queue_of (world self.now) socket side)) };
 
-    /// Its steps are those of the machine.
+    /// The steps that the type takes are those of the machine.
     ghost steps_are: { (old : Self) (step : Step) (answer : Answer) (new : Self)
         → Self.steps old step answer new → outcome (world old) step ≡ Ok (answer, world new) };
 
-    /// So are its reasons.
+    /// The reasons for which it refuses a step are those of the machine.
     ghost reasons_are: { (old : Self) (step : Step) → Self.reason old step
         ≡ refusal_of (outcome (world old) step) };
 
@@ -96,7 +96,7 @@ pub trait Worlds: Reversible<Op = Step, Answer = Answer> + Sized {
     ghost memory_is_for_bytes: { (old : Self) (step : Step) → Self.takes_memory old step
         → LosesBytes (world old) step };
 
-    /// Those are the bytes that its deltas may weigh more by.
+    /// The bytes that leave a buffer are those that its deltas may weigh more by.
     ghost bytes_out_are: { (step : Step) (answer : Answer) → Self.bytes_out step answer
         ≡ bytes_left step answer };
 

@@ -3,8 +3,8 @@ use Rattle.std.specs.Prelude.{◌≡◌, ℕ, ◌+◌, ◌<◌, true, List, [], 
 use Rattle.nr_text.specs.Streams.{Outgoing, Sends, saturating_count}
 use Rattle.nr_text.specs.declared.buffered.WriteFailed.{WriteFailed}
 
--- What is seen of a buffered writer: what its writer took, the bytes that are held here, and how many
--- bytes of the text are out.
+-- What is seen of a buffered writer: what its writer took, the bytes that are held here, and how
+-- many bytes of the text are out.
 pub record Buffering : Type 0 where
   pub taken : Outgoing
   pub held : List ℕ

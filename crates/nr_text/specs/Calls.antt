@@ -68,6 +68,10 @@ from_parts-to_parts (Moved n) = refl
 from_parts-to_parts Interrupted = refl
 from_parts-to_parts Failed = refl
 
+abbrev outcome_code : Coded Outcome
+outcome_code =
+    code_by (Option (Option ℕ)) (coded_option (coded_option coded_ℕ)) to_parts from_parts
+    from_parts-to_parts
+
 abbrev pub calls_code : Coded (List Call)
-calls_code = coded_list (coded× (coded_list coded_ℕ)
-    (code_by (Option (Option ℕ)) (coded_option (coded_option coded_ℕ)) to_parts from_parts from_parts-to_parts))
+calls_code = coded_list (coded× (coded_list coded_ℕ) outcome_code)

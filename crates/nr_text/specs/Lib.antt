@@ -1,5 +1,6 @@
 -- what callers need
-pub mod Calls
 pub mod Streams
 pub mod Buffered
 pub mod Text
+-- inner
+pub mod Calls

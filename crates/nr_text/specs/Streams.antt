@@ -29,7 +29,7 @@ pub record Receives (from left : Incoming) (bytes : List ℕ) : Type 0 where
 abbrev pub IsOver : Incoming → Type 0
 IsOver left = (left.ended ≡ true) × IsAtEnd left.remaining
 
--- These bytes were sent since. Where the writer's bytes are known, they stand behind the others.
+-- These bytes were sent since. Where the writer's bytes are known, they follow the others.
 pub record Sends (old new : Outgoing) (bytes : List ℕ) : Type 0 where
   pub sent : new.sent ≡ old.sent ++ bytes
   pub appended : Appends old.contents new.contents bytes
