@@ -13,18 +13,18 @@ use Rattle.nr_journal.specs.Laws.{BeginsEmpty, EachWordHasItsPass, EmptyLookSees
 use Rattle.nr_journal.proofs.RuleLemmas.{is_word, before_end, found_opcode}
 
 pub empty_look : EmptyLookSeesAll
-empty_look room id pass_state words views k at zero_there = let c = (k.each_view id (Within pass_state) at).1 in go c.0 c.1
+empty_look purpose id pass_state words views k at zero_there = let c = (k.each_view id (Within pass_state) at).2 in go c.0 c.1
   where
     go : (rest : List ℕ) → k.log ≡ pass_state.seen ++ rest → k.log ≡ pass_state.seen
     go [] is = is ∙ append-nil pass_state.seen
     go (v ∷ rest) is =
-        let there : get_or words (suc (length pass_state.seen)) 0 ≡ v = before_end room words views k pass_state.seen v rest is in
+        let there : get_or words (suc (length pass_state.seen)) 0 ≡ v = before_end purpose words views k pass_state.seen v rest is in
         let index : suc (length pass_state.seen) ≡ length pass_state.seen + 1 = omega arith in
-        absurd (is_word v (found_opcode room words views k pass_state.seen v rest is) (sym there ∙ (ap (λ (j : ℕ). get_or words j 0) index ∙ zero_there)))
+        absurd (is_word v (found_opcode purpose words views k pass_state.seen v rest is) (sym there ∙ (ap (λ (j : ℕ). get_or words j 0) index ∙ zero_there)))
 
 -- whoever has a tag is a pass
 pub of_pass : (v : View) (tag : ℕ) → HasTag v tag → (pass_state : PassState) × (v ≡ Within pass_state) × (pass_state.tag ≡ tag)
-of_pass (Outside tried) tag has = absurd has
+of_pass (Outside tried passes) tag has = absurd has
 of_pass (Within pass_state) tag has = (pass_state, refl, has)
 of_pass (Note seen) tag has = absurd has
 of_pass Spent tag has = absurd has
@@ -37,26 +37,26 @@ among_seen (x ∷ xs) rest tag zero others below is = (omega arith, refl)
 among_seen (x ∷ xs) rest tag (suc place) others below is = let t = among_seen xs rest tag place others (omega arith) is in (omega (arith, t.0), t.1)
 
 pub each_word : EachWordHasItsPass
-each_word room words views k place below =
+each_word purpose words views k place below =
     let drawn : IsDrawn k.tags (tag_of (get_or k.log place 0)) = (k.entries place 0 below).1 in
     let o = k.taken (tag_of (get_or k.log place 0)) drawn in
     let p = of_pass o.1 (tag_of (get_or k.log place 0)) o.3 in
     let at : get_elem? views o.0 ≡ some (Within p.0) = o.2 ∙ ap some p.1 in
-    let c = (k.each_view o.0 (Within p.0) at).1 in
+    let c = (k.each_view o.0 (Within p.0) at).2 in
     let lies = among_seen p.0.seen c.0 p.0.tag place c.2 (subst (λ (l : List ℕ). place < length l) c.1 below) (ap (λ (l : List ℕ). tag_of (get_or l place 0)) (sym c.1) ∙ sym p.2) in
     (o.0, p.0, at, p.2, lies.0, lies.1 ∙ ap (λ (l : List ℕ). get_or l place 0) (sym c.1))
 
 -- the first seat has no tag
-nobody : (id : ℕ) (v : View) (tag : ℕ) → get_elem? (newcomer ∷ []) id ≡ some v → HasTag v tag → ⊥
-nobody zero v tag e has = subst (λ (u : View). HasTag u tag) (sym (some-injective newcomer v e)) has
-nobody (suc id) v tag e has = some-ne-none v (sym e)
+nobody : (passes id : ℕ) (v : View) (tag : ℕ) → get_elem? (newcomer passes ∷ []) id ≡ some v → HasTag v tag → ⊥
+nobody passes zero v tag e has = subst (λ (u : View). HasTag u tag) (sym (some-injective (newcomer passes) v e)) has
+nobody passes (suc id) v tag e has = some-ne-none v (sym e)
 
 pub empty_at_first : BeginsEmpty
-empty_at_first room words k = go k.log refl
+empty_at_first purpose words k = go k.log refl
   where
     go : (log : List ℕ) → k.log ≡ log → k.log ≡ []
     go [] is = is
     go (x ∷ xs) is =
         let drawn : IsDrawn k.tags (tag_of x) = (All-head (IsEntry k.tags) x xs (subst (All (IsEntry k.tags)) is k.entries)).1 in
         let o = k.taken (tag_of x) drawn in
-        absurd (nobody o.0 o.1 (tag_of x) o.2 o.3)
+        absurd (nobody purpose.passes o.0 o.1 (tag_of x) o.2 o.3)

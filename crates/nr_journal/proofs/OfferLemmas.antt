@@ -9,37 +9,39 @@ use prog.Atomic.{either}
 use Rattle.atomic_table.specs.Table.{step, Allows}
 use Rattle.atomic_table.proofs.Lists.{exchanged}
 use Rattle.nr_journal.specs.declared.view.PassState.{PassState}
+use Rattle.nr_journal.specs.declared.rule.Purpose.{Purpose}
 use Rattle.nr_journal.specs.declared.view.View.{View}
 use Rattle.nr_journal.specs.declared.view.View.TheVariants.{Outside, Within, Note, Spent}
 use Rattle.nr_journal.specs.Rule.{tag_of, HasOpcode, IsDrawn, IsEntry, IsOthers, StartsWith, Fits, HasTag, Kept, having_seen}
 use Rattle.nr_journal.specs.Step.{Seat, Offers, OffersFrom}
 use Rattle.nr_journal.proofs.AloneLemmas.{not_alone}
 use Rattle.nr_journal.proofs.RowLemmas.{placed}
-use Rattle.nr_journal.proofs.RuleLemmas.{each_set, apart_set, left_set, taken_set, is_word, at_place, before_end, kept_found, found_opcode, Rule, Picks, allowed}
+use Rattle.nr_journal.proofs.RuleLemmas.{each_set, apart_set, taken_set, is_word, at_place, before_end, kept_found, found_opcode, Rule, Picks, allowed}
 
 pub begins_more : (log learned : List ℕ) (word : ℕ) → StartsWith log learned → StartsWith (log ++ word ∷ []) learned
 begins_more log learned word c = (c.0 ++ word ∷ [], ap (λ (l : List ℕ). l ++ word ∷ []) c.1 ∙ append_assoc learned c.0 (word ∷ []))
 
 -- the log grows by a word of another
-pub fits_more : (tags : ℕ) (log : List ℕ) (word : ℕ) (v : View) → (HasTag v (tag_of word) → ⊥) → Fits tags log v → Fits tags (log ++ word ∷ []) v
-fits_more tags log word (Outside tried) never fits = fits
-fits_more tags log word (Within pass_state) never fits = let c = fits.1 in (
+pub fits_more : (most tags : ℕ) (log : List ℕ) (word : ℕ) (v : View) → (HasTag v (tag_of word) → ⊥) → Fits most tags log v → Fits most tags (log ++ word ∷ []) v
+fits_more most tags log word (Outside tried passes) never fits = fits
+fits_more most tags log word (Within pass_state) never fits = let c = fits.2 in (
   fits.0,
+  fits.1,
   (c.0 ++ word ∷ [], ap (λ (l : List ℕ). l ++ word ∷ []) c.1 ∙ append_assoc pass_state.seen c.0 (word ∷ []), All-push (IsOthers pass_state.tag) c.0 word c.2 (λ e. never (sym e))),
-  begins_more log pass_state.learned word fits.2,
+  begins_more log pass_state.learned word fits.3,
 )
-fits_more tags log word (Note seen) never fits = begins_more log seen word fits
-fits_more tags log word Spent never fits = tt
+fits_more most tags log word (Note seen) never fits = begins_more log seen word fits
+fits_more most tags log word Spent never fits = tt
 
-module _ (room : ℕ) where
+module _ (purpose : Purpose) where
   -- a thread inside that has seen all words places one
-  pub kept_placed : (words : List ℕ) (views : List View) (k : Kept room words views) (id : ℕ) (pass_state : PassState) (word : ℕ) → get_elem? views id ≡ some (Within pass_state)
-      → k.log ≡ pass_state.seen → length pass_state.seen < room → HasOpcode word → tag_of word ≡ pass_state.tag
-      → Kept room (set words (suc (length pass_state.seen)) word) (set views id (Within (having_seen pass_state word)))
+  pub kept_placed : (words : List ℕ) (views : List View) (k : Kept purpose words views) (id : ℕ) (pass_state : PassState) (word : ℕ) → get_elem? views id ≡ some (Within pass_state)
+      → k.log ≡ pass_state.seen → length pass_state.seen < purpose.words → HasOpcode word → tag_of word ≡ pass_state.tag
+      → Kept purpose (set words (suc (length pass_state.seen)) word) (set views id (Within (having_seen pass_state word)))
   kept_placed words views k id pass_state word at all some_room code tag =
       let c = k.each_view id (Within pass_state) at in
       let size : length k.log ≡ length pass_state.seen = ap (λ (l : List ℕ). length l) all in
-      let sum : length k.log + k.free ≡ room = k.room_is in
+      let sum : length k.log + k.free ≡ purpose.words = k.room_is in
       let free : ℕ = k.free - 1 in
       let one : k.free ≡ suc (k.free - 1) = omega arith in record {
         tags = k.tags;
@@ -51,52 +53,52 @@ module _ (room : ℕ) where
             ∙ (ap (λ (n : ℕ). k.tags ∷ set ((k.log ++ []) ++ replicate n 0) (length k.log) word) one
             ∙ ap (λ (l : List ℕ). k.tags ∷ l) (placed k.log (k.free - 1) word))));
         room_is = omega (arith, length-append k.log (word ∷ []));
-        entries = All-push (IsEntry k.tags) k.log word k.entries (code, subst (IsDrawn k.tags) (sym tag) (c.0 pass_state.tag (omega arith)));
-        each_view = each_set (Fits k.tags (k.log ++ word ∷ [])) views id (Within (having_seen pass_state word))
-            (λ j v apart e. fits_more k.tags k.log word v (λ has. apart (k.apart j id (tag_of word) v (Within pass_state) e at has (sym tag))) (k.each_view j v e))
-            (c.0, ([], ap (λ (l : List ℕ). l ++ word ∷ []) all ∙ sym (append-nil (pass_state.seen ++ word ∷ [])), All-nil (IsOthers pass_state.tag)), begins_more k.log pass_state.learned word c.2);
+        entries = All-push (IsEntry k.tags) k.log word k.entries (code, subst (IsDrawn k.tags) (sym tag) (c.1 pass_state.tag (omega arith)));
+        each_view = each_set (Fits purpose.passes k.tags (k.log ++ word ∷ [])) views id (Within (having_seen pass_state word))
+            (λ j v apart e. fits_more purpose.passes k.tags k.log word v (λ has. apart (k.apart j id (tag_of word) v (Within pass_state) e at has (sym tag))) (k.each_view j v e))
+            (c.0, c.1, ([], ap (λ (l : List ℕ). l ++ word ∷ []) all ∙ sym (append-nil (pass_state.seen ++ word ∷ [])), All-nil (IsOthers pass_state.tag)), begins_more k.log pass_state.learned word c.3);
         apart = apart_set views id (Within pass_state) (Within (having_seen pass_state word)) at (λ t has. has) k.apart;
         taken = taken_set k.tags views id (Within pass_state) (Within (having_seen pass_state word)) at (λ t has. has) k.taken;
-        left_alone = left_set views id (Within pass_state) (Within (having_seen pass_state word)) at (λ alone. alone) (λ never. never) k.left_alone;
+        few = k.few;
       }
 
-  pub offers_from : (words : List ℕ) (views : List View) (id : ℕ) (pass_state : PassState) (word : ℕ) → Kept room words views → get_elem? views id ≡ some (Within pass_state)
-      → length pass_state.seen < room → HasOpcode word → tag_of word ≡ pass_state.tag
-      → Picks room words views id (suc (length pass_state.seen)) (either (eqb (get_or words (suc (length pass_state.seen)) 0) 0) word (get_or words (suc (length pass_state.seen)) 0))
+  pub offers_from : (words : List ℕ) (views : List View) (id : ℕ) (pass_state : PassState) (word : ℕ) → Kept purpose words views → get_elem? views id ≡ some (Within pass_state)
+      → length pass_state.seen < purpose.words → HasOpcode word → tag_of word ≡ pass_state.tag
+      → Picks purpose words views id (suc (length pass_state.seen)) (either (eqb (get_or words (suc (length pass_state.seen)) 0) 0) word (get_or words (suc (length pass_state.seen)) 0))
       (OffersFrom word (Within pass_state) (get_or words (suc (length pass_state.seen)) 0))
-  offers_from words views id pass_state word k at some_room code tag = let c = k.each_view id (Within pass_state) at in go c.1.0 c.1.1 c.1.2
+  offers_from words views id pass_state word k at some_room code tag = let c = k.each_view id (Within pass_state) at in go c.2.0 c.2.1 c.2.2
     where
       same : set words (suc (length pass_state.seen)) (get_or words (suc (length pass_state.seen)) 0) ≡ words
       same = set-get_or words (suc (length pass_state.seen)) 0
 
       go : (rest : List ℕ) → k.log ≡ pass_state.seen ++ rest → All (IsOthers pass_state.tag) rest
-          → Picks room words views id (suc (length pass_state.seen)) (either (eqb (get_or words (suc (length pass_state.seen)) 0) 0) word (get_or words (suc (length pass_state.seen)) 0))
+          → Picks purpose words views id (suc (length pass_state.seen)) (either (eqb (get_or words (suc (length pass_state.seen)) 0) 0) word (get_or words (suc (length pass_state.seen)) 0))
           (OffersFrom word (Within pass_state) (get_or words (suc (length pass_state.seen)) 0))
       go [] is others =
           let all : k.log ≡ pass_state.seen = is ∙ append-nil pass_state.seen in
-          let zero_there : get_or words (suc (length pass_state.seen)) 0 ≡ 0 = at_place room words views k pass_state.seen all in
+          let zero_there : get_or words (suc (length pass_state.seen)) 0 ≡ 0 = at_place purpose words views k pass_state.seen all in
           exchanged (get_or words (suc (length pass_state.seen)) 0) 0 word
-          (λ n. Picks room words views id (suc (length pass_state.seen)) n (OffersFrom word (Within pass_state) (get_or words (suc (length pass_state.seen)) 0)))
+          (λ n. Picks purpose words views id (suc (length pass_state.seen)) n (OffersFrom word (Within pass_state) (get_or words (suc (length pass_state.seen)) 0)))
           (λ z. (Within (having_seen pass_state word), kept_placed words views k id pass_state word at all some_room code tag, ((λ z'. refl), (λ not. absurd (not zero_there)))))
           (λ not. absurd (not zero_there))
       go (v ∷ rest) is others =
-          let there : get_or words (suc (length pass_state.seen)) 0 ≡ v = before_end room words views k pass_state.seen v rest is in
-          let has_code = found_opcode room words views k pass_state.seen v rest is in
+          let there : get_or words (suc (length pass_state.seen)) 0 ≡ v = before_end purpose words views k pass_state.seen v rest is in
+          let has_code = found_opcode purpose words views k pass_state.seen v rest is in
           exchanged (get_or words (suc (length pass_state.seen)) 0) 0 word
-          (λ n. Picks room words views id (suc (length pass_state.seen)) n (OffersFrom word (Within pass_state) (get_or words (suc (length pass_state.seen)) 0)))
+          (λ n. Picks purpose words views id (suc (length pass_state.seen)) n (OffersFrom word (Within pass_state) (get_or words (suc (length pass_state.seen)) 0)))
           (λ z. absurd (is_word v has_code (sym there ∙ z)))
           (λ not. (
             Within (having_seen pass_state v),
-            subst (λ (ws : List ℕ). Kept room ws (set views id (Within (having_seen pass_state v)))) (sym same) (kept_found room words views k id pass_state v rest at is others),
+            subst (λ (ws : List ℕ). Kept purpose ws (set views id (Within (having_seen pass_state v)))) (sym same) (kept_found purpose words views k id pass_state v rest at is others),
             subst (λ (n : ℕ). OffersFrom word (Within pass_state) n (Within (having_seen pass_state v), [])) (sym there)
-                ((λ z. absurd (is_word v has_code z)), (λ n. (refl, has_code, All-head (IsOthers pass_state.tag) v rest others, not_alone room words views k id pass_state v rest at is others))),
+                ((λ z. absurd (is_word v has_code z)), (λ n. (refl, has_code, All-head (IsOthers pass_state.tag) v rest others, not_alone purpose words views k id pass_state v rest at is others))),
           ))
 
-  pub offers : (slots id i word : ℕ) (me : Seat) (pass_state : PassState) → me ≡ (Within pass_state, []) → i ≡ suc (length pass_state.seen) → length pass_state.seen < room → HasOpcode word
+  pub offers : (slots id i word : ℕ) (me : Seat) (pass_state : PassState) → me ≡ (Within pass_state, []) → i ≡ suc (length pass_state.seen) → length pass_state.seen < purpose.words → HasOpcode word
       → tag_of word ≡ pass_state.tag
-      → Allows (Rule room) slots id me i (λ n. either (eqb n 0) word n) (Offers (step slots i 0 word none) me)
+      → Allows (Rule purpose) slots id me i (λ n. either (eqb n 0) word n) (Offers (step slots i 0 word none) me)
   offers slots id i word me pass_state is place some_room code tag =
-      subst (λ (m : Seat). Allows (Rule room) slots id m i (λ n. either (eqb n 0) word n) (Offers (step slots i 0 word none) m)) (sym is)
-      (subst (λ (j : ℕ). Allows (Rule room) slots id (Within pass_state, []) j (λ n. either (eqb n 0) word n) (Offers (step slots j 0 word none) (Within pass_state, []))) (sym place)
-      (allowed room slots id (suc (length pass_state.seen)) (Within pass_state) (λ n. either (eqb n 0) word n) (OffersFrom word (Within pass_state))
+      subst (λ (m : Seat). Allows (Rule purpose) slots id m i (λ n. either (eqb n 0) word n) (Offers (step slots i 0 word none) m)) (sym is)
+      (subst (λ (j : ℕ). Allows (Rule purpose) slots id (Within pass_state, []) j (λ n. either (eqb n 0) word n) (Offers (step slots j 0 word none) (Within pass_state, []))) (sym place)
+      (allowed purpose slots id (suc (length pass_state.seen)) (Within pass_state) (λ n. either (eqb n 0) word n) (OffersFrom word (Within pass_state))
       (λ words views k at fits. offers_from words views id pass_state word k at some_room code tag)))

@@ -1,5 +1,5 @@
 -- A pass, by the view of its seat.
-use Rattle.std.proofs.Common.{◌≡◌, ℕ, ◌+◌, ◌<◌, true, false, List, [], ◌∷◌, ◌++◌, length, refl, sym, ap, ◌∙◌, subst, arith, length-append, append_assoc}
+use Rattle.std.proofs.Common.{◌≡◌, ◌≢◌, ℕ, ◌+◌, ◌<◌, List, [], ◌∷◌, ◌++◌, length, refl, sym, ap, ◌∙◌, subst, arith, length-append, append_assoc}
 use Rattle.nr_journal.specs.declared.view.PassState.{PassState}
 use Rattle.nr_journal.specs.declared.view.View.TheVariants.{Within}
 use Rattle.nr_journal.specs.Rule.{having_seen, looked, IsOthers, StartsWith}
@@ -27,7 +27,7 @@ one_more seen v place is = omega (arith, length-append seen (v ∷ []))
 pub sees_others_none : (a : PassState) → SeesOthers a a
 sees_others_none a = ([], sym (append-nil a.seen), All-nil (IsOthers a.tag), refl, refl, refl, (λ _. refl))
 
-pub sees_others_one : (a b : PassState) (v : ℕ) → SeesOthers a b → IsOthers b.tag v → b.alone ≡ false → SeesOthers a (having_seen b v)
+pub sees_others_one : (a b : PassState) (v : ℕ) → SeesOthers a b → IsOthers b.tag v → b.passes ≢ 1 → SeesOthers a (having_seen b v)
 sees_others_one a b v g other company = (
   g.0 ++ v ∷ [],
   ap (λ (l : List ℕ). l ++ v ∷ []) g.1 ∙ append_assoc a.seen g.0 (v ∷ []),
@@ -35,11 +35,8 @@ sees_others_one a b v g other company = (
   g.3,
   g.4,
   g.5,
-  (λ (alone : a.alone ≡ true). absurd (never (sym company ∙ (g.5 ∙ alone)))),
+  (λ (alone : a.passes ≡ 1). absurd (company (g.5 ∙ alone))),
 )
-  where
-    never : false ≡ true → ⊥
-    never is = cc
 
 pub sees_others_look : (a b : PassState) → SeesOthers a b → SeesOthers a (looked b)
 sees_others_look a b g = g

@@ -1,5 +1,5 @@
 -- What keeps the rule, whichever step is made.
-use Rattle.std.proofs.Common.{◌≡◌, ◌≢◌, ℕ, zero, suc, ◌+◌, ◌%◌, ◌<◌, ◌≤◌, List, [], ◌∷◌, ◌++◌, length, get_or, set, replicate, refl, sym, ap, ◌∙◌, subst, ⊎_elim, arith, add-one, append_assoc}
+use Rattle.std.proofs.Common.{false, ◌≡◌, ◌≢◌, ℕ, zero, suc, ◌+◌, ◌%◌, ◌<◌, ◌≤◌, List, [], ◌∷◌, ◌++◌, length, get_or, set, replicate, refl, sym, ap, ◌∙◌, subst, ⊎_elim, arith, add-one, append_assoc}
 use Rattle.std.proofs.lemmas.List.{set-get_or, append-nil}
 use Rattle.std.specs.List.{All}
 use Rattle.std.proofs.lemmas.List.Elements.{All-head, All-nil, All-tail}
@@ -11,9 +11,10 @@ use Rattle.std.proofs.lemmas.Nat.Bits.{bit_at-zero}
 use Rattle.atomic_table.specs.Table.{State, keeps, Allows}
 use Rattle.atomic_table.proofs.Lists.{at_set, at_snoc, at_longer, set_again, set_else}
 use Rattle.nr_journal.specs.declared.view.PassState.{PassState}
+use Rattle.nr_journal.specs.declared.rule.Purpose.{Purpose}
 use Rattle.nr_journal.specs.declared.view.View.{View}
 use Rattle.nr_journal.specs.declared.view.View.TheVariants.{Outside, Within, Note, Spent}
-use Rattle.nr_journal.specs.Rule.{HasOpcode, IsDrawn, AreTaken, IsEntry, IsOthers, Fits, HasTag, AreApart, IsAlone, IsNote, IsLeftAlone, Kept, having_seen, newcomer}
+use Rattle.nr_journal.specs.Rule.{HasOpcode, IsDrawn, AreTaken, IsEntry, IsOthers, Fits, HasTag, AreApart, Kept, having_seen, newcomer}
 use Rattle.nr_journal.specs.Step.{Seat}
 use Rattle.nr_journal.proofs.RowLemmas.{All-right, behind, beside}
 
@@ -39,32 +40,12 @@ apart_set views id v w at same apart i j tag a b ea eb ha hb =
     let y = had (λ u. HasTag u tag) views id v w at (same tag) j b eb hb in
     apart i j tag x.0 y.0 x.1 y.1 x.2 y.2
 
--- a change of one view leaves a pass alone
-pub left_set : (views : List View) (id : ℕ) (v w : View) → get_elem? views id ≡ some v → (IsAlone w → IsAlone v) → (IsNote v → IsNote w) → IsLeftAlone views → IsLeftAlone (set views id w)
-left_set views id v w at alone note left i j a b ea eb is apart =
-    let x = had IsAlone views id v w at alone i a ea is in
-    ⊎_elim
-    (λ (t : (j ≡ id) × (w ≡ b)). subst IsNote t.1 (note (left i j x.0 v x.1 (subst (λ (k : ℕ). get_elem? views k ≡ some v) (sym t.0) at) x.2 apart)))
-    (λ (t : (j ≢ id) × (get_elem? views j ≡ some b)). left i j x.0 b x.1 t.1 x.2 apart)
-    (at_set views id j w b eb)
+-- two views have the same tag, or none
+abbrev pub AreAlike : View → View → Type 0
+AreAlike v w = ((tag : ℕ) → HasTag w tag → HasTag v tag) × ((tag : ℕ) → HasTag v tag → HasTag w tag)
 
--- so does a new view, which is a note wherever a pass is alone
-left_snoc : (views : List View) (w : View) → (IsAlone w → ⊥) → ((i : ℕ) (v : View) → get_elem? views i ≡ some v → IsAlone v → IsNote w) → IsLeftAlone views → IsLeftAlone (views ++ w ∷ [])
-left_snoc views w never note left i j a b ea eb is apart = ⊎_elim
-    (λ (x : get_elem? views i ≡ some a). ⊎_elim
-    (λ (y : get_elem? views j ≡ some b). left i j a b x y is apart)
-    (λ (y : w ≡ b). subst IsNote y (note i a x is))
-    (at_snoc views w b j eb))
-    (λ (x : w ≡ a). absurd (never (subst IsAlone (sym x) is)))
-    (at_snoc views w a i ea)
-
--- two views have the same tag, or none, and are alike in what is beside them
-abbrev pub StandAlike : View → View → Type 0
-StandAlike v w = ((tag : ℕ) → HasTag w tag → HasTag v tag) × ((tag : ℕ) → HasTag v tag → HasTag w tag)
-    × (IsAlone w → IsAlone v) × (IsNote v → IsNote w)
-
-pub stand_alike : (pass_state other : PassState) → pass_state.tag ≡ other.tag → pass_state.alone ≡ other.alone → StandAlike (Within pass_state) (Within other)
-stand_alike pass_state other is alone = ((λ tag has. is ∙ has), (λ tag has. sym is ∙ has), (λ only. alone ∙ only), (λ never. never))
+pub are_alike : (pass_state other : PassState) → pass_state.tag ≡ other.tag → AreAlike (Within pass_state) (Within other)
+are_alike pass_state other is = ((λ tag has. is ∙ has), (λ tag has. sym is ∙ has))
 
 pub set_there : (views : List View) (i : ℕ) (v w : View) → get_elem? views i ≡ some v → get_elem? (set views i w) i ≡ some w
 set_there [] i v w e = absurd (some-ne-none v (sym e))
@@ -83,54 +64,57 @@ pub is_word : (v : ℕ) → HasOpcode v → v ≡ 0 → ⊥
 is_word v code z = let e : v % 256 ≡ 0 = ap (λ (n : ℕ). n % 256) z in let p : 1 ≤ v % 256 = code.0 in omega arith
 
 -- who has a tag has drawn it
-pub drawn_by : (tags : ℕ) (log : List ℕ) (v : View) (tag : ℕ) → HasTag v tag → Fits tags log v → IsDrawn tags tag
-drawn_by tags log (Outside tried) tag has fits = absurd has
-drawn_by tags log (Within pass_state) tag has fits = subst (IsDrawn tags) has (fits.0 pass_state.tag (omega arith))
-drawn_by tags log (Note seen) tag has fits = absurd has
-drawn_by tags log Spent tag has fits = absurd has
+pub drawn_by : (most tags : ℕ) (log : List ℕ) (v : View) (tag : ℕ) → HasTag v tag → Fits most tags log v → IsDrawn tags tag
+drawn_by most tags log (Outside tried passes) tag has fits = absurd has
+drawn_by most tags log (Within pass_state) tag has fits = subst (IsDrawn tags) has (fits.1 pass_state.tag (omega arith))
+drawn_by most tags log (Note seen) tag has fits = absurd has
+drawn_by most tags log Spent tag has fits = absurd has
 
 -- the journal at the start
-pub begins : (room : ℕ) (words : List ℕ) → words ≡ replicate (room + 1) 0 → Kept room words (newcomer ∷ [])
-begins room words is = record {
+pub begins : (purpose : Purpose) (words : List ℕ) → words ≡ replicate (purpose.words + 1) 0 → Kept purpose words (newcomer purpose.passes ∷ [])
+begins purpose words is = record {
   tags = 0;
   log = [];
-  free = room;
-  words_are = is ∙ ap (λ (n : ℕ). replicate n 0) (add-one room);
+  free = purpose.words;
+  words_are = is ∙ ap (λ (n : ℕ). replicate n 0) (add-one purpose.words);
   room_is = omega arith;
   entries = All-nil (IsEntry 0);
   each_view = one;
   apart = one_tag;
   taken = none_drawn;
-  left_alone = nobody;
+  few = λ tag drawn. absurd (none_set tag drawn);
 }
   where
-    one : (id : ℕ) (v : View) → get_elem? (newcomer ∷ []) id ≡ some v → Fits 0 [] v
-    one zero v e = subst (Fits 0 []) (some-injective newcomer v e) (λ tag below. absurd (omega arith))
+    one : (id : ℕ) (v : View) → get_elem? (newcomer purpose.passes ∷ []) id ≡ some v → Fits purpose.passes 0 [] v
+    one zero v e = subst (Fits purpose.passes 0 []) (some-injective (newcomer purpose.passes) v e) (refl, (λ tag below. absurd (omega arith)))
     one (suc id) v e = absurd (some-ne-none v (sym e))
 
-    one_tag : AreApart (newcomer ∷ [])
+    one_tag : AreApart (newcomer purpose.passes ∷ [])
     one_tag zero zero tag v w a b h i = refl
     one_tag zero (suc j) tag v w a b h i = absurd (some-ne-none w (sym b))
     one_tag (suc i) j tag v w a b h l = absurd (some-ne-none v (sym a))
 
-    none_drawn : AreTaken 0 (newcomer ∷ [])
-    none_drawn tag drawn = let z : zero ≡ 1 = sym (bit_at-zero tag) ∙ drawn in absurd (omega arith)
+    none_set : (tag : ℕ) → IsDrawn 0 tag → ⊥
+    none_set tag drawn = let z : zero ≡ 1 = sym (bit_at-zero tag) ∙ drawn in omega arith
 
-    nobody : IsLeftAlone (newcomer ∷ [])
-    nobody zero j v w a b is other = absurd (subst IsAlone (sym (some-injective newcomer v a)) is)
-    nobody (suc i) j v w a b is other = absurd (some-ne-none v (sym a))
+    none_drawn : AreTaken 0 (newcomer purpose.passes ∷ [])
+    none_drawn tag drawn = absurd (none_set tag drawn)
 
--- a new view, with no tag, which is a note wherever a pass is alone
-pub snoc_view : (room : ℕ) (words : List ℕ) (views : List View) (w : View) → (k : Kept room words views) → Fits k.tags k.log w → ((tag : ℕ) → HasTag w tag → ⊥)
-    → (IsAlone w → ⊥) → ((i : ℕ) (v : View) → get_elem? views i ≡ some v → IsAlone v → IsNote w) → Kept room words (views ++ w ∷ [])
-snoc_view room words views w k fits none_there never note = record {
+-- the journal at the start, for so many passes
+pub begins_for : (words passes : ℕ) (row : List ℕ) → row ≡ replicate (words + 1) 0 → Kept (record { words = words; passes = passes; alone = false }) row (newcomer passes ∷ [])
+begins_for words passes row is = begins (record { words = words; passes = passes; alone = false }) row is
+
+-- a new view, with no tag
+pub snoc_view : (purpose : Purpose) (words : List ℕ) (views : List View) (w : View) → (k : Kept purpose words views) → Fits purpose.passes k.tags k.log w → ((tag : ℕ) → HasTag w tag → ⊥)
+    → Kept purpose words (views ++ w ∷ [])
+snoc_view purpose words views w k fits none_there = record {
   tags = k.tags;
   log = k.log;
   free = k.free;
   words_are = k.words_are;
   room_is = k.room_is;
   entries = k.entries;
-  each_view = λ j v e. ⊎_elim (λ (t : get_elem? views j ≡ some v). k.each_view j v t) (λ (t : w ≡ v). subst (Fits k.tags k.log) t fits) (at_snoc views w v j e);
+  each_view = λ j v e. ⊎_elim (λ (t : get_elem? views j ≡ some v). k.each_view j v t) (λ (t : w ≡ v). subst (Fits purpose.passes k.tags k.log) t fits) (at_snoc views w v j e);
   apart = λ i j tag a b ea eb ha hb. ⊎_elim
       (λ (x : get_elem? views i ≡ some a). ⊎_elim
       (λ (y : get_elem? views j ≡ some b). k.apart i j tag a b x y ha hb)
@@ -139,13 +123,13 @@ snoc_view room words views w k fits none_there never note = record {
       (λ (x : w ≡ a). absurd (none_there tag (subst (λ (u : View). HasTag u tag) (sym x) ha)))
       (at_snoc views w a i ea);
   taken = λ tag drawn. let o = k.taken tag drawn in (o.0, o.1, at_longer views (w ∷ []) o.0 o.1 o.2, o.3);
-  left_alone = left_snoc views w never note k.left_alone;
+  few = k.few;
 }
 
-module _ (room : ℕ) where
+module _ (purpose : Purpose) where
   -- one view changes, and no word
-  pub kept_view : (words : List ℕ) (views : List View) (id : ℕ) (v w : View) → get_elem? views id ≡ some v → (k : Kept room words views) → Fits k.tags k.log w → StandAlike v w
-      → Kept room words (set views id w)
+  pub kept_view : (words : List ℕ) (views : List View) (id : ℕ) (v w : View) → get_elem? views id ≡ some v → (k : Kept purpose words views) → Fits purpose.passes k.tags k.log w → AreAlike v w
+      → Kept purpose words (set views id w)
   kept_view words views id v w at k fits same = record {
     tags = k.tags;
     log = k.log;
@@ -153,50 +137,50 @@ module _ (room : ℕ) where
     words_are = k.words_are;
     room_is = k.room_is;
     entries = k.entries;
-    each_view = each_set (Fits k.tags k.log) views id w (λ j u apart e. k.each_view j u e) fits;
+    each_view = each_set (Fits purpose.passes k.tags k.log) views id w (λ j u apart e. k.each_view j u e) fits;
     apart = apart_set views id v w at same.0 k.apart;
     taken = taken_set k.tags views id v w at same.1 k.taken;
-    left_alone = left_set views id v w at same.2 same.3 k.left_alone;
+    few = k.few;
   }
 
   -- the word at the place of a thread inside
-  pub at_place : (words : List ℕ) (views : List View) (k : Kept room words views) (seen : List ℕ) → k.log ≡ seen → get_or words (suc (length seen)) 0 ≡ 0
+  pub at_place : (words : List ℕ) (views : List View) (k : Kept purpose words views) (seen : List ℕ) → k.log ≡ seen → get_or words (suc (length seen)) 0 ≡ 0
   at_place words views k seen is = ap (λ (ws : List ℕ). get_or ws (suc (length seen)) 0) k.words_are
       ∙ ap (λ (l : List ℕ). get_or (l ++ replicate k.free 0) (length seen) 0) (is ∙ sym (append-nil seen)) ∙ behind seen k.free
 
-  pub before_end : (words : List ℕ) (views : List View) (k : Kept room words views) (seen : List ℕ) (v : ℕ) (rest : List ℕ) → k.log ≡ seen ++ v ∷ rest → get_or words (suc (length seen)) 0 ≡ v
+  pub before_end : (words : List ℕ) (views : List View) (k : Kept purpose words views) (seen : List ℕ) (v : ℕ) (rest : List ℕ) → k.log ≡ seen ++ v ∷ rest → get_or words (suc (length seen)) 0 ≡ v
   before_end words views k seen v rest is = ap (λ (ws : List ℕ). get_or ws (suc (length seen)) 0) k.words_are
       ∙ ap (λ (l : List ℕ). get_or (l ++ replicate k.free 0) (length seen) 0) is ∙ beside seen v rest (replicate k.free 0)
 
   -- a word that was found at the place
-  pub kept_found : (words : List ℕ) (views : List View) (k : Kept room words views) (id : ℕ) (pass_state : PassState) (v : ℕ) (rest : List ℕ) → get_elem? views id ≡ some (Within pass_state)
-      → k.log ≡ pass_state.seen ++ v ∷ rest → All (IsOthers pass_state.tag) (v ∷ rest) → Kept room words (set views id (Within (having_seen pass_state v)))
+  pub kept_found : (words : List ℕ) (views : List View) (k : Kept purpose words views) (id : ℕ) (pass_state : PassState) (v : ℕ) (rest : List ℕ) → get_elem? views id ≡ some (Within pass_state)
+      → k.log ≡ pass_state.seen ++ v ∷ rest → All (IsOthers pass_state.tag) (v ∷ rest) → Kept purpose words (set views id (Within (having_seen pass_state v)))
   kept_found words views k id pass_state v rest at is others = let c = k.each_view id (Within pass_state) at in
       kept_view words views id (Within pass_state) (Within (having_seen pass_state v)) at k
-      (c.0, (rest, is ∙ sym (append_assoc pass_state.seen (v ∷ []) rest), All-tail (IsOthers pass_state.tag) v rest others), c.2)
-      (stand_alike pass_state (having_seen pass_state v) refl refl)
+      (c.0, c.1, (rest, is ∙ sym (append_assoc pass_state.seen (v ∷ []) rest), All-tail (IsOthers pass_state.tag) v rest others), c.3)
+      (are_alike pass_state (having_seen pass_state v) refl)
 
-  pub found_opcode : (words : List ℕ) (views : List View) (k : Kept room words views) (seen : List ℕ) (v : ℕ) (rest : List ℕ) → k.log ≡ seen ++ v ∷ rest → HasOpcode v
+  pub found_opcode : (words : List ℕ) (views : List View) (k : Kept purpose words views) (seen : List ℕ) (v : ℕ) (rest : List ℕ) → k.log ≡ seen ++ v ∷ rest → HasOpcode v
   found_opcode words views k seen v rest is = (All-head (IsEntry k.tags) v rest (All-right (IsEntry k.tags) seen (v ∷ rest) (subst (All (IsEntry k.tags)) is k.entries))).0
 
   abbrev pub Rule : State (Unit {0}) View → Type 0
-  Rule s = Kept room s.words s.views
+  Rule s = Kept purpose s.words s.views
 
   -- a new view for the seat id, with which the rule is kept where the word i becomes n
   abbrev pub Picks : List ℕ → List View → ℕ → ℕ → ℕ → (Seat → Type 0) → Type 0
-  Picks words views id i n then = (w : View) × Kept room (set words i n) (set views id w) × then (w, [])
+  Picks words views id i n then = (w : View) × Kept purpose (set words i n) (set views id w) × then (w, [])
 
   pub allowed : (slots id i : ℕ) (v : View) (f : ℕ → ℕ) (then : ℕ → Seat → Type 0)
-      → ((words : List ℕ) (views : List View) → Kept room words views → get_elem? views id ≡ some v → get_or words i 0 < 18446744073709551616
+      → ((words : List ℕ) (views : List View) → Kept purpose words views → get_elem? views id ≡ some v → get_or words i 0 < 18446744073709551616
       → Picks words views id i (f (get_or words i 0)) (then (get_or words i 0)))
       → Allows Rule slots id (v, []) i f then
   allowed slots id i v f then may s k homes at fits = let p = may s.words s.views k at fits in (p.0, keeps, tt, p.1, p.2)
 
   -- a load that changes no view
-  pub stays : (words : List ℕ) (views : List View) (id i : ℕ) (v : View) (then : Seat → Type 0) → Kept room words views → get_elem? views id ≡ some v →
+  pub stays : (words : List ℕ) (views : List View) (id i : ℕ) (v : View) (then : Seat → Type 0) → Kept purpose words views → get_elem? views id ≡ some v →
       then (v, []) → Picks words views id i (get_or words i 0) then
   stays words views id i v then k at learned = (
     v,
-    subst (λ (ws : List ℕ). Kept room ws (set views id v)) (sym (set-get_or words i 0)) (subst (λ (vs : List View). Kept room words vs) (sym (set_again views id v at)) k),
+    subst (λ (ws : List ℕ). Kept purpose ws (set views id v)) (sym (set-get_or words i 0)) (subst (λ (vs : List View). Kept purpose words vs) (sym (set_again views id v at)) k),
     learned,
   )

@@ -1,10 +1,11 @@
 -- What the rule comes to.
-use Rattle.std.specs.Prelude.{◌≡◌, ℕ, ◌+◌, ◌<◌, true, List, [], ◌∷◌, length, slice_index}
+use Rattle.std.specs.Prelude.{◌≡◌, ℕ, ◌+◌, ◌<◌, List, [], ◌∷◌, length, slice_index}
 use mathlib.Core.Option.{some}
 use lib.ListN.{get_elem?}
 use Rattle.nr_journal.specs.declared.journal.Journal.TheInside as journal_parts
 use Rattle.nr_journal.specs.declared.pass.Pass.TheInside as pass_parts
 use Rattle.nr_journal.specs.declared.seat.Seat.TheInside as seat_parts
+use Rattle.nr_journal.specs.declared.rule.Purpose.{Purpose}
 use Rattle.nr_journal.specs.declared.view.PassState.{PassState}
 use Rattle.nr_journal.specs.declared.view.View.{View}
 use Rattle.nr_journal.specs.declared.view.View.TheVariants.{Within}
@@ -12,34 +13,36 @@ use Rattle.nr_journal.specs.Rule.{Kept, newcomer, tag_of}
 
 -- where the word behind all that a pass has seen is 0, the log is exactly what it has seen
 abbrev pub EmptyLookSeesAll : Type 0
-EmptyLookSeesAll = (room id : ℕ) (pass_state : PassState) (words : List ℕ) (views : List View)
-    → (k : Kept room words views) → get_elem? views id ≡ some (Within pass_state)
+EmptyLookSeesAll = (purpose : Purpose) (id : ℕ) (pass_state : PassState) (words : List ℕ) (views : List View)
+    → (k : Kept purpose words views) → get_elem? views id ≡ some (Within pass_state)
     → slice_index words (length pass_state.seen + 1) ≡ 0 → k.log ≡ pass_state.seen
 
--- a pass that is alone has seen all words
+-- the only pass that a journal may have has seen all words
 abbrev pub AnOnlyPassSeesAll : Type 0
-AnOnlyPassSeesAll = (room id : ℕ) (pass_state : PassState) (words : List ℕ) (views : List View)
-    → (k : Kept room words views) → get_elem? views id ≡ some (Within pass_state)
-    → pass_state.alone ≡ true → k.log ≡ pass_state.seen
+AnOnlyPassSeesAll = (purpose : Purpose) (id : ℕ) (pass_state : PassState) (words : List ℕ) (views : List View)
+    → (k : Kept purpose words views) → get_elem? views id ≡ some (Within pass_state)
+    → pass_state.passes ≡ 1 → k.log ≡ pass_state.seen
 
 -- each word of the log is, at its index, among the words that the pass with its tag has seen
 abbrev pub EachWordHasItsPass : Type 0
-EachWordHasItsPass = (room : ℕ) (words : List ℕ) (views : List View)
-    → (k : Kept room words views) → (place : ℕ) → place < length k.log
+EachWordHasItsPass = (purpose : Purpose) (words : List ℕ) (views : List View)
+    → (k : Kept purpose words views) → (place : ℕ) → place < length k.log
     → (id : ℕ) × (pass_state : PassState) × (get_elem? views id ≡ some (Within pass_state))
     × (pass_state.tag ≡ tag_of (slice_index k.log place)) × (place < length pass_state.seen)
     × (slice_index pass_state.seen place ≡ slice_index k.log place)
 
--- A pass is what it knows, an index and a tag, a seat what it knows and a number of tags, and a
+-- A pass is what it knows, an index and a tag, a seat what it knows and two numbers of tags, and a
 -- journal its table and a number of words. What is known takes no bytes.
 pub record NothingIsHidden : Type 0 where
   pub pass : (one other : pass_parts.Inside)
       → one.seat ≡ other.seat → one.place ≡ other.place → one.tag ≡ other.tag → one ≡ other
   pub seat : (one other : seat_parts.Inside)
-      → one.seat ≡ other.seat → one.tried ≡ other.tried → one ≡ other
+      → one.seat ≡ other.seat → one.tried ≡ other.tried
+      → one.passes ≡ other.passes → one ≡ other
   pub journal : (one other : journal_parts.Inside)
       → one.table ≡ other.table → one.words ≡ other.words → one ≡ other
 
 -- while nothing is known but what the first seat knows, no word is written
 abbrev pub BeginsEmpty : Type 0
-BeginsEmpty = (room : ℕ) (words : List ℕ) → (k : Kept room words (newcomer ∷ [])) → k.log ≡ []
+BeginsEmpty = (purpose : Purpose) (words : List ℕ)
+    → (k : Kept purpose words (newcomer purpose.passes ∷ [])) → k.log ≡ []

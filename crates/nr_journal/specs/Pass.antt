@@ -1,5 +1,5 @@
 -- What a contract sees of a pass, and what a call does to it.
-use Rattle.std.specs.Prelude.{◌≡◌, ◌<◌, ◌≤◌, ◌+◌, ◌⊎◌, ℕ, true, false, List, [], ◌++◌, length}
+use Rattle.std.specs.Prelude.{◌≡◌, ◌≢◌, ◌<◌, ◌≤◌, ◌+◌, ◌⊎◌, ℕ, List, [], ◌++◌, length}
 use Rattle.std.specs.List.{All}
 use Rattle.atomic_table.specs.Seated.{TableId}
 use Rattle.nr_journal.specs.declared.view.PassState.{PassState}
@@ -16,10 +16,10 @@ pub record Entered : Type 0 where
 
 -- what a pass knows, by its view; no pass has another sort of view
 abbrev pub pass_state_of : View → PassState
-pass_state_of (Outside _) = entering 0
+pass_state_of (Outside _ _) = entering 0 0
 pass_state_of (Within pass_state) = pass_state
-pass_state_of (Note _) = entering 0
-pass_state_of Spent = entering 0
+pass_state_of (Note _) = entering 0 0
+pass_state_of Spent = entering 0 0
 
 -- what became of a word that was offered to a journal with so much room, and of what the pass knew
 abbrev pub WasOffered : ℕ → ℕ → PassState → PassState → Offered → Type 0
@@ -27,7 +27,7 @@ WasOffered word room before after Placed =
     (after ≡ having_seen before word) × (length before.seen < room)
 WasOffered word room before after (Lost v) =
     (after ≡ having_seen before v) × (length before.seen < room) × HasOpcode v
-    × IsOthers before.tag v × (before.alone ≡ false)
+    × IsOthers before.tag v × (before.passes ≢ 1)
 WasOffered word room before after Full = (after ≡ before) × (length before.seen ≡ room)
 
 -- of two lists the shorter begins the longer
@@ -36,11 +36,11 @@ AreInLine xs ys =
     (length xs ≤ length ys → StartsWith ys xs) × (length ys ≤ length xs → StartsWith xs ys)
 
 -- Nothing was placed: any words that were seen beyond those before are others', and there is none
--- where the pass is alone. What it learnt of is as it was.
+-- where the journal has one pass. What it learnt of is as it was.
 abbrev pub SeesOthers : PassState → PassState → Type 0
 SeesOthers before after = (added : List ℕ) × (after.seen ≡ before.seen ++ added)
     × All (IsOthers before.tag) added × (after.tag ≡ before.tag) × (after.learned ≡ before.learned)
-    × (after.alone ≡ before.alone) × (before.alone ≡ true → added ≡ [])
+    × (after.passes ≡ before.passes) × (before.passes ≡ 1 → added ≡ [])
 
 -- one look more found no word, and then all that it learnt of is among what was seen; or all words
 -- are seen

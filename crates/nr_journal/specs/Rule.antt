@@ -28,6 +28,14 @@ IsDrawn tags tag = bit_at tags tag ≡ 1
 abbrev pub AreDrawn : ℕ → ℕ → Type 0
 AreDrawn tags count = (tag : ℕ) → tag < count → IsDrawn tags tag
 
+-- only the bits of the tags below this number are set
+abbrev pub AreFew : ℕ → ℕ → Type 0
+AreFew passes tags = (tag : ℕ) → IsDrawn tags tag → tag < passes
+
+-- the tag of a word is below this number
+abbrev pub HasTagBelow : ℕ → ℕ → Type 0
+HasTagBelow passes word = tag_of word < passes
+
 -- a word that some pass may have placed
 abbrev pub IsEntry : ℕ → ℕ → Type 0
 IsEntry tags word = HasOpcode word × IsDrawn tags (tag_of word)
@@ -44,20 +52,20 @@ StartsWith log seen = (rest : List ℕ) × (log ≡ seen ++ rest)
 abbrev pub Covers : List ℕ → ℕ → List ℕ → Type 0
 Covers log tag seen = (rest : List ℕ) × (log ≡ seen ++ rest) × All (IsOthers tag) rest
 
--- What is known is true. Of a seat: the bits of the tags that it tried are set. Of a pass: its own
--- bit and all below it are set. It has seen a prefix of the log with all of its own words, and what
--- it learnt of is a prefix of the log.
-abbrev pub Fits : ℕ → List ℕ → View → Type 0
-Fits tags log (Outside tried) = AreDrawn tags tried
-Fits tags log (Within pass_state) =
-    AreDrawn tags (pass_state.tag + 1) × Covers log pass_state.tag pass_state.seen
-    × StartsWith log pass_state.learned
-Fits tags log (Note seen) = StartsWith log seen
-Fits tags log Spent = Unit {0}
+-- What is known is true. Of a seat: how many passes the journal has at most, and the bits of the
+-- tags that it tried are set. Of a pass: that too; its own bit and all below it are set. It has seen
+-- a prefix of the log with all of its own words, and what it learnt of is a prefix of the log.
+abbrev pub Fits : ℕ → ℕ → List ℕ → View → Type 0
+Fits most tags log (Outside tried passes) = (passes ≡ most) × AreDrawn tags tried
+Fits most tags log (Within pass_state) =
+    (pass_state.passes ≡ most) × AreDrawn tags (pass_state.tag + 1)
+    × Covers log pass_state.tag pass_state.seen × StartsWith log pass_state.learned
+Fits most tags log (Note seen) = StartsWith log seen
+Fits most tags log Spent = Unit {0}
 
 -- it is the view of a pass with this tag
 abbrev pub HasTag : View → ℕ → Type 0
-HasTag (Outside _) tag = ⊥
+HasTag (Outside _ _) tag = ⊥
 HasTag (Within pass_state) tag = pass_state.tag ≡ tag
 HasTag (Note _) tag = ⊥
 HasTag Spent tag = ⊥
@@ -73,55 +81,35 @@ abbrev pub AreTaken : ℕ → List View → Type 0
 AreTaken tags views = (tag : ℕ) → IsDrawn tags tag
     → (id : ℕ) × (v : View) × (get_elem? views id ≡ some v) × HasTag v tag
 
--- it is the view of a pass that is alone
-abbrev pub IsAlone : View → Type 0
-IsAlone (Outside _) = ⊥
-IsAlone (Within pass_state) = pass_state.alone ≡ true
-IsAlone (Note _) = ⊥
-IsAlone Spent = ⊥
-
--- it is a note, or one that was taken in
-abbrev pub IsNote : View → Type 0
-IsNote (Outside _) = ⊥
-IsNote (Within _) = ⊥
-IsNote (Note _) = Unit {0}
-IsNote Spent = Unit {0}
-
--- beside a pass that is alone there are notes and nothing else
-abbrev pub IsLeftAlone : List View → Type 0
-IsLeftAlone views =
-    (i j : ℕ) (v w : View) → get_elem? views i ≡ some v → get_elem? views j ≡ some w
-    → IsAlone v → i ≢ j → IsNote w
-
--- What a journal with so much room keeps. There is one log: the journal is the log and then zeros,
--- each word of the log is an entry, and all that is known is true of it.
-pub record Kept (room : ℕ) (words : List ℕ) (views : List View) : Type 0 where
+-- What a journal keeps that has so much room, for so many passes. There is one log: the journal is
+-- the log and then zeros, each word of the log is an entry, and all that is known is true of it.
+pub record Kept (purpose : Purpose) (words : List ℕ) (views : List View) : Type 0 where
   pub tags : ℕ
   pub log : List ℕ
   pub free : ℕ
   pub words_are : words ≡ tags ∷ (log ++ replicate free 0)
-  pub room_is : length log + free ≡ room
+  pub room_is : length log + free ≡ purpose.words
   pub entries : All (IsEntry tags) log
-  pub each_view : (id : ℕ) (v : View) → get_elem? views id ≡ some v → Fits tags log v
+  pub each_view : (id : ℕ) (v : View) → get_elem? views id ≡ some v → Fits purpose.passes tags log v
   pub apart : AreApart views
   pub taken : AreTaken tags views
-  pub left_alone : IsLeftAlone views
+  pub few : AreFew purpose.passes tags
 
--- what the first seat knows: nothing
-abbrev pub newcomer : View
-newcomer = Outside 0
+-- what the first seat knows: how many passes the journal has at most
+abbrev pub newcomer : ℕ → View
+newcomer passes = Outside 0 passes
 
--- what a pass knows when it goes in with a tag
-abbrev pub entering : ℕ → PassState
-entering tag = record { tag = tag; seen = []; looks = 0; learned = []; alone = false }
+-- what a pass knows when it goes in with a tag, of a journal with at most so many passes
+abbrev pub entering : ℕ → ℕ → PassState
+entering passes tag = record { tag = tag; seen = []; looks = 0; learned = []; passes = passes }
 
 -- what a pass knows at first that is its journal's only one
 abbrev pub entering_alone : PassState
-entering_alone = record { tag = 0; seen = []; looks = 0; learned = []; alone = true }
+entering_alone = entering 1 0
 
 -- what is known at first: by the only pass, or by the first seat
 abbrev pub first_view : Purpose → View
-first_view purpose = if purpose.alone then Within entering_alone else newcomer
+first_view purpose = if purpose.alone then Within entering_alone else newcomer purpose.passes
 
 -- one look more found no word
 abbrev pub looked : PassState → PassState
@@ -130,7 +118,7 @@ looked pass_state = record {
   seen = pass_state.seen;
   looks = pass_state.looks + 1;
   learned = pass_state.learned;
-  alone = pass_state.alone;
+  passes = pass_state.passes;
 }
 
 -- one word more was seen
@@ -140,7 +128,7 @@ having_seen pass_state word = record {
   seen = pass_state.seen ++ word ∷ [];
   looks = pass_state.looks;
   learned = pass_state.learned;
-  alone = pass_state.alone;
+  passes = pass_state.passes;
 }
 
 -- it learns now what another had seen, and forgets what it had learnt before
@@ -150,7 +138,7 @@ informed pass_state learned = record {
   seen = pass_state.seen;
   looks = pass_state.looks;
   learned = learned;
-  alone = pass_state.alone;
+  passes = pass_state.passes;
 }
 
 -- how many words a journal has room for: its table has the word of the tag bits beside

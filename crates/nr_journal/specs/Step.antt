@@ -1,21 +1,22 @@
 -- What whoever makes a step on a journal's table learns: what is known after it, by what was found.
-use Rattle.std.specs.Prelude.{◌≡◌, ◌≢◌, ℕ, ◌+◌, ◌-◌, false, List, [], slice_index}
+use Rattle.std.specs.Prelude.{◌≡◌, ◌≢◌, ℕ, ◌+◌, ◌-◌, List, [], slice_index}
+use Rattle.std.specs.List.{All}
 use Rattle.std.specs.Int.{bit_at}
 use Rattle.atomic_table.specs.Table.{Me, Step}
 use Rattle.nr_journal.specs.declared.view.PassState.{PassState}
 use Rattle.nr_journal.specs.declared.view.View.{View}
 use Rattle.nr_journal.specs.declared.view.View.TheVariants.{Outside, Within, Note, Spent}
-use Rattle.nr_journal.specs.Rule.{HasOpcode, IsOthers, StartsWith, entering, informed, looked, having_seen}
+use Rattle.nr_journal.specs.Rule.{HasOpcode, HasTagBelow, IsOthers, StartsWith, entering, informed, looked, having_seen}
 
 -- a seat of the table, with no slots: what is known is its first component
 abbrev pub Seat : Type 0
 Seat = Me (Unit {0}) View
 
--- the word behind all that was seen is another's, so the pass isn't alone
+-- the word behind all that was seen is another's, so the journal has more than one pass
 abbrev pub Found : PassState → ℕ → Seat → Type 0
 Found pass_state found after =
     (after ≡ (Within (having_seen pass_state found), [])) × HasOpcode found
-    × IsOthers pass_state.tag found × (pass_state.alone ≡ false)
+    × IsOthers pass_state.tag found × (pass_state.passes ≢ 1)
 
 -- the word behind all that was seen is 0, so there is no more than what was seen and learnt of, or
 -- it is another's
@@ -43,9 +44,9 @@ Offers step before found after = OffersFrom step.second before.0 found after
 
 -- the bit of the next tag was clear, and the tag is the own one now, or it was set
 abbrev pub DrawsFrom : View → ℕ → Seat → Type 0
-DrawsFrom (Outside tried) found after =
-    (bit_at found tried ≡ 0 → after ≡ (Within (entering tried), []))
-    × (bit_at found tried ≢ 0 → after ≡ (Outside (tried + 1), []))
+DrawsFrom (Outside tried passes) found after =
+    (bit_at found tried ≡ 0 → after ≡ (Within (entering passes tried), []))
+    × (bit_at found tried ≢ 0 → after ≡ (Outside (tried + 1) passes, []))
 DrawsFrom _ found after = Unit {0}
 
 -- a try to draw the next tag, as a step of the table
@@ -62,10 +63,12 @@ RereadsFrom word _ found after = Unit {0}
 abbrev pub Rereads : Step (Unit {0}) → Seat → ℕ → Seat → Type 0
 Rereads step before found after = RereadsFrom step.word before.0 found after
 
--- what was seen and what was learnt of are prefixes of one list
+-- what was seen and what was learnt of are prefixes of one list, and each word seen has the tag of
+-- one of the passes that there may be
 abbrev pub ComparesFrom : View → Seat → Type 0
 ComparesFrom (Within pass_state) after = (after ≡ (Within pass_state, []))
-    × (log : List ℕ) × StartsWith log pass_state.seen × StartsWith log pass_state.learned
+    × ((log : List ℕ) × StartsWith log pass_state.seen × StartsWith log pass_state.learned)
+    × All (HasTagBelow pass_state.passes) pass_state.seen
 ComparesFrom _ after = Unit {0}
 
 -- a comparison with what another pass has seen, as a step of the table
@@ -74,21 +77,21 @@ Compares step before found after = ComparesFrom before.0 after
 
 -- a note of what a pass has seen
 abbrev pub note_of : View → View
-note_of (Outside _) = Note []
+note_of (Outside _ _) = Note []
 note_of (Within pass_state) = Note pass_state.seen
 note_of (Note _) = Note []
 note_of Spent = Note []
 
 -- the words of a note
 abbrev pub note_words : View → List ℕ
-note_words (Outside _) = []
+note_words (Outside _ _) = []
 note_words (Within _) = []
 note_words (Note seen) = seen
 note_words Spent = []
 
 -- what a pass knows that takes in a note; anyone else learns nothing
 abbrev pub learned_from : View → View → View
-learned_from (Outside tried) note = Outside tried
+learned_from (Outside tried passes) note = Outside tried passes
 learned_from (Within pass_state) note = Within (informed pass_state (note_words note))
 learned_from (Note seen) note = Note seen
 learned_from Spent note = Spent

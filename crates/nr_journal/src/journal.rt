@@ -2,7 +2,8 @@
 
 ghost use Rattle.std.specs.Prelude.{◌≡◌, ◌≢◌, ◌⊎◌, ℕ, ◌+◌, ◌^◌, ◌<◌, ◌≤◌, false, length, IfSome, IfNone, IfOk, IfErr, slice_index};
 ghost use Rattle.std.specs.Ordering.{nat_cmp};
-ghost use Rattle.nr_journal.specs.Rule.{entering, entering_alone, informed, journal_room, StartsWith, looked, having_seen, HasOpcode, IsOthers, tag_of};
+ghost use Rattle.std.specs.List.{All};
+ghost use Rattle.nr_journal.specs.Rule.{entering, entering_alone, informed, journal_room, StartsWith, looked, having_seen, HasOpcode, HasTagBelow, IsOthers, tag_of};
 ghost use Rattle.nr_journal.specs.Pass.{WasOffered, AreInLine, SeesOthers, CatchesUp};
 ghost use Rattle.nr_journal.specs.declared.rule.TheConstants.{MOST_PASSES, MOST_WORDS};
 
@@ -17,8 +18,8 @@ use std::alloc::Global;
 use std::cmp::Ordering;
 use std::marker::Model;
 
-/// Words in one order, each written once, which up to `MOST_PASSES` passes place and read from as many threads without
-/// a lock. Contracts see which journal it is; a seat or a pass is used with the journal that it was made by and no
+/// Words in one order, each written once, which so many passes as it is made for place and read from as many threads
+/// without a lock. Contracts see which journal it is; a seat or a pass is used with the journal that it was made by and no
 /// other. No call waits.
 #[derive(Drop)]
 pub struct Journal {
@@ -42,17 +43,32 @@ impl Model for Journal {
 }
 
 impl Journal {
-    /// An empty journal with room for so many words, and its first seat.
+    /// An empty journal with room for so many words, for up to `MOST_PASSES` passes, and its first seat.
     ///
     /// Memory is the only error; then nothing is left behind.
-    #[tactic(auto, using(crate::proofs::RuleLemmas::begins))]
     pub fn new(alloc: Global, words: usize) -> Result<(Journal, Seat), Memory>
         requires { (1 ≤ words) × (words ≤ MOST_WORDS) }
-        ensures { IfOk result (λ r. (journal_room r.0 ≡ words) × (r.1.table ≡ r.0) × (r.1.tried ≡ 0)) }
+        ensures { IfOk result (λ r. (journal_room r.0 ≡ words) × (r.1.table ≡ r.0) × (r.1.tried ≡ 0)
+            × (r.1.passes ≡ MOST_PASSES)) }
+    {
+        Journal::for_passes(alloc, words, MOST_PASSES)
+    }
+
+    /// An empty journal with room for so many words, for at most so many passes, and its first seat. Their tags are the
+    /// numbers below.
+    ///
+    /// Memory is the only error; then nothing is left behind.
+    #[tactic(auto, using(crate::proofs::RuleLemmas::begins_for))]
+    pub fn for_passes(alloc: Global, words: usize, passes: u32) -> Result<(Journal, Seat), Memory>
+        requires words { (1 ≤ words) × (words ≤ MOST_WORDS) }
+        requires passes { passes ≤ MOST_PASSES }
+        ensures { IfOk result (λ r. (journal_room r.0 ≡ words) × (r.1.table ≡ r.0) × (r.1.tried ≡ 0)
+            × (r.1.passes ≡ passes)) }
     {
         let zeros = Vec::from_elem(alloc, 0u64, words + 1)?;
         let shared = Purpose {
             words,
+            passes,
             alone: false,
         };
         let (table, seat) = Table::of_words(alloc, zeros.as_slice(), &shared)?;
@@ -61,7 +77,12 @@ impl Journal {
             table,
             words,
         };
-        Ok((journal, Seat { seat, tried: 0 }))
+        let first = Seat {
+            seat,
+            tried: 0,
+            passes,
+        };
+        Ok((journal, first))
     }
 
     /// An empty journal with room for so many words, and the only pass that it ever has, whose tag is 0. So whatever the
@@ -76,7 +97,11 @@ impl Journal {
     {
         let mut zeros = Vec::from_elem(alloc, 0u64, words + 1)?;
         zeros[0] = 1;
-        let only = Purpose { words, alone: true };
+        let only = Purpose {
+            words,
+            passes: 1,
+            alone: true,
+        };
         let (table, seat) = Table::of_words(alloc, zeros.as_slice(), &only)?;
         let pass = Pass {
             seat,
@@ -100,23 +125,26 @@ impl Journal {
         Seat {
             seat: self.table.shared.split_seat::<Twin>(&mut seat.seat),
             tried: seat.tried,
+            passes: seat.passes,
         }
     }
 
     /// Draws the first tag that no pass has, and makes a pass with it that has seen nothing yet.
     ///
-    /// `NoTag` only where each of the `MOST_PASSES` tags was seen to be drawn; then the seat comes back and knows so.
+    /// `NoTag` only where each tag that the journal has was seen to be drawn; then the seat comes back and knows so.
     pub fn enter(&self, seat: Seat) -> Result<Pass, (Seat, NoTag)>
         requires { seat.table ≡ self.now }
-        ensures ok { IfOk result (λ p. (p.table ≡ seat.table) × (p.pass_state ≡ entering p.pass_state.tag)
-            × (seat.tried ≤ p.pass_state.tag) × (p.pass_state.tag < MOST_PASSES)) }
-        ensures err { IfErr result (λ e. (e.0.table ≡ seat.table) × (e.0.tried ≡ MOST_PASSES)) }
+        ensures ok { IfOk result (λ p. (p.table ≡ seat.table) × (p.pass_state ≡ entering seat.passes p.pass_state.tag)
+            × (seat.tried ≤ p.pass_state.tag) × (p.pass_state.tag < seat.passes)) }
+        ensures err { IfErr result (λ e. (e.0.table ≡ seat.table) × (e.0.tried ≡ seat.passes)
+            × (e.0.passes ≡ seat.passes)) }
     {
         let Seat {
             mut seat,
             mut tried,
+            passes,
         } = seat;
-        while tried < MOST_PASSES {
+        while tried < passes {
             let found = self
                 .table
                 .shared
@@ -130,7 +158,12 @@ impl Journal {
             }
             tried += 1;
         }
-        Err((Seat { seat, tried }, NoTag))
+        let back = Seat {
+            seat,
+            tried,
+            passes,
+        };
+        Err((back, NoTag))
     }
 
     /// The word behind those that the pass has seen, which is another's and is seen now. None where there was none yet,
@@ -140,7 +173,7 @@ impl Journal {
         ensures table { pass.new.table ≡ pass.old.table }
         ensures room { IfSome result (λ v. length pass.old.pass_state.seen < journal_room self.now) }
         ensures some { IfSome result (λ v. (pass.new.pass_state ≡ having_seen pass.old.pass_state v)
-            × HasOpcode v × IsOthers pass.old.pass_state.tag v × (pass.old.pass_state.alone ≡ false)) }
+            × HasOpcode v × IsOthers pass.old.pass_state.tag v × (pass.old.pass_state.passes ≢ 1)) }
         // a body that doesn't look can't know that it learnt of no more than it has seen
         ensures none { IfNone result (
             ((pass.new.pass_state ≡ looked pass.old.pass_state)
@@ -218,7 +251,8 @@ impl Journal {
         self.compare(one);
     }
 
-    /// Looks until no word is found, or all words are seen, and then returns the words seen, in order, read again.
+    /// Looks until no word is found, or all words are seen, and then returns the words seen, in order, read again. Each has the
+    /// tag of one of the passes that the journal may have.
     ///
     /// Memory is the only error; it comes behind the looks, so the pass may have seen more words.
     pub fn finish(&self, pass: &mut Pass) -> Result<Vec<u64>, Memory>
@@ -227,8 +261,10 @@ impl Journal {
         ensures sees_others { SeesOthers pass.old.pass_state pass.new.pass_state }
         ensures caught { CatchesUp (journal_room self.now) pass.old.pass_state pass.new.pass_state }
         ensures words { IfOk result (λ words. words.items ≡ pass.new.pass_state.seen) }
+        ensures tags { All (HasTagBelow pass.new.pass_state.passes) pass.new.pass_state.seen }
     {
         self.catch_up(pass);
+        self.compare(pass);
         let mut words = Vec::with_capacity(self.alloc, pass.seen())?;
         for at in 0..pass.seen() {
             words.push(self.reread(pass, at))?;
@@ -274,6 +310,7 @@ impl Journal {
         requires { pass.old.table ≡ self.now }
         ensures same { pass.new ≡ pass.old }
         ensures line { AreInLine pass.old.pass_state.seen pass.old.pass_state.learned }
+        ensures tags { All (HasTagBelow pass.old.pass_state.passes) pass.old.pass_state.seen }
     {
         self.table.shared.load::<Compare>(&mut pass.seat, 0);
     }

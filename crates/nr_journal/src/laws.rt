@@ -14,7 +14,7 @@ pub fn empty_look_sees_all()
     ensures { EmptyLookSeesAll }
 {}
 
-/// A pass that is its journal's only one has seen all words there are.
+/// Where a journal may have one pass, that has seen all words there are.
 pub fn an_only_pass_sees_all()
     ensures { AnOnlyPassSeesAll }
 {}

@@ -9,7 +9,7 @@ pub const GREATEST_OPCODE: u64 = 12;
 /// A word's lowest byte is its opcode and the next one its tag: how many values a byte has.
 pub const BYTE_VALUES: u64 = 256;
 
-/// The most passes that a journal has. Their tags are the numbers below.
+/// The most passes that a journal may be made for.
 pub const MOST_PASSES: u32 = 64;
 
 /// The most words that a journal may be made for.
@@ -20,7 +20,9 @@ pub const MOST_WORDS: usize = 1_000_000;
 pub struct Purpose {
     /// How many words the journal has room for.
     pub words: usize,
-    /// Whether it has one pass from the start, and never another.
+    /// How many passes it has at most. Their tags are the numbers below.
+    pub passes: u32,
+    /// Whether its first seat is a pass from the start.
     pub alone: bool,
 }
 
@@ -30,7 +32,7 @@ pub struct InOneOrder;
 impl TableRule<(), View, Purpose> for InOneOrder {
     ghost use Rattle.nr_journal.specs.Rule.{Kept, first_view};
 
-    ghost holds = { λ purpose s. Kept purpose.words s.words s.views };
+    ghost holds = { λ purpose s. Kept purpose s.words s.views };
 
     ghost first = { first_view };
 }

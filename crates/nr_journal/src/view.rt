@@ -12,14 +12,19 @@ pub struct PassState {
     pub looks: u64,
     /// The words that another pass had seen when the two met last.
     pub learned: LinkedList<u64>,
-    /// Whether it is the only pass that its journal ever has.
-    pub alone: bool,
+    /// At most so many passes its journal ever has.
+    pub passes: u64,
 }
 
 /// What is known by whoever steps on the journal. No value of it is made.
 pub enum View {
-    /// A seat's: so many tags, from 0 on, are drawn.
-    Outside(u64),
+    /// A seat's.
+    Outside {
+        /// So many tags, from 0 on, are drawn.
+        tried: u64,
+        /// At most so many passes the journal ever has.
+        passes: u64,
+    },
     /// A pass's.
     Within(PassState),
     /// For the way from one pass to another: words that were seen.

@@ -1,4 +1,6 @@
 use Rattle.std.proofs.Common.{sym, ap, ◌∙◌, subst, arith}
+use Rattle.std.specs.List.{All}
+use Rattle.nr_journal.specs.Rule.{HasTagBelow}
 use Rattle.nr_journal.specs.Step.{Seat, ComparesFrom}
 use Rattle.nr_journal.specs.Pass.{Entered, AreInLine}
 use Rattle.nr_journal.proofs.MeetLemmas.{compares}
@@ -12,4 +14,9 @@ load-requires c =
 pub returns-clause-line : goal.returns-clause-line
 returns-clause-line c =
     let learned = subst (λ (m : Seat). ComparesFrom m.0 c.load.new.seat.me) c.pass.invariant.0 c.load.ensures.2 in
-    subst (λ (f : Entered). AreInLine f.pass_state.seen f.pass_state.learned) c.pass.view_is (are_in_line _ _ learned.1 learned.2 learned.3)
+    subst (λ (f : Entered). AreInLine f.pass_state.seen f.pass_state.learned) c.pass.view_is (are_in_line _ _ learned.1.0 learned.1.1 learned.1.2)
+
+pub returns-clause-tags : goal.returns-clause-tags
+returns-clause-tags c =
+    let learned = subst (λ (m : Seat). ComparesFrom m.0 c.load.new.seat.me) c.pass.invariant.0 c.load.ensures.2 in
+    subst (λ (f : Entered). All (HasTagBelow f.pass_state.passes) f.pass_state.seen) c.pass.view_is learned.2

@@ -12,7 +12,7 @@ split_seat-note-requires c =
     let p = c.from.invariant in (
       ap (λ (f : Entered). f.table) c.from.view_is ∙ (c.requires.1 ∙ sym c.self.view_is),
       omega (arith, c.self.invariant.1),
-      subst (λ (m : Seat). Splits (Rule c.self.inside.table.shared.key.words) c.from.inside.seat.id m.0 m.0 (note_of m.0)) (sym p.0) (tells _ _ (pass_state_of c.from.inside.seat.me.0)),
+      subst (λ (m : Seat). Splits (Rule c.self.inside.table.shared.key) c.from.inside.seat.id m.0 m.0 (note_of m.0)) (sym p.0) (tells _ _ (pass_state_of c.from.inside.seat.me.0)),
     )
 
 pub join_seat-requires : goal.join_seat-requires
@@ -23,9 +23,9 @@ join_seat-requires c =
       two.3 ∙ (ap (λ (f : Entered). f.table) c.from.view_is ∙ (c.requires.1 ∙ sym c.self.view_is)),
       ap (λ (m : Seat). m.1) theirs,
       omega (arith, c.self.invariant.1),
-      subst (λ (m : Seat). Joins (Rule c.self.inside.table.shared.key.words) c.pass.inside.seat.id m.0 c.split_seat-note.result.id c.split_seat-note.result.me.0
+      subst (λ (m : Seat). Joins (Rule c.self.inside.table.shared.key) c.pass.inside.seat.id m.0 c.split_seat-note.result.id c.split_seat-note.result.me.0
           (learned_from m.0 c.split_seat-note.result.me.0) Spent) (sym c.pass.invariant.0)
-          (subst (λ (m : Seat). Joins (Rule c.self.inside.table.shared.key.words) c.pass.inside.seat.id (Within (pass_state_of c.pass.inside.seat.me.0)) c.split_seat-note.result.id m.0
+          (subst (λ (m : Seat). Joins (Rule c.self.inside.table.shared.key) c.pass.inside.seat.id (Within (pass_state_of c.pass.inside.seat.me.0)) c.split_seat-note.result.id m.0
           (learned_from (Within (pass_state_of c.pass.inside.seat.me.0)) m.0) Spent) (sym theirs)
           (learns _ _ _ _ _)),
     )

@@ -1,4 +1,4 @@
-use Rattle.std.proofs.Common.{◌≡◌, ◌≢◌, ◌<◌, false, sym, ap, ◌∙◌, subst, inl, arith}
+use Rattle.std.proofs.Common.{◌≡◌, ◌≢◌, ◌<◌, sym, ap, ◌∙◌, subst, inl, arith}
 use Rattle.atomic_table.specs.Seated.{TableId}
 use Rattle.nr_journal.specs.Rule.{StartsWith, looked, having_seen, tag_of}
 use Rattle.nr_journal.specs.Step.{Seat, LookedFrom}
@@ -55,5 +55,5 @@ returns-clause-some c =
       knows_as _ _ found.0 ∙ ap (λ (f : Entered). having_seen f.pass_state c.load-found.result) c.pass.view_is,
       found.1,
       subst (λ (f : Entered). tag_of c.load-found.result ≢ f.pass_state.tag) c.pass.view_is found.2,
-      subst (λ (f : Entered). f.pass_state.alone ≡ false) c.pass.view_is found.3,
+      subst (λ (f : Entered). f.pass_state.passes ≢ 1) c.pass.view_is found.3,
     )

@@ -11,5 +11,5 @@ split_seat-requires c =
     let i = c.seat.invariant in (
       ap (λ (w : Waiting). w.table) c.seat.view_is ∙ (c.requires ∙ sym c.self.view_is),
       omega (arith, c.self.invariant.1),
-      subst (λ (m : Seat). Splits (Rule c.self.inside.table.shared.key.words) c.seat.inside.seat.id m.0 m.0 m.0) (sym i.0) (twins _ _ _),
+      subst (λ (m : Seat). Splits (Rule c.self.inside.table.shared.key) c.seat.inside.seat.id m.0 m.0 m.0) (sym i.0) (twins _ _ _ _),
     )
