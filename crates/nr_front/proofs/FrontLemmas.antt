@@ -12,7 +12,7 @@ use Rattle.nr_front.proofs.StepsLemmas.{learns_then, places_then}
 
 -- it wasn't placed
 pub exec_failed : (a b d : FrontState) (command : Command) (fault : FrontFault) → CatchesAll a b → Placing command b d (Err fault) → Executes command a d (Err fault)
-exec_failed a b d command Memory x y = record { learns = learns_then a b d x.learns y.learns; wanted = y.wanted }
+exec_failed a b d command Memory x y = record { learns = learns_then a b d x.learns y.learns; wanted = y.wanted; company = y.company }
 exec_failed a b d command (Placed place) x y = absurd y
 exec_failed a b d command Full x y = record { learns = learns_then a b d x.learns y.learns; full = y.full ∙ ap journal_room x.learns.same.table; run = y.run }
 
@@ -31,7 +31,7 @@ exec_answers a b d e command reply x y is replies =
         learned_before = p.learned_before;
         tag = p.tag;
         learned = p.learned;
-        alone = p.alone;
+        passes = p.passes;
         looks = p.looks;
         unowed = p.unowed;
       };

@@ -1,5 +1,5 @@
 -- The debugger of a history that goes on.
-use Rattle.std.proofs.Common.{◌≡◌, ℕ, List, [], ◌∷◌, ◌++◌, refl, sym, ap, subst, ◌∙◌, ◌/◌, ◌%◌, Option, Some, None}
+use Rattle.std.proofs.Common.{◌≡◌, ◌≢◌, ℕ, List, [], ◌∷◌, ◌++◌, refl, sym, ap, subst, ◌∙◌, ◌/◌, ◌%◌, Option, Some, None}
 use Rattle.std.specs.Prelude.{option_map}
 use Rattle.nr_rev.specs.Run.{Recording}
 use Rattle.nr_journal.specs.Rule.{having_seen, tag_of}
@@ -9,7 +9,7 @@ use Rattle.nr_command.specs.Word.{command_of, command_with}
 use Rattle.nr_command.specs.declared.command.Command.{Command}
 use Rattle.nr_command.specs.declared.debugger.Debugger.{Debugger}
 use Rattle.nr_command.specs.declared.reply.Reply.{Reply}
-use Rattle.nr_front.specs.FrontState.{FrontState, IsAt, IsBehind, RepliesLast, SearchIsPending, pending_command}
+use Rattle.nr_front.specs.FrontState.{FrontState, HasCompany, IsAt, IsBehind, RepliesLast, SearchIsPending, pending_command}
 use Rattle.nr_front.specs.Steps.{pending_after}
 use Rattle.nr_front.specs.declared.pending.Pending.{Pending}
 use Rattle.nr_front.specs.declared.pending.Pending.TheVariants.{Nothing}
@@ -66,9 +66,16 @@ replies_last view front_state command debugger debugger' reply is pending at ran
   answer = ap (λ (r : Ran). r.0) ran ∙ ap (λ (d : FrontState). (run d.recording command debugger).0) is;
 }
 
--- a word of another was seen
+-- a word of another was seen, so the journal has more than one pass
 pub seen_at : (r : Recording) (old new : PassState) (word : ℕ) (debugger : Debugger) (was pending : Pending) → was ≡ Nothing → IsAt r old.seen (pending_command was) debugger
-    → new ≡ having_seen old word → pending ≡ pending_after (command_of word) → IsAt r new.seen (pending_command pending) debugger
-seen_at r old new word debugger was pending without_pending at is left =
+    → new ≡ having_seen old word → old.passes ≢ 1 → pending ≡ pending_after (command_of word) → IsAt r new.seen (pending_command pending) debugger × HasCompany pending new.passes
+seen_at r old new word debugger was pending without_pending at is others left =
     let was_at : IsAt r old.seen None debugger = subst (λ (d : Pending). IsAt r old.seen (pending_command d) debugger) without_pending at in
-    rw (is, left) (is_at_more r old.seen word debugger was_at)
+    (
+      rw (is, left) (is_at_more r old.seen word debugger was_at),
+      rw (is, left) (company (command_of word)),
+    )
+  where
+    company : (x : Option (ℕ × Command)) → HasCompany (pending_after x) old.passes
+    company None = tt
+    company (Some tagged) = others

@@ -1,5 +1,5 @@
 -- What a look, an offer and a command that is run do to a front, one after the other.
-use Rattle.std.proofs.Common.{◌≡◌, ℕ, ◌+◌, ◌<◌, ◌≤◌, List, [], ◌∷◌, ◌++◌, arith, length, refl, sym, ap, ◌∙◌, subst, append_assoc, append-nil, Option, Some, None, true, false, inl, inr}
+use Rattle.std.proofs.Common.{◌≡◌, ◌≢◌, ℕ, ◌+◌, ◌<◌, ◌≤◌, List, [], ◌∷◌, ◌++◌, arith, length, refl, sym, ap, ◌∙◌, subst, append_assoc, append-nil, Option, Some, None, false, inl, inr}
 use Rattle.std.specs.List.{All}
 use Rattle.std.proofs.lemmas.List.Elements.{All-append, All-cons, All-nil}
 use Rattle.atomic_table.specs.Seated.{TableId}
@@ -9,7 +9,9 @@ use Rattle.nr_journal.specs.Pass.{SeesOthers, CatchesUp}
 use Rattle.nr_journal.specs.declared.pass.Offered.TheVariants as offered
 use Rattle.nr_command.specs.declared.command.Command.{Command}
 use Rattle.nr_command.specs.Word.{command_of, word_of}
-use Rattle.nr_front.specs.FrontState.{FrontState, SearchIsPending, own_pending, owed_command}
+use Rattle.nr_front.specs.FrontState.{FrontState, HasCompany, SearchIsPending, own_pending, owed_command, pending_command}
+use Rattle.nr_front.specs.declared.pending.Pending.{Pending}
+use Rattle.nr_front.specs.declared.pending.Pending.TheVariants.{Nothing, Others, Own}
 use Rattle.nr_front.specs.Front.{CatchesAll, FindsFull, IsRefusedMemory, IsUnmoved, Learns, PlacesCommand, without_pending}
 use Rattle.nr_front.specs.Steps.{FindsNone, HasSeenAll, OffersCommand, Sees, SeesWord, pending_after}
 
@@ -19,12 +21,12 @@ own_pending-others (Some tagged) = refl
 
 -- another's word was seen, and its command is due
 pub sees_word : (word : ℕ) (view old new : FrontState) (journal : TableId) → view ≡ old → old.table ≡ journal → IsUnmoved view new → new.pass_state ≡ having_seen view.pass_state word
-    → IsOthers view.pass_state.tag word → view.pass_state.alone ≡ false → length view.pass_state.seen < journal_room journal → new.pending ≡ pending_after (command_of word) → SeesWord word old new
+    → IsOthers view.pass_state.tag word → view.pass_state.passes ≢ 1 → length view.pass_state.seen < journal_room journal → new.pending ≡ pending_after (command_of word) → SeesWord word old new
 sees_word word view old new journal is at same pass_state others company room pending = record {
   same = subst (λ (d : FrontState). IsUnmoved d new) is same;
   pass_state = pass_state ∙ ap (λ (d : FrontState). having_seen d.pass_state word) is;
   others = subst (λ (d : FrontState). IsOthers d.pass_state.tag word) is others;
-  company = subst (λ (d : FrontState). d.pass_state.alone ≡ false) is company;
+  company = subst (λ (d : FrontState). d.pass_state.passes ≢ 1) is company;
   room = subst (λ (d : FrontState). length d.pass_state.seen < journal_room old.table) is (subst (λ (t : TableId). length view.pass_state.seen < journal_room t) (sym at) room);
   unowed = ap own_pending pending ∙ own_pending-others (command_of word);
 }
@@ -35,7 +37,7 @@ record SeesNothing (old new : PassState) : Type 0 where
   pub tag : new.tag ≡ old.tag
   pub learned : new.learned ≡ old.learned
   pub looks : old.looks ≤ new.looks
-  pub alone : new.alone ≡ old.alone
+  pub passes : new.passes ≡ old.passes
 
 same_pass_state : (old new : PassState) → new ≡ old → SeesNothing old new
 same_pass_state old new is = record {
@@ -43,7 +45,7 @@ same_pass_state old new is = record {
   tag = ap (λ (s : PassState). s.tag) is;
   learned = ap (λ (s : PassState). s.learned) is;
   looks = let e = ap (λ (s : PassState). s.looks) is in omega (arith, e);
-  alone = ap (λ (s : PassState). s.alone) is;
+  passes = ap (λ (s : PassState). s.passes) is;
 }
 
 looked_once : (old new : PassState) → new ≡ looked old → SeesNothing old new
@@ -52,21 +54,21 @@ looked_once old new is = record {
   tag = ap (λ (s : PassState). s.tag) is;
   learned = ap (λ (s : PassState). s.learned) is;
   looks = let e = ap (λ (s : PassState). s.looks) is in omega (arith, e);
-  alone = ap (λ (s : PassState). s.alone) is;
+  passes = ap (λ (s : PassState). s.passes) is;
 }
 
 sees_others_none : (old new : PassState) → SeesNothing old new → SeesOthers old new
-sees_others_none old new n = ([], n.seen ∙ sym (append-nil old.seen), All-nil (IsOthers old.tag), n.tag, n.learned, n.alone, (λ _. refl))
+sees_others_none old new n = ([], n.seen ∙ sym (append-nil old.seen), All-nil (IsOthers old.tag), n.tag, n.learned, n.passes, (λ _. refl))
 
-sees_others_one : (old new : PassState) (word : ℕ) → new ≡ having_seen old word → IsOthers old.tag word → old.alone ≡ false → SeesOthers old new
+sees_others_one : (old new : PassState) (word : ℕ) → new ≡ having_seen old word → IsOthers old.tag word → old.passes ≢ 1 → SeesOthers old new
 sees_others_one old new word is others company = (
   word ∷ [],
   ap (λ (s : PassState). s.seen) is,
   All-cons (IsOthers old.tag) word [] others (All-nil (IsOthers old.tag)),
   ap (λ (s : PassState). s.tag) is,
   ap (λ (s : PassState). s.learned) is,
-  ap (λ (s : PassState). s.alone) is,
-  (λ alone. absurd (let clash : false ≡ true = sym company ∙ alone in cc)),
+  ap (λ (s : PassState). s.passes) is,
+  (λ only. absurd (company only)),
 )
 
 sees_others_then : (a b d : PassState) → SeesOthers a b → SeesOthers b d → SeesOthers a d
@@ -186,7 +188,7 @@ places_one a b command unowed all o = record {
   learned_before = subst (λ (l : List ℕ). StartsWith l a.pass_state.learned) (sym (append-nil a.pass_state.seen)) (learned_seen a all o.3);
   tag = ap (λ (t : PassState). t.tag) o.1;
   learned = ap (λ (t : PassState). t.learned) o.1;
-  alone = ap (λ (t : PassState). t.alone) o.1;
+  passes = ap (λ (t : PassState). t.passes) o.1;
   looks = let e = ap (λ (t : PassState). t.looks) o.1 in omega (arith, e);
   unowed = unowed;
 }
@@ -208,7 +210,7 @@ places_then a b d command x y =
       learned_before = subst (λ (l : List ℕ). StartsWith l a.pass_state.learned) before (subst (λ (t : List ℕ). StartsWith (b.pass_state.seen ++ y.between) t) x.sees_others.4 y.learned_before);
       tag = y.tag ∙ x.sees_others.3;
       learned = y.learned ∙ x.sees_others.4;
-      alone = y.alone ∙ x.sees_others.5;
+      passes = y.passes ∙ x.sees_others.5;
       looks = let p = x.looks in let q = y.looks in omega (arith, p, q);
       unowed = x.unowed;
     }
@@ -225,5 +227,11 @@ finds_full a b d command l o = record {
 }
 
 -- memory was refused for another's command
-pub is_refused : (a b d : FrontState) → Learns a b → d ≡ b → SearchIsPending b → IsRefusedMemory a d
-is_refused a b d l is wanted = subst (λ (t : FrontState). IsRefusedMemory a t) (sym is) (record { learns = l; wanted = wanted })
+pub is_refused : (a b d : FrontState) → Learns a b → d ≡ b → SearchIsPending b → HasCompany b.pending b.pass_state.passes → IsRefusedMemory a d
+is_refused a b d l is wanted company = subst (λ (t : FrontState). IsRefusedMemory a t) (sym is)
+    (record { learns = l; wanted = wanted; company = of_others b.pending wanted.command b.pass_state.passes wanted.pending l.unowed_still company })
+  where
+    of_others : (pending : Pending) (command : Command) (passes : ℕ) → pending_command pending ≡ Some command → own_pending pending ≡ None → HasCompany pending passes → passes ≢ 1
+    of_others Nothing command passes is none company = absurd (let clash : None ≡ Some command = is in cc)
+    of_others (Others other) command passes is none company = company
+    of_others (Own own) command passes is none company = absurd (let clash : Some own ≡ None = none in cc)

@@ -1,5 +1,5 @@
 -- What the calls of a front do.
-use Rattle.std.specs.Prelude.{◌≡◌, ℕ, ◌≤◌, ◌⊎◌, true, List, [], ◌∷◌, ◌++◌, length, Option, Some, None, Result, Ok, Err}
+use Rattle.std.specs.Prelude.{◌≡◌, ◌≢◌, ℕ, ◌≤◌, ◌⊎◌, List, [], ◌∷◌, ◌++◌, length, Option, Some, None, Result, Ok, Err}
 use Rattle.std.specs.List.{All}
 use Rattle.nr_journal.specs.Pass.{SeesOthers, CatchesUp}
 use Rattle.nr_journal.specs.Rule.{IsOthers, StartsWith, journal_room}
@@ -45,10 +45,11 @@ pub record CatchesAll (old new : FrontState) : Type 0 where
   pub caught_up : CatchesUp (journal_room old.table) old.pass_state new.pass_state
   pub run : new.pending ≡ Nothing
 
--- words of others were seen, and one of them searches: that ran out of memory
+-- words of others were seen, and one of them searches: that ran out of memory; so there are others
 pub record IsRefusedMemory (old new : FrontState) : Type 0 where
   pub learns : Learns old new
   pub wanted : SearchIsPending new
+  pub company : new.pass_state.passes ≢ 1
 
 -- all words of the journal are seen and run, and so there is no room for one more
 pub record FindsFull (old new : FrontState) : Type 0 where
@@ -58,18 +59,18 @@ pub record FindsFull (old new : FrontState) : Type 0 where
 
 -- The command's word, with the front's tag, was placed once, behind the words that were seen, among
 -- them all that the pass had learnt of. Those seen by this call, between the old ones and the own,
--- are others', and there is none where the pass is alone.
+-- are others', and there is none where the journal has one pass.
 pub record PlacesCommand (command : Command) (old new : FrontState) : Type 0 where
   pub between : List ℕ
   pub same : IsUnmoved old new
   pub placed : new.pass_state.seen ≡ (old.pass_state.seen ++ between)
       ++ word_of old.pass_state.tag command ∷ []
   pub others : All (IsOthers old.pass_state.tag) between
-  pub none_between : old.pass_state.alone ≡ true → between ≡ []
+  pub none_between : old.pass_state.passes ≡ 1 → between ≡ []
   pub learned_before : StartsWith (old.pass_state.seen ++ between) old.pass_state.learned
   pub tag : new.pass_state.tag ≡ old.pass_state.tag
   pub learned : new.pass_state.learned ≡ old.pass_state.learned
-  pub alone : new.pass_state.alone ≡ old.pass_state.alone
+  pub passes : new.pass_state.passes ≡ old.pass_state.passes
   pub looks : old.pass_state.looks ≤ new.pass_state.looks
   pub unowed : owed_command old ≡ None
 

@@ -1,6 +1,6 @@
 -- What contracts see of a front: a pass of the journal, and a debugger that runs the words that the
 -- pass sees.
-use Rattle.std.specs.Prelude.{◌≡◌, ℕ, List, [], ◌∷◌, ◌++◌, length, Option, Some, None}
+use Rattle.std.specs.Prelude.{◌≡◌, ◌≢◌, ℕ, List, [], ◌∷◌, ◌++◌, length, Option, Some, None}
 use Rattle.atomic_table.specs.Seated.{TableId}
 use Rattle.nr_rev.specs.Run.{Recording}
 use Rattle.nr_journal.specs.declared.view.PassState.{PassState}
@@ -62,6 +62,12 @@ abbrev pub own_pending : Pending → Option Command
 own_pending Nothing = None
 own_pending (Others command) = None
 own_pending (Own command) = Some command
+
+-- another's command is due only where the journal has more than one pass
+abbrev pub HasCompany : Pending → ℕ → Type 0
+HasCompany Nothing passes = Unit {0}
+HasCompany (Others command) passes = passes ≢ 1
+HasCompany (Own command) passes = Unit {0}
 
 -- the command whose reply is owed: the front's own, placed and not run yet
 abbrev pub owed_command : FrontState → Option Command

@@ -1,5 +1,5 @@
 -- What the steps do that the calls of a front are made of.
-use Rattle.std.specs.Prelude.{◌≡◌, ℕ, ◌<◌, ◌⊎◌, Bool, true, false, length, Option, Some, None, Result, Ok, Err}
+use Rattle.std.specs.Prelude.{◌≡◌, ◌≢◌, ℕ, ◌<◌, ◌⊎◌, Bool, true, false, length, Option, Some, None, Result, Ok, Err}
 use Rattle.nr_journal.specs.Rule.{IsOthers, StartsWith, looked, journal_room, having_seen}
 use Rattle.nr_journal.specs.declared.pass.Offered.{Offered}
 use Rattle.nr_journal.specs.declared.pass.Offered.TheVariants as offered
@@ -17,12 +17,12 @@ abbrev pub pending_after : Option (ℕ × Command) → Pending
 pending_after None = Nothing
 pending_after (Some tagged) = Others tagged.1
 
--- one word more was seen, another's, so the pass isn't alone
+-- one word more was seen, another's, so the journal has more than one pass
 pub record SeesWord (word : ℕ) (old new : FrontState) : Type 0 where
   pub same : IsUnmoved old new
   pub pass_state : new.pass_state ≡ having_seen old.pass_state word
   pub others : IsOthers old.pass_state.tag word
-  pub company : old.pass_state.alone ≡ false
+  pub company : old.pass_state.passes ≢ 1
   pub room : length old.pass_state.seen < journal_room old.table
   pub unowed : owed_command new ≡ None
 

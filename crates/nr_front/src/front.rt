@@ -36,7 +36,7 @@ where
     W::Delta: Drop,
     W::Snapshot: Drop + Sync,
 {
-    ghost use Rattle.nr_front.specs.FrontState.{FrontState, IsAt, pending_command};
+    ghost use Rattle.nr_front.specs.FrontState.{FrontState, HasCompany, IsAt, pending_command};
 
     ghost Value = { FrontState };
 
@@ -50,7 +50,7 @@ where
     } };
 
     ghost invariant = { λ f. IsAt f.replica.recording f.pass.pass_state.seen (pending_command f.pending)
-        f.replica.debugger };
+        f.replica.debugger × HasCompany f.pending f.pass.pass_state.passes };
 }
 
 impl<'f, W: Worlds + Drop + Sync, F: Finder> Front<'f, W, F>

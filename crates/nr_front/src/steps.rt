@@ -2,7 +2,7 @@
 
 ghost use Rattle.std.specs.Prelude.{◌≡◌, Some, None, IfOk, OnOk, OnErr};
 ghost use Rattle.nr_command.specs.Debugger.{query_reply};
-ghost use Rattle.nr_front.specs.FrontState.{RepliesLast, SearchIsPending, pending_command, replica_of, owed_command, last_place};
+ghost use Rattle.nr_front.specs.FrontState.{HasCompany, RepliesLast, SearchIsPending, pending_command, replica_of, owed_command, last_place};
 ghost use Rattle.nr_front.specs.Front.{CatchesAll, IsRefusedMemory, without_pending, with_walker_state};
 ghost use Rattle.nr_front.specs.Replica.{LookIsRefused, after_look};
 ghost use Rattle.nr_front.specs.Steps.{HasSeenAll, OffersCommand, Placing, Sees};
@@ -42,6 +42,7 @@ where
         ensures reply { IfOk result (RepliesLast self.old command) }
         ensures unchanged { OnErr result (self.new ≡ self.old) }
         ensures memory { OnErr result (SearchIsPending self.old) }
+        ensures company { HasCompany self.old.pending self.old.pass_state.passes }
     {
         let reply = self.replica.exec(command)?;
         self.pending = Pending::Nothing;
@@ -53,6 +54,7 @@ where
         ensures without_pending { OnOk result (self.new ≡ without_pending self.old) }
         ensures unchanged { OnErr result (self.new ≡ self.old) }
         ensures memory { OnErr result (SearchIsPending self.old) }
+        ensures company { HasCompany self.old.pending self.old.pass_state.passes }
     {
         if let Some(command) = self.pending.command() {
             self.run(command)?;

@@ -7,7 +7,7 @@ use Rattle.nr_front.proofs.front.Front.offer.Goals as goal
 pub invariant_of-self-in-Lost : goal.invariant_of-self-in-Lost
 invariant_of-self-in-Lost g c =
     let without_pending = ap (λ (d : FrontState). d.pending) c.self.view_is ∙ c.requires.without_pending in
-    seen_at _ _ _ _ _ _ _ without_pending c.self.invariant c.in-Lost.ensures.offered.0 c.at-self-inside.ensures
+    seen_at _ _ _ _ _ _ _ without_pending c.self.invariant.0 c.in-Lost.ensures.offered.0 c.in-Lost.ensures.offered.4 c.at-self-inside.ensures
 
 pub returns-in-Lost : goal.returns-in-Lost
 returns-in-Lost g c =

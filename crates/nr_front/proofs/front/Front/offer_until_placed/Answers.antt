@@ -20,4 +20,4 @@ pub returns-in_default : goal.returns-in_default
 returns-in_default g c =
     let so_far = c.loop-self.invariant in
     let learns = learns_then _ _ _ so_far.1 (learns_word _ _ _ so_far.1.unowed_still c.in-Lost.ensures) in
-    is_refused _ _ _ learns c.in_default.ensures.unchanged c.in_default.ensures.memory
+    is_refused _ _ _ learns c.in_default.ensures.unchanged c.in_default.ensures.memory c.run_pending.ensures.company

@@ -7,7 +7,7 @@ use Rattle.nr_front.proofs.front.Front.see.Goals as goal
 pub invariant_of-self : goal.invariant_of-self
 invariant_of-self g c =
     let without_pending = ap (λ (d : FrontState). d.pending) c.self.view_is ∙ c.requires.without_pending in
-    seen_at _ _ _ _ _ _ _ without_pending c.self.invariant c.in-Some.ensures.some.0 c.at-self-inside.ensures
+    seen_at _ _ _ _ _ _ _ without_pending c.self.invariant.0 c.in-Some.ensures.some.0 c.in-Some.ensures.some.3 c.at-self-inside.ensures
 
 pub returns-in-Some : goal.returns-in-Some
 returns-in-Some g c = (
