@@ -140,8 +140,8 @@ pub record IsWithin (last : ℕ) (d : Debugger) : Type 0 where
 abbrev pub NeedsWorlds : Direction → Recording → Debugger → Type 0
 NeedsWorlds way r d = (any_watch d.marks.present ≡ true) × NeedsCopy way r d.position
 
--- The command searches the recording, by copies of its worlds: it continues, there is a watch, and a
--- position other than the start lies that way.
+-- The command searches the recording, by copies of its worlds: it continues, there is a watch, and
+-- a position other than the start lies that way.
 abbrev pub Searches : Recording → Command → Debugger → Type 0
 Searches r commands.Continue d = NeedsWorlds d.direction r d
 Searches r commands.ReverseContinue d = NeedsWorlds Backward r d

@@ -40,7 +40,7 @@ pub item_ends : (text : List ℕ) → ends_item text ≡ true → (ends_word tex
 item_ends [] e = absurd (false≢true e)
 item_ends (x ∷ xs) e = ended x xs (either x (or_cases (x == 44) (x == 93) e))
 
--- a text that no colon follows stands where an item may begin
+-- a text that no colon follows is an item, where an item may begin
 string_placed : (place : Place) (s : List ℕ) (ls : List Lexeme) → may_begin place ≡ true → begins_colon ls ≡ false
     → punctuate place (Lexeme.token (Token.string s) ∷ ls) ≡ Token.string s ∷ punctuate after_value ls
 unfolding punctuate
@@ -65,7 +65,7 @@ array_placed after_value ls may = absurd (false≢true may)
 array_placed after_comma ls may = refl
 array_placed after_key ls may = absurd (false≢true may)
 
--- a text whose bytes all stand for themselves
+-- a text whose bytes are all literal is lexed as one string
 text_lexed : (s left : List ℕ) → escape s ≡ s → lex between (34 ∷ (s ++ 34 ∷ left)) ≡ Lexeme.token (Token.string s) ∷ lex between left
 unfolding lex
 text_lexed s left plain =
@@ -75,14 +75,14 @@ text_lexed s left plain =
 plain_byte : (x : ℕ) → (x ≡ 34 → ⊥) → (x ≡ 92 → ⊥) → 32 ≤ x → is_plain x ≡ true
 plain_byte x quote backslash control = rw (ne_eqb x 34 quote, ne_eqb x 92 backslash, le-ltb x 32 control) refl
 
--- no quote, no backslash and no control is among the bytes
-pub record StandForThemselves (s : List ℕ) : Type 0 where
+-- no quote, no backslash and no control is among the bytes: each is in a string as it is
+pub record AreLiteral (s : List ℕ) : Type 0 where
   pub none : (k : ℕ) → k < length s → (get_or s k 0 ≡ 34 → ⊥) × (get_or s k 0 ≡ 92 → ⊥)
-  pub shown : (k : ℕ) → k < length s → 32 ≤ get_or s k 0
+  pub printable : (k : ℕ) → k < length s → 32 ≤ get_or s k 0
 
-pub text_begins : (s left : List ℕ) → StandForThemselves s → ends_item left ≡ true → Begins (34 ∷ (s ++ 34 ∷ left)) (Token.string s ∷ []) left
+pub text_begins : (s left : List ℕ) → AreLiteral s → ends_item left ≡ true → Begins (34 ∷ (s ++ 34 ∷ left)) (Token.string s ∷ []) left
 text_begins s left bytes ends place may =
-    let plain : escape s ≡ s = escape_on_plain true s (λ k _ below. plain_byte _ (bytes.none k below).0 (bytes.none k below).1 (bytes.shown k below)) in
+    let plain : escape s ≡ s = escape_on_plain true s (λ k _ below. plain_byte _ (bytes.none k below).0 (bytes.none k below).1 (bytes.printable k below)) in
     ap (punctuate place) (text_lexed s left plain) ∙ string_placed place s (lex between left) may (item_ends left ends).1
 
 pub number_begins : (n : ℕ) (left : List ℕ) → n < 2 ^ 64 → ends_item left ≡ true → Begins (decimal n ++ left) (Token.number (decimal n) ∷ []) left
@@ -205,8 +205,8 @@ part_taken all parts part ts more is begins =
 
 -- the bytes before the first quote or backslash, with no control among them
 pub no_escape_before : (word inside : List ℕ) (len : ℕ) → Nowhere (Passes (is_byte2 34 92) inside) 0 len → length word ≡ len → word ≡ take len inside
-    → ((k : ℕ) → k < length word → 32 ≤ get_or word k 0) → StandForThemselves word
-no_escape_before word inside len nowhere long is shown = record { none = none; shown = shown }
+    → ((k : ℕ) → k < length word → 32 ≤ get_or word k 0) → AreLiteral word
+no_escape_before word inside len nowhere long is printable = record { none = none; printable = printable }
   where
     at : (k : ℕ) → k < len → get_or word k 0 ≡ get_or inside k 0
     at k below = ap (λ w. get_or w k 0) is ∙ get_or-take len inside k 0 below

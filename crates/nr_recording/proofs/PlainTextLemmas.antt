@@ -30,11 +30,13 @@ use Rattle.nr_rev.specs.declared.answer.Answer.TheVariants as answers
 
 -- ---- bytes
 
-abbrev pub is_shown : ℕ → Bool
-is_shown b = leb 32 b && ltb b 128
+-- a byte of ASCII that is no control below 32
+abbrev pub is_printable : ℕ → Bool
+is_printable b = leb 32 b && ltb b 128
 
-abbrev pub are_shown : List ℕ → Bool
-are_shown bs = list_all is_shown bs
+-- each byte is printable
+abbrev pub are_printable : List ℕ → Bool
+are_printable bs = list_all is_printable bs
 
 -- a byte that is in a string as it is
 abbrev is_plain : ℕ → Bool
@@ -43,30 +45,30 @@ is_plain b = leb 48 b && ltb b 123 && not (eqb b 92)
 abbrev pub are_plain : List ℕ → Bool
 are_plain bs = list_all is_plain bs
 
-both_shown : (xs ys : List ℕ) → are_shown xs ≡ true → are_shown ys ≡ true → are_shown (xs ++ ys) ≡ true
-both_shown xs ys p q = list_all-append is_shown xs ys ∙ rw (p, q) refl
+both_printable : (xs ys : List ℕ) → are_printable xs ≡ true → are_printable ys ≡ true → are_printable (xs ++ ys) ≡ true
+both_printable xs ys p q = list_all-append is_printable xs ys ∙ rw (p, q) refl
 
-one_shown : (x : ℕ) (xs : List ℕ) → is_shown x ≡ true → are_shown xs ≡ true → are_shown (x ∷ xs) ≡ true
-one_shown x xs p q = and_from (is_shown x) (are_shown xs) p q
+one_printable : (x : ℕ) (xs : List ℕ) → is_printable x ≡ true → are_printable xs ≡ true → are_printable (x ∷ xs) ≡ true
+one_printable x xs p q = and_from (is_printable x) (are_printable xs) p q
 
-is_between : (x : ℕ) → 32 ≤ x → x < 128 → is_shown x ≡ true
+is_between : (x : ℕ) → 32 ≤ x → x < 128 → is_printable x ≡ true
 is_between x low high = and_from (leb 32 x) (ltb x 128) (le-leb 32 x low) (lt-ltb x 128 high)
 
 -- ---- numbers
 
-glyph_shown : (d : ℕ) → d < 10 → is_shown (digit_glyph false d) ≡ true
-glyph_shown d h = rw (lt-ltb d 10 h) (is_between (48 + d) (omega arith) (omega arith))
+glyph_printable : (d : ℕ) → d < 10 → is_printable (digit_glyph false d) ≡ true
+glyph_printable d h = rw (lt-ltb d 10 h) (is_between (48 + d) (omega arith) (omega arith))
 
-digits_onto_shown : (k n : ℕ) (acc : List ℕ) → are_shown acc ≡ true → are_shown (digits_onto k 10 false n acc) ≡ true
-digits_onto_shown zero n acc h = h
-digits_onto_shown (suc k) n acc h =
-    let more = one_shown (digit_glyph false (n % 10)) acc (glyph_shown (n % 10) (omega arith)) h in
-    cond_both (eqb (n / 10) 0) (digit_glyph false (n % 10) ∷ acc) (digits_onto k 10 false (n / 10) (digit_glyph false (n % 10) ∷ acc)) (λ ds. are_shown ds ≡ true) (λ _. more)
-    (λ _. digits_onto_shown k (n / 10) _ more)
+digits_onto_printable : (k n : ℕ) (acc : List ℕ) → are_printable acc ≡ true → are_printable (digits_onto k 10 false n acc) ≡ true
+digits_onto_printable zero n acc h = h
+digits_onto_printable (suc k) n acc h =
+    let more = one_printable (digit_glyph false (n % 10)) acc (glyph_printable (n % 10) (omega arith)) h in
+    cond_both (eqb (n / 10) 0) (digit_glyph false (n % 10) ∷ acc) (digits_onto k 10 false (n / 10) (digit_glyph false (n % 10) ∷ acc)) (λ ds. are_printable ds ≡ true) (λ _. more)
+    (λ _. digits_onto_printable k (n / 10) _ more)
 
-decimal_shown : (n : ℕ) → are_shown (decimal n) ≡ true
+decimal_printable : (n : ℕ) → are_printable (decimal n) ≡ true
 unfolding digits_in
-decimal_shown n = digits_onto_shown 64 n [] refl
+decimal_printable n = digits_onto_printable 64 n [] refl
 
 digits_onto_short : (k n : ℕ) (acc : List ℕ) → length (digits_onto k 10 false n acc) ≤ k + length acc
 digits_onto_short zero n acc = omega arith
@@ -92,17 +94,17 @@ escape_plain (x ∷ xs) h =
     let p = and_parts (is_plain x) (are_plain xs) h in
     rw (escaped_alone x p.0, escape_plain xs p.1) refl
 
-plain_shown : (s : List ℕ) → are_plain s ≡ true → are_shown s ≡ true
-plain_shown [] h = refl
-plain_shown (x ∷ xs) h =
+plain_printable : (s : List ℕ) → are_plain s ≡ true → are_printable s ≡ true
+plain_printable [] h = refl
+plain_printable (x ∷ xs) h =
     let p = and_parts (is_plain x) (are_plain xs) h in
     let q = and_parts (leb 48 x) (ltb x 123) (and_parts (leb 48 x && ltb x 123) (not (eqb x 92)) p.0).0 in
     let low = leb-true 48 x q.0 in
     let high = ltb-true x 123 q.1 in
-    one_shown x xs (is_between x (omega arith) (omega arith)) (plain_shown xs p.1)
+    one_printable x xs (is_between x (omega arith) (omega arith)) (plain_printable xs p.1)
 
-quoted_shown : (s : List ℕ) → are_plain s ≡ true → are_shown (quoted s) ≡ true
-quoted_shown s h = rw (escape_plain s h) (one_shown 34 (s ++ 34 ∷ []) refl (both_shown s (34 ∷ []) (plain_shown s h) refl))
+quoted_printable : (s : List ℕ) → are_plain s ≡ true → are_printable (quoted s) ≡ true
+quoted_printable s h = rw (escape_plain s h) (one_printable 34 (s ++ 34 ∷ []) refl (both_printable s (34 ∷ []) (plain_printable s h) refl))
 
 quoted_short : (s : List ℕ) → are_plain s ≡ true → length (quoted s) ≡ length s + 2
 quoted_short s h = rw (escape_plain s h) (omega (arith, length-append s (34 ∷ [])))
@@ -122,26 +124,26 @@ hex_plain (b ∷ bytes) h =
 
 -- ---- answers
 
-counted_shown : (text : List ℕ) (n : ℕ) → are_plain text ≡ true → are_shown (compact_text (counted_data text n)) ≡ true
-counted_shown text n h = one_shown 91 (quoted text ++ 44 ∷ (decimal n ++ 93 ∷ [])) refl
-    (both_shown (quoted text) (44 ∷ (decimal n ++ 93 ∷ [])) (quoted_shown text h)
-    (one_shown 44 (decimal n ++ 93 ∷ []) refl (both_shown (decimal n) (93 ∷ []) (decimal_shown n) refl)))
+counted_printable : (text : List ℕ) (n : ℕ) → are_plain text ≡ true → are_printable (compact_text (counted_data text n)) ≡ true
+counted_printable text n h = one_printable 91 (quoted text ++ 44 ∷ (decimal n ++ 93 ∷ [])) refl
+    (both_printable (quoted text) (44 ∷ (decimal n ++ 93 ∷ [])) (quoted_printable text h)
+    (one_printable 44 (decimal n ++ 93 ∷ []) refl (both_printable (decimal n) (93 ∷ []) (decimal_printable n) refl)))
 
-answer_shown : (a : Answer) → are_shown (compact_text (answer_data a)) ≡ true
-answer_shown (answers.Number n) = counted_shown (codes "number") n refl
-answer_shown (answers.Code c) = counted_shown (codes "code") c refl
-answer_shown (answers.Got k) = counted_shown (codes "got") k refl
-answer_shown (answers.Put k) = counted_shown (codes "put") k refl
-answer_shown answers.Done = quoted_shown (codes "done") refl
-answer_shown answers.Yes = quoted_shown (codes "yes") refl
-answer_shown answers.No = quoted_shown (codes "no") refl
-answer_shown answers.Wait = quoted_shown (codes "wait") refl
-answer_shown answers.Last = quoted_shown (codes "last") refl
-answer_shown answers.NotLast = quoted_shown (codes "notlast") refl
-answer_shown answers.Eof = quoted_shown (codes "eof") refl
-answer_shown answers.Again = quoted_shown (codes "again") refl
-answer_shown answers.Stale = quoted_shown (codes "stale") refl
-answer_shown answers.Pipe = quoted_shown (codes "pipe") refl
+answer_printable : (a : Answer) → are_printable (compact_text (answer_data a)) ≡ true
+answer_printable (answers.Number n) = counted_printable (codes "number") n refl
+answer_printable (answers.Code c) = counted_printable (codes "code") c refl
+answer_printable (answers.Got k) = counted_printable (codes "got") k refl
+answer_printable (answers.Put k) = counted_printable (codes "put") k refl
+answer_printable answers.Done = quoted_printable (codes "done") refl
+answer_printable answers.Yes = quoted_printable (codes "yes") refl
+answer_printable answers.No = quoted_printable (codes "no") refl
+answer_printable answers.Wait = quoted_printable (codes "wait") refl
+answer_printable answers.Last = quoted_printable (codes "last") refl
+answer_printable answers.NotLast = quoted_printable (codes "notlast") refl
+answer_printable answers.Eof = quoted_printable (codes "eof") refl
+answer_printable answers.Again = quoted_printable (codes "again") refl
+answer_printable answers.Stale = quoted_printable (codes "stale") refl
+answer_printable answers.Pipe = quoted_printable (codes "pipe") refl
 
 counted_short : (text : List ℕ) (n : ℕ) → are_plain text ≡ true → length (compact_text (counted_data text n)) ≤ length text + 69
 counted_short text n h = omega (
@@ -170,20 +172,20 @@ answer_short answers.Pipe = omega (arith, quoted_short (codes "pipe") refl)
 
 -- ---- arguments
 
-argument_shown : (a : Argument) → IsInType a → are_shown (compact_text (argument_data a)) ≡ true
-argument_shown (numeral n) h = decimal_shown n
-argument_shown (tag n) h = decimal_shown n
-argument_shown (time (pos n)) h = decimal_shown n
-argument_shown (time (negsuc n)) h = one_shown 45 (decimal (suc n)) refl (decimal_shown (suc n))
-argument_shown (side sides.Read) h = quoted_shown (codes "r") refl
-argument_shown (side sides.Write) h = quoted_shown (codes "w") refl
-argument_shown (mode modes.Read) h = quoted_shown (codes "r") refl
-argument_shown (mode modes.Write) h = quoted_shown (codes "w") refl
-argument_shown (mode modes.Both) h = quoted_shown (codes "rw") refl
-argument_shown (bit false) h = decimal_shown 0
-argument_shown (bit true) h = decimal_shown 1
-argument_shown (digits bytes) h = quoted_shown (encode_lower bytes) (hex_plain bytes h)
-argument_shown (answer a) h = answer_shown a
+argument_printable : (a : Argument) → IsInType a → are_printable (compact_text (argument_data a)) ≡ true
+argument_printable (numeral n) h = decimal_printable n
+argument_printable (tag n) h = decimal_printable n
+argument_printable (time (pos n)) h = decimal_printable n
+argument_printable (time (negsuc n)) h = one_printable 45 (decimal (suc n)) refl (decimal_printable (suc n))
+argument_printable (side sides.Read) h = quoted_printable (codes "r") refl
+argument_printable (side sides.Write) h = quoted_printable (codes "w") refl
+argument_printable (mode modes.Read) h = quoted_printable (codes "r") refl
+argument_printable (mode modes.Write) h = quoted_printable (codes "w") refl
+argument_printable (mode modes.Both) h = quoted_printable (codes "rw") refl
+argument_printable (bit false) h = decimal_printable 0
+argument_printable (bit true) h = decimal_printable 1
+argument_printable (digits bytes) h = quoted_printable (encode_lower bytes) (hex_plain bytes h)
+argument_printable (answer a) h = answer_printable a
 
 -- the most bytes that an argument and its comma take
 abbrev pub width : Argument → ℕ
@@ -209,10 +211,10 @@ argument_short (bit true) h = omega (arith, decimal_short 1)
 argument_short (digits bytes) h = omega (arith, quoted_short (encode_lower bytes) (hex_plain bytes h), length-encode_with lower_digits bytes)
 argument_short (answer a) h = omega (arith, answer_short a)
 
-arguments_shown : (args : List Argument) → AreInTypes args → are_shown (items_text true (arguments_data args)) ≡ true
-arguments_shown [] h = refl
-arguments_shown (a ∷ rest) h = one_shown 44 (compact_text (argument_data a) ++ items_text true (arguments_data rest)) refl
-    (both_shown (compact_text (argument_data a)) (items_text true (arguments_data rest)) (argument_shown a h.0) (arguments_shown rest h.1))
+arguments_printable : (args : List Argument) → AreInTypes args → are_printable (items_text true (arguments_data args)) ≡ true
+arguments_printable [] h = refl
+arguments_printable (a ∷ rest) h = one_printable 44 (compact_text (argument_data a) ++ items_text true (arguments_data rest)) refl
+    (both_printable (compact_text (argument_data a)) (items_text true (arguments_data rest)) (argument_printable a h.0) (arguments_printable rest h.1))
 
 arguments_short : (args : List Argument) → AreInTypes args → length (items_text true (arguments_data args)) ≤ widths args + 1
 arguments_short [] h = omega arith
@@ -220,23 +222,23 @@ arguments_short (a ∷ rest) h = omega (arith, argument_short a h.0, arguments_s
 
 -- ---- lines
 
-pub line_shown : (line : List ℕ × List Argument) → are_plain line.0 ≡ true → AreInTypes line.1 → are_shown (compact_text (line_data line)) ≡ true
-line_shown line name h = one_shown 91 (quoted line.0 ++ items_text true (arguments_data line.1)) refl
-    (both_shown (quoted line.0) (items_text true (arguments_data line.1)) (quoted_shown line.0 name) (arguments_shown line.1 h))
+pub line_printable : (line : List ℕ × List Argument) → are_plain line.0 ≡ true → AreInTypes line.1 → are_printable (compact_text (line_data line)) ≡ true
+line_printable line name h = one_printable 91 (quoted line.0 ++ items_text true (arguments_data line.1)) refl
+    (both_printable (quoted line.0) (items_text true (arguments_data line.1)) (quoted_printable line.0 name) (arguments_printable line.1 h))
 
 pub line_short : (line : List ℕ × List Argument) → are_plain line.0 ≡ true → AreInTypes line.1 → length (compact_text (line_data line)) ≤ length line.0 + widths line.1 + 4
 line_short line name h = omega (arith, quoted_short line.0 name, arguments_short line.1 h, length-append (quoted line.0) (items_text true (arguments_data line.1)))
 
-member_shown : (later : Bool) (k : List ℕ) (n : ℕ) (ms : Members) → are_plain k ≡ true → are_shown (members_text true ms) ≡ true
-    → are_shown (members_text later (member k (number (unsigned n)) ms)) ≡ true
-member_shown later k n ms p q =
-    let entry = both_shown (quoted k) (58 ∷ (decimal n ++ members_text true ms)) (quoted_shown k p)
-    (one_shown 58 (decimal n ++ members_text true ms) refl (both_shown (decimal n) (members_text true ms) (decimal_shown n) q)) in
-    both_shown (comma_if later) _ (comma_shown later) entry
+member_printable : (later : Bool) (k : List ℕ) (n : ℕ) (ms : Members) → are_plain k ≡ true → are_printable (members_text true ms) ≡ true
+    → are_printable (members_text later (member k (number (unsigned n)) ms)) ≡ true
+member_printable later k n ms p q =
+    let entry = both_printable (quoted k) (58 ∷ (decimal n ++ members_text true ms)) (quoted_printable k p)
+    (one_printable 58 (decimal n ++ members_text true ms) refl (both_printable (decimal n) (members_text true ms) (decimal_printable n) q)) in
+    both_printable (comma_if later) _ (comma_printable later) entry
   where
-    comma_shown : (later : Bool) → are_shown (comma_if later) ≡ true
-    comma_shown true = refl
-    comma_shown false = refl
+    comma_printable : (later : Bool) → are_printable (comma_if later) ≡ true
+    comma_printable true = refl
+    comma_printable false = refl
 
 member_short : (later : Bool) (k : List ℕ) (n : ℕ) (ms : Members) → are_plain k ≡ true → length (members_text later (member k (number (unsigned n)) ms)) ≤ length k + 68 + length (members_text true ms)
 member_short later k n ms p =
@@ -271,14 +273,14 @@ from_gor version l = with_number (codes "gor") l.goroutines (from_version versio
 abbrev from_desc : Version → Limits → Members
 from_desc version l = with_number (codes "desc") l.descriptors (from_gor version l)
 
-pub header_shown : (version : Version) (l : Limits) → are_shown (compact_text (header_data version l)) ≡ true
-header_shown version l =
-    one_shown 123 (members_text false (with_number (codes "buf") l.buffer (from_desc version l))) refl
-    (member_shown false (codes "buf") l.buffer (from_desc version l) refl
-    (member_shown true (codes "desc") l.descriptors (from_gor version l) refl
-    (member_shown true (codes "gor") l.goroutines (from_version version l) refl
-    (member_shown true (codes "netrev") (version_number version) (from_sock l) refl
-    (member_shown true (codes "sock") l.sockets no_members refl refl)))))
+pub header_printable : (version : Version) (l : Limits) → are_printable (compact_text (header_data version l)) ≡ true
+header_printable version l =
+    one_printable 123 (members_text false (with_number (codes "buf") l.buffer (from_desc version l))) refl
+    (member_printable false (codes "buf") l.buffer (from_desc version l) refl
+    (member_printable true (codes "desc") l.descriptors (from_gor version l) refl
+    (member_printable true (codes "gor") l.goroutines (from_version version l) refl
+    (member_printable true (codes "netrev") (version_number version) (from_sock l) refl
+    (member_printable true (codes "sock") l.sockets no_members refl refl)))))
 
 pub header_short : (version : Version) (l : Limits) → length (compact_text (header_data version l)) ≤ MOST_LINE_BYTES
 header_short version l =
@@ -291,23 +293,23 @@ header_short version l =
 
 -- ---- what is visible
 
-ascii_shown : (bs : List ℕ) → are_shown bs ≡ true → are_ascii bs ≡ true
-ascii_shown [] h = refl
-ascii_shown (x ∷ xs) h =
-    let p = and_parts (is_shown x) (are_shown xs) h in
-    and_from (ltb x 128) (are_ascii xs) (and_parts (leb 32 x) (ltb x 128) p.0).1 (ascii_shown xs p.1)
+ascii_printable : (bs : List ℕ) → are_printable bs ≡ true → are_ascii bs ≡ true
+ascii_printable [] h = refl
+ascii_printable (x ∷ xs) h =
+    let p = and_parts (is_printable x) (are_printable xs) h in
+    and_from (ltb x 128) (are_ascii xs) (and_parts (leb 32 x) (ltb x 128) p.0).1 (ascii_printable xs p.1)
 
-pub utf8_shown : (bs : List ℕ) → are_shown bs ≡ true → is_utf8 bs ≡ true
-utf8_shown bs h = is_utf8-from_IsUtf8 bs (IsUtf8-are_ascii bs (ascii_shown bs h))
+pub utf8_printable : (bs : List ℕ) → are_printable bs ≡ true → is_utf8 bs ≡ true
+utf8_printable bs h = is_utf8-from_IsUtf8 bs (IsUtf8-are_ascii bs (ascii_printable bs h))
 
-split_line : (xs ys : List ℕ) → are_shown xs ≡ true → lines (xs ++ 10 ∷ ys) ≡ xs ∷ lines ys
+split_line : (xs ys : List ℕ) → are_printable xs ≡ true → lines (xs ++ 10 ∷ ys) ≡ xs ∷ lines ys
 split_line [] ys h = refl
 split_line (x ∷ xs) ys h =
-    let p = and_parts (is_shown x) (are_shown xs) h in
+    let p = and_parts (is_printable x) (are_printable xs) h in
     let low = leb-true 32 x (and_parts (leb 32 x) (ltb x 128) p.0).0 in
     rw (ne_eqb x 10 (λ e. omega arith), split_line xs ys p.1) refl
 
 -- a visible line that is written is the first line of what is there then
-pub lines-line_text : (d : Data) (more : List ℕ) → are_shown (compact_text d) ≡ true → lines (line_text d ++ more) ≡ compact_text d ∷ lines more
+pub lines-line_text : (d : Data) (more : List ℕ) → are_printable (compact_text d) ≡ true → lines (line_text d ++ more) ≡ compact_text d ∷ lines more
 unfolding line_text
 lines-line_text d more h = ap lines (append_assoc (compact_text d) (10 ∷ []) more) ∙ split_line (compact_text d) more h

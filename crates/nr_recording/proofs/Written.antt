@@ -21,7 +21,7 @@ use Rattle.nr_recording.specs.Steps.{arguments_of, answer_arguments, spelling_of
 use Rattle.nr_recording.specs.Writing.{step_data, HasTypedArguments, header_data, line_text, text}
 use Rattle.nr_recording.proofs.Again.{step_again, version_again, header_again}
 use Rattle.nr_recording.proofs.ReadBack.{line_read, header_read}
-use Rattle.nr_recording.proofs.PlainTextLemmas.{are_shown, are_plain, widths, line_shown, line_short, header_shown, header_short, utf8_shown, lines-line_text}
+use Rattle.nr_recording.proofs.PlainTextLemmas.{are_printable, are_plain, widths, line_printable, line_short, header_printable, header_short, utf8_printable, lines-line_text}
 use Rattle.nr_recording.proofs.TextLaws.{reading_again}
 
 -- a name of a kind's, and room for the arguments in a line
@@ -52,9 +52,9 @@ narrow version s w =
     }
 
 -- a visible text that JSON reads has a value
-value_read : (bytes : List ℕ) (d : Data) → are_shown bytes ≡ true → read bytes ≡ Some d → value_of bytes ≡ Ok d
+value_read : (bytes : List ℕ) (d : Data) → are_printable bytes ≡ true → read bytes ≡ Some d → value_of bytes ≡ Ok d
 unfolding value_of
-value_read bytes d visible e = rw (utf8_shown bytes visible, e) refl
+value_read bytes d visible e = rw (utf8_printable bytes visible, e) refl
 
 steps_text : (version : Version) (steps : List RecordedStep) → are_writable version steps ≡ true → All HasTypedArguments steps
     → AreSteps version (lines (concat (map (λ s. line_text (step_data s)) steps))) steps
@@ -63,7 +63,7 @@ steps_text version (s ∷ steps) writable typed =
     let w = and_parts (is_writable version s) (are_writable version steps) writable in
     let own : HasTypedArguments s = typed 0 s (omega arith) in
     let fits = narrow version s w.0 in
-    let visible = line_shown (spelling_of s) fits.plain own in
+    let visible = line_printable (spelling_of s) fits.plain own in
     let long = line_short (spelling_of s) fits.plain own in
     let room = fits.fits in
     let read_again = value_read (compact_text (step_data s)) (step_data s) visible (line_read (spelling_of s) own) in
@@ -74,7 +74,7 @@ steps_text version (s ∷ steps) writable typed =
 pub text_is_text : (r : Recorded) → IsRecording r → All HasTypedArguments r.steps → IsTextOf (text r) r
 text_is_text r is typed =
     let header = header_data r.version r.limits in
-    let visible = header_shown r.version r.limits in
+    let visible = header_printable r.version r.limits in
     let read_again = value_read (compact_text header) header visible (header_read r.version r.limits is.limits) in
     subst (λ (ls : List (List ℕ)). AreLinesOf ls r) (sym (lines-line_text header (concat (map (λ x. line_text (step_data x)) r.steps)) visible))
     (inr (

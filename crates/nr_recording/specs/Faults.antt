@@ -28,7 +28,7 @@ fault_text fault.TooManySteps = codes "106 too many steps"
 abbrev pub memory_text : List ℕ
 memory_text = codes "fault 108 memory"
 
--- the same, as a line
+-- the line that is printed where there was no memory
 abbrev pub memory_line : List ℕ
 memory_line = memory_text ++ codes "\n"
 
@@ -37,7 +37,7 @@ abbrev pub read_fault_text : ReadFault → List ℕ
 read_fault_text (reads.Line n f) = codes "line " ++ decimal n ++ codes ": fault " ++ fault_text f
 read_fault_text reads.Memory = memory_text
 
--- the same, as a line
+-- the line that is printed where a text was not read
 abbrev pub read_fault_line : ReadFault → List ℕ
 read_fault_line f = read_fault_text f ++ codes "\n"
 
@@ -80,6 +80,7 @@ abbrev pub ReadsBy : {X Y : Type 0} → (X → Y) → Result X LineError → Res
 ReadsBy view (Ok x) read = read ≡ Ok (view x)
 ReadsBy view (Err e) read = Fails e read
 
--- the same, of values that contracts see as they are
+-- what a function returned is what reading gives, unless memory ran out; for values that contracts see
+-- as they are
 abbrev pub Reads : {X : Type 0} → Result X LineError → Result X Fault → Type 0
 Reads result read = ReadsBy (λ x. x) result read

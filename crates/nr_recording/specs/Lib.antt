@@ -3,9 +3,9 @@ pub mod Faults
 pub mod Recording
 pub mod Reading
 pub mod Text
+pub mod Version
 pub mod Writing
 -- inner: what only definitions and proofs of this crate use
-pub mod Version
 pub mod Numbers
 pub mod Answer
 pub mod Part

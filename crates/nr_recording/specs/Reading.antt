@@ -98,7 +98,7 @@ abbrev pub at_line : {A : Type 0} → ℕ → Result A Fault → Result A ReadFa
 at_line n (Ok x) = Ok x
 at_line n (Err f) = Err (errors.Line n f)
 
--- the same of what a function returns: out of memory has no line
+-- the error that a function returned, where it read line n: out of memory has no line
 abbrev pub read_fault_at : ℕ → LineError → ReadFault
 read_fault_at n line.Memory = errors.Memory
 read_fault_at n (line.Fault f) = errors.Line n f

@@ -1,4 +1,4 @@
-//! The parts of a line, an array's: values of JSON, or texts and numbers that stand in the line itself.
+//! The parts of a line, an array's: values of JSON, or texts and numbers that are borrowed from the line itself.
 
 ghost use Rattle.std.specs.Prelude.{◌≡◌, MatchOption, option_map};
 ghost use Rattle.serde_json.specs.Data.{no_items, item};

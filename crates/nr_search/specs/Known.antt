@@ -18,7 +18,7 @@ IsFoundIn span hits s found =
 pub record IsTrue (span : Span) (hits : ℕ → List ℕ) (s : ℕ) (slot : Slot) : Type 0 where
   pub found : (found : Found) → slot ≡ Searched found → IsFoundIn span hits s found
 
--- so is what is known of each
+-- what is said of each segment is true
 pub record AreTrue (span : Span) (hits : ℕ → List ℕ) (known : ℕ → Slot) : Type 0 where
   pub each : (s : ℕ) → IsTrue span hits s (known s)
 

@@ -31,7 +31,8 @@ any_changed kind marks = list_any (λ m. is_changed_by kind m.item) marks
 abbrev pub any_stopped : Option NextStep → List NumberedMark → Bool
 any_stopped next marks = list_any (λ m. is_stopped_by next m.item) marks
 
--- For each kind, at its number: whether one of the marks watches a cell that such a step can change.
+-- For each kind, at its number: whether one of the marks watches a cell that such a step can
+-- change.
 pub record AreChanging (marks : List NumberedMark) (changing : List Bool) : Type 0 where
   pub each : (kind : Kind) → slice_get changing (kind_number kind) ≡ Some (any_changed kind marks)
 

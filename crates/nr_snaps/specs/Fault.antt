@@ -31,6 +31,6 @@ load_fault_text (fault.OtherAnswer step) =
     codes "step " ++ decimal step ++ codes ": fault 109 answer"
 load_fault_text fault.Memory = memory_text
 
--- the same, as a line
+-- the line that is printed for a fault
 abbrev pub load_fault_line : LoadFault → List ℕ
 load_fault_line f = load_fault_text f ++ codes "\n"
