@@ -36,7 +36,7 @@ change_view c =
       woken = listed c.woken;
     }
 
--- the same, of a change with one order at most, which wakes none
+-- the change that a packed one with one order at most means, which wakes none
 abbrev pub followed_view : Followed → Change
 followed_view f = record { descriptor = f.desc; orders = option_to_list f.order; woken = [] }
 

@@ -75,7 +75,7 @@ abbrev pub fired : Option Change → Descriptor → Answer × Change
 fired None d = (Stale, quiet d)
 fired (Some change) d = (Done, change)
 
--- the same, of a firing that may be refused
+-- what a firing comes to that may be refused
 abbrev pub fire_by : Result (Option Change) Refusal → Descriptor → Outcome
 fire_by firing d = do
   change ← firing

@@ -1,4 +1,4 @@
-//! Poll words as numbers: 0 nil, 1 ready, 2 wait, and 3 more than its number for a goroutine.
+//! Wait words as numbers: 0 nil, 1 ready, 2 wait, and 3 more than its number for a goroutine.
 
 ghost use Rattle.std.specs.Prelude.{◌≡◌, ◌+◌, ◌<◌, ◌^◌, option_to_list};
 ghost use Rattle.nr_rev.specs.Descriptor as spec;
@@ -9,7 +9,7 @@ ghost use Rattle.nr_desc.specs.Code.{code_of, is_awaited};
 use nr_rev::WaitWord;
 use std::marker::Model;
 
-/// A poll word as a number, seen in contracts as the word.
+/// A wait word as a number, seen in contracts as the word.
 #[derive(Clone, Copy, Debug, PartialEq, Eq)]
 pub(crate) struct WordCode(u32);
 

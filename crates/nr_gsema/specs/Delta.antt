@@ -29,7 +29,7 @@ released_back s side front t = queued_again s side front (on_semaphore s side (u
 abbrev pub owed : ℕ → ℕ → Sides ℕ
 owed reads writes = record { read = reads; write = writes }
 
--- what undoing leaves
+-- what undoing leaves of a table
 abbrev pub undone : GUndo → GoroutineTable → GoroutineTable
 undone undo.Spawned t = record t { goroutines = take (length t.goroutines - 1) t.goroutines }
 undone (undo.Moved g status) t = with_status g status t
@@ -71,11 +71,11 @@ CanUndo (undo.Released g s reads writes front) t =
 abbrev pub Reverses : GUndo → GoroutineTable → GoroutineTable → Type 0
 Reverses undo new old = CanUndo undo new × (old ≡ undone undo new)
 
--- so does a delta
+-- a delta leads from the new table back to the old one
 abbrev pub LeadsBack : GDelta → GoroutineTable → GoroutineTable → Type 0
 LeadsBack delta new old = Reverses delta.undo new old
 
--- how many words are held
+-- how many words an undo holds
 abbrev pub undo_weight : GUndo → ℕ
 undo_weight undo.Spawned = variant_weight
 undo_weight (undo.Moved g status) = variant_weight + number_weight g + status_weight status
@@ -87,11 +87,11 @@ undo_weight (undo.Released g s reads writes front) =
     variant_weight + number_weight g + number_weight s + number_weight reads + number_weight writes
     + option_weight number_weight front
 
--- so many are in a delta
+-- how many words a delta holds
 abbrev pub delta_weight : GDelta → ℕ
 delta_weight delta = undo_weight delta.undo
 
--- how many an operation's may
+-- how many words an operation's delta may hold
 abbrev pub weight_allowed : GOperation → ℕ
 weight_allowed operation.Spawn = 1
 weight_allowed (operation.Exit g) = 3

@@ -4,8 +4,8 @@ pub mod Step
 pub mod Delta
 pub mod Applying
 pub mod Worked
--- inner: what only definitions and proofs of this crate use
-pub mod SemaphoreChange
 pub mod ReversibleLaws
 pub mod Links
+-- inner: what only definitions and proofs of this crate use
+pub mod SemaphoreChange
 pub mod Relinking

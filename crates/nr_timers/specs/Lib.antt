@@ -6,6 +6,7 @@ pub mod TimersOf
 pub mod State
 pub mod Step
 pub mod Back
+pub mod ReversibleLaws
 -- inner: what only definitions and proofs of this crate use
 pub mod Change
 pub mod Places
@@ -14,4 +15,3 @@ pub mod Performing
 pub mod LineLaws
 pub mod ChangeLaws
 pub mod BackLaws
-pub mod ReversibleLaws

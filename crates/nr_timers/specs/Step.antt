@@ -70,7 +70,7 @@ Makes old (Stop d side) new = Stops old d side new
 Makes old (Pop now) new = Pops old now new
 Makes old (TakeFiring place) new = TakesFiring old place new
 
--- the same, from well-formed timers; no operation returns anything
+-- an operation leads from well-formed timers to the new ones; none returns anything
 abbrev pub TimersStep : State → TimersOp → Unit {0} → State → Type 0
 TimersStep old op answer new = IsTimers old × Makes old op new
 

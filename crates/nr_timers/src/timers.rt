@@ -1,7 +1,6 @@
 //! Timers that are armed, and the firings that wait to be run.
 
-ghost use Rattle.std.specs.Prelude.{◌≡◌, ◌≢◌, ℕ, ◌^◌, ◌<◌, [], List, length, slice_get, IfOk, IfErr, MatchOption};
-ghost use Rattle.nr_rev.specs.declared.refusal.Refusal.TheVariants as refusals;
+ghost use Rattle.std.specs.Prelude.{◌≡◌, ◌≢◌, ℕ, ◌^◌, ◌<◌, [], List, length, slice_get, IfOk, MatchOption};
 ghost use Rattle.nr_rev.specs.declared.sides.Sides.{Sides};
 ghost use Rattle.nr_rev.specs.declared.timer.Timer.{Timer};
 ghost use Rattle.nr_timers.specs.Index.{Absent, key, key_of};
@@ -10,7 +9,7 @@ ghost use Rattle.nr_timers.specs.State.{IsTimers};
 
 use crate::entries::key_of;
 use crate::heap::Heap;
-use nr_rev::{Entry, Memory, Refusal, RoomedList, Side};
+use nr_rev::{Entry, Memory, RoomedList, Side};
 use std::alloc::Global;
 use std::marker::Model;
 
@@ -46,25 +45,12 @@ impl Model for Timers {
 }
 
 impl Timers {
-    /// No timer and no firing, with room for two of each for each of so many descriptors. The first arming gets number 1.
-    /// `Refusal::Memory` where there is none for the room.
-    pub fn with_limits(alloc: Global, descriptors: u32) -> Result<Timers, Refusal>
+    /// No timer and no firing, with room for two of each for each of so many descriptors. The first arming gets number 1. An
+    /// error is that there is no memory for the room.
+    pub fn with_limits(alloc: Global, descriptors: u32) -> Result<Timers, Memory>
         requires { descriptors < 2 ^ 31 }
         ensures well_formed { IfOk result IsTimers }
         ensures empty { IfOk result (λ t. t ≡ record {
-          entries = [];
-          firings = [];
-          next = 1;
-          descriptors = descriptors;
-        }) }
-        ensures err { IfErr result (λ e. e ≡ refusals.Memory) }
-    {
-        Timers::with_room(alloc, descriptors).map_err(|_| Refusal::Memory)
-    }
-
-    fn with_room(alloc: Global, descriptors: u32) -> Result<Timers, Memory>
-        requires { descriptors < 2 ^ 31 }
-        ensures { IfOk result (λ t. t ≡ record {
           entries = [];
           firings = [];
           next = 1;
@@ -81,17 +67,10 @@ impl Timers {
         })
     }
 
-    /// An equal one, each entry at its place, in room of its own. `Refusal::Memory` where there is none for it.
-    pub fn try_copy(&self) -> Result<Timers, Refusal>
+    /// An equal one, each entry at its place, in room of its own. An error is that there is no memory for it.
+    pub fn try_copy(&self) -> Result<Timers, Memory>
         ensures well_formed { IsTimers self.now → IfOk result IsTimers }
         ensures equal { IfOk result (λ t. t ≡ self.now) }
-        ensures err { IfErr result (λ e. e ≡ refusals.Memory) }
-    {
-        self.copy().map_err(|_| Refusal::Memory)
-    }
-
-    fn copy(&self) -> Result<Timers, Memory>
-        ensures { IfOk result (λ t. t ≡ self.now) }
     {
         Ok(Timers {
             alloc: self.alloc,
