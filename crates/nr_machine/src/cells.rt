@@ -21,6 +21,7 @@ impl World {
         requires { IsWorld self.now }
         ensures { result ≡ cell (meant self.now) cell.Timers }
     {
+        // A law, which does nothing: there are as many entries as descriptors have timers.
         entries_are_the_descriptors();
         CellValue::Number(self.core.timers.len() as u64)
     }
@@ -30,6 +31,7 @@ impl World {
         requires { IsWorld self.now }
         ensures { result ≡ cell (meant self.now) cell.Least }
     {
+        // A law, which does nothing: the heap's first entry is the least of all descriptors' timers.
         entries_are_the_descriptors();
         match self.core.timers.least() {
             None => CellValue::Absent,
@@ -37,6 +39,7 @@ impl World {
         }
     }
 
+    /// Where a goroutine is.
     pub(crate) fn goroutine_value(&self, goroutine: u32) -> CellValue
         ensures { result ≡ cell (meant self.now) (cell.Goroutine goroutine) }
     {
@@ -46,6 +49,7 @@ impl World {
         }
     }
 
+    /// The number of a socket's lock word.
     #[tactic(auto, using(crate::proofs::CellLemmas::socket_absent, crate::proofs::CellLemmas::socket_value_is))]
     pub(crate) fn lock_value(&self, socket: u32) -> CellValue
         ensures { result
@@ -57,6 +61,7 @@ impl World {
         }
     }
 
+    /// The count of a socket's semaphore.
     pub(crate) fn count_value(&self, socket: u32, side: Side) -> CellValue
         requires { IsWorld self.now }
         ensures { result
@@ -72,6 +77,7 @@ impl World {
         }
     }
 
+    /// How many bytes a socket's buffer holds.
     pub(crate) fn length_value(&self, socket: u32, side: Side) -> CellValue
         requires { IsWorld self.now }
         ensures { result
@@ -84,6 +90,7 @@ impl World {
         CellValue::Number(u64::from(self.socks[socket as usize].len(side)))
     }
 
+    /// Whether a socket's write side is shut.
     pub(crate) fn shut_value(&self, socket: u32) -> CellValue
         requires { IsWorld self.now }
         ensures { result ≡ socket_value socket (meant self.now) (λ x. value.Number (bit x.shut)) }
@@ -94,6 +101,7 @@ impl World {
         CellValue::Number(u64::from(self.socks[socket as usize].shut()))
     }
 
+    /// The wait word of a descriptor's side.
     #[tactic(auto, using(crate::proofs::CellLemmas::descriptor_value_is))]
     pub(crate) fn word_value(&self, descriptor: u32, side: Side) -> CellValue
         ensures { result
@@ -106,6 +114,7 @@ impl World {
         }
     }
 
+    /// The deadline of a descriptor's side.
     #[tactic(auto, using(crate::proofs::CellLemmas::descriptor_value_is))]
     pub(crate) fn deadline_value(&self, descriptor: u32, side: Side) -> CellValue
         ensures { result
@@ -118,6 +127,7 @@ impl World {
         }
     }
 
+    /// The sequence of a descriptor's side.
     #[tactic(auto, using(crate::proofs::CellLemmas::descriptor_value_is))]
     pub(crate) fn sequence_value(&self, descriptor: u32, side: Side) -> CellValue
         ensures { result
@@ -130,6 +140,7 @@ impl World {
         }
     }
 
+    /// The tag of a descriptor.
     #[tactic(auto, using(crate::proofs::CellLemmas::descriptor_value_is))]
     pub(crate) fn fdseq_value(&self, descriptor: u32) -> CellValue
         ensures { result
@@ -141,6 +152,7 @@ impl World {
         }
     }
 
+    /// The summary of a descriptor.
     #[tactic(auto, using(crate::proofs::CellLemmas::descriptor_value_is))]
     pub(crate) fn summary_value(&self, descriptor: u32) -> CellValue
         ensures { result
