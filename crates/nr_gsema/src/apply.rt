@@ -29,7 +29,8 @@ impl GTable {
         }
     }
 
-    /// Does nothing: each queue holds just those with that queued status, each once.
+    /// Does nothing: each queue holds just those with that queued status, each once. It is a method and no law, because that
+    /// is of the type's invariant, which its view doesn't say; reading a field is what brings the invariant into a proof.
     #[inline(always)]
     pub fn queues_hold_the_queued(&self)
         ensures { IsQueuedUp self.now }

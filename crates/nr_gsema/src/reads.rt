@@ -13,6 +13,7 @@ impl GTable {
     pub fn made(&self) -> u32
         ensures { result ≡ length self.now.goroutines }
     {
+        // read so that the proof has the invariant, by which the number fits
         let _limit = self.limit;
         self.nodes.len() as u32
     }
@@ -101,6 +102,7 @@ impl GTable {
         ensures limit { result ≡ self.now.limit }
         ensures within { length self.now.goroutines ≤ result }
     {
+        // read so that the proof has the invariant, by which there are as many nodes at most
         let _ = &self.nodes;
         self.limit
     }

@@ -15,7 +15,7 @@ change_view c =
       woken = option_to_list c.woken.read ++ option_to_list c.woken.write;
     }
 
--- the same, of a change with one order at most, which wakes none
+-- the change that a packed one with one order at most means, which wakes none
 abbrev pub followed_view : Followed → Change
 followed_view f = record { descriptor = f.descriptor; orders = option_to_list f.order; woken = [] }
 

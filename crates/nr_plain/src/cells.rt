@@ -1,7 +1,7 @@
-//! What can be read of a world.
+//! The values of the cells that are more than a number of the world.
 
 ghost use Rattle.std.specs.Prelude.{◌≡◌, ◌^◌, ◌<◌, ◌≤◌, length, slice_get, option_map};
-ghost use Rattle.nr_rev.specs.Cell.{cell, descriptor_value, socket_value};
+ghost use Rattle.nr_rev.specs.Cell.{descriptor_value, socket_value};
 ghost use Rattle.nr_rev.specs.Lock.{bit, lock_number};
 ghost use Rattle.nr_rev.specs.Sides.{of_side};
 ghost use Rattle.nr_rev.specs.WellFormed.{LockFits, WellFormed};
@@ -9,51 +9,12 @@ ghost use Rattle.nr_rev.specs.World.{entries_of};
 ghost use Rattle.nr_rev.specs.declared.cell_value.CellValue.TheVariants as value;
 ghost use Rattle.nr_rev.specs.declared.descriptor.DescriptorRow.{DescriptorRow as Row};
 
-use crate::descriptor::summary;
 use crate::world::PlainWorld;
-use nr_rev::{Cell, CellValue, Descriptor, DescriptorRow, Lock, Side};
+use nr_rev::{CellValue, Descriptor, DescriptorRow, Lock, Side};
 
 impl PlainWorld {
-    /// The value of a cell.
-    pub(crate) fn value(&self, what: Cell) -> CellValue
-        requires { WellFormed self.now }
-        ensures { result ≡ cell self.now what }
-    {
-        match what {
-            Cell::Clock => CellValue::Time(self.clock),
-            Cell::Waiters => CellValue::Number(self.waiters),
-            Cell::Timers => CellValue::Number(armed_in(self.descriptors.as_slice())),
-            Cell::Firings => CellValue::Number(self.firings.len() as u64),
-            Cell::Least => self.least_entry().map_or(
-                CellValue::Absent,
-                |entry| CellValue::Time(entry.timer.due),
-            ),
-            Cell::Goroutine(g) => self
-                .goroutines
-                .get(g as usize)
-                .map_or(CellValue::Absent, |status| CellValue::Status(status)),
-            Cell::Lock(s) => self.lock_value(s),
-            Cell::ReadSemaphore(s) => self.count_value(s, Side::Read),
-            Cell::WriteSemaphore(s) => self.count_value(s, Side::Write),
-            Cell::Input(s) => self.length_value(s, Side::Read),
-            Cell::Output(s) => self.length_value(s, Side::Write),
-            Cell::ReadWord(d) => self.word_value(d, Side::Read),
-            Cell::WriteWord(d) => self.word_value(d, Side::Write),
-            Cell::ReadDeadline(d) => self.deadline_value(d, Side::Read),
-            Cell::WriteDeadline(d) => self.deadline_value(d, Side::Write),
-            Cell::ReadSequence(d) => self.sequence_value(d, Side::Read),
-            Cell::WriteSequence(d) => self.sequence_value(d, Side::Write),
-            Cell::DescriptorSequence(d) => self
-                .descriptor(d)
-                .map_or(CellValue::Absent, |x| CellValue::Number(x.fdseq)),
-            Cell::Info(d) => self
-                .descriptor(d)
-                .map_or(CellValue::Absent, |x| CellValue::Number(summary(x))),
-            Cell::Shut(s) => self.shut_value(s),
-        }
-    }
-
-    fn lock_value(&self, socket: u32) -> CellValue
+    /// The number of a socket's lock.
+    pub(crate) fn lock_value(&self, socket: u32) -> CellValue
         requires { WellFormed self.now }
         ensures { result
             ≡ socket_value socket self.now (λ row. value.Number (lock_number row.lock)) }
@@ -64,7 +25,8 @@ impl PlainWorld {
         }
     }
 
-    fn count_value(&self, socket: u32, side: Side) -> CellValue
+    /// The count of a socket's semaphore.
+    pub(crate) fn count_value(&self, socket: u32, side: Side) -> CellValue
         ensures { result
             ≡ socket_value socket self.now
             (λ row. value.Number (of_side side row.semaphores).count) }
@@ -75,7 +37,8 @@ impl PlainWorld {
         }
     }
 
-    fn length_value(&self, socket: u32, side: Side) -> CellValue
+    /// How many bytes a socket's buffer holds.
+    pub(crate) fn length_value(&self, socket: u32, side: Side) -> CellValue
         ensures { result
             ≡ socket_value socket self.now
             (λ row. value.Number (length (of_side side row.buffers).bytes)) }
@@ -86,7 +49,8 @@ impl PlainWorld {
         }
     }
 
-    fn shut_value(&self, socket: u32) -> CellValue
+    /// Whether a socket's write side is shut.
+    pub(crate) fn shut_value(&self, socket: u32) -> CellValue
         ensures { result ≡ socket_value socket self.now (λ row. value.Number (bit row.shut)) }
     {
         match self.sockets.get(socket) {
@@ -95,7 +59,8 @@ impl PlainWorld {
         }
     }
 
-    fn word_value(&self, descriptor: u32, side: Side) -> CellValue
+    /// The wait word of a descriptor's side.
+    pub(crate) fn word_value(&self, descriptor: u32, side: Side) -> CellValue
         ensures { result
             ≡ descriptor_value descriptor self.now (λ x. value.WaitWord (of_side side x.words)) }
     {
@@ -105,7 +70,8 @@ impl PlainWorld {
         }
     }
 
-    fn deadline_value(&self, descriptor: u32, side: Side) -> CellValue
+    /// The deadline of a descriptor's side.
+    pub(crate) fn deadline_value(&self, descriptor: u32, side: Side) -> CellValue
         ensures { result
             ≡ descriptor_value descriptor self.now (λ x. value.Time (of_side side x.deadlines)) }
     {
@@ -115,7 +81,8 @@ impl PlainWorld {
         }
     }
 
-    fn sequence_value(&self, descriptor: u32, side: Side) -> CellValue
+    /// The sequence of a descriptor's side.
+    pub(crate) fn sequence_value(&self, descriptor: u32, side: Side) -> CellValue
         ensures { result
             ≡ descriptor_value descriptor self.now (λ x. value.Number (of_side side x.sequences)) }
     {
@@ -126,7 +93,7 @@ impl PlainWorld {
     }
 
     /// A descriptor that was made.
-    fn descriptor(&self, descriptor: u32) -> Option<Descriptor>
+    pub(crate) fn descriptor(&self, descriptor: u32) -> Option<Descriptor>
         ensures { result
             ≡ option_map (λ (row : Row). row.descriptor)
             (slice_get self.now.descriptors descriptor) }
@@ -167,7 +134,7 @@ fn bit(flag: bool) -> u64
 }
 
 /// How many timers these rows have armed.
-fn armed_in(rows: &[DescriptorRow]) -> u64
+pub(crate) fn armed_in(rows: &[DescriptorRow]) -> u64
     requires { length rows.now < 2 ^ 32 }
     ensures { result ≡ length (entries_of rows.now) }
 {

@@ -84,9 +84,7 @@ impl PlainWorld {
         self.idle(goroutine)?;
         let row = self.socket_of(socket)?;
         self.sized(count)?;
-        let Ok(bytes) = front(self.alloc, row.buffer(Side::Read), count) else {
-            return Err(Refusal::Memory);
-        };
+        let bytes = front(self.alloc, row.buffer(Side::Read), count)?;
         let answer = read_answer(bytes.len() as u32, row.state.peer_closed);
         let edit = SocketEdit::Take {
             side: Side::Read,
@@ -132,9 +130,7 @@ impl PlainWorld {
         if row.buffer(Side::Write).bytes.len() < count as usize {
             return Err(Refusal::TooFewBytes);
         }
-        let Ok(bytes) = front(self.alloc, row.buffer(Side::Write), count) else {
-            return Err(Refusal::Memory);
-        };
+        let bytes = front(self.alloc, row.buffer(Side::Write), count)?;
         let edit = SocketEdit::Take {
             side: Side::Write,
             bytes,

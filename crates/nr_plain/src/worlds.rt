@@ -1,10 +1,9 @@
 //! The world over lists as a world.
 
 ghost use Rattle.std.specs.Prelude.{◌≡◌, ◌<◌, length, IfOk, OnErr};
-ghost use Rattle.nr_rev.specs.Cell.{bytes_of, queue_of};
-ghost use Rattle.nr_rev.specs.World.{empty_world};
-ghost use Rattle.nr_rev.specs.Worlds.{HasItems};
 
+use crate::cells::armed_in;
+use crate::descriptor::summary;
 use crate::sockets::Sockets;
 use crate::world::PlainWorld;
 use nr_rev::{
@@ -12,77 +11,6 @@ use nr_rev::{
     Status, Step, Worlds,
 };
 use std::alloc::Global;
-
-impl PlainWorld {
-    /// The world before the first step.
-    fn with_room(alloc: Global, limits: Limits) -> Result<PlainWorld, Memory>
-        requires { 0 < limits.goroutines }
-        ensures { IfOk result (λ w. w ≡ empty_world limits) }
-    {
-        let descriptors = limits.descriptors as usize;
-        let mut goroutines = RoomedList::with_room(alloc, limits.goroutines as usize)?;
-        goroutines.push(Status::Idle);
-        Ok(PlainWorld {
-            alloc,
-            limits,
-            goroutines,
-            sockets: Sockets::with_room(
-                alloc,
-                limits.sockets,
-                limits.goroutines as usize,
-                limits.buffer as usize,
-            )?,
-            descriptors: RoomedList::with_room(alloc, descriptors)?,
-            firings: RoomedList::with_room(alloc, 2 * descriptors)?,
-            free: RoomedList::with_room(alloc, descriptors)?,
-            clock: 0,
-            waiters: 0,
-            next_arming: 1,
-        })
-    }
-
-    /// An equal one, with room of its own.
-    fn copy(&self) -> Result<PlainWorld, Memory>
-        ensures { IfOk result (λ w. w ≡ self.now) }
-    {
-        Ok(PlainWorld {
-            alloc: self.alloc,
-            limits: self.limits,
-            goroutines: self.goroutines.try_copy(self.alloc)?,
-            sockets: self.sockets.try_copy(self.alloc)?,
-            descriptors: self.descriptors.try_copy(self.alloc)?,
-            firings: self.firings.try_copy(self.alloc)?,
-            free: self.free.try_copy(self.alloc)?,
-            clock: self.clock,
-            waiters: self.waiters,
-            next_arming: self.next_arming,
-        })
-    }
-
-    /// A copy of the bytes that a buffer holds.
-    fn bytes_copy(&self, socket: u32, side: Side) -> Result<Option<Bytes>, Memory>
-        ensures ok { IfOk result (λ bytes. bytes ≡ bytes_of self.now socket side) }
-        ensures some { OnErr result (HasItems (bytes_of self.now socket side)) }
-    {
-        let Some(row) = self.sockets.get(socket) else {
-            return Ok(None);
-        };
-        let bytes = copy_of(self.alloc, row.buffer(side).bytes)?;
-        Ok(Some(Bytes::new(bytes)))
-    }
-
-    /// A copy of a semaphore's queue.
-    fn queue_copy(&self, socket: u32, side: Side) -> Result<Option<Queue>, Memory>
-        ensures ok { IfOk result (λ queue. queue ≡ queue_of self.now socket side) }
-        ensures some { OnErr result (HasItems (queue_of self.now socket side)) }
-    {
-        let Some(row) = self.sockets.get(socket) else {
-            return Ok(None);
-        };
-        let queue = copy_of(self.alloc, row.semaphore(side).queue)?;
-        Ok(Some(Queue::new(queue)))
-    }
-}
 
 /// A copy of the items. Of none it takes no memory.
 fn copy_of<T: Copy + Drop>(alloc: Global, items: &[T]) -> Result<Vec<T>, Memory>
@@ -107,19 +35,49 @@ impl Worlds for PlainWorld {
 
     #[tactic(auto, using(crate::proofs::FreshLemmas::fresh_fits))]
     fn fresh(alloc: Global, limits: Limits) -> Result<Self, Refusal> {
-        PlainWorld::with_room(alloc, limits).map_err(|_| Refusal::Memory)
+        let descriptors = limits.descriptors as usize;
+        let mut goroutines = RoomedList::with_room(alloc, limits.goroutines as usize)?;
+        goroutines.push(Status::Idle);
+        Ok(PlainWorld {
+            alloc,
+            limits,
+            goroutines,
+            sockets: Sockets::with_room(
+                alloc,
+                limits.sockets,
+                limits.goroutines as usize,
+                limits.buffer as usize,
+            )?,
+            descriptors: RoomedList::with_room(alloc, descriptors)?,
+            firings: RoomedList::with_room(alloc, 2 * descriptors)?,
+            free: RoomedList::with_room(alloc, descriptors)?,
+            clock: 0,
+            waiters: 0,
+            next_arming: 1,
+        })
     }
 
     fn try_copy(&self) -> Result<Self, Refusal> {
-        self.copy().map_err(|_| Refusal::Memory)
+        Ok(PlainWorld {
+            alloc: self.alloc,
+            limits: self.limits,
+            goroutines: self.goroutines.try_copy(self.alloc)?,
+            sockets: self.sockets.try_copy(self.alloc)?,
+            descriptors: self.descriptors.try_copy(self.alloc)?,
+            firings: self.firings.try_copy(self.alloc)?,
+            free: self.free.try_copy(self.alloc)?,
+            clock: self.clock,
+            waiters: self.waiters,
+            next_arming: self.next_arming,
+        })
     }
 
     fn snapshot(&self) -> Result<PlainWorld, Refusal> {
-        self.copy().map_err(|_| Refusal::Memory)
+        self.try_copy()
     }
 
     fn restored(snapshot: &PlainWorld) -> Result<Self, Refusal> {
-        snapshot.copy().map_err(|_| Refusal::Memory)
+        snapshot.try_copy()
     }
 
     #[tactic(auto, using(crate::proofs::PlanLemmas::advances_keeps))]
@@ -139,15 +97,54 @@ impl Worlds for PlainWorld {
     }
 
     fn cell(&self, what: Cell) -> CellValue {
-        self.value(what)
+        match what {
+            Cell::Clock => CellValue::Time(self.clock),
+            Cell::Waiters => CellValue::Number(self.waiters),
+            Cell::Timers => CellValue::Number(armed_in(self.descriptors.as_slice())),
+            Cell::Firings => CellValue::Number(self.firings.len() as u64),
+            Cell::Least => self.least_entry().map_or(
+                CellValue::Absent,
+                |entry| CellValue::Time(entry.timer.due),
+            ),
+            Cell::Goroutine(g) => self
+                .goroutines
+                .get(g as usize)
+                .map_or(CellValue::Absent, |status| CellValue::Status(status)),
+            Cell::Lock(s) => self.lock_value(s),
+            Cell::ReadSemaphore(s) => self.count_value(s, Side::Read),
+            Cell::WriteSemaphore(s) => self.count_value(s, Side::Write),
+            Cell::Input(s) => self.length_value(s, Side::Read),
+            Cell::Output(s) => self.length_value(s, Side::Write),
+            Cell::ReadWord(d) => self.word_value(d, Side::Read),
+            Cell::WriteWord(d) => self.word_value(d, Side::Write),
+            Cell::ReadDeadline(d) => self.deadline_value(d, Side::Read),
+            Cell::WriteDeadline(d) => self.deadline_value(d, Side::Write),
+            Cell::ReadSequence(d) => self.sequence_value(d, Side::Read),
+            Cell::WriteSequence(d) => self.sequence_value(d, Side::Write),
+            Cell::DescriptorSequence(d) => self
+                .descriptor(d)
+                .map_or(CellValue::Absent, |x| CellValue::Number(x.fdseq)),
+            Cell::Info(d) => self
+                .descriptor(d)
+                .map_or(CellValue::Absent, |x| CellValue::Number(summary(x))),
+            Cell::Shut(s) => self.shut_value(s),
+        }
     }
 
     fn bytes(&self, socket: u32, side: Side) -> Result<Option<Bytes>, Refusal> {
-        self.bytes_copy(socket, side).map_err(|_| Refusal::Memory)
+        let Some(row) = self.sockets.get(socket) else {
+            return Ok(None);
+        };
+        let bytes = copy_of(self.alloc, row.buffer(side).bytes)?;
+        Ok(Some(Bytes::new(bytes)))
     }
 
     fn queue(&self, socket: u32, side: Side) -> Result<Option<Queue>, Refusal> {
-        self.queue_copy(socket, side).map_err(|_| Refusal::Memory)
+        let Some(row) = self.sockets.get(socket) else {
+            return Ok(None);
+        };
+        let queue = copy_of(self.alloc, row.semaphore(side).queue)?;
+        Ok(Some(Queue::new(queue)))
     }
 
     ghost steps_are = { steps_are };
