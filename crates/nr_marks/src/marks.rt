@@ -178,7 +178,7 @@ impl Marks {
         }
     }
 
-    // The same, of the next step as breaks see it.
+    // The numbers of the marks that hit between two worlds, where breaks see this of the step that comes next.
     fn hits_before<W: Worlds>(
         &self,
         before: &W,
