@@ -76,7 +76,7 @@ impl Found {
     }
 }
 
-// The same numbers. It takes no memory.
+// A copy of the numbers of marks. It takes no memory.
 fn copied(numbers: &Numbers) -> Numbers
     ensures { result ≡ numbers.now }
 {
