@@ -84,7 +84,7 @@ arguments_again (Step.Arrive s bytes) more h w = rw (number_again s h.0, bytes_a
 arguments_again (Step.SysWrite g s bytes) more (g_typed, (s_typed, (bytes_typed, rest))) w = rw (number_again g g_typed, number_again s s_typed, bytes_again bytes bytes_typed w) refl
 arguments_again s more h w = grind (arith, number_again, side_again, mode_again, bit_again, moment_again)
 
--- so does the answer behind them
+-- the answer that is recorded behind a step's arguments, read in its version, is that answer
 answer_in_again : (version : Version) (a : Option Answer) → may_have version a ≡ true → AreInTypes (answer_arguments a) → answer_in version (arguments_data (answer_arguments a)) ≡ Ok (a, no_items)
 answer_in_again One None may h = refl
 answer_in_again One (Some a) may h = absurd cc

@@ -79,7 +79,8 @@ hex_of d = option_and_then bytes_named (as_str d)
 abbrev pub digits_take_memory : List ℕ → Bool
 digits_take_memory text = not (nat_lt most_digits (length text)) && (length text % 2 == 0)
 
--- an argument that is read as bytes takes memory: a text with an even number of digits, not too many
+-- an argument that is read as bytes takes memory, where it is a text with an even number of digits,
+-- not too many
 abbrev pub argument_takes_memory : Data → Bool
 argument_takes_memory d = option_map_or digits_take_memory (as_str d) false
 

@@ -80,7 +80,7 @@ abbrev pub ReadsBy : {X Y : Type 0} → (X → Y) → Result X LineError → Res
 ReadsBy view (Ok x) read = read ≡ Ok (view x)
 ReadsBy view (Err e) read = Fails e read
 
--- what a function returned is what reading gives, unless memory ran out; for values that contracts see
--- as they are
+-- what a function returned is what reading gives, unless memory ran out: of values that contracts
+-- see as they are
 abbrev pub Reads : {X : Type 0} → Result X LineError → Result X Fault → Type 0
 Reads result read = ReadsBy (λ x. x) result read

@@ -12,7 +12,7 @@ use Rattle.nr_recording.specs.Part.{part_data}
 abbrev pub items_behind : List ℕ → List Token
 items_behind text = punctuate after_value (lex between text)
 
--- the same behind the comma that follows an item
+-- the tokens of what is left of a text behind an item and the comma that follows it
 abbrev pub items_after_comma : List ℕ → List Token
 items_after_comma text = punctuate after_comma (lex between text)
 

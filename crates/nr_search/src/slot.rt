@@ -31,7 +31,7 @@ impl Slot {
         }
     }
 
-    // The same, in room of its own.
+    // A copy of what is known of a segment, in room of its own.
     fn copy(&self) -> Slot
         ensures { result ≡ self.now }
     {
