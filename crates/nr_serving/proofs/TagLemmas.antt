@@ -10,7 +10,7 @@ use Rattle.nr_lines.specs.declared.ending.LineEnd.{LineEnd}
 use Rattle.nr_lines.specs.declared.ending.LineEnd.TheVariants.{Read, Write}
 use Rattle.nr_lines.proofs.KeptLemmas.{IsKept, turn_keeps, turns_keep}
 use Rattle.nr_serving.specs.Fronts.{ServesCallers}
-use Rattle.nr_serving.specs.Told.{Conversation}
+use Rattle.nr_serving.specs.Conversations.{Conversation}
 
 -- the tag is the same, and how many passes there are
 abbrev pub HasSameTag : FrontState → FrontState → Type 0
