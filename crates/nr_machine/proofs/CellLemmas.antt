@@ -31,16 +31,16 @@ use Rattle.nr_machine.proofs.QueueLemmas.{viewed}
 
 -- ---- descriptors
 
-shown_by : (m : WorldParts) (d : ℕ) (f : Descriptor → CellValue) (o : Option Descriptor) → slice_get m.core.descriptors.items d ≡ o
+value_by : (m : WorldParts) (d : ℕ) (f : Descriptor → CellValue) (o : Option Descriptor) → slice_get m.core.descriptors.items d ≡ o
     → value_or_absent f o ≡ descriptor_value d (meant m) f
-shown_by m d f None at =
+value_by m d f None at =
     sym (ap (λ (o : Option DescriptorRow). value_or_absent (λ row. f row.descriptor) o) (row_past m.core.descriptors.items m.core.timers.entries d at))
-shown_by m d f (Some x) at =
+value_by m d f (Some x) at =
     sym (ap (λ (o : Option DescriptorRow). value_or_absent (λ row. f row.descriptor) o) (row_at m.core.descriptors.items m.core.timers.entries d x at))
 
 -- a cell of a descriptor shows what the parts have
-pub descriptor_shown : (m : WorldParts) (d : ℕ) (f : Descriptor → CellValue) → value_or_absent f (slice_get m.core.descriptors.items d) ≡ descriptor_value d (meant m) f
-descriptor_shown m d f = shown_by m d f (slice_get m.core.descriptors.items d) refl
+pub descriptor_value_is : (m : WorldParts) (d : ℕ) (f : Descriptor → CellValue) → value_or_absent f (slice_get m.core.descriptors.items d) ≡ descriptor_value d (meant m) f
+descriptor_value_is m d f = value_by m d f (slice_get m.core.descriptors.items d) refl
 
 -- ---- sockets
 
@@ -49,9 +49,9 @@ pub socket_absent : (m : WorldParts) (s : ℕ) (f : Socket → CellValue) → sl
 socket_absent m s f at = sym (ap (λ (o : Option Socket). value_or_absent f o) (socket_past m.core.locks.items m.core.goroutines.semaphores m.socks s at))
 
 -- that of one that is there shows what its lock and the rest have
-pub socket_shown : (m : WorldParts) (s : ℕ) (f : Socket → CellValue) (lock : Lock) → slice_get m.core.locks.items s ≡ Some lock
+pub socket_value_is : (m : WorldParts) (s : ℕ) (f : Socket → CellValue) (lock : Lock) → slice_get m.core.locks.items s ≡ Some lock
     → f (socket_of lock (rest_at m.core.goroutines.semaphores m.socks s)) ≡ socket_value s (meant m) f
-socket_shown m s f lock at = sym (ap (λ (o : Option Socket). value_or_absent f o) (socket_at m.core.locks.items m.core.goroutines.semaphores m.socks s lock at))
+socket_value_is m s f lock at = sym (ap (λ (o : Option Socket). value_or_absent f o) (socket_at m.core.locks.items m.core.goroutines.semaphores m.socks s lock at))
 
 -- ---- timers
 
@@ -86,11 +86,11 @@ count_of m s side count (Some both) there is =
 
 module _ (m : WorldParts) (s : ℕ) (side : Side) where
   -- the count of a semaphore that is there
-  pub count_shown : (count : ℕ) → s < length m.core.locks.items → Some count ≡ count_at s side m.core.goroutines
+  pub count_value_is : (count : ℕ) → s < length m.core.locks.items → Some count ≡ count_at s side m.core.goroutines
       → Number count ≡ socket_value s (meant m) (λ x. Number (of_side side x.semaphores).count)
-  count_shown count below is =
+  count_value_is count below is =
       let lock = get_within m.core.locks.items s below in
-      ap Number (count_of m s side count (slice_get m.core.goroutines.semaphores s) refl is) ∙ socket_shown m s (λ x. Number (of_side side x.semaphores).count) lock.0 lock.1
+      ap Number (count_of m s side count (slice_get m.core.goroutines.semaphores s) refl is) ∙ socket_value_is m s (λ x. Number (of_side side x.semaphores).count) lock.0 lock.1
 
   -- it is there
   pub count_there : IsWorld m → s < length m.core.locks.items → None ≡ count_at s side m.core.goroutines → ⊥
@@ -103,13 +103,13 @@ module _ (m : WorldParts) (s : ℕ) (side : Side) where
       cc
 
   -- how many bytes a buffer holds
-  pub length_shown : (sock : SockParts) (n : ℕ) → s < length m.core.locks.items → slice_get m.socks s ≡ Some sock → n ≡ length (viewed_bytes side sock.opened)
+  pub length_value_is : (sock : SockParts) (n : ℕ) → s < length m.core.locks.items → slice_get m.socks s ≡ Some sock → n ≡ length (viewed_bytes side sock.opened)
       → Number n ≡ socket_value s (meant m) (λ x. Number (length (of_side side x.buffers).bytes))
-  length_shown sock n below at is =
+  length_value_is sock n below at is =
       let lock = get_within m.core.locks.items s below in
       ap Number (is ∙ ap (λ (o : Option OpenSock). length (viewed_bytes side o)) (sym (sock_at m.core.goroutines.semaphores m.socks s sock at))
       ∙ ap (λ (bytes : List ℕ). length bytes) (sym (viewed side (rest_at m.core.goroutines.semaphores m.socks s).sock)))
-      ∙ socket_shown m s (λ x. Number (length (of_side side x.buffers).bytes)) lock.0 lock.1
+      ∙ socket_value_is m s (λ x. Number (length (of_side side x.buffers).bytes)) lock.0 lock.1
 
   -- none of a socket that isn't there
   pub nothing_past : (f : Socket → CellValue) → length m.core.locks.items ≤ s → Absent ≡ socket_value s (meant m) f
@@ -122,10 +122,10 @@ shut_viewed None = refl
 shut_viewed (Some opened) = refl
 
 -- whether a write side that is there is shut
-pub shut_shown : (m : WorldParts) (s : ℕ) (sock : SockParts) (shut : Bool) → s < length m.core.locks.items → slice_get m.socks s ≡ Some sock → shut ≡ is_shut sock.opened
+pub shut_value_is : (m : WorldParts) (s : ℕ) (sock : SockParts) (shut : Bool) → s < length m.core.locks.items → slice_get m.socks s ≡ Some sock → shut ≡ is_shut sock.opened
     → Number (bit shut) ≡ socket_value s (meant m) (λ x. Number (bit x.shut))
-shut_shown m s sock shut below at is =
+shut_value_is m s sock shut below at is =
     let lock = get_within m.core.locks.items s below in
     ap (λ (b : Bool). Number (bit b))
     (is ∙ ap is_shut (sym (sock_at m.core.goroutines.semaphores m.socks s sock at)) ∙ shut_viewed (rest_at m.core.goroutines.semaphores m.socks s).sock)
-    ∙ socket_shown m s (λ x. Number (bit x.shut)) lock.0 lock.1
+    ∙ socket_value_is m s (λ x. Number (bit x.shut)) lock.0 lock.1

@@ -30,7 +30,7 @@ use Rattle.nr_timers.specs.declared.op.TimersOp.TheVariants.{TakeFiring}
 use Rattle.nr_machine.specs.declared.delta.DescUndo.{DescUndo}
 use Rattle.nr_machine.specs.declared.delta.TheConstants.{MOST_WORDS}
 use Rattle.nr_machine.specs.declared.delta.WorldUndo.TheVariants.{Changed}
-use Rattle.nr_machine.specs.declared.parts.Core.{Core}
+use Rattle.nr_machine.specs.declared.world_core.Core.{Core}
 use Rattle.nr_machine.specs.Asked.{TimersMade, asked_at, asked_by, timers_op}
 use Rattle.nr_machine.specs.Changing.{with_descriptor}
 use Rattle.nr_machine.specs.Continuing.{CanWake, Obeyed, TakesFiring, changing, orders_outcome, without_firing, woken_any, woken_both}

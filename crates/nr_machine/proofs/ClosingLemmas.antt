@@ -18,7 +18,7 @@ use Rattle.nr_desc.specs.declared.op.DescOp.TheVariants as op
 use Rattle.nr_machine.specs.declared.delta.DescUndo.{DescUndo}
 use Rattle.nr_machine.specs.declared.delta.TheConstants.{MOST_WORDS}
 use Rattle.nr_machine.specs.declared.delta.WorldUndo.TheVariants.{Closed}
-use Rattle.nr_machine.specs.declared.parts.Core.{Core}
+use Rattle.nr_machine.specs.declared.world_core.Core.{Core}
 use Rattle.nr_machine.specs.Changing.{Describes, desc_outcome}
 use Rattle.nr_machine.specs.Changing as changing
 use Rattle.nr_machine.specs.Fits.{IsWorld, PartsFit}

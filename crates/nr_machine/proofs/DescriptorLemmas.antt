@@ -27,7 +27,7 @@ use Rattle.nr_desc.specs.declared.op.DescOp.{DescOp}
 use Rattle.nr_machine.specs.declared.delta.DescUndo.{DescUndo}
 use Rattle.nr_machine.specs.declared.delta.TheConstants.{MOST_WORDS}
 use Rattle.nr_machine.specs.declared.delta.WorldUndo.TheVariants.{Described}
-use Rattle.nr_machine.specs.declared.parts.Core.{Core}
+use Rattle.nr_machine.specs.declared.world_core.Core.{Core}
 use Rattle.nr_machine.specs.Changing.{Describes}
 use Rattle.nr_machine.specs.Changing as changing
 use Rattle.nr_machine.specs.Fits.{CoreFits, PartsFit}

@@ -13,7 +13,7 @@ use Rattle.nr_desc.specs.Desc.{DescFits}
 use Rattle.nr_gsema.specs.Applying.{IsQueuedUp}
 use Rattle.nr_timers.specs.State.{IsTimers, State}
 use Rattle.nr_timers.specs.TimersOf.{timers_of}
-use Rattle.nr_machine.specs.declared.parts.Core.{Core}
+use Rattle.nr_machine.specs.declared.world_core.Core.{Core}
 use Rattle.nr_machine.specs.Changing.{with_descriptor, with_lock, with_status}
 use Rattle.nr_machine.specs.Fits.{CoreFits, PartsFit}
 use Rattle.nr_machine.specs.World.{WorldParts}

@@ -11,7 +11,7 @@ use Rattle.nr_rev.proofs.EmptyWorldLemmas.{empty_world_fits}
 use Rattle.nr_gsema.specs.Applying.{IsQueuedUp}
 use Rattle.nr_sockbuf.specs.Sock.{SockParts, never_opened}
 use Rattle.nr_timers.specs.State.{IsTimers}
-use Rattle.nr_machine.specs.declared.parts.Core.{Core}
+use Rattle.nr_machine.specs.declared.world_core.Core.{Core}
 use Rattle.nr_machine.specs.Fits.{CoreFits, IsWorld, PartsFit, SockFits}
 use Rattle.nr_machine.specs.Fresh.{empty_core, empty_parts}
 

@@ -1,10 +1,10 @@
--- What stands in a list after a write.
+-- What a list has after a write.
 use Rattle.std.proofs.Common.{◌≡◌, ℕ, zero, suc, ◌<◌, List, [], ◌∷◌, length, set, Some, None, refl, sym, ap, ◌∙◌, arith}
 use Rattle.std.proofs.lemmas.List.{set-get_or}
 use Rattle.std.proofs.lemmas.Option.{get_or_from_slice_get}
 use Rattle.std.specs.Prelude.{slice_get}
 
--- what stands at a place, written there again
+-- an item written again at its own index
 pub set_same : {A : Type 0} (xs : List A) (i : ℕ) (x : A) → slice_get xs i ≡ Some x → set xs i x ≡ xs
 set_same {A} xs i x at = ap (λ (y : A). set xs i y) (sym (get_or_from_slice_get xs i x x at)) ∙ set-get_or xs i x
 

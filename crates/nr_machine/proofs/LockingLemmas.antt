@@ -25,7 +25,7 @@ use Rattle.nr_lock.specs.Op as lock_op
 use Rattle.nr_lock.specs.declared.op.LockAnswer.{LockAnswer}
 use Rattle.nr_lock.specs.declared.op.LockOp.{LockOp}
 use Rattle.nr_lock.specs.declared.op.LockOp.TheVariants.{Incref, IncrefClose, Decref, RwLock, RwUnlock}
-use Rattle.nr_machine.specs.declared.parts.Core.{Core}
+use Rattle.nr_machine.specs.declared.world_core.Core.{Core}
 use Rattle.nr_machine.specs.declared.delta.LockUndo.{LockUndo}
 use Rattle.nr_machine.specs.declared.delta.TheConstants.{MOST_WORDS}
 use Rattle.nr_machine.specs.declared.delta.WorldUndo.TheVariants.{Locked}

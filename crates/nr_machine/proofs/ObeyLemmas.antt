@@ -16,7 +16,7 @@ use Rattle.nr_timers.specs.State.{State}
 use Rattle.nr_timers.specs.Step.{TakesMemory, TimersStep, timers_reason}
 use Rattle.nr_timers.specs.TimersOf.{timers_of}
 use Rattle.nr_timers.specs.declared.delta.TimersDelta.{TimersDelta}
-use Rattle.nr_machine.specs.declared.parts.Core.{Core}
+use Rattle.nr_machine.specs.declared.world_core.Core.{Core}
 use Rattle.nr_machine.specs.Asked.{TimersMade, timers_op}
 use Rattle.nr_machine.specs.Changing.{IfAny, TimersBack}
 use Rattle.nr_machine.specs.Continuing.{Obeyed, orders_outcome}

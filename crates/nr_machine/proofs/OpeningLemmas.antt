@@ -19,7 +19,7 @@ use Rattle.nr_desc.specs.declared.op.DescOp.TheVariants as op
 use Rattle.nr_desc.specs.declared.reversible.DescDelta.{DescDelta}
 use Rattle.nr_machine.specs.declared.delta.TheConstants.{MOST_WORDS}
 use Rattle.nr_machine.specs.declared.delta.WorldUndo.TheVariants as undo
-use Rattle.nr_machine.specs.declared.parts.Core.{Core}
+use Rattle.nr_machine.specs.declared.world_core.Core.{Core}
 use Rattle.nr_machine.specs.Changing as changing
 use Rattle.nr_machine.specs.Delta.{TakeBack}
 use Rattle.nr_machine.specs.Fits.{CoreFits, IsWorld, PartsFit}

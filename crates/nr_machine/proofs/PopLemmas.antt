@@ -28,7 +28,7 @@ use Rattle.nr_timers.specs.declared.delta.TimersDelta.{TimersDelta}
 use Rattle.nr_timers.specs.declared.op.TimersOp.TheVariants.{Pop}
 use Rattle.nr_machine.specs.declared.delta.TheConstants.{MOST_WORDS}
 use Rattle.nr_machine.specs.declared.delta.WorldUndo.TheVariants.{Timers}
-use Rattle.nr_machine.specs.declared.parts.Core.{Core}
+use Rattle.nr_machine.specs.declared.world_core.Core.{Core}
 use Rattle.nr_machine.specs.Fits.{IsWorld, PartsFit}
 use Rattle.nr_machine.specs.Made.{Made}
 use Rattle.nr_machine.specs.Numbered.{numbered}

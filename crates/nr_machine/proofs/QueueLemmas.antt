@@ -78,7 +78,7 @@ module _ (m : WorldParts) (s : ℕ) (side : Side) where
     pub bytes_open : (sock : SockParts) (bytes : List ℕ) → slice_get m.socks s ≡ Some sock → Some bytes ≡ bytes_there side sock.opened → Some bytes ≡ bytes_of (meant m) s side
     bytes_open sock bytes at is = ap (λ (xs : List ℕ). Some xs) (there_at sock.opened bytes is) ∙ sym (bytes_here sock at)
 
-    -- where memory is wanted there are some
+    -- a buffer whose copy takes memory has bytes
     pub bytes_some : (sock : SockParts) → slice_get m.socks s ≡ Some sock → 0 < length (viewed_bytes side sock.opened) → HasItems (bytes_of (meant m) s side)
     bytes_some sock at some = subst (λ (o : Option (List ℕ)). HasItems o) (sym (bytes_here sock at)) some
 
@@ -177,7 +177,7 @@ module _ (m : WorldParts) (s : ℕ) (side : Side) where
       ∙ ap (λ (both : Sides Semaphore). Some (of_side side both).queue) (sym (unwrap_or-slice_get m.core.goroutines.semaphores s (twice new_semaphore)))
       ∙ ap (λ (q : List ℕ). Some q) (queue_known side (slice_get m.core.goroutines.semaphores s))
 
-  -- where memory is wanted somebody queues
+  -- a semaphore whose queue takes memory to copy has somebody queued
   pub queue_some : s < length m.core.locks.items → 0 < length (queue_at s side m.core.goroutines) → HasItems (queue_of (meant m) s side)
   queue_some below some = subst (λ (o : Option (List ℕ)). HasItems o) (sym (queue_here below)) some
 

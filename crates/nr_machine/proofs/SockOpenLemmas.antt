@@ -32,7 +32,7 @@ use Rattle.nr_sockbuf.specs.Sock.{OpenSock, SockParts, is_opened, never_opened, 
 use Rattle.nr_sockbuf.specs.declared.delta.SockDelta.{SockDelta}
 use Rattle.nr_machine.specs.declared.delta.TheConstants.{MOST_WORDS}
 use Rattle.nr_machine.specs.declared.delta.WorldUndo.TheVariants.{Opened}
-use Rattle.nr_machine.specs.declared.parts.Core.{Core}
+use Rattle.nr_machine.specs.declared.world_core.Core.{Core}
 use Rattle.nr_machine.specs.Asked.{asked_of}
 use Rattle.nr_machine.specs.Delta.{OpenedBack, SockBack}
 use Rattle.nr_machine.specs.Fits.{CoreFits, IsWorld, PartsFit, SockFits}

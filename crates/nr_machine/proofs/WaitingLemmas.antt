@@ -30,7 +30,7 @@ use Rattle.nr_gsema.specs.declared.delta.GDelta.{GDelta}
 use Rattle.nr_machine.specs.declared.delta.DescUndo.{DescUndo}
 use Rattle.nr_machine.specs.declared.delta.TheConstants.{MOST_WORDS}
 use Rattle.nr_machine.specs.declared.delta.WorldUndo.TheVariants.{Goroutine, Waited}
-use Rattle.nr_machine.specs.declared.parts.Core.{Core}
+use Rattle.nr_machine.specs.declared.world_core.Core.{Core}
 use Rattle.nr_machine.specs.Changing.{CanMove, Describes, Moves, desc_outcome}
 use Rattle.nr_machine.specs.Changing as changing
 use Rattle.nr_machine.specs.Delta.{ParkBack}

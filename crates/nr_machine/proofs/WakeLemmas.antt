@@ -27,7 +27,7 @@ use Rattle.nr_desc.specs.declared.op.DescOp.TheVariants as op
 use Rattle.nr_gsema.specs.Applying.{IsQueuedUp}
 use Rattle.nr_gsema.specs.Table.{GoroutineTable}
 use Rattle.nr_timers.specs.TimersOf.{timers_of}
-use Rattle.nr_machine.specs.declared.parts.Core.{Core}
+use Rattle.nr_machine.specs.declared.world_core.Core.{Core}
 use Rattle.nr_machine.specs.Continuing.{CanWake, woken_any, woken_both}
 use Rattle.nr_machine.specs.Fits.{IsWorld}
 use Rattle.nr_machine.specs.Rows.{row_of}

@@ -1,4 +1,4 @@
--- What steps ask of the timers, whose places in the heap no meaning tells.
+-- What steps ask of the timers, whose places in the heap no meaning has.
 use Rattle.std.specs.Prelude.{◌≡◌, ℕ, List, [], ◌∷◌, map, Ok, Err}
 use Rattle.nr_rev.specs.declared.step.Step.{Step}
 use Rattle.nr_rev.specs.declared.step.Step.TheVariants as step
@@ -17,7 +17,8 @@ use Rattle.nr_machine.specs.World.{WorldParts}
 -- the timers are what these operations make of them, one after another
 abbrev pub TimersMade : List TimersOp → State → State → Type 0
 TimersMade [] old new = new ≡ old
-TimersMade (op ∷ asked) old new = (mid : State) × TimersStep old op tt mid × TimersMade asked mid new
+TimersMade (op ∷ asked) old new =
+    (mid : State) × TimersStep old op tt mid × TimersMade asked mid new
 
 -- what an order to the timers of descriptor d asks
 abbrev pub timers_op : ℕ → TimerOrder → TimersOp

@@ -25,7 +25,7 @@ use Rattle.nr_lock.specs.declared.op.LockAnswer.{LockAnswer}
 use Rattle.nr_lock.specs.declared.op.LockOp.{LockOp}
 use Rattle.nr_timers.specs.Back as timers
 use Rattle.nr_timers.specs.declared.delta.TimersDelta.{TimersDelta}
-use Rattle.nr_machine.specs.declared.parts.Core.{Core}
+use Rattle.nr_machine.specs.declared.world_core.Core.{Core}
 use Rattle.nr_machine.specs.declared.delta.DescUndo.{DescUndo}
 use Rattle.nr_machine.specs.declared.delta.LockUndo.{LockUndo}
 
@@ -63,31 +63,31 @@ Then {S} first next new old = (mid : S) × first new mid × next mid old
 abbrev pub Same : Core → Core → Type 0
 Same new old = old ≡ new
 
--- over what there was, if there was any
+-- back over what there was, if there was any
 abbrev pub IfAny : {A : Type 0} → (A → Core → Core → Type 0) → Option A → Core → Core → Type 0
 IfAny back None = Same
 IfAny back (Some a) = back a
 
--- over a change of goroutines and semaphores
+-- back over a change of goroutines and semaphores
 abbrev pub GoroutineBack : GDelta → Core → Core → Type 0
 GoroutineBack delta new old =
     goroutine.LeadsBack delta new.goroutines old.goroutines
     × (old ≡ record new { goroutines = old.goroutines })
 
--- over a change of a lock
+-- back over a change of a lock
 abbrev pub LockBack : LockUndo → Core → Core → Type 0
 LockBack undo new old = old ≡ with_lock undo.socket undo.before.before new
 
--- over a change of a descriptor
+-- back over a change of a descriptor
 abbrev pub DescBack : DescUndo → Core → Core → Type 0
 DescBack undo new old = old ≡ with_descriptor undo.descriptor undo.before.before new
 
--- over a change of timers
+-- back over a change of timers
 abbrev pub TimersBack : TimersDelta → Core → Core → Type 0
 TimersBack delta new old =
     timers.TimersBack delta new.timers old.timers × (old ≡ record new { timers = old.timers })
 
--- over a wake: who goes on from some side was parked there
+-- back over a wake: who goes on from some side was parked there
 pub record WakeBack (g : ℕ) (new old : Core) : Type 0 where
   pub d : ℕ
   pub side : Side
@@ -145,7 +145,7 @@ pub record Moves (old : Core) (g : ℕ) (to : Status) (delta : GDelta) (new : Co
   pub back : GoroutineBack delta new old
   pub light : goroutine.delta_weight delta ≤ 6
 
--- the same, where it may stay
+-- goroutine g goes to a status, or stays where it has that one
 pub record MovesOn (old : Core) (g : ℕ) (to : Status) (delta : Option GDelta) (new : Core) : Type 0
   where
     pub rest : new ≡ with_status g to old

@@ -22,7 +22,7 @@ use Rattle.nr_timers.specs.Step.{TimersStep}
 use Rattle.nr_timers.specs.TimersOf.{timers_of}
 use Rattle.nr_timers.specs.declared.delta.TimersDelta.{TimersDelta}
 use Rattle.nr_timers.specs.declared.op.TimersOp.TheVariants.{TakeFiring}
-use Rattle.nr_machine.specs.declared.parts.Core.{Core}
+use Rattle.nr_machine.specs.declared.world_core.Core.{Core}
 use Rattle.nr_machine.specs.Asked.{TimersMade, timers_op}
 use Rattle.nr_machine.specs.Changing.{TimersBack, woken}
 

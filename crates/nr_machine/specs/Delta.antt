@@ -10,7 +10,7 @@ use Rattle.nr_sockbuf.specs.Sock.{SockParts}
 use Rattle.nr_sockbuf.specs.declared.delta.SockDelta.{SockDelta}
 use Rattle.nr_timers.specs.Back as timers
 use Rattle.nr_timers.specs.declared.delta.TimersDelta.{TimersDelta}
-use Rattle.nr_machine.specs.declared.parts.Core.{Core}
+use Rattle.nr_machine.specs.declared.world_core.Core.{Core}
 use Rattle.nr_machine.specs.declared.delta.DescUndo.{DescUndo}
 use Rattle.nr_machine.specs.declared.delta.LockUndo.{LockUndo}
 use Rattle.nr_machine.specs.declared.delta.WorldDelta.{WorldDelta}
@@ -21,12 +21,12 @@ use Rattle.nr_machine.specs.World.{WorldParts}
 
 -- ---- of the core
 
--- over one waiter more
+-- back over one waiter more
 abbrev pub ParkBack : Bool → Core → Core → Type 0
 ParkBack true new old = (0 < new.waiters) × (old ≡ record new { waiters = new.waiters - 1 })
 ParkBack false new old = old ≡ new
 
--- over the last descriptor
+-- back over a descriptor more, the last
 abbrev pub MadeBack : Core → Core → Type 0
 MadeBack new old =
     old ≡ record new {
@@ -34,7 +34,7 @@ MadeBack new old =
           { items = take (length new.descriptors.items - 1) new.descriptors.items };
     }
 
--- over a lock more
+-- back over a lock more, the last
 abbrev pub AddBack : Core → Core → Type 0
 AddBack new old =
     old ≡ record new {
@@ -42,31 +42,31 @@ AddBack new old =
           { items = take (length new.locks.items - 1) new.locks.items };
     }
 
--- over a descriptor that was taken from the front of the free ones
+-- back over the taking of a descriptor from the front of the free ones
 abbrev pub TakeBack : ℕ → Core → Core → Type 0
 TakeBack d new old =
     (length new.free.items < new.free.room)
     × (old ≡ record new { free = record new.free { items = d ∷ new.free.items } })
 
--- over one that was put there
+-- back over a descriptor that was put at the front of the free ones
 abbrev pub GiveBack : Core → Core → Type 0
 GiveBack new old = old ≡ record new { free = record new.free { items = drop 1 new.free.items } }
 
--- over orders to the timers of both sides, reading first
+-- back over orders to the timers of both sides, reading first
 abbrev pub ObeyBack : Sides (Option TimersDelta) → Core → Core → Type 0
 ObeyBack both = Then (IfAny TimersBack both.write) (IfAny TimersBack both.read)
 
--- over those who were woken, reading first
+-- back over the waking of those who were woken, reading first
 abbrev pub WokenBack : Sides (Option ℕ) → Core → Core → Type 0
 WokenBack both = Then (IfAny WakeBack both.write) (IfAny WakeBack both.read)
 
 -- ---- of the whole
 
--- over a change of the core alone
+-- back over a change of the core alone
 abbrev pub OfCore : (Core → Core → Type 0) → WorldParts → WorldParts → Type 0
 OfCore back new old = back new.core old.core × (old.socks ≡ new.socks)
 
--- over a change of the buffers of socket s
+-- back over a change of the buffers of socket s
 pub record SockBack (s : ℕ) (delta : SockDelta) (new old : WorldParts) : Type 0 where
   pub before : SockParts
   pub after : SockParts
@@ -74,7 +74,7 @@ pub record SockBack (s : ℕ) (delta : SockDelta) (new old : WorldParts) : Type 
   pub back : sock.LeadsBack delta after before
   pub rest : old ≡ record new { socks = slice_set new.socks s before }
 
--- over the opening of the socket that was opened last
+-- back over the opening of the socket that was opened last
 abbrev pub OpenedBack : SockDelta → WorldParts → WorldParts → Type 0
 OpenedBack delta new old =
     Then (OfCore AddBack) (SockBack (length new.core.locks.items - 1) delta) new old
@@ -97,7 +97,7 @@ UndoBack (Timers delta) = OfCore (TimersBack delta)
 UndoBack (Changed desc both woken) =
     OfCore (Then (WokenBack woken) (Then (DescBack desc) (ObeyBack both)))
 
--- so does a delta
+-- a delta leads from the new parts back to the old ones
 abbrev pub WorldBack : WorldDelta → WorldParts → WorldParts → Type 0
 WorldBack delta = UndoBack delta.undo
 

@@ -1,4 +1,4 @@
--- A delta leads back to one world.
+-- That each way back leads to one world.
 use Rattle.std.proofs.Common.{◌≡◌, ℕ, ◌-◌, length, Bool, true, false, Option, Some, None, sym, ap, subst, ◌∙◌}
 use Rattle.std.proofs.lemmas.Option.{same_Some}
 use Rattle.std.specs.Prelude.{slice_set}
@@ -16,7 +16,7 @@ use Rattle.nr_sockbuf.specs.declared.delta.SockDelta.{SockDelta}
 use Rattle.nr_timers.specs.ReversibleLaws as timers
 use Rattle.nr_timers.specs.State.{State}
 use Rattle.nr_timers.specs.declared.delta.TimersDelta.{TimersDelta}
-use Rattle.nr_machine.specs.declared.parts.Core.{Core}
+use Rattle.nr_machine.specs.declared.world_core.Core.{Core}
 use Rattle.nr_machine.specs.declared.delta.DescUndo.{DescUndo}
 use Rattle.nr_machine.specs.declared.delta.LockUndo.{LockUndo}
 use Rattle.nr_machine.specs.declared.delta.WorldDelta.{WorldDelta}
@@ -146,7 +146,7 @@ UndoBack-unique (Changed desc both woken) =
     (then_one (IfAny TimersBack both.write) (IfAny TimersBack both.read) (orders_one both.write)
     (orders_one both.read))))
 
--- so does a delta
+-- a delta leads back to one world
 pub WorldBack-unique : (delta : WorldDelta) (new a b : WorldParts) → WorldBack delta new a
     → WorldBack delta new b → a ≡ b
 WorldBack-unique delta = UndoBack-unique delta.undo

@@ -12,7 +12,7 @@ use Rattle.nr_gsema.specs.Applying.{IsQueuedUp}
 use Rattle.nr_sockbuf.specs.Sock.{SockParts, is_opened}
 use Rattle.nr_timers.specs.State.{IsTimers}
 use Rattle.nr_timers.specs.TimersOf.{timers_of}
-use Rattle.nr_machine.specs.declared.parts.Core.{Core}
+use Rattle.nr_machine.specs.declared.world_core.Core.{Core}
 use Rattle.nr_machine.specs.World.{WorldParts, meant}
 
 -- each part of the core is well formed and has the room that the limits allow

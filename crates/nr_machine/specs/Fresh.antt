@@ -5,7 +5,7 @@ use Rattle.nr_rev.specs.declared.status.Status.TheVariants.{Idle}
 use Rattle.nr_rev.specs.Semaphore.{new_semaphore}
 use Rattle.nr_rev.specs.Sides.{twice}
 use Rattle.nr_sockbuf.specs.Sock.{never_opened}
-use Rattle.nr_machine.specs.declared.parts.Core.{Core}
+use Rattle.nr_machine.specs.declared.world_core.Core.{Core}
 use Rattle.nr_machine.specs.World.{WorldParts}
 
 -- the core before the first step: goroutine 0 is idle, and there is nothing else

@@ -14,8 +14,8 @@ use Rattle.nr_machine.specs.Delta.{UndoBack, undo_weight}
 use Rattle.nr_machine.specs.Fits.{PartsFit}
 use Rattle.nr_machine.specs.World.{WorldParts, meant}
 
--- The parts come to what the machine comes to and stay tied. The timers, whose places no meaning
--- tells, are what was asked of them. So many words lead back.
+-- The new parts mean the definition's next world and still fit together. The timers are exactly
+-- what the asked operations leave. The undo leads back, in at most this many words.
 pub record Made (due : Outcome) (asked : List TimersOp) (most : ℕ) (old : WorldParts)
     (answer : Answer) (undo : WorldUndo) (new : WorldParts) : Type 0 where
   pub leads : due ≡ Ok (answer, meant new)
@@ -24,7 +24,7 @@ pub record Made (due : Outcome) (asked : List TimersOp) (most : ℕ) (old : Worl
   pub back : UndoBack undo new old
   pub light : undo_weight undo ≤ most
 
--- so it is made, or it has the machine's reason and changes nothing
+-- what a step comes to is made, or it has the machine's reason and changes nothing
 abbrev pub Makes : Outcome → List TimersOp → WorldParts → Result (Answer × WorldUndo) Refusal
     → WorldParts → Type 0
 Makes due asked old (Ok (answer, undo)) new = Made due asked MOST_WORDS old answer undo new
@@ -34,13 +34,13 @@ Makes due asked old (Err e) new = (due ≡ Err e) × (new ≡ old)
 abbrev pub parts_reason : WorldParts → Step → Option Refusal
 parts_reason m step = refusal_of (outcome (meant m) step)
 
--- it takes memory where bytes leave a buffer
+-- a step takes memory where bytes leave a buffer
 abbrev pub TakesMemory : WorldParts → Step → Type 0
 TakesMemory m step = LosesBytes (meant m) step
 
--- the same of a whole step, which may be out of memory where bytes are to be kept
+-- a whole step is made, or has its reason, or is out of memory where bytes are to be kept
 abbrev pub MakesStep : Step → WorldParts → Result (Answer × WorldUndo) Refusal → WorldParts → Type 0
 MakesStep step old (Ok (answer, undo)) new =
-    Made (outcome (meant old) step) (asked_of old step) (MOST_WORDS + (bytes_left step answer + 7) / 8) old answer undo
-    new
+    Made (outcome (meant old) step) (asked_of old step)
+    (MOST_WORDS + (bytes_left step answer + 7) / 8) old answer undo new
 MakesStep step old (Err e) new = Refuses parts_reason TakesMemory old step e × (new ≡ old)

@@ -5,11 +5,13 @@ use Rattle.nr_machine.specs.Numbered.{numbered}
 
 module _ {A B C : Type 0} (make : A → B → C) where
   -- what is there is there, made whole
-  pub numbered_at : (k i n : ℕ) (xs : List A) (beside : ℕ → B) (x : A) → n ≡ k + i → slice_get xs i ≡ Some x
+  pub numbered_at : (k i n : ℕ) (xs : List A) (beside : ℕ → B) (x : A) → n ≡ k + i
+      → slice_get xs i ≡ Some x
       → slice_get (numbered make k xs beside) i ≡ Some (make x (beside n))
   numbered_at k i n [] beside x is at = absurd cc
   numbered_at k zero n (y ∷ xs) beside x is at =
       let here : k ≡ n = omega arith in
       let same : y ≡ x = cc in
       ap (λ (m : ℕ). Some (make y (beside m))) here ∙ ap (λ (z : A). Some (make z (beside n))) same
-  numbered_at k (suc i) n (y ∷ xs) beside x is at = numbered_at (suc k) i n xs beside x (omega arith) at
+  numbered_at k (suc i) n (y ∷ xs) beside x is at =
+      numbered_at (suc k) i n xs beside x (omega arith) at

@@ -22,7 +22,7 @@ use Rattle.nr_machine.specs.Rows.{row_of}
 use Rattle.nr_machine.specs.Sockets.{buffers_in, rest_at, socket_of}
 use Rattle.nr_machine.specs.World.{WorldParts, meant}
 
--- what numbered things are made of, where it shows in each
+-- what numbered things are made of, where each lets it be read
 map-numbered : {A B C : Type 0} (make : A → B → C) (part : C → A)
     → ((x : A) (b : B) → part (make x b) ≡ x) → (k : ℕ) (xs : List A) (beside : ℕ → B)
     → map part (numbered make k xs beside) ≡ xs
@@ -51,8 +51,8 @@ module _ (a b : WorldParts) (fits_a : PartsFit a) (fits_b : PartsFit b) (means :
         ≡ m.core.descriptors.items =
         λ m. map-numbered row_of (λ (r : DescriptorRow). r.descriptor) (λ x timers. refl) 0
         m.core.descriptors.items (timers_of m.core.timers.entries) in
-        sym (of a) ∙ ap (λ (w : World). map (λ (r : DescriptorRow). r.descriptor) w.descriptors) means
-        ∙ of b
+        sym (of a)
+        ∙ ap (λ (w : World). map (λ (r : DescriptorRow). r.descriptor) w.descriptors) means ∙ of b
 
     -- what a socket that was opened has beside its lock
     abbrev seen_at : WorldParts → ℕ → Lock → Socket
@@ -123,7 +123,8 @@ module _ (a b : WorldParts) (fits_a : PartsFit a) (fits_b : PartsFit b) (means :
     same_sock : (s : ℕ) → s < length a.socks → s < length b.socks → sock_at a s ≡ sock_at b s
     same_sock s lt lt_b =
         let of_a = fits_a.socks s (sock_at a s) (slice_get-get_or a.socks s (never_opened 0) lt) in
-        let of_b = fits_b.socks s (sock_at b s) (slice_get-get_or b.socks s (never_opened 0) lt_b) in
+        let of_b = fits_b.socks s (sock_at b s)
+        (slice_get-get_or b.socks s (never_opened 0) lt_b) in
         let limit : (sock_at a s).limit ≡ (sock_at b s).limit =
         of_a.limit ∙ ap (λ limits. limits.buffer) same_limits ∙ sym of_b.limit in
         let opened : (sock_at a s).opened ≡ (sock_at b s).opened =
@@ -143,7 +144,8 @@ module _ (a b : WorldParts) (fits_a : PartsFit a) (fits_b : PartsFit b) (means :
 
     same_socks : a.socks ≡ b.socks
     same_socks =
-        let many = same_many (length a.socks) (length b.socks) fits_a.socks_made fits_b.socks_made in
+        let many = same_many (length a.socks) (length b.socks)
+        fits_a.socks_made fits_b.socks_made in
         ext_get_or (never_opened 0) a.socks b.socks many
         (λ s lt. same_sock s lt (within_b (length a.socks) (length b.socks) many s lt))
 

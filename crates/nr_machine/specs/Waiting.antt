@@ -9,7 +9,7 @@ use Rattle.nr_rev.specs.World.{World, with_descriptor, with_status}
 use Rattle.nr_desc.specs.Op as desc
 use Rattle.nr_desc.specs.declared.op.DescOp.{DescOp}
 use Rattle.nr_desc.specs.declared.op.DescOp.TheVariants as op
-use Rattle.nr_machine.specs.declared.parts.Core.{Core}
+use Rattle.nr_machine.specs.declared.world_core.Core.{Core}
 
 -- where a goroutine is after an operation on the word of its wait, by the answer
 abbrev pub status_after : ℕ → DescOp → Answer → Status

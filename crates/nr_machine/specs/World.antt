@@ -2,7 +2,7 @@
 use Rattle.std.specs.Prelude.{List}
 use Rattle.nr_rev.specs.World.{World}
 use Rattle.nr_sockbuf.specs.Sock.{SockParts}
-use Rattle.nr_machine.specs.declared.parts.Core.{Core}
+use Rattle.nr_machine.specs.declared.world_core.Core.{Core}
 use Rattle.nr_machine.specs.Rows.{rows_of}
 use Rattle.nr_machine.specs.Sockets.{sockets_of}
 

@@ -1,4 +1,4 @@
-//! Steps applied with no way back. The frequent kinds stand here as well as in `make`: where a kind is called by itself, the
+//! Steps applied with no way back. The frequent kinds are here as well as in `make`: where a kind is called by itself, the
 //! compiler leaves out what only its way back needs.
 
 ghost use Rattle.std.specs.Prelude.{◌≡◌, Ok, Err, IfOk, IfErr};
@@ -11,7 +11,8 @@ use crate::world::World;
 use nr_rev::{Answer, Refusal, Step};
 
 impl World {
-    /// Makes a step, or changes nothing and says why it does not apply. Takes no memory.
+    /// Makes a step, or changes nothing and says why it does not apply. Takes no memory. `advance` of the trait only calls it:
+    /// it and the three functions below have one contract, `Advances`, which two lemmas lead to the trait's clauses.
     #[inline(always)]
     pub(crate) fn advance_step(&mut self, step: &Step) -> Result<Answer, Refusal>
         requires { IsWorld self.old }
@@ -41,7 +42,7 @@ impl World {
         }
     }
 
-    /// The same, where no bytes leave a buffer: the kinds of locks and semaphores.
+    /// Makes a step by which no bytes leave a buffer, as `advance_step` does: here the kinds of locks and semaphores.
     #[inline(always)]
     fn advance_locking(&mut self, step: &Step) -> Result<Answer, Refusal>
         requires world { IsWorld self.old }
@@ -68,7 +69,7 @@ impl World {
         }
     }
 
-    /// The same for the kinds of waits.
+    /// Makes a step by which no bytes leave a buffer, as `advance_step` does: here the kinds of waits.
     #[inline(always)]
     fn advance_waiting(&mut self, step: &Step) -> Result<Answer, Refusal>
         requires world { IsWorld self.old }
@@ -96,7 +97,8 @@ impl World {
         }
     }
 
-    /// The same for the kinds of events, deadlines, timers and the clock, and for all that are left.
+    /// Makes a step by which no bytes leave a buffer, as `advance_step` does: here the kinds of events, deadlines, timers
+    /// and the clock, and all that are left.
     #[inline(always)]
     fn advance_timely(&mut self, step: &Step) -> Result<Answer, Refusal>
         requires world { IsWorld self.old }

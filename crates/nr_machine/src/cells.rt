@@ -1,4 +1,4 @@
-//! What can be read of a world.
+//! The values of the cells that are more than one number of the core.
 
 ghost use Rattle.std.specs.Prelude.{◌≡◌, length, slice_get};
 ghost use Rattle.nr_rev.specs.Cell.{cell, descriptor_value, socket_value};
@@ -12,41 +12,12 @@ ghost use Rattle.nr_machine.specs.World.{meant};
 
 use crate::world::World;
 use nr_desc::Desc;
-use nr_rev::{Cell, CellValue, Side};
+use nr_rev::{CellValue, Side};
 use nr_timers::laws::entries_are_the_descriptors;
 
 impl World {
-    /// The value of a cell.
-    pub(crate) fn value(&self, what: Cell) -> CellValue
-        requires { IsWorld self.now }
-        ensures { result ≡ cell (meant self.now) what }
-    {
-        match what {
-            Cell::Clock => CellValue::Time(self.core.clock),
-            Cell::Waiters => CellValue::Number(self.core.waiters),
-            Cell::Timers => self.timers_value(),
-            Cell::Firings => CellValue::Number(self.core.timers.firings() as u64),
-            Cell::Least => self.least_value(),
-            Cell::Goroutine(g) => self.goroutine_value(g),
-            Cell::Lock(s) => self.lock_value(s),
-            Cell::ReadSemaphore(s) => self.count_value(s, Side::Read),
-            Cell::WriteSemaphore(s) => self.count_value(s, Side::Write),
-            Cell::Input(s) => self.length_value(s, Side::Read),
-            Cell::Output(s) => self.length_value(s, Side::Write),
-            Cell::ReadWord(d) => self.word_value(d, Side::Read),
-            Cell::WriteWord(d) => self.word_value(d, Side::Write),
-            Cell::ReadDeadline(d) => self.deadline_value(d, Side::Read),
-            Cell::WriteDeadline(d) => self.deadline_value(d, Side::Write),
-            Cell::ReadSequence(d) => self.sequence_value(d, Side::Read),
-            Cell::WriteSequence(d) => self.sequence_value(d, Side::Write),
-            Cell::DescriptorSequence(d) => self.fdseq_value(d),
-            Cell::Info(d) => self.summary_value(d),
-            Cell::Shut(s) => self.shut_value(s),
-        }
-    }
-
     /// How many timers are armed.
-    fn timers_value(&self) -> CellValue
+    pub(crate) fn timers_value(&self) -> CellValue
         requires { IsWorld self.now }
         ensures { result ≡ cell (meant self.now) cell.Timers }
     {
@@ -55,7 +26,7 @@ impl World {
     }
 
     /// When the first of them is due.
-    fn least_value(&self) -> CellValue
+    pub(crate) fn least_value(&self) -> CellValue
         requires { IsWorld self.now }
         ensures { result ≡ cell (meant self.now) cell.Least }
     {
@@ -66,7 +37,7 @@ impl World {
         }
     }
 
-    fn goroutine_value(&self, goroutine: u32) -> CellValue
+    pub(crate) fn goroutine_value(&self, goroutine: u32) -> CellValue
         ensures { result ≡ cell (meant self.now) (cell.Goroutine goroutine) }
     {
         match self.core.goroutines.status(goroutine) {
@@ -75,8 +46,8 @@ impl World {
         }
     }
 
-    #[tactic(auto, using(crate::proofs::CellLemmas::socket_absent, crate::proofs::CellLemmas::socket_shown))]
-    fn lock_value(&self, socket: u32) -> CellValue
+    #[tactic(auto, using(crate::proofs::CellLemmas::socket_absent, crate::proofs::CellLemmas::socket_value_is))]
+    pub(crate) fn lock_value(&self, socket: u32) -> CellValue
         ensures { result
             ≡ socket_value socket (meant self.now) (λ x. value.Number (lock_number x.lock)) }
     {
@@ -86,7 +57,7 @@ impl World {
         }
     }
 
-    fn count_value(&self, socket: u32, side: Side) -> CellValue
+    pub(crate) fn count_value(&self, socket: u32, side: Side) -> CellValue
         requires { IsWorld self.now }
         ensures { result
             ≡ socket_value socket (meant self.now)
@@ -101,7 +72,7 @@ impl World {
         }
     }
 
-    fn length_value(&self, socket: u32, side: Side) -> CellValue
+    pub(crate) fn length_value(&self, socket: u32, side: Side) -> CellValue
         requires { IsWorld self.now }
         ensures { result
             ≡ socket_value socket (meant self.now)
@@ -113,7 +84,7 @@ impl World {
         CellValue::Number(u64::from(self.socks[socket as usize].len(side)))
     }
 
-    fn shut_value(&self, socket: u32) -> CellValue
+    pub(crate) fn shut_value(&self, socket: u32) -> CellValue
         requires { IsWorld self.now }
         ensures { result ≡ socket_value socket (meant self.now) (λ x. value.Number (bit x.shut)) }
     {
@@ -123,8 +94,8 @@ impl World {
         CellValue::Number(u64::from(self.socks[socket as usize].shut()))
     }
 
-    #[tactic(auto, using(crate::proofs::CellLemmas::descriptor_shown))]
-    fn word_value(&self, descriptor: u32, side: Side) -> CellValue
+    #[tactic(auto, using(crate::proofs::CellLemmas::descriptor_value_is))]
+    pub(crate) fn word_value(&self, descriptor: u32, side: Side) -> CellValue
         ensures { result
             ≡ descriptor_value descriptor (meant self.now)
             (λ x. value.WaitWord (of_side side x.words)) }
@@ -135,8 +106,8 @@ impl World {
         }
     }
 
-    #[tactic(auto, using(crate::proofs::CellLemmas::descriptor_shown))]
-    fn deadline_value(&self, descriptor: u32, side: Side) -> CellValue
+    #[tactic(auto, using(crate::proofs::CellLemmas::descriptor_value_is))]
+    pub(crate) fn deadline_value(&self, descriptor: u32, side: Side) -> CellValue
         ensures { result
             ≡ descriptor_value descriptor (meant self.now)
             (λ x. value.Time (of_side side x.deadlines)) }
@@ -147,8 +118,8 @@ impl World {
         }
     }
 
-    #[tactic(auto, using(crate::proofs::CellLemmas::descriptor_shown))]
-    fn sequence_value(&self, descriptor: u32, side: Side) -> CellValue
+    #[tactic(auto, using(crate::proofs::CellLemmas::descriptor_value_is))]
+    pub(crate) fn sequence_value(&self, descriptor: u32, side: Side) -> CellValue
         ensures { result
             ≡ descriptor_value descriptor (meant self.now)
             (λ x. value.Number (of_side side x.sequences)) }
@@ -159,8 +130,8 @@ impl World {
         }
     }
 
-    #[tactic(auto, using(crate::proofs::CellLemmas::descriptor_shown))]
-    fn fdseq_value(&self, descriptor: u32) -> CellValue
+    #[tactic(auto, using(crate::proofs::CellLemmas::descriptor_value_is))]
+    pub(crate) fn fdseq_value(&self, descriptor: u32) -> CellValue
         ensures { result
             ≡ descriptor_value descriptor (meant self.now) (λ x. value.Number x.fdseq) }
     {
@@ -170,8 +141,8 @@ impl World {
         }
     }
 
-    #[tactic(auto, using(crate::proofs::CellLemmas::descriptor_shown))]
-    fn summary_value(&self, descriptor: u32) -> CellValue
+    #[tactic(auto, using(crate::proofs::CellLemmas::descriptor_value_is))]
+    pub(crate) fn summary_value(&self, descriptor: u32) -> CellValue
         ensures { result
             ≡ descriptor_value descriptor (meant self.now) (λ x. value.Number (summary x)) }
     {

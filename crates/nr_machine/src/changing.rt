@@ -11,10 +11,10 @@ ghost use Rattle.nr_rev.specs.declared.status.Status.TheVariants.{Parked};
 ghost use Rattle.nr_machine.specs.Changing.{CanMove, DescBack, DescribesSome, LockBack, LocksSome, Moves, MovesOn, WakeBack, desc_outcome, lock_outcome, with_descriptor, woken};
 ghost use Rattle.nr_machine.specs.Delta.{ParkBack};
 ghost use Rattle.nr_machine.specs.Waiting.{core_parked};
-ghost use Rattle.nr_machine.specs.declared.parts.Core.{Core as Parts};
+ghost use Rattle.nr_machine.specs.declared.world_core.Core.{Core as Parts};
 
 use crate::delta::{DescUndo, LockUndo};
-use crate::parts::Core;
+use crate::world_core::Core;
 use nr_desc::{Desc, DescAnswer, DescOp};
 use nr_gsema::{GDelta, GOperation};
 use nr_lock::{LockAnswer, LockOp, LockWord};
@@ -38,7 +38,7 @@ impl Core {
         }
     }
 
-    /// The same, where the status is to be another at all.
+    /// A goroutine goes from one status to another, or stays where the two are the same.
     #[inline(always)]
     pub(crate) fn move_on(&mut self, goroutine: u32, from: Status, to: Status) -> Option<GDelta>
         requires { CanMove self.old goroutine from to }
@@ -70,7 +70,8 @@ impl Core {
         Ok((answer, LockUndo { socket, before }))
     }
 
-    /// A lock as it was.
+    /// A lock as it was. A step leaves each lock there, so the branch without one is never taken; `LockBack` sets nothing
+    /// there either, which spares each caller a premise.
     #[inline(always)]
     pub(crate) fn unlock(&mut self, undo: LockUndo)
         ensures { LockBack undo self.old self.new }
@@ -111,7 +112,8 @@ impl Core {
         let _ = self.descriptors.replace(descriptor as usize, desc);
     }
 
-    /// A descriptor as it was.
+    /// A descriptor as it was. A step leaves each descriptor there, so the branch without one is never taken; `DescBack` sets
+    /// nothing there either, which spares each caller a premise.
     #[inline(always)]
     pub(crate) fn undescribe(&mut self, undo: DescUndo)
         ensures { DescBack undo self.old self.new }
@@ -158,10 +160,10 @@ impl Core {
         ensures { WakeBack goroutine self.old self.new }
     {
         let Some(from) = self.goroutines.status(goroutine) else {
-            return;
+            unreachable!()
         };
         let Status::Swapping { descriptor, side } = from else {
-            return;
+            unreachable!()
         };
         let to = Status::Parked { descriptor, side };
         let _ = self.move_to(goroutine, from, to);

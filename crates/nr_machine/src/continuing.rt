@@ -18,11 +18,11 @@ ghost use Rattle.nr_machine.specs.Fits.{IsWorld};
 ghost use Rattle.nr_machine.specs.Made.{Makes};
 ghost use Rattle.nr_machine.specs.Rows.{row_of};
 ghost use Rattle.nr_machine.specs.World.{meant};
-ghost use Rattle.nr_machine.specs.declared.parts.Core.{Core as Parts};
+ghost use Rattle.nr_machine.specs.declared.world_core.Core.{Core as Parts};
 
 use crate::delta::{DescUndo, WorldUndo};
-use crate::parts::Core;
 use crate::world::World;
+use crate::world_core::Core;
 use nr_desc::{Desc, DescOp};
 use nr_rev::{Answer, Refusal, Reversible, Side, Sides, TimerOrder};
 use nr_timers::{TimersDelta, TimersOp};
@@ -151,7 +151,7 @@ impl Core {
         Ok(Some(delta))
     }
 
-    /// Those who are woken go on, reading first.
+    /// The goroutines that are woken go on, reading first.
     #[inline(always)]
     pub(crate) fn wake_both(&mut self, descriptor: u32, woken: Sides<Option<u32>>)
         requires { CanWake descriptor woken self.old }

@@ -8,14 +8,15 @@ ghost use Rattle.nr_machine.specs.declared.delta.WorldDelta.{WorldDelta};
 ghost use Rattle.nr_machine.specs.Fits.{PartsFit};
 ghost use Rattle.nr_machine.specs.World.{WorldParts, meant};
 
-/// Parts that fit are decided by the world that they mean and by their timers, whose places in the heap no meaning tells.
+/// Parts that fit are decided by the world that they mean and by their timers, whose places in the heap no meaning has.
 #[tactic(auto, using(crate::specs::SameLaws::same_parts))]
 pub fn parts_are_decided_by_their_meaning()
     ensures { (a b : WorldParts) → PartsFit a → PartsFit b → meant a ≡ meant b
         → a.core.timers ≡ b.core.timers → a ≡ b }
 {}
 
-/// A delta is the record of its undo, and has nothing beside it. So are the lock and the descriptor that it keeps.
+/// A delta is the record of its undo, and has nothing beside it. The lock and the descriptor that an undo keeps are records
+/// of two fields.
 pub fn delta_is_its_undo()
     ensures delta { (delta : WorldDelta) → delta ≡ record { undo = delta.undo } }
     ensures lock { (undo : LockUndo) → undo ≡ record { socket = undo.socket; before = undo.before } }

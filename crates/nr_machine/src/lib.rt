@@ -11,7 +11,6 @@ mod delta;
 mod goroutines;
 pub mod laws;
 mod locking;
-mod parts;
 mod polling;
 mod reads;
 mod semaphores;
@@ -21,6 +20,7 @@ mod transfers;
 mod undoing;
 mod waiting;
 mod world;
+mod world_core;
 mod worlds;
 
 pub use delta::WorldDelta;

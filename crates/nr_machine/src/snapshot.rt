@@ -1,12 +1,10 @@
 //! A packed world at rest.
 
-ghost use Rattle.std.specs.Prelude.{◌≡◌, ◌-◌, ◌≤◌, ◌++◌, length, take, replicate, IfErr, IfOk};
-ghost use Rattle.nr_rev.specs.declared.refusal.Refusal.TheVariants as refusals;
+ghost use Rattle.std.specs.Prelude.{◌≡◌, ◌-◌, ◌≤◌, ◌++◌, length, take, replicate, IfOk};
 ghost use Rattle.nr_sockbuf.specs.Sock.{never_opened};
 
-use crate::parts::Core;
-use crate::world::World;
-use nr_rev::{Memory, Refusal};
+use crate::world_core::Core;
+use nr_rev::Memory;
 use nr_sockbuf::{Sock, SockSnapshot};
 use std::alloc::Global;
 use std::marker::Model;
@@ -15,12 +13,12 @@ use std::marker::Model;
 /// the last one that was opened it has the number alone.
 #[derive(Drop)]
 pub struct WorldSnapshot {
-    alloc: Global,
-    core: Core,
-    // how many sockets there are
-    sockets: usize,
-    // the first of them, up to the last one that was opened
-    opened: Vec<SockSnapshot>,
+    pub(crate) alloc: Global,
+    pub(crate) core: Core,
+    /// How many sockets there are.
+    pub(crate) sockets: usize,
+    /// The first of them, up to the last one that was opened.
+    pub(crate) opened: Vec<SockSnapshot>,
 }
 
 impl Model for WorldSnapshot {
@@ -36,8 +34,8 @@ impl Model for WorldSnapshot {
     } };
 }
 
-// How many sockets there are up to the last one that was opened.
-fn count_opened(socks: &[Sock], buffer: u32) -> usize
+/// How many sockets there are up to the last one that was opened.
+pub(crate) fn count_opened(socks: &[Sock], buffer: u32) -> usize
     ensures within { result ≤ length socks.now }
     ensures behind { socks.now ≡ take result socks.now
         ++ replicate (length socks.now - result) (never_opened buffer) }
@@ -49,8 +47,8 @@ fn count_opened(socks: &[Sock], buffer: u32) -> usize
     count
 }
 
-// The buffers of these sockets at rest.
-fn snapshots(alloc: Global, socks: &[Sock]) -> Result<Vec<SockSnapshot>, Memory>
+/// The buffers of these sockets at rest.
+pub(crate) fn snapshots(alloc: Global, socks: &[Sock]) -> Result<Vec<SockSnapshot>, Memory>
     ensures { IfOk result (λ snapshots. snapshots.items ≡ socks.now) }
 {
     let mut snapshots = Vec::with_capacity(alloc, socks.len())?;
@@ -60,8 +58,8 @@ fn snapshots(alloc: Global, socks: &[Sock]) -> Result<Vec<SockSnapshot>, Memory>
     Ok(snapshots)
 }
 
-// So many sockets: first these, and behind them some that were never opened.
-fn restored_socks(
+/// So many sockets: first these, and behind them some that were never opened.
+pub(crate) fn restored_socks(
     alloc: Global,
     opened: &[SockSnapshot],
     sockets: usize,
@@ -79,47 +77,4 @@ fn restored_socks(
         socks.push(Sock::with_limits(alloc, buffer)?)?;
     }
     Ok(socks)
-}
-
-impl World {
-    /// The world at rest.
-    pub(crate) fn to_rest(&self) -> Result<WorldSnapshot, Refusal>
-        ensures ok { IfOk result (λ snapshot. snapshot ≡ self.now) }
-        ensures err { IfErr result (λ e. e ≡ refusals.Memory) }
-    {
-        let core = self.core.try_copy(self.alloc)?;
-        let count = count_opened(&self.socks, self.core.limits.buffer);
-        let Ok(opened) = snapshots(self.alloc, &self.socks[..count]) else {
-            return Err(Refusal::Memory);
-        };
-        Ok(WorldSnapshot {
-            alloc: self.alloc,
-            core,
-            sockets: self.socks.len(),
-            opened,
-        })
-    }
-}
-
-impl WorldSnapshot {
-    /// The world, with all the room that its limits allow.
-    pub(crate) fn to_world(&self) -> Result<World, Refusal>
-        ensures ok { IfOk result (λ w. w ≡ self.now) }
-        ensures err { IfErr result (λ e. e ≡ refusals.Memory) }
-    {
-        let core = self.core.try_copy(self.alloc)?;
-        let Ok(socks) = restored_socks(
-            self.alloc,
-            &self.opened,
-            self.sockets,
-            self.core.limits.buffer,
-        ) else {
-            return Err(Refusal::Memory);
-        };
-        Ok(World {
-            alloc: self.alloc,
-            core,
-            socks,
-        })
-    }
 }

@@ -44,7 +44,7 @@ impl World {
         Ok((answer, WorldUndo::Sock { socket, delta }))
     }
 
-    /// The same, for a goroutine that has to be idle.
+    /// What one socket's buffers do for a goroutine that has to be idle.
     #[inline(always)]
     pub(crate) fn transfer_of(
         &mut self,

@@ -3,11 +3,11 @@
 ghost use Rattle.nr_machine.specs.Changing.{DescBack, GoroutineBack, IfAny, LockBack, Then, TimersBack, WakeBack};
 ghost use Rattle.nr_machine.specs.Delta.{GiveBack, ObeyBack, OpenedBack, ParkBack, SockBack, TakeBack, UndoBack, WokenBack};
 ghost use Rattle.nr_machine.specs.World.{WorldParts};
-ghost use Rattle.nr_machine.specs.declared.parts.Core.{Core as Parts};
+ghost use Rattle.nr_machine.specs.declared.world_core.Core.{Core as Parts};
 
 use crate::delta::{DescUndo, LockUndo, WorldUndo};
-use crate::parts::Core;
 use crate::world::World;
+use crate::world_core::Core;
 use nr_gsema::GDelta;
 use nr_rev::{Reversible, Sides};
 use nr_sockbuf::SockDelta;
@@ -25,7 +25,7 @@ impl Core {
         }
     }
 
-    /// So are a lock, and the status of the goroutine that had to do with it.
+    /// A lock is as it was, and so is the status of the goroutine that had to do with it.
     #[inline(always)]
     fn unlock_moved(&mut self, lock: LockUndo, moved: Option<GDelta>)
         requires { (old : Parts) × Then (IfAny GoroutineBack moved) (LockBack lock) self.old old }
@@ -90,7 +90,7 @@ impl Core {
         }
     }
 
-    /// The timers of both sides are.
+    /// The timers of both sides are as they were, where they changed.
     #[inline(always)]
     fn unobey(&mut self, orders: Sides<Option<TimersDelta>>)
         requires { (old : Parts) × ObeyBack orders self.old old }
@@ -111,7 +111,7 @@ impl Core {
         }
     }
 
-    /// Those who were woken are.
+    /// The goroutines that were woken of both sides are parked again.
     #[inline(always)]
     fn unwake_both(&mut self, woken: Sides<Option<u32>>)
         requires { (old : Parts) × WokenBack woken self.old old }

@@ -2,7 +2,7 @@
 
 ghost use Rattle.std.specs.Prelude.{◌≡◌};
 
-use crate::parts::Core;
+use crate::world_core::Core;
 use nr_gsema::GTable;
 use nr_sockbuf::Sock;
 use nr_timers::Timers;

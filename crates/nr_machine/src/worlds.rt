@@ -13,9 +13,9 @@ ghost use Rattle.nr_machine.specs.Fresh.{empty_core};
 ghost use Rattle.nr_machine.specs.Transfers.{Advances, IsTransfer};
 ghost use Rattle.nr_machine.specs.World.{meant};
 
-use crate::parts::Core;
-use crate::snapshot::WorldSnapshot;
+use crate::snapshot::{WorldSnapshot, count_opened, restored_socks, snapshots};
 use crate::world::World;
+use crate::world_core::Core;
 use nr_gsema::{GOperation, GTable};
 use nr_rev::{
     Answer, Bytes, Cell, CellValue, Limits, Memory, Queue, Refusal, Reversible, RoomedList, Side,
@@ -27,34 +27,21 @@ use std::alloc::Global;
 
 impl Core {
     /// The core before the first step: goroutine 0 is idle, and there is nothing else.
-    fn with_room(alloc: Global, limits: Limits) -> Result<Core, Refusal>
+    fn with_room(alloc: Global, limits: Limits) -> Result<Core, Memory>
         requires { AreInRange limits }
         ensures fits { IfOk result CoreFits }
         ensures empty { IfOk result (λ core. core ≡ empty_core limits) }
-        ensures err { IfErr result (λ e. e ≡ refusals.Memory) }
     {
-        let Ok(mut goroutines) = GTable::with_limits(alloc, limits.goroutines, limits.sockets)
-        else {
-            return Err(Refusal::Memory);
-        };
+        let mut goroutines = GTable::with_limits(alloc, limits.goroutines, limits.sockets)?;
         let Ok(_) = goroutines.apply(&GOperation::Spawn) else {
             unreachable!()
-        };
-        let Ok(locks) = RoomedList::with_room(alloc, limits.sockets as usize) else {
-            return Err(Refusal::Memory);
-        };
-        let Ok(descriptors) = RoomedList::with_room(alloc, limits.descriptors as usize) else {
-            return Err(Refusal::Memory);
-        };
-        let Ok(free) = RoomedList::with_room(alloc, limits.descriptors as usize) else {
-            return Err(Refusal::Memory);
         };
         Ok(Core {
             limits,
             goroutines,
-            locks,
-            descriptors,
-            free,
+            locks: RoomedList::with_room(alloc, limits.sockets as usize)?,
+            descriptors: RoomedList::with_room(alloc, limits.descriptors as usize)?,
+            free: RoomedList::with_room(alloc, limits.descriptors as usize)?,
             timers: Timers::with_limits(alloc, limits.descriptors)?,
             clock: 0,
             waiters: 0,
@@ -62,28 +49,15 @@ impl Core {
     }
 
     /// An equal one, in room of its own.
-    pub(crate) fn try_copy(&self, alloc: Global) -> Result<Core, Refusal>
-        ensures equal { IfOk result (λ core. core ≡ self.now) }
-        ensures err { IfErr result (λ e. e ≡ refusals.Memory) }
+    fn try_copy(&self, alloc: Global) -> Result<Core, Memory>
+        ensures { IfOk result (λ core. core ≡ self.now) }
     {
-        let Ok(goroutines) = self.goroutines.try_copy() else {
-            return Err(Refusal::Memory);
-        };
-        let Ok(locks) = self.locks.try_copy(alloc) else {
-            return Err(Refusal::Memory);
-        };
-        let Ok(descriptors) = self.descriptors.try_copy(alloc) else {
-            return Err(Refusal::Memory);
-        };
-        let Ok(free) = self.free.try_copy(alloc) else {
-            return Err(Refusal::Memory);
-        };
         Ok(Core {
             limits: self.limits,
-            goroutines,
-            locks,
-            descriptors,
-            free,
+            goroutines: self.goroutines.try_copy()?,
+            locks: self.locks.try_copy(alloc)?,
+            descriptors: self.descriptors.try_copy(alloc)?,
+            free: self.free.try_copy(alloc)?,
             timers: self.timers.try_copy()?,
             clock: self.clock,
             waiters: self.waiters,
@@ -114,36 +88,6 @@ fn copied_socks(alloc: Global, socks: &[Sock]) -> Result<Vec<Sock>, Memory>
 }
 
 impl World {
-    /// The world before the first step.
-    fn with_room(alloc: Global, limits: Limits) -> Result<World, Refusal>
-        requires { AreInRange limits }
-        ensures world { IfOk result IsWorld }
-        ensures empty { IfOk result (λ w. meant w ≡ empty_world limits) }
-        ensures err { IfErr result (λ e. e ≡ refusals.Memory) }
-    {
-        let core = Core::with_room(alloc, limits)?;
-        let Ok(socks) = closed_socks(alloc, limits.sockets, limits.buffer) else {
-            return Err(Refusal::Memory);
-        };
-        Ok(World { alloc, core, socks })
-    }
-
-    /// An equal one, with room of its own.
-    fn copy(&self) -> Result<World, Refusal>
-        ensures ok { IfOk result (λ w. w ≡ self.now) }
-        ensures err { IfErr result (λ e. e ≡ refusals.Memory) }
-    {
-        let core = self.core.try_copy(self.alloc)?;
-        let Ok(socks) = copied_socks(self.alloc, &self.socks) else {
-            return Err(Refusal::Memory);
-        };
-        Ok(World {
-            alloc: self.alloc,
-            core,
-            socks,
-        })
-    }
-
     /// What one socket's buffers do, with no way back.
     #[inline(always)]
     pub(crate) fn advance_transfer(&mut self, socket: u32, step: &Step) -> Result<Answer, Refusal>
@@ -155,40 +99,6 @@ impl World {
             return Err(Refusal::NoSuchSocket);
         }
         self.socks[socket as usize].advance(step)
-    }
-
-    /// The bytes that a socket's buffer holds; `None` where there is no such socket.
-    fn bytes_copy(&self, socket: u32, side: Side) -> Result<Option<Bytes>, Refusal>
-        ensures ok { IfOk result (λ bytes. bytes ≡ bytes_of (meant self.now) socket side) }
-        ensures err { IfErr result (λ e. e ≡ refusals.Memory) }
-        ensures some { OnErr result (HasItems (bytes_of (meant self.now) socket side)) }
-    {
-        if socket as usize >= self.core.locks.len() {
-            return Ok(None);
-        }
-        let Some(sock) = self.socks.get(socket as usize) else {
-            return Ok(Some(Bytes::new(Vec::new(self.alloc))));
-        };
-        match sock.bytes(side) {
-            Err(_) => Err(Refusal::Memory),
-            Ok(None) => Ok(Some(Bytes::new(Vec::new(self.alloc)))),
-            Ok(Some(bytes)) => Ok(Some(bytes)),
-        }
-    }
-
-    /// The goroutines queued at a socket's semaphore, front first; `None` where there is no such socket.
-    fn queue_copy(&self, socket: u32, side: Side) -> Result<Option<Queue>, Refusal>
-        ensures ok { IfOk result (λ queue. queue ≡ queue_of (meant self.now) socket side) }
-        ensures err { IfErr result (λ e. e ≡ refusals.Memory) }
-        ensures some { OnErr result (HasItems (queue_of (meant self.now) socket side)) }
-    {
-        if socket as usize >= self.core.locks.len() {
-            return Ok(None);
-        }
-        let Ok(items) = self.queued(socket, side) else {
-            return Err(Refusal::Memory);
-        };
-        Ok(Some(Queue::new(items)))
     }
 
     /// Those queued, from the front to the back. Where nobody is, no memory is taken.
@@ -218,19 +128,44 @@ impl Worlds for World {
     ghost kept = { λ snapshot. snapshot };
 
     fn fresh(alloc: Global, limits: Limits) -> Result<Self, Refusal> {
-        World::with_room(alloc, limits)
+        let core = Core::with_room(alloc, limits)?;
+        let socks = closed_socks(alloc, limits.sockets, limits.buffer)?;
+        Ok(World { alloc, core, socks })
     }
 
     fn try_copy(&self) -> Result<Self, Refusal> {
-        self.copy()
+        Ok(World {
+            alloc: self.alloc,
+            core: self.core.try_copy(self.alloc)?,
+            socks: copied_socks(self.alloc, &self.socks)?,
+        })
     }
 
     fn snapshot(&self) -> Result<WorldSnapshot, Refusal> {
-        self.to_rest()
+        let core = self.core.try_copy(self.alloc)?;
+        let count = count_opened(&self.socks, self.core.limits.buffer);
+        Ok(WorldSnapshot {
+            alloc: self.alloc,
+            core,
+            sockets: self.socks.len(),
+            opened: snapshots(self.alloc, &self.socks[..count])?,
+        })
     }
 
     fn restored(snapshot: &WorldSnapshot) -> Result<Self, Refusal> {
-        snapshot.to_world()
+        let WorldSnapshot {
+            alloc,
+            core,
+            sockets,
+            opened,
+        } = snapshot;
+        let core = core.try_copy(*alloc)?;
+        let socks = restored_socks(*alloc, opened, *sockets, core.limits.buffer)?;
+        Ok(World {
+            alloc: *alloc,
+            core,
+            socks,
+        })
     }
 
     #[inline(always)]
@@ -240,15 +175,49 @@ impl Worlds for World {
     }
 
     fn cell(&self, what: Cell) -> CellValue {
-        self.value(what)
+        match what {
+            Cell::Clock => CellValue::Time(self.core.clock),
+            Cell::Waiters => CellValue::Number(self.core.waiters),
+            Cell::Timers => self.timers_value(),
+            Cell::Firings => CellValue::Number(self.core.timers.firings() as u64),
+            Cell::Least => self.least_value(),
+            Cell::Goroutine(g) => self.goroutine_value(g),
+            Cell::Lock(s) => self.lock_value(s),
+            Cell::ReadSemaphore(s) => self.count_value(s, Side::Read),
+            Cell::WriteSemaphore(s) => self.count_value(s, Side::Write),
+            Cell::Input(s) => self.length_value(s, Side::Read),
+            Cell::Output(s) => self.length_value(s, Side::Write),
+            Cell::ReadWord(d) => self.word_value(d, Side::Read),
+            Cell::WriteWord(d) => self.word_value(d, Side::Write),
+            Cell::ReadDeadline(d) => self.deadline_value(d, Side::Read),
+            Cell::WriteDeadline(d) => self.deadline_value(d, Side::Write),
+            Cell::ReadSequence(d) => self.sequence_value(d, Side::Read),
+            Cell::WriteSequence(d) => self.sequence_value(d, Side::Write),
+            Cell::DescriptorSequence(d) => self.fdseq_value(d),
+            Cell::Info(d) => self.summary_value(d),
+            Cell::Shut(s) => self.shut_value(s),
+        }
     }
 
     fn bytes(&self, socket: u32, side: Side) -> Result<Option<Bytes>, Refusal> {
-        self.bytes_copy(socket, side)
+        if socket as usize >= self.core.locks.len() {
+            return Ok(None);
+        }
+        let Some(sock) = self.socks.get(socket as usize) else {
+            return Ok(Some(Bytes::new(Vec::new(self.alloc))));
+        };
+        match sock.bytes(side)? {
+            None => Ok(Some(Bytes::new(Vec::new(self.alloc)))),
+            Some(bytes) => Ok(Some(bytes)),
+        }
     }
 
     fn queue(&self, socket: u32, side: Side) -> Result<Option<Queue>, Refusal> {
-        self.queue_copy(socket, side)
+        if socket as usize >= self.core.locks.len() {
+            return Ok(None);
+        }
+        let items = self.queued(socket, side)?;
+        Ok(Some(Queue::new(items)))
     }
 
     ghost steps_are = { steps_are };

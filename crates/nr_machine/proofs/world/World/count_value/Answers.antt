@@ -3,7 +3,7 @@ use Rattle.nr_rev.specs.declared.cell_value.CellValue.TheVariants as value
 use Rattle.nr_rev.specs.Sides.{of_side}
 use Rattle.nr_machine.specs.Fits.{IsWorld}
 use Rattle.nr_machine.specs.World.{WorldParts}
-use Rattle.nr_machine.proofs.CellLemmas.{count_shown, count_there, nothing_past}
+use Rattle.nr_machine.proofs.CellLemmas.{count_value_is, count_there, nothing_past}
 use Rattle.nr_machine.proofs.world.World.count_value.Goals as goal
 
 pub returns-then-socket-len : goal.returns-then-socket-len
@@ -26,4 +26,4 @@ returns-in-Some c =
     let m : WorldParts = record { core = c.self.inside.core; socks = c.self.inside.socks.items } in
     let len = c.len.ensures.len in
     let within = c.if-socket-len.false in
-    rw (← c.self.view_is) (ap value.Number c.from.ensures ∙ count_shown m c.args.socket c.args.side c.in-Some.count (omega (arith, len, within)) (sym c.in-Some.is ∙ c.count.ensures))
+    rw (← c.self.view_is) (ap value.Number c.from.ensures ∙ count_value_is m c.args.socket c.args.side c.in-Some.count (omega (arith, len, within)) (sym c.in-Some.is ∙ c.count.ensures))

@@ -5,7 +5,7 @@ use Rattle.nr_rev.specs.declared.cell_value.CellValue.TheVariants as value
 use Rattle.nr_rev.specs.Sides.{of_side}
 use Rattle.nr_machine.specs.Fits.{IsWorld}
 use Rattle.nr_machine.specs.World.{WorldParts}
-use Rattle.nr_machine.proofs.CellLemmas.{length_shown, nothing_past}
+use Rattle.nr_machine.proofs.CellLemmas.{length_value_is, nothing_past}
 use Rattle.nr_machine.proofs.TransferLemmas.{sock_below}
 use Rattle.nr_machine.proofs.world.World.length_value.Goals as goal
 
@@ -25,4 +25,4 @@ returns c =
     let below : c.args.socket < length m.core.locks.items = omega (arith, len, within) in
     let at : slice_get m.socks c.args.socket ≡ Some c.index.result.now =
     slice_get_read m.socks (length m.socks) c.args.socket c.index.result.now refl (sock_below m c.args.socket world below) c.index.ensures in
-    rw (← c.self.view_is) (ap value.Number c.from.ensures ∙ length_shown m c.args.socket c.args.side c.index.result.now c.len-2.result below at c.len-2.ensures.len)
+    rw (← c.self.view_is) (ap value.Number c.from.ensures ∙ length_value_is m c.args.socket c.args.side c.index.result.now c.len-2.result below at c.len-2.ensures.len)

@@ -6,7 +6,7 @@ use Rattle.nr_rev.specs.declared.sides.Side.TheVariants.{Read}
 use Rattle.nr_rev.specs.Lock.{bit}
 use Rattle.nr_machine.specs.Fits.{IsWorld}
 use Rattle.nr_machine.specs.World.{WorldParts}
-use Rattle.nr_machine.proofs.CellLemmas.{nothing_past, shut_shown}
+use Rattle.nr_machine.proofs.CellLemmas.{nothing_past, shut_value_is}
 use Rattle.nr_machine.proofs.TransferLemmas.{sock_below}
 use Rattle.nr_machine.proofs.world.World.shut_value.Goals as goal
 
@@ -26,4 +26,4 @@ returns c =
     let below : c.args.socket < length m.core.locks.items = omega (arith, len, within) in
     let at : slice_get m.socks c.args.socket ≡ Some c.index.result.now =
     slice_get_read m.socks (length m.socks) c.args.socket c.index.result.now refl (sock_below m c.args.socket world below) c.index.ensures in
-    rw (← c.self.view_is) (ap value.Number c.from.ensures ∙ shut_shown m c.args.socket c.index.result.now c.shut.result below at c.shut.ensures)
+    rw (← c.self.view_is) (ap value.Number c.from.ensures ∙ shut_value_is m c.args.socket c.index.result.now c.shut.result below at c.shut.ensures)

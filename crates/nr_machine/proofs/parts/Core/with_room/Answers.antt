@@ -1,9 +1,0 @@
-use Rattle.std.proofs.Common.{rules, sym, subst}
-use Rattle.nr_gsema.specs.Applying.{IsQueuedUp}
-use Rattle.nr_machine.proofs.FreshLemmas.{fresh_fits}
-use Rattle.nr_machine.proofs.parts.Core.with_room.Goals as goal
-
-pub returns-clause-fits : goal.returns-clause-fits
-returns-clause-fits c =
-    fresh_fits c.args.limits _ (search rules) c.requires (subst IsQueuedUp (sym c.goroutines.view_is) c.apply.ensures.well_formed)
-    c.in_ok-with_limits.ensures.well_formed
