@@ -82,10 +82,11 @@ impl Debugger {
         ensures unchanged { OnErr result (self.new ≡ self.old) }
         ensures memory { OnErr result (Searches film.now.recording command self.old) }
     {
-        self.run(film, finder, command)
+        self.dispatch(film, finder, command)
     }
 
-    fn run<W: Worlds + Drop + Sync, F: Finder>(
+    /// Calls what does this command, from any position in the recording.
+    fn dispatch<W: Worlds + Drop + Sync, F: Finder>(
         &mut self,
         film: &Film<W>,
         finder: &F,
@@ -103,8 +104,8 @@ impl Debugger {
         let reply = match command {
             Command::Step(count) => self.step(self.direction, count.get(), last),
             Command::ReverseStep(count) => self.step(Direction::Backward, count.get(), last),
-            Command::Continue => return self.go_on(film, finder, self.direction),
-            Command::ReverseContinue => return self.go_on(film, finder, Direction::Backward),
+            Command::Continue => return self.continue_in(film, finder, self.direction),
+            Command::ReverseContinue => return self.continue_in(film, finder, Direction::Backward),
             Command::SetDirection(direction) => {
                 self.direction = direction;
                 Reply::Direction(direction)
@@ -158,7 +159,7 @@ impl Debugger {
     }
 
     /// Goes to the nearest hit that way, after which the temporary marks that hit are gone, or to the end there.
-    fn go_on<W: Worlds + Drop + Sync, F: Finder>(
+    fn continue_in<W: Worlds + Drop + Sync, F: Finder>(
         &mut self,
         film: &Film<W>,
         finder: &F,
@@ -189,12 +190,7 @@ impl Debugger {
     fn make_mark(&mut self, mark: Mark) -> Reply
         ensures { (result, self.new) ≡ make_mark mark self.old }
     {
-        let made = match mark {
-            Mark::Break(wanted) => self.marks.add_break(wanted),
-            Mark::TemporaryBreak(wanted) => self.marks.add_tbreak(wanted),
-            Mark::Watch(cell) => self.marks.add_watch(cell),
-        };
-        match made {
+        match self.marks.add(mark) {
             Ok(number) => Reply::MarkMade(number),
             Err(fault) => Reply::Fault(Fault::Mark(fault)),
         }

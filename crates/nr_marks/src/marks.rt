@@ -95,8 +95,9 @@ impl Marks {
         self.add(Mark::Watch(cell))
     }
 
-    // Makes a mark, if one can be made.
-    fn add(&mut self, mark: Mark) -> Result<u32, MarkFault>
+    /// Makes a mark and returns its number, the next one. Where there are 64 marks or the numbers are used up, it is refused
+    /// and nothing changes.
+    pub fn add(&mut self, mark: Mark) -> Result<u32, MarkFault>
         ensures number { result ≡ next_number self.old }
         ensures marks { self.new ≡ with_item mark self.old }
         ensures unchanged { OnErr result (self.new ≡ self.old) }

@@ -29,7 +29,8 @@ pub enum Found {
 }
 
 impl Found {
-    // Looks at position p, behind those where it was found. Where no mark hits there, nothing is copied.
+    // What is found after a look at position p, behind the one that was found before. Where no mark hits there, nothing is
+    // copied.
     pub(crate) fn look_at(&mut self, p: usize, hits: &Numbers)
         ensures { self.new ≡ found_after self.old p hits.now.items }
     {
@@ -41,7 +42,7 @@ impl Found {
         }
     }
 
-    // The same, in room of its own.
+    // A copy of what was found, in room of its own.
     pub(crate) fn copy(&self) -> Found
         ensures { result ≡ self.now }
     {

@@ -11,7 +11,7 @@ ghost use Rattle.nr_snaps.specs.Film.{IsFrame};
 use crate::direction::Direction;
 use crate::found::{Found, Numbers};
 use crate::quiet::{Outlook, is_quiet, outlook_of};
-use crate::watched::look;
+use crate::watched::find_hits;
 use arrayvec::ArrayVec;
 use nr_marks::{MOST_MARKS, Marks, NextStep, NumberedMark};
 use nr_rev::{CellValue, Memory, Worlds};
@@ -34,7 +34,7 @@ where
 // that the marks watch at position n, and then at the next one. Where the kinds of the steps around it show that no mark can
 // hit, no cell is read.
 #[inline(always)]
-fn go_on<W: Worlds + Drop>(
+fn advance_finding_hits<W: Worlds + Drop>(
     film: &Film<W>,
     marks: &[NumberedMark],
     outlook: &Outlook,
@@ -63,7 +63,7 @@ where
         hits.clear();
         return;
     }
-    look(marks, values, hits, world, next);
+    find_hits(marks, values, hits, world, next);
 }
 
 /// The nearest hit of those behind position `at` and up to position `to`. The world is at `at` and is led on: to `to`,
@@ -90,10 +90,10 @@ where
     let mut values = [CellValue::Absent; MOST_MARKS];
     let mut hits = ArrayVec::new();
     let outlook = outlook_of(marks);
-    look(marks, &mut values, &mut hits, world, None);
+    find_hits(marks, &mut values, &mut hits, world, None);
     let mut found = Found::Nothing;
     for n in at..to {
-        go_on(film, marks, &outlook, &mut values, &mut hits, world, n);
+        advance_finding_hits(film, marks, &outlook, &mut values, &mut hits, world, n);
         found.look_at(n + 1, &hits);
         if found.is_decided(direction) {
             return found;

@@ -10,9 +10,9 @@ use crate::found::Numbers;
 use nr_marks::{MOST_MARKS, NextStep, NumberedMark};
 use nr_rev::{CellValue, Worlds};
 
-/// The numbers of the marks that hit, with the values of one step before; they are then those of now.
+/// Finds the numbers of the marks that hit, by the values of one step before, and keeps the values of now in their place.
 #[inline(always)]
-pub(crate) fn look<W: Worlds>(
+pub(crate) fn find_hits<W: Worlds>(
     marks: &[NumberedMark],
     values: &mut [CellValue; MOST_MARKS],
     hits: &mut Numbers,

@@ -12,7 +12,7 @@ returns-then-is_decided-clause-found g c =
     let low = c.args.at + 1 in
     let here = c.loop-n.n + 1 in
     let i = c.loop-n.invariant in
-    let found = found-then hits c.args.direction low here c.loop-n.found c.look_at.new.self c.go_on.new.hits.items i.undecided (omega arith) c.go_on.ensures.hits i.found c.look_at.ensures in
+    let found = found-then hits c.args.direction low here c.loop-n.found c.look_at.new.self c.advance_finding_hits.new.hits.items i.undecided (omega arith) c.advance_finding_hits.ensures.hits i.found c.look_at.ensures in
     subst (λ ms. IsFound c.args.direction (hits_at r ms) low (c.args.to + 1) c.look_at.new.self) c.as_slice-marks.ensures.marks
     (found-decided hits c.args.direction low (here + 1) (c.args.to + 1) c.look_at.new.self (sym c.is_decided.ensures ∙ c.if-is_decided.true) (omega arith) found)
 
@@ -21,9 +21,9 @@ loop-n-preserved g c =
     let hits = hits_at c.args.film.now.recording c.as_slice-marks.result.now in
     let i = c.loop-n.invariant in
     record {
-      frame = c.go_on.ensures.frame;
-      remembers = c.go_on.ensures.values;
-      found = found-then hits c.args.direction (c.args.at + 1) (c.loop-n.n + 1) c.loop-n.found c.look_at.new.self c.go_on.new.hits.items i.undecided (omega arith) c.go_on.ensures.hits i.found
+      frame = c.advance_finding_hits.ensures.frame;
+      remembers = c.advance_finding_hits.ensures.values;
+      found = found-then hits c.args.direction (c.args.at + 1) (c.loop-n.n + 1) c.loop-n.found c.look_at.new.self c.advance_finding_hits.new.hits.items i.undecided (omega arith) c.advance_finding_hits.ensures.hits i.found
           c.look_at.ensures;
       undecided = sym c.is_decided.ensures ∙ c.if-is_decided.false;
     }

@@ -3,4 +3,4 @@ use Rattle.nr_command.proofs.debugger.Debugger.exec.Goals as goal
 
 pub returns-clause-within : goal.returns-clause-within
 returns-clause-within g c =
-    exec-within c.args.film.now.recording c.args.command c.args.self.now c.run.new.self c.run.result c.requires c.run.ensures.ok c.run.ensures.unchanged
+    exec-within c.args.film.now.recording c.args.command c.args.self.now c.dispatch.new.self c.dispatch.result c.requires c.dispatch.ensures.ok c.dispatch.ensures.unchanged

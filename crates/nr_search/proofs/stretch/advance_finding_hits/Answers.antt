@@ -2,7 +2,7 @@ use Rattle.std.proofs.Common.{◌∙◌, sym}
 use Rattle.nr_search.specs.Quiet.{IsQuiet}
 use Rattle.nr_search.proofs.QuietLemmas.{all-missed, made-keeps, remembers-on}
 use Rattle.nr_search.proofs.WatchedLemmas.{hits_at-next}
-use Rattle.nr_search.proofs.stretch.go_on.Goals as goal
+use Rattle.nr_search.proofs.stretch.advance_finding_hits.Goals as goal
 
 pub returns-then-is_quiet-clause-hits : goal.returns-then-is_quiet-clause-hits
 returns-then-is_quiet-clause-hits g c =
@@ -26,6 +26,6 @@ returns-then-is_quiet-clause-values g c =
 pub returns-clause-hits : goal.returns-clause-hits
 returns-clause-hits g c =
     let before = g.W.Worlds.world c.args.world.now in
-    c.look.ensures.hits before c.requires.values
+    c.find_hits.ensures.hits before c.requires.values
     ∙ hits_at-next c.args.film.now.recording c.args.marks.now c.args.n before (g.W.Worlds.world c.advance.new.world) c.next_step-next.result
     c.requires.frame.is_at.there c.advance.ensures.frame.is_at.there c.next_step-next.ensures

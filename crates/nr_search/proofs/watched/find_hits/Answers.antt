@@ -4,8 +4,8 @@ use Rattle.nr_rev.proofs.ListUpdateLemmas.{slice_get-set_cases}
 use Rattle.nr_rev.specs.declared.cell_value.CellValue.TheVariants.{Absent}
 use Rattle.nr_marks.specs.Hit.{hits_by, mark_hits, watched}
 use Rattle.nr_search.proofs.WatchedLemmas.{below-more, few-more, numbers-next, reported-hit, reported-miss}
-use Rattle.nr_search.proofs.watched.look.Goals as goal
-use Rattle.nr_search.proofs.watched.look.Goals.{then-hits, else-hits}
+use Rattle.nr_search.proofs.watched.find_hits.Goals as goal
+use Rattle.nr_search.proofs.watched.find_hits.Goals.{then-hits, else-hits}
 
 -- one mark more is looked at, and its value is that of now
 pub loop-i-preserved : goal.loop-i-preserved

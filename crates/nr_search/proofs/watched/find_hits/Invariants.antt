@@ -3,7 +3,7 @@ use Rattle.nr_rev.specs.World.{World}
 use Rattle.nr_marks.specs.Hit.{hits_between, watched}
 use Rattle.nr_marks.specs.Marks.{NumberedMark}
 use Rattle.nr_search.specs.Search.{Remembers}
-use Rattle.nr_search.proofs.watched.look.Given as goal
+use Rattle.nr_search.proofs.watched.find_hits.Given as goal
 
 -- the marks so far are looked at, and their values are those of now
 abbrev pub invariant-loop-i : goal.invariant-loop-i
