@@ -33,17 +33,17 @@ use Rattle.nr_programs.specs.declared.opening.OpenFault.TheVariants as openings
 use Rattle.nr_programs.specs.declared.run.ExitStatus.{ExitStatus}
 use Rattle.nr_programs.specs.declared.run.ExitStatus.TheVariants.{Done, Refused, StreamFailed}
 use Rattle.nr_programs.proofs.FaultLemmas.{IsOwn, opened_faulty, opened_good}
-use Rattle.nr_programs.proofs.TranscriptLemmas.{Stands, line_given, same_size, size_of}
+use Rattle.nr_programs.proofs.TranscriptLemmas.{IsInState, line_given, same_size, size_of}
 
 -- what was written is all of it
 pub all_of : (whole out : List ℕ) → out ≡ whole → StartsWith whole out
 all_of whole out is = ([], sym is ∙ sym (append-nil out))
 
--- one line: its text, and where the front stands then
+-- one line: its text, and the state of the front then
 record Goes (r : Recording) (s : SessionState) (d : FrontState) (line text : List ℕ) (d' : FrontState) : Type 0 where
   pub met : Met
   pub after : SessionState
-  pub there : Stands r after d'
+  pub there : IsInState r after d'
   pub company : d'.pass_state.passes ≡ d.pass_state.passes
   pub no_others : d.pass_state.passes ≡ 1 → met.others ≡ []
   pub text_is : (lines : List (List ℕ)) (more : List Met) → texts r s (line ∷ lines) (met ∷ more) ≡ text ∷ cond (is_quit (meaning_of line)) [] (texts r after lines more)
@@ -57,7 +57,7 @@ record Goes (r : Recording) (s : SessionState) (d : FrontState) (line text : Lis
   pub may_be : (journal : JournalSize) (lines : List (List ℕ)) (more : List Met) → MayMeet r journal s.owed (meaning_of line) met s → UnlessQuit (is_quit (meaning_of line)) (AllMayMeet r journal after lines more)
       → AllMayMeet r journal s (line ∷ lines) (met ∷ more)
 
-goes : (r : Recording) (s : SessionState) (d : FrontState) (line text : List ℕ) (d' : FrontState) → Stands r s d → Turn d line text d' → Goes r s d line text d'
+goes : (r : Recording) (s : SessionState) (d : FrontState) (line text : List ℕ) (d' : FrontState) → IsInState r s d → Turn d line text d' → Goes r s d line text d'
 goes r s d line text d' here turn =
     let given = line_given r s d here (meaning_of line) turn.0 d' turn.1 in
     let a = line_answer r s.owed (meaning_of line) given.met s in
@@ -89,7 +89,7 @@ MeetsNoOther m = m.others ≡ []
 record GoOn (r : Recording) (s : SessionState) (d : FrontState) (lines given : List (List ℕ)) (d' : FrontState) : Type 0 where
   pub met : List Met
   pub after : SessionState
-  pub there : Stands r after d'
+  pub there : IsInState r after d'
   pub company : d'.pass_state.passes ≡ d.pass_state.passes
   pub no_others : d.pass_state.passes ≡ 1 → All MeetsNoOther met
   pub texts_are : (later : List (List ℕ)) (more : List Met) → texts r s (lines ++ later) (met ++ more) ≡ given ++ texts r after later more
@@ -110,11 +110,11 @@ unless_quit : (quits : Bool) (later : Type 0) → quits ≡ true → UnlessQuit 
 unless_quit true later is = tt
 unless_quit false later is = cc
 
-go_on : (r : Recording) (s : SessionState) (d : FrontState) (lines given : List (List ℕ)) (d' : FrontState) → Stands r s d → has_quit lines ≡ false → Turns d lines given d' → GoOn r s d lines given d'
+go_on : (r : Recording) (s : SessionState) (d : FrontState) (lines given : List (List ℕ)) (d' : FrontState) → IsInState r s d → has_quit lines ≡ false → Turns d lines given d' → GoOn r s d lines given d'
 go_on r s d [] [] d' here none is = record {
   met = [];
   after = s;
-  there = subst (Stands r s) (sym is) here;
+  there = subst (IsInState r s) (sym is) here;
   company = ap (λ (x : FrontState). x.pass_state.passes) is;
   no_others = λ _. All-nil MeetsNoOther;
   texts_are = λ later more. refl;
@@ -187,7 +187,7 @@ lines_behind ended text front line back split =
     let more = more_lines ended text in
     (back ++ more.0, more.1 ∙ ap (λ (l : List (List ℕ)). l ++ more.0) split ∙ append_assoc front (line ∷ back) more.0)
 
--- what was written, and where the front stands then
+-- what was written, and the state of the front then
 pub record Replied (r : Recording) (s : SessionState) (d d' : FrontState) (lines : List (List ℕ)) (out : List ℕ) (says : List Met → Type 0) : Type 0 where
   pub met : List Met
   pub ran : List (List ℕ)
@@ -201,7 +201,7 @@ pub record Replied (r : Recording) (s : SessionState) (d d' : FrontState) (lines
   pub company : d'.pass_state.passes ≡ d.pass_state.passes
   pub no_others : d.pass_state.passes ≡ 1 → All MeetsNoOther met
   pub after : SessionState
-  pub there : Stands r after d'
+  pub there : IsInState r after d'
   pub says_it : says met
 
 -- the words that were seen with lines and with one more
@@ -262,7 +262,7 @@ may_with r s d front line given text mid d' on last later all is then =
     (on.may_be (line ∷ later) (last.met ∷ [])
     (subst (λ (k : JournalSize). AllMayMeet r k on.after (line ∷ later) (last.met ∷ [])) (same_size d mid on.table on.company) (last.may_be (size_of mid) later [] last.may then)))
 
-module _ (r : Recording) (s : SessionState) (d d' : FrontState) (here : Stands r s d) (read out : List ℕ) where
+module _ (r : Recording) (s : SessionState) (d d' : FrontState) (here : IsInState r s d) (read out : List ℕ) where
   -- all lines were answered
   pub all_answered : (ended : Bool) → Answered d (lines_of ended read) out d' → Replied r s d d' (lines_of ended read) out (λ met. out ≡ replies r s ended read met)
   all_answered ended h =
@@ -373,7 +373,7 @@ quit_among (x ∷ front) line back quit =
     elim (is_quit (meaning_of x)) as (λ t. (t || has_quit (front ++ line ∷ back)) ≡ true) [ true ↦ refl | false ↦ quit_among front line back quit ]
 
 -- what a session of one read and wrote, by how it ended
-module _ (recording : List ℕ) (r : Recording) (opening : opened recording ≡ Ok r) (from left : Incoming) (old new : Outgoing) (d d' : FrontState) (here : Stands r start d) (alone : d.pass_state.passes ≡ 1) (room : journal_room d.table ≡ 65536) where
+module _ (recording : List ℕ) (r : Recording) (opening : opened recording ≡ Ok r) (from left : Incoming) (old new : Outgoing) (d d' : FrontState) (here : IsInState r start d) (alone : d.pass_state.passes ≡ 1) (room : journal_room d.table ≡ 65536) where
   over : (ended : Bool) (commands : List ℕ) (met : List Met) → transcript_by recording ended commands met ≡ replies r start ended commands met
   over ended commands met = ap (λ o. replies_over o ended commands met) opening
 

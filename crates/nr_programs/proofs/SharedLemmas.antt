@@ -17,10 +17,10 @@ use Rattle.nr_serving.specs.Fronts.{Course, ServesCaller, ServesCallers}
 use Rattle.nr_serving.specs.Conversations.{Conversation}
 use Rattle.nr_serving.specs.Session.{BeginsFresh, HasOwn, IsShared, last_pass_state}
 use Rattle.nr_serving.proofs.TagLemmas.{serving_keeps_tag}
-use Rattle.nr_programs.specs.Shared.{AreAnswered, IsAnswered, StandsIn, StartsList, tag_at_end, words_seen}
+use Rattle.nr_programs.specs.Shared.{AreAnswered, IsAnswered, HasRun, StartsList, tag_at_end, words_seen}
 use Rattle.nr_programs.specs.Transcript.{AllMayMeet, JournalSize, Met, SessionState, replies, start, texts}
 use Rattle.nr_programs.proofs.RepliesLemmas.{Replied, all_answered, all_of, true_is_false, up_to_failure, up_to_quit}
-use Rattle.nr_programs.proofs.TranscriptLemmas.{Stands, same_size, size_of}
+use Rattle.nr_programs.proofs.TranscriptLemmas.{IsInState, same_size, size_of}
 
 starts_trans : (a b c : List ℕ) → StartsWith b a → StartsWith c b → StartsWith c a
 starts_trans a b c one other = (one.0 ++ other.0, other.1 ∙ ap (λ (l : List ℕ). l ++ other.0) one.1 ∙ append_assoc a one.0 other.0)
@@ -41,11 +41,11 @@ caller_grows c d d' h = lines_grow c.ending h.serves.ended d _ _ d' h.serves.end
     lines_grow (Err (Write whole part)) ended d lines out d' e =
         turns_grow d _ _ d' (turns_more d e.front e.texts e.mid e.line e.text d' e.turns e.turn)
 
--- it is answered, and the front stands somewhere then
+-- it is answered, and the front is in some state then
 record Goes (r : Recording) (c : Conversation) (s : SessionState) (d d' : FrontState) : Type 0 where
   pub answered : IsAnswered r (size_of d) d.pass_state.tag c s
   pub after : SessionState
-  pub there : Stands r after d'
+  pub there : IsInState r after d'
   pub seen : d'.pass_state.seen ≡ d.pass_state.seen ++ words_seen d.pass_state.tag r s answered.ran answered.met
   pub tag : d'.pass_state.tag ≡ d.pass_state.tag
   pub table : d'.table ≡ d.table
@@ -104,14 +104,14 @@ module _ (r : Recording) (c : Conversation) (s : SessionState) (d d' : FrontStat
   }
 
   -- by how it ended
-  goes_by : (ending : Result End LineEnd) (ended : Bool) → Stands r s d → c.input.failed ≡ is_read_failure ending → c.output.failed ≡ is_write_failure ending → Ends ending ended d (lines_of ended read) out d'
+  goes_by : (ending : Result End LineEnd) (ended : Bool) → IsInState r s d → c.input.failed ≡ is_read_failure ending → c.output.failed ≡ is_write_failure ending → Ends ending ended d (lines_of ended read) out d'
       → Goes r c s d d'
   goes_by (Ok Closed) ended here reading writing e = whole_of false reading (all_answered r s d d' here read out true (subst (λ t. Answered d (lines_of t read) out d') e.0 e.1))
   goes_by (Ok Quit) ended here reading writing e = whole_of false reading (up_to_quit r s d d' here read out ended e)
   goes_by (Err Read) ended here reading writing e = whole_of true reading (all_answered r s d d' here read out false (subst (λ t. Answered d (lines_of t read) out d') e.0 e.1))
   goes_by (Err (Write whole part)) ended here reading writing e = cut_of reading writing (up_to_failure r s d d' here read out ended whole part e)
 
-caller_goes : (r : Recording) (c : Conversation) (s : SessionState) (d d' : FrontState) → Stands r s d → ServesCaller c d d' → Goes r c s d d'
+caller_goes : (r : Recording) (c : Conversation) (s : SessionState) (d d' : FrontState) → IsInState r s d → ServesCaller c d d' → Goes r c s d d'
 caller_goes r c s d d' here h =
     let a = h.serves in
     goes_by r c s d d' a.read a.out a.reads.received a.writes.sent c.ending a.ended here h.read_failed h.write_failed a.ends
@@ -123,13 +123,13 @@ callers_grow [] d d' is = subst (λ (x : FrontState). StartsWith x.pass_state.se
 callers_grow (c ∷ callers) d d' h =
     starts_trans d.pass_state.seen h.0.pass_state.seen d'.pass_state.seen (caller_grows c d h.0 h.1).words (callers_grow callers h.0 d' h.2)
 
-callers_answered : (r : Recording) (history : List ℕ) (callers : List Conversation) (s : SessionState) (d d' : FrontState) → Stands r s d → ServesCallers callers d d' → Covers history d'.pass_state.tag d'.pass_state.seen
+callers_answered : (r : Recording) (history : List ℕ) (callers : List Conversation) (s : SessionState) (d d' : FrontState) → IsInState r s d → ServesCallers callers d d' → Covers history d'.pass_state.tag d'.pass_state.seen
     → AreAnswered r (size_of d) d.pass_state.tag history s d.pass_state.seen callers
 callers_answered r history [] s d d' here h own = subst (λ (x : FrontState). Covers history x.pass_state.tag x.pass_state.seen) h own
 callers_answered r history (c ∷ callers) s d d' here h own =
     let mid = h.0 in
     let one = caller_goes r c s d mid here h.1 in
-    let stands : StandsIn r history mid.pass_state.seen one.after = record {
+    let has_run : HasRun r history mid.pass_state.seen one.after = record {
       prefix = starts_trans mid.pass_state.seen d'.pass_state.seen history (callers_grow callers mid d' h.2) (own.0, own.1);
       placed = one.there.placed;
       at = one.there.at;
@@ -139,7 +139,7 @@ callers_answered r history (c ∷ callers) s d d' here h own =
     (subst (λ (t : ℕ). AreAnswered r (size_of mid) t history one.after mid.pass_state.seen callers) one.tag (callers_answered r history callers one.after mid d' one.there h.2 own)) in (
       one.answered,
       one.after,
-      subst (λ (l : List ℕ). StandsIn r history l one.after) one.seen stands,
+      subst (λ (l : List ℕ). HasRun r history l one.after) one.seen has_run,
       subst (λ (l : List ℕ). AreAnswered r (size_of d) d.pass_state.tag history one.after l callers) one.seen later,
     )
 
@@ -155,7 +155,7 @@ module _ (table : TableId) (r : Recording) (fronts depth workers : ℕ) (history
 
   front_answered : (course : Course) → BeginsFresh table r fronts depth workers course → HasOwn history (last_pass_state course) → IsCourseAnswered course
   front_answered course begins own =
-      let here : Stands r start begins.start = subst (Stands r start) (sym begins.fresh.2) (record { recording = refl; placed = refl; owed = refl; at = refl }) in
+      let here : IsInState r start begins.start = subst (IsInState r start) (sym begins.fresh.2) (record { recording = refl; placed = refl; owed = refl; at = refl }) in
       let none : begins.start.pass_state.seen ≡ [] = ap (λ (x : FrontState). x.pass_state.seen) begins.fresh.2 in
       let size_is : size_of begins.start ≡ size = ap size_of begins.fresh.2 in
       subst (λ (k : JournalSize). AreAnswered r k (tag_at_end course) history start [] course.callers) size_is

@@ -28,8 +28,8 @@ use Rattle.std.proofs.lemmas.List.Elements.{All-nil}
 use Rattle.nr_programs.specs.Shared.{MeetsOthers, own_word, words_with}
 use Rattle.nr_programs.specs.Transcript.{Answered, JournalSize, MayMeet, Met, SessionState, Supply, enough, no_memory, no_memory_to_search, no_room, calm, behind_others, line_answer, owing}
 
--- the front is where it stands by the transcript
-pub record Stands (r : Recording) (s : SessionState) (d : FrontState) : Type 0 where
+-- the front is in this state of the transcript
+pub record IsInState (r : Recording) (s : SessionState) (d : FrontState) : Type 0 where
   pub recording : d.recording ≡ r
   pub placed : s.placed ≡ length d.pass_state.seen
   pub owed : s.owed ≡ owed_command d
@@ -46,7 +46,7 @@ same_size d d' table passes = let room : journal_room d'.table ≡ journal_room 
 pub record MayGive (r : Recording) (owed : Option Command) (asked : Result Line LineFault) (s : SessionState) (d : FrontState) (reply : Option Reply) (d' : FrontState) : Type 0 where
   pub met : Met
   pub reply_is : (line_answer r owed asked met s).0 ≡ reply
-  pub there : Stands r (line_answer r owed asked met s).1 d'
+  pub there : IsInState r (line_answer r owed asked met s).1 d'
   pub company : d'.pass_state.passes ≡ d.pass_state.passes
   pub no_others : d.pass_state.passes ≡ 1 → met.others ≡ []
   pub tag : d'.pass_state.tag ≡ d.pass_state.tag
@@ -66,7 +66,7 @@ one_behind : (r : Recording) (words : List ℕ) (command : Command) (a b : Debug
 one_behind r words command a b one other =
     one.behind ∙ ap (after_words r opening) (same_from_push one.before other.before one.word other.word (sym one.last ∙ other.last)).0 ∙ sym other.behind
 
-module _ (r : Recording) (s : SessionState) (d : FrontState) (here : Stands r s d) where
+module _ (r : Recording) (s : SessionState) (d : FrontState) (here : IsInState r s d) where
   -- others' words were seen, and none of the own
   seen_others : (words own : List ℕ) (d' : FrontState) → d'.pass_state.seen ≡ d.pass_state.seen ++ words → own ≡ [] → d'.pass_state.seen ≡ d.pass_state.seen ++ (words ++ own)
   seen_others words own d' seen none = seen ∙ ap (λ (l : List ℕ). d.pass_state.seen ++ l) (sym (ap (λ (l : List ℕ). words ++ l) none ∙ append-nil words))
@@ -91,7 +91,7 @@ module _ (r : Recording) (s : SessionState) (d : FrontState) (here : Stands r s 
       ap (λ (x : Debugger). after_words r x words) (at_words unowed) ∙ sym (after_words-append r opening d.pass_state.seen words)
 
   -- words of others were seen
-  learnt : (d' : FrontState) → (l : Learns d d') → Stands r (behind_others r l.sees_others.0 s) d'
+  learnt : (d' : FrontState) → (l : Learns d d') → IsInState r (behind_others r l.sees_others.0 s) d'
   learnt d' l =
       let words = l.sees_others.0 in
       let seen = l.sees_others.1 in
@@ -179,7 +179,7 @@ module _ (r : Recording) (s : SessionState) (d : FrontState) (here : Stands r s 
       subst (λ o. MayGive r o asked s d reply d') (sym (none_owed l.unowed)) (record {
         met = record { others = l.sees_others.0; supply = supply };
         reply_is = ap (λ (a : Answered). a.0) is;
-        there = subst (λ (a : Answered). Stands r a.1 d') (sym is) (learnt d' l);
+        there = subst (λ (a : Answered). IsInState r a.1 d') (sym is) (learnt d' l);
         company = l.sees_others.5;
         no_others = l.sees_others.6;
         tag = l.sees_others.3;
@@ -197,7 +197,7 @@ module _ (r : Recording) (s : SessionState) (d : FrontState) (here : Stands r s 
       subst (λ o. MayGive r o asked s d (Some (Fault (faults.Placed place))) d') (sym (here.owed ∙ stays.still_owed)) (record {
         met = record { others = []; supply = supply };
         reply_is = ap (λ (a : Answered). a.0) is ∙ ap (λ n. Some (Fault (faults.Placed n))) (here.placed ∙ sym stays.at);
-        there = subst (λ (a : Answered). Stands r a.1 d') (sym is) (subst (Stands r s) (sym stays.unchanged) here);
+        there = subst (λ (a : Answered). IsInState r a.1 d') (sym is) (subst (IsInState r s) (sym stays.unchanged) here);
         company = ap (λ (x : FrontState). x.pass_state.passes) stays.unchanged;
         no_others = λ _. refl;
         tag = ap (λ (x : FrontState). x.pass_state.tag) stays.unchanged;
@@ -218,9 +218,9 @@ module _ (r : Recording) (s : SessionState) (d : FrontState) (here : Stands r s 
   executed command d' (Err Full) h = refused (Ok (Run command)) (Some (Fault faults.JournalFull)) no_room d' h.learns refl ((learnt d' h.learns).placed ∙ h.full) refl
 
   -- the walker doesn't matter
-  walked : (s' : SessionState) (walker_state : WalkerState) (mid d' : FrontState) → d' ≡ with_walker_state walker_state mid → Stands r s' mid → Stands r s' d'
+  walked : (s' : SessionState) (walker_state : WalkerState) (mid d' : FrontState) → d' ≡ with_walker_state walker_state mid → IsInState r s' mid → IsInState r s' d'
   walked s' walker_state mid d' is there =
-      subst (Stands r s') (sym is) (record { recording = there.recording; placed = there.placed; owed = there.owed; at = there.at })
+      subst (IsInState r s') (sym is) (record { recording = there.recording; placed = there.placed; owed = there.owed; at = there.at })
 
   -- a look that is answered
   look_given : (query : Query) (d' : FrontState) (reply : Reply) → RepliesToLook query d d' reply → MayGive r None (Ok (Look query)) s d (Some reply) d'
@@ -273,7 +273,7 @@ module _ (r : Recording) (s : SessionState) (d : FrontState) (here : Stands r s 
       let given : reply ≡ (run r command replies.debugger).0 = replies.answer ∙ ap (λ x. (run x command replies.debugger).0) here.recording in record {
         met = calm;
         reply_is = ap (λ x. Some (run r command x).0) same ∙ ap Some (sym given);
-        there = subst (Stands r (record { debugger = (run r command s.debugger).1; placed = s.placed; owed = None })) (sym now) (record {
+        there = subst (IsInState r (record { debugger = (run r command s.debugger).1; placed = s.placed; owed = None })) (sym now) (record {
           recording = here.recording;
           placed = here.placed;
           owed = refl;
@@ -306,7 +306,7 @@ module _ (r : Recording) (s : SessionState) (d : FrontState) (here : Stands r s 
       subst (λ o. MayGive r o (Ok Resume) s d (Some NothingOwed) d') (sym (none_owed h.unowed)) (record {
         met = calm;
         reply_is = refl;
-        there = subst (Stands r s) (sym h.unchanged) here;
+        there = subst (IsInState r s) (sym h.unchanged) here;
         company = ap (λ (x : FrontState). x.pass_state.passes) h.unchanged;
         no_others = λ _. refl;
         tag = ap (λ (x : FrontState). x.pass_state.tag) h.unchanged;
@@ -329,7 +329,7 @@ module _ (r : Recording) (s : SessionState) (d : FrontState) (here : Stands r s 
       let e = each s.owed in record {
         met = calm;
         reply_is = ap (λ (a : Answered). a.0) e ∙ sym is;
-        there = subst (Stands r (line_answer r s.owed asked calm s).1) (sym same) (subst (λ x. Stands r x d) (sym (ap (λ (a : Answered). a.1) e)) here);
+        there = subst (IsInState r (line_answer r s.owed asked calm s).1) (sym same) (subst (λ x. IsInState r x d) (sym (ap (λ (a : Answered). a.1) e)) here);
         company = ap (λ (x : FrontState). x.pass_state.passes) same;
         no_others = λ _. refl;
         tag = ap (λ (x : FrontState). x.pass_state.tag) same;

@@ -53,11 +53,11 @@ placed_words tag r s (line ∷ lines) met =
 abbrev pub MeetsOthers : ℕ → Met → Type 0
 MeetsOthers tag m = All (IsOthers tag) m.others
 
--- One caller of a front: what was sent to it is a prefix of the replies to what was received from it,
--- from where the front stood; all of it unless a write failed. Where a read failed, an unfinished
+-- One caller of a front: what was sent to it is a prefix of the replies to what was received from
+-- it, from where the front was; all of it unless a write failed. Where a read failed, an unfinished
 -- last line is no command. These lines were run: the first ones, up to one that is `quit`, or whose
--- reply wasn't written, or all; nothing was sent but their texts. They met what lines may meet, where
--- the journal is of this size.
+-- reply wasn't written, or all; nothing was sent but their texts. They met what lines may meet,
+-- where the journal is of this size.
 pub record IsAnswered (r : Recording) (journal : JournalSize) (tag : ℕ) (c : Conversation)
     (s : SessionState) : Type 0 where
     pub met : List Met
@@ -70,9 +70,9 @@ pub record IsAnswered (r : Recording) (journal : JournalSize) (tag : ℕ) (c : C
     pub nothing_else : StartsWith (concat (texts r s ran met)) c.output.sent
     pub others : All (MeetsOthers tag) met
 
--- The front stands behind a prefix of the history: its debugger is that of these words, less the
--- last where its reply is owed.
-pub record StandsIn (r : Recording) (history seen : List ℕ) (s : SessionState) : Type 0 where
+-- The front has run a prefix of the history: its debugger is that of these words, less the last
+-- where its reply is owed.
+pub record HasRun (r : Recording) (history seen : List ℕ) (s : SessionState) : Type 0 where
   pub prefix : StartsWith history seen
   pub placed : s.placed ≡ length seen
   pub at : IsAt r seen s.owed s.debugger
@@ -86,7 +86,7 @@ abbrev pub AreAnswered : Recording → JournalSize → ℕ → List ℕ → Sess
 AreAnswered r journal tag history s seen [] = Covers history tag seen
 AreAnswered r journal tag history s seen (c ∷ callers) =
     (one : IsAnswered r journal tag c s) × (next : SessionState)
-    × StandsIn r history (seen ++ words_seen tag r s one.ran one.met) next
+    × HasRun r history (seen ++ words_seen tag r s one.ran one.met) next
     × AreAnswered r journal tag history next (seen ++ words_seen tag r s one.ran one.met) callers
 
 -- the tag of a front's words

@@ -50,8 +50,8 @@ next_met (m ∷ met) = m
 
 -- ---- a front between two lines
 
--- The debugger that the words placed so far lead to, how many these are, and the command whose reply
--- is owed. Where one is, its word is the last, and the debugger is that of the words before it.
+-- The debugger that the words placed so far lead to, how many these are, and the command whose
+-- reply is owed. Where one is, its word is the last, and the debugger is that of the words before.
 pub record SessionState : Type 0 where
   pub debugger : Debugger
   pub placed : ℕ
@@ -108,7 +108,8 @@ resume_answer r command enough s = with_run (run r command s.debugger) s.placed
 resume_answer r command _ s = owing s
 
 -- a line where the reply to this command is owed
-abbrev pub answer_owing : Recording → Command → Result Line LineFault → Met → SessionState → Answered
+abbrev pub answer_owing : Recording → Command → Result Line LineFault → Met → SessionState
+    → Answered
 answer_owing r command (Ok (Run next)) m s = owing s
 answer_owing r command (Ok (Look query)) m s = owing s
 answer_owing r command (Ok Resume) m s = resume_answer r command m.supply s
@@ -131,9 +132,9 @@ pub record JournalSize : Type 0 where
 abbrev pub journal_of_one : JournalSize
 journal_of_one = record { room = 65536; passes = 1 }
 
--- A command may meet this, as the line finds the session: there is no memory before it is placed only
--- where others may have placed words, its search runs out of memory only where it searches by copies
--- of worlds, and there is no room only where the journal has so many words.
+-- A command may meet this, as the line finds the session: there is no memory before it is placed
+-- only where others may have placed words; its search runs out of memory only where it searches by
+-- copies of worlds; there is no room only where the journal has so many words.
 abbrev pub CommandMayMeet : Recording → JournalSize → Command → Supply → SessionState → Type 0
 CommandMayMeet r journal command enough s = ⊤
 CommandMayMeet r journal command no_memory s = journal.passes ≢ 1
@@ -154,8 +155,8 @@ ResumeMayMeet r command no_memory s = Searches r command s.debugger
 ResumeMayMeet r command no_memory_to_search s = ⊥
 ResumeMayMeet r command no_room s = ⊥
 
--- What a line may meet, by whether a reply is owed, where the journal is of this size. All lines that
--- place no command and show nothing meet nothing.
+-- What a line may meet, by whether a reply is owed, where the journal is of this size. All lines
+-- that place no command and show nothing meet nothing.
 abbrev pub MayMeet : Recording → JournalSize → Option Command → Result Line LineFault → Met
     → SessionState → Type 0
 MayMeet r journal None (Ok (Run command)) m s =
@@ -237,7 +238,7 @@ pub record Transcribes (recording : List ℕ) (from left : Incoming) (old new : 
   pub unread : (fault : OpenFault) → opened recording ≡ Err fault → commands ≡ []
   pub ends : status ≡ status_of (opened recording) left.failed new.failed
 
--- The program `run`: it writes its transcript, or there was no memory to begin, and that is printed.
+-- The program `run`: it writes its transcript, or there was no memory to begin, which is printed.
 abbrev pub RunsTranscript : List ℕ → Incoming → Incoming → Outgoing → Outgoing → ExitStatus
     → Type 0
 RunsTranscript recording from left old new status =

@@ -75,7 +75,7 @@ abbrev pub last_pass_state : Course → PassState
 last_pass_state course = course.last.pass_state
 
 -- So many fronts shared the session, each with a walker of this depth and so many workers. Their
--- tags are their numbers, from 0. What was placed is the history, unless memory ran out for it, and a
+-- tags are their numbers, from 0. What was placed is the history, unless memory ran out for it. A
 -- failure is reported exactly where one of the fronts failed.
 pub record IsShared (r : Recording) (room fronts depth workers : ℕ) (history : Option (List ℕ))
     (failed : Bool) : Type 0 where
