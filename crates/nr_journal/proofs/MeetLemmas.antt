@@ -16,8 +16,8 @@ use Rattle.nr_journal.proofs.RowLemmas.{All-left}
 use Rattle.nr_journal.proofs.RuleLemmas.{are_alike, kept_view, Rule, allowed, snoc_view, stays}
 
 -- a note of what a thread inside has seen
-pub tells : (purpose : Purpose) (id : ℕ) (pass_state : PassState) → Splits (Rule purpose) id (Within pass_state) (Within pass_state) (Note pass_state.seen)
-tells purpose id pass_state s k at =
+pub notes : (purpose : Purpose) (id : ℕ) (pass_state : PassState) → Splits (Rule purpose) id (Within pass_state) (Within pass_state) (Note pass_state.seen)
+notes purpose id pass_state s k at =
     let old : set s.views id (Within pass_state) ≡ s.views = set_again s.views id (Within pass_state) at in
     let c = (k.each_view id (Within pass_state) at).2 in
     subst (λ (vs : List View). Kept purpose s.words (vs ++ Note pass_state.seen ∷ [])) (sym old) (snoc_view purpose s.words s.views (Note pass_state.seen) k (c.0, c.1) (λ tag has. has))

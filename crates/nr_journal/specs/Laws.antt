@@ -13,14 +13,16 @@ use Rattle.nr_journal.specs.Rule.{Kept, newcomer, tag_of}
 
 -- where the word behind all that a pass has seen is 0, the log is exactly what it has seen
 abbrev pub EmptyLookSeesAll : Type 0
-EmptyLookSeesAll = (purpose : Purpose) (id : ℕ) (pass_state : PassState) (words : List ℕ) (views : List View)
-    → (k : Kept purpose words views) → get_elem? views id ≡ some (Within pass_state)
+EmptyLookSeesAll = (purpose : Purpose) (id : ℕ) (pass_state : PassState) (words : List ℕ)
+    (views : List View) → (k : Kept purpose words views)
+    → get_elem? views id ≡ some (Within pass_state)
     → slice_index words (length pass_state.seen + 1) ≡ 0 → k.log ≡ pass_state.seen
 
 -- the only pass that a journal may have has seen all words
 abbrev pub AnOnlyPassSeesAll : Type 0
-AnOnlyPassSeesAll = (purpose : Purpose) (id : ℕ) (pass_state : PassState) (words : List ℕ) (views : List View)
-    → (k : Kept purpose words views) → get_elem? views id ≡ some (Within pass_state)
+AnOnlyPassSeesAll = (purpose : Purpose) (id : ℕ) (pass_state : PassState) (words : List ℕ)
+    (views : List View) → (k : Kept purpose words views)
+    → get_elem? views id ≡ some (Within pass_state)
     → pass_state.passes ≡ 1 → k.log ≡ pass_state.seen
 
 -- each word of the log is, at its index, among the words that the pass with its tag has seen

@@ -53,8 +53,8 @@ abbrev pub Covers : List ℕ → ℕ → List ℕ → Type 0
 Covers log tag seen = (rest : List ℕ) × (log ≡ seen ++ rest) × All (IsOthers tag) rest
 
 -- What is known is true. Of a seat: how many passes the journal has at most, and the bits of the
--- tags that it tried are set. Of a pass: that too; its own bit and all below it are set. It has seen
--- a prefix of the log with all of its own words, and what it learnt of is a prefix of the log.
+-- tags that it tried are set. Of a pass: that too; its own bit and all below it are set. It has
+-- seen a prefix of the log with all of its own words, and what it learnt of is a prefix.
 abbrev pub Fits : ℕ → ℕ → List ℕ → View → Type 0
 Fits most tags log (Outside tried passes) = (passes ≡ most) × AreDrawn tags tried
 Fits most tags log (Within pass_state) =

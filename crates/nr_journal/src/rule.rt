@@ -15,7 +15,7 @@ pub const MOST_PASSES: u32 = 64;
 /// The most words that a journal may be made for.
 pub const MOST_WORDS: usize = 1_000_000;
 
-/// What a journal's table is told when it is made.
+/// What a journal's table is made for.
 #[derive(Clone, Copy, Debug, PartialEq, Eq)]
 pub struct Purpose {
     /// How many words the journal has room for.

@@ -95,9 +95,9 @@ Ends (Ok Quit) ended d lines out d' = Quitted d lines out d'
 Ends (Err Read) ended d lines out d' = (ended ≡ false) × Answered d lines out d'
 Ends (Err (Write whole part)) ended d lines out d' = WrittenInPart d lines whole part out d'
 
--- From a source that was `from` and is `left` some bytes were received, and to a sink that was `old` and
--- is `new` others were sent. Those sent answer the lines of those received, by a front that was d and
--- is d' then, and nothing else.
+-- From a source that was `from` and is `left` some bytes were received, and to a sink that was
+-- `old` and is `new` others were sent. Those sent answer the lines of those received, by a front
+-- that was d and is d' then, and nothing else.
 pub record AnswersLines (from left : Incoming) (old new : Outgoing) (d d' : FrontState)
     (result : Result End LineEnd) : Type 0 where
   pub read : List ℕ

@@ -1,5 +1,5 @@
 -- what callers need
 pub mod Engine
+pub mod Turn
 -- inner: what only definitions and proofs of this crate use
 pub mod LoopInvariant
-pub mod Turn

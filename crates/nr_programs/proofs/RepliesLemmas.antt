@@ -26,26 +26,26 @@ use Rattle.nr_snaps.specs.declared.fault.LoadFault.TheVariants as load
 use Rattle.nr_programs.specs.Opening.{IsFirstFault, IsGoodText, fault_line, opened}
 use Rattle.nr_programs.specs.Run.{PrintsFault, Walks, status_after}
 use Rattle.nr_programs.specs.Shared.{MeetsOthers, StartsList, words_seen, words_with}
-use Rattle.nr_programs.specs.Transcript.{AllMayMeet, MayMeet, Met, RunsTranscript, UnlessQuit, SessionState, Transcribes, calm, line_answer, replies, replies_over, start, status_of, texts, transcript_by}
+use Rattle.nr_programs.specs.Transcript.{AllMayMeet, JournalSize, MayMeet, Met, RunsTranscript, UnlessQuit, SessionState, Transcribes, calm, journal_of_one, line_answer, replies, replies_over, start, status_of, texts, transcript_by}
 use Rattle.nr_programs.specs.declared.opening.OpenFault.{OpenFault}
 use Rattle.nr_programs.specs.declared.opening.OpenFault.TheVariants.{Load}
 use Rattle.nr_programs.specs.declared.opening.OpenFault.TheVariants as openings
 use Rattle.nr_programs.specs.declared.run.ExitStatus.{ExitStatus}
 use Rattle.nr_programs.specs.declared.run.ExitStatus.TheVariants.{Done, Refused, StreamFailed}
 use Rattle.nr_programs.proofs.FaultLemmas.{IsOwn, opened_faulty, opened_good}
-use Rattle.nr_programs.proofs.TranscriptLemmas.{Stands, line_given}
+use Rattle.nr_programs.proofs.TranscriptLemmas.{IsInState, line_given, same_size, size_of}
 
 -- what was written is all of it
 pub all_of : (whole out : List ℕ) → out ≡ whole → StartsWith whole out
 all_of whole out is = ([], sym is ∙ sym (append-nil out))
 
--- one line: its text, and where the front stands then
+-- one line: its text, and the state of the front then
 record Goes (r : Recording) (s : SessionState) (d : FrontState) (line text : List ℕ) (d' : FrontState) : Type 0 where
   pub met : Met
   pub after : SessionState
-  pub there : Stands r after d'
-  pub company : d'.pass_state.alone ≡ d.pass_state.alone
-  pub no_others : d.pass_state.alone ≡ true → met.others ≡ []
+  pub there : IsInState r after d'
+  pub company : d'.pass_state.passes ≡ d.pass_state.passes
+  pub no_others : d.pass_state.passes ≡ 1 → met.others ≡ []
   pub text_is : (lines : List (List ℕ)) (more : List Met) → texts r s (line ∷ lines) (met ∷ more) ≡ text ∷ cond (is_quit (meaning_of line)) [] (texts r after lines more)
   pub tag : d'.pass_state.tag ≡ d.pass_state.tag
   pub seen : d'.pass_state.seen ≡ d.pass_state.seen ++ words_with d.pass_state.tag s.owed (meaning_of line) met
@@ -53,11 +53,11 @@ record Goes (r : Recording) (s : SessionState) (d : FrontState) (line text : Lis
       → words_seen tag r s (line ∷ lines) (met ∷ more) ≡ words_with tag s.owed (meaning_of line) met ++ cond (is_quit (meaning_of line)) [] (words_seen tag r after lines more)
   pub theirs : MeetsOthers d.pass_state.tag met
   pub table : d'.table ≡ d.table
-  pub may : MayMeet r (journal_room d.table) s.owed (meaning_of line) met s
-  pub may_be : (room : ℕ) (lines : List (List ℕ)) (more : List Met) → MayMeet r room s.owed (meaning_of line) met s → UnlessQuit (is_quit (meaning_of line)) (AllMayMeet r room after lines more)
-      → AllMayMeet r room s (line ∷ lines) (met ∷ more)
+  pub may : MayMeet r (size_of d) s.owed (meaning_of line) met s
+  pub may_be : (journal : JournalSize) (lines : List (List ℕ)) (more : List Met) → MayMeet r journal s.owed (meaning_of line) met s → UnlessQuit (is_quit (meaning_of line)) (AllMayMeet r journal after lines more)
+      → AllMayMeet r journal s (line ∷ lines) (met ∷ more)
 
-goes : (r : Recording) (s : SessionState) (d : FrontState) (line text : List ℕ) (d' : FrontState) → Stands r s d → Turn d line text d' → Goes r s d line text d'
+goes : (r : Recording) (s : SessionState) (d : FrontState) (line text : List ℕ) (d' : FrontState) → IsInState r s d → Turn d line text d' → Goes r s d line text d'
 goes r s d line text d' here turn =
     let given = line_given r s d here (meaning_of line) turn.0 d' turn.1 in
     let a = line_answer r s.owed (meaning_of line) given.met s in
@@ -74,7 +74,7 @@ goes r s d line text d' here turn =
       theirs = given.theirs;
       table = given.table;
       may = given.may;
-      may_be = λ room lines more one later. (one, later);
+      may_be = λ journal lines more one later. (one, later);
     }
 
 neither : (a b : Bool) → (a || b) ≡ false → (a ≡ false) × (b ≡ false)
@@ -89,9 +89,9 @@ MeetsNoOther m = m.others ≡ []
 record GoOn (r : Recording) (s : SessionState) (d : FrontState) (lines given : List (List ℕ)) (d' : FrontState) : Type 0 where
   pub met : List Met
   pub after : SessionState
-  pub there : Stands r after d'
-  pub company : d'.pass_state.alone ≡ d.pass_state.alone
-  pub no_others : d.pass_state.alone ≡ true → All MeetsNoOther met
+  pub there : IsInState r after d'
+  pub company : d'.pass_state.passes ≡ d.pass_state.passes
+  pub no_others : d.pass_state.passes ≡ 1 → All MeetsNoOther met
   pub texts_are : (later : List (List ℕ)) (more : List Met) → texts r s (lines ++ later) (met ++ more) ≡ given ++ texts r after later more
   pub tag : d'.pass_state.tag ≡ d.pass_state.tag
   pub words : List ℕ
@@ -100,7 +100,7 @@ record GoOn (r : Recording) (s : SessionState) (d : FrontState) (lines given : L
       → words_seen d.pass_state.tag r s (lines ++ later) (met ++ more) ≡ words ++ words_seen d.pass_state.tag r after later more
   pub theirs : All (MeetsOthers d.pass_state.tag) met
   pub table : d'.table ≡ d.table
-  pub may_be : (later : List (List ℕ)) (more : List Met) → AllMayMeet r (journal_room d.table) after later more → AllMayMeet r (journal_room d.table) s (lines ++ later) (met ++ more)
+  pub may_be : (later : List (List ℕ)) (more : List Met) → AllMayMeet r (size_of d) after later more → AllMayMeet r (size_of d) s (lines ++ later) (met ++ more)
 
 unless_not : (quits : Bool) {later : Type 0} → quits ≡ false → later → UnlessQuit quits later
 unless_not true is later = cc
@@ -110,12 +110,12 @@ unless_quit : (quits : Bool) (later : Type 0) → quits ≡ true → UnlessQuit 
 unless_quit true later is = tt
 unless_quit false later is = cc
 
-go_on : (r : Recording) (s : SessionState) (d : FrontState) (lines given : List (List ℕ)) (d' : FrontState) → Stands r s d → has_quit lines ≡ false → Turns d lines given d' → GoOn r s d lines given d'
+go_on : (r : Recording) (s : SessionState) (d : FrontState) (lines given : List (List ℕ)) (d' : FrontState) → IsInState r s d → has_quit lines ≡ false → Turns d lines given d' → GoOn r s d lines given d'
 go_on r s d [] [] d' here none is = record {
   met = [];
   after = s;
-  there = subst (Stands r s) (sym is) here;
-  company = ap (λ (x : FrontState). x.pass_state.alone) is;
+  there = subst (IsInState r s) (sym is) here;
+  company = ap (λ (x : FrontState). x.pass_state.passes) is;
   no_others = λ _. All-nil MeetsNoOther;
   texts_are = λ later more. refl;
   tag = ap (λ (x : FrontState). x.pass_state.tag) is;
@@ -151,11 +151,11 @@ go_on r s d (line ∷ lines) (text ∷ given) d' here none h =
       theirs = All-cons (MeetsOthers d.pass_state.tag) one.met rest.met one.theirs (subst (λ (t : ℕ). All (MeetsOthers t) rest.met) one.tag rest.theirs);
       table = rest.table ∙ one.table;
       may_be = λ later more may.
-          let room : journal_room h.0.table ≡ journal_room d.table = ap journal_room one.table in
-          one.may_be (journal_room d.table) (lines ++ later) (rest.met ++ more) one.may
+          let size : size_of h.0 ≡ size_of d = same_size d h.0 one.table one.company in
+          one.may_be (size_of d) (lines ++ later) (rest.met ++ more) one.may
           (unless_not (is_quit (meaning_of line)) no.0
-          (subst (λ (k : ℕ). AllMayMeet r k one.after (lines ++ later) (rest.met ++ more)) room
-          (rest.may_be later more (subst (λ (k : ℕ). AllMayMeet r k rest.after later more) (sym room) may))));
+          (subst (λ (k : JournalSize). AllMayMeet r k one.after (lines ++ later) (rest.met ++ more)) size
+          (rest.may_be later more (subst (λ (k : JournalSize). AllMayMeet r k rest.after later more) (sym size) may))));
     }
 
 -- the turns of lines and of one more
@@ -187,20 +187,21 @@ lines_behind ended text front line back split =
     let more = more_lines ended text in
     (back ++ more.0, more.1 ∙ ap (λ (l : List (List ℕ)). l ++ more.0) split ∙ append_assoc front (line ∷ back) more.0)
 
--- what was written, and where the front stands then
+-- what was written, and the state of the front then
 pub record Replied (r : Recording) (s : SessionState) (d d' : FrontState) (lines : List (List ℕ)) (out : List ℕ) (says : List Met → Type 0) : Type 0 where
   pub met : List Met
   pub ran : List (List ℕ)
   pub first : StartsList lines ran
-  pub told : StartsWith (concat (texts r s ran met)) out
+  pub nothing_else : StartsWith (concat (texts r s ran met)) out
   pub seen : d'.pass_state.seen ≡ d.pass_state.seen ++ words_seen d.pass_state.tag r s ran met
   pub tag : d'.pass_state.tag ≡ d.pass_state.tag
   pub theirs : All (MeetsOthers d.pass_state.tag) met
-  pub may : AllMayMeet r (journal_room d.table) s lines met
+  pub may : AllMayMeet r (size_of d) s lines met
   pub table : d'.table ≡ d.table
-  pub no_others : d.pass_state.alone ≡ true → All MeetsNoOther met
+  pub company : d'.pass_state.passes ≡ d.pass_state.passes
+  pub no_others : d.pass_state.passes ≡ 1 → All MeetsNoOther met
   pub after : SessionState
-  pub there : Stands r after d'
+  pub there : IsInState r after d'
   pub says_it : says met
 
 -- the words that were seen with lines and with one more
@@ -229,39 +230,39 @@ texts_with r s d front line given text mid d' on last =
     none_behind false = refl
 
 -- each line may meet nothing
-calm_one : (r : Recording) (room : ℕ) (s : SessionState) (owed : Option Command) (asked : Result Line LineFault) → MayMeet r room owed asked calm s
-calm_one r room s None (Ok (Run command)) = tt
-calm_one r room s None (Ok (Look query)) = tt
-calm_one r room s None (Ok Resume) = refl
-calm_one r room s None (Ok lines.Quit) = refl
-calm_one r room s None (Ok Empty) = refl
-calm_one r room s None (Err fault) = refl
-calm_one r room s (Some owed) (Ok (Run command)) = refl
-calm_one r room s (Some owed) (Ok (Look query)) = refl
-calm_one r room s (Some owed) (Ok Resume) = (refl, tt)
-calm_one r room s (Some owed) (Ok lines.Quit) = refl
-calm_one r room s (Some owed) (Ok Empty) = refl
-calm_one r room s (Some owed) (Err fault) = refl
+calm_one : (r : Recording) (journal : JournalSize) (s : SessionState) (owed : Option Command) (asked : Result Line LineFault) → MayMeet r journal owed asked calm s
+calm_one r journal s None (Ok (Run command)) = tt
+calm_one r journal s None (Ok (Look query)) = tt
+calm_one r journal s None (Ok Resume) = refl
+calm_one r journal s None (Ok lines.Quit) = refl
+calm_one r journal s None (Ok Empty) = refl
+calm_one r journal s None (Err fault) = refl
+calm_one r journal s (Some owed) (Ok (Run command)) = refl
+calm_one r journal s (Some owed) (Ok (Look query)) = refl
+calm_one r journal s (Some owed) (Ok Resume) = (refl, tt)
+calm_one r journal s (Some owed) (Ok lines.Quit) = refl
+calm_one r journal s (Some owed) (Ok Empty) = refl
+calm_one r journal s (Some owed) (Err fault) = refl
 
 unless_calm : (quits : Bool) {later : Type 0} → later → UnlessQuit quits later
 unless_calm true later = tt
 unless_calm false later = later
 
-calm_may : (r : Recording) (room : ℕ) (s : SessionState) (lines : List (List ℕ)) → AllMayMeet r room s lines []
-calm_may r room s [] = tt
-calm_may r room s (line ∷ lines) =
-    (calm_one r room s s.owed (meaning_of line), unless_calm (is_quit (meaning_of line)) (calm_may r room (line_answer r s.owed (meaning_of line) calm s).1 lines))
+calm_may : (r : Recording) (journal : JournalSize) (s : SessionState) (lines : List (List ℕ)) → AllMayMeet r journal s lines []
+calm_may r journal s [] = tt
+calm_may r journal s (line ∷ lines) =
+    (calm_one r journal s s.owed (meaning_of line), unless_calm (is_quit (meaning_of line)) (calm_may r journal (line_answer r s.owed (meaning_of line) calm s).1 lines))
 
 -- so may lines and one more
 may_with : (r : Recording) (s : SessionState) (d : FrontState) (front : List (List ℕ)) (line : List ℕ) (given : List (List ℕ)) (text : List ℕ) (mid d' : FrontState) (on : GoOn r s d front given mid)
     → (last : Goes r on.after mid line text d') (later all : List (List ℕ)) → all ≡ front ++ line ∷ later
-    → UnlessQuit (is_quit (meaning_of line)) (AllMayMeet r (journal_room mid.table) last.after later []) → AllMayMeet r (journal_room d.table) s all (on.met ++ last.met ∷ [])
+    → UnlessQuit (is_quit (meaning_of line)) (AllMayMeet r (size_of mid) last.after later []) → AllMayMeet r (size_of d) s all (on.met ++ last.met ∷ [])
 may_with r s d front line given text mid d' on last later all is then =
-    subst (λ (l : List (List ℕ)). AllMayMeet r (journal_room d.table) s l (on.met ++ last.met ∷ [])) (sym is)
+    subst (λ (l : List (List ℕ)). AllMayMeet r (size_of d) s l (on.met ++ last.met ∷ [])) (sym is)
     (on.may_be (line ∷ later) (last.met ∷ [])
-    (subst (λ (k : ℕ). AllMayMeet r k on.after (line ∷ later) (last.met ∷ [])) (ap journal_room on.table) (last.may_be (journal_room mid.table) later [] last.may then)))
+    (subst (λ (k : JournalSize). AllMayMeet r k on.after (line ∷ later) (last.met ∷ [])) (same_size d mid on.table on.company) (last.may_be (size_of mid) later [] last.may then)))
 
-module _ (r : Recording) (s : SessionState) (d d' : FrontState) (here : Stands r s d) (read out : List ℕ) where
+module _ (r : Recording) (s : SessionState) (d d' : FrontState) (here : IsInState r s d) (read out : List ℕ) where
   -- all lines were answered
   pub all_answered : (ended : Bool) → Answered d (lines_of ended read) out d' → Replied r s d d' (lines_of ended read) out (λ met. out ≡ replies r s ended read met)
   all_answered ended h =
@@ -273,13 +274,14 @@ module _ (r : Recording) (s : SessionState) (d d' : FrontState) (here : Stands r
         met = on.met ++ [];
         ran = lines;
         first = ([], sym (append-nil lines));
-        told = all_of (concat (texts r s lines (on.met ++ []))) out (h.written ∙ ap concat (sym whole));
+        nothing_else = all_of (concat (texts r s lines (on.met ++ []))) out (h.written ∙ ap concat (sym whole));
         seen = on.seen ∙ ap (λ (l : List ℕ). d.pass_state.seen ++ l)
             (sym (ap (λ (l : List (List ℕ)). words_seen d.pass_state.tag r s l (on.met ++ [])) (sym (append-nil lines)) ∙ on.words_are [] [] ∙ append-nil on.words));
         tag = on.tag;
         table = on.table;
         theirs = subst (All (MeetsOthers d.pass_state.tag)) (sym (append-nil on.met)) on.theirs;
-        may = subst (λ (l : List (List ℕ)). AllMayMeet r (journal_room d.table) s l (on.met ++ [])) (append-nil lines) (on.may_be [] [] tt);
+        may = subst (λ (l : List (List ℕ)). AllMayMeet r (size_of d) s l (on.met ++ [])) (append-nil lines) (on.may_be [] [] tt);
+        company = on.company;
         no_others = λ alone. subst (All MeetsNoOther) (sym (append-nil on.met)) (on.no_others alone);
         after = on.after;
         there = on.there;
@@ -302,12 +304,13 @@ module _ (r : Recording) (s : SessionState) (d d' : FrontState) (here : Stands r
         met = met;
         ran = h.front ++ h.line ∷ [];
         first = (later.0, later.1 ∙ sym (append_assoc h.front (h.line ∷ []) later.0));
-        told = all_of (concat (texts r s (h.front ++ h.line ∷ []) met)) out (h.written ∙ ap concat (by.given_is ∙ sym (texts_with r s d h.front h.line by.front by.text by.mid d' on last)));
+        nothing_else = all_of (concat (texts r s (h.front ++ h.line ∷ []) met)) out (h.written ∙ ap concat (by.given_is ∙ sym (texts_with r s d h.front h.line by.front by.text by.mid d' on last)));
         seen = seen_with r s d h.front h.line by.front by.text by.mid d' on last;
         tag = last.tag ∙ on.tag;
         table = last.table ∙ on.table;
         theirs = All-push (MeetsOthers d.pass_state.tag) on.met last.met on.theirs (subst (λ (t : ℕ). MeetsOthers t last.met) on.tag last.theirs);
         may = may_with r s d h.front h.line by.front by.text by.mid d' on last later.0 (lines_of true read) later.1 (unless_quit (is_quit (meaning_of h.line)) _ h.quit);
+        company = last.company ∙ on.company;
         no_others = λ alone. All-push MeetsNoOther on.met last.met (on.no_others alone) (last.no_others (on.company ∙ alone));
         after = last.after;
         there = last.there;
@@ -331,7 +334,7 @@ module _ (r : Recording) (s : SessionState) (d d' : FrontState) (here : Stands r
         met = met;
         ran = h.front ++ h.line ∷ [];
         first = (later.0, later.1 ∙ sym (append_assoc h.front (h.line ∷ []) later.0));
-        told = (
+        nothing_else = (
           drop h.n h.text,
           ap concat (texts_with r s d h.front h.line h.texts h.text h.mid d' on last) ∙ concat-append h.texts (h.text ∷ [])
               ∙ ap (λ (t : List ℕ). concat h.texts ++ t) (append-nil h.text ∙ sym (take-append-drop h.n h.text)) ∙ sym (append_assoc (concat h.texts) (take h.n h.text) (drop h.n h.text))
@@ -341,7 +344,8 @@ module _ (r : Recording) (s : SessionState) (d d' : FrontState) (here : Stands r
         tag = last.tag ∙ on.tag;
         table = last.table ∙ on.table;
         theirs = All-push (MeetsOthers d.pass_state.tag) on.met last.met on.theirs (subst (λ (t : ℕ). MeetsOthers t last.met) on.tag last.theirs);
-        may = may_with r s d h.front h.line h.texts h.text h.mid d' on last later.0 (lines_of true read) later.1 (unless_calm (is_quit (meaning_of h.line)) (calm_may r (journal_room h.mid.table) last.after later.0));
+        may = may_with r s d h.front h.line h.texts h.text h.mid d' on last later.0 (lines_of true read) later.1 (unless_calm (is_quit (meaning_of h.line)) (calm_may r (size_of h.mid) last.after later.0));
+        company = last.company ∙ on.company;
         no_others = λ alone. All-push MeetsNoOther on.met last.met (on.no_others alone) (last.no_others (on.company ∙ alone));
         after = last.after;
         there = last.there;
@@ -369,23 +373,26 @@ quit_among (x ∷ front) line back quit =
     elim (is_quit (meaning_of x)) as (λ t. (t || has_quit (front ++ line ∷ back)) ≡ true) [ true ↦ refl | false ↦ quit_among front line back quit ]
 
 -- what a session of one read and wrote, by how it ended
-module _ (recording : List ℕ) (r : Recording) (opening : opened recording ≡ Ok r) (from left : Incoming) (old new : Outgoing) (d d' : FrontState) (here : Stands r start d) (alone : d.pass_state.alone ≡ true) (room : journal_room d.table ≡ 65536) where
+module _ (recording : List ℕ) (r : Recording) (opening : opened recording ≡ Ok r) (from left : Incoming) (old new : Outgoing) (d d' : FrontState) (here : IsInState r start d) (alone : d.pass_state.passes ≡ 1) (room : journal_room d.table ≡ 65536) where
   over : (ended : Bool) (commands : List ℕ) (met : List Met) → transcript_by recording ended commands met ≡ replies r start ended commands met
   over ended commands met = ap (λ o. replies_over o ended commands met) opening
 
   never_refused : (commands : List ℕ) (fault : OpenFault) → opened recording ≡ Err fault → commands ≡ []
   never_refused commands fault e = let both = sym opening ∙ e in absurd cc
 
-  may_meet : (failed : Bool) (commands : List ℕ) (met : List Met) → left.failed ≡ failed → AllMayMeet r (journal_room d.table) start (lines_of (not failed) commands) met → (x : Recording) → opened recording ≡ Ok x
-      → AllMayMeet x 65536 start (lines_of (not left.failed) commands) met
+  may_meet : (failed : Bool) (commands : List ℕ) (met : List Met) → left.failed ≡ failed → AllMayMeet r (size_of d) start (lines_of (not failed) commands) met → (x : Recording) → opened recording ≡ Ok x
+      → AllMayMeet x journal_of_one start (lines_of (not left.failed) commands) met
   may_meet failed commands met is may x e =
       let same : r ≡ x = let both = sym opening ∙ e in cc in
-      subst (λ (y : Recording). AllMayMeet y 65536 start (lines_of (not left.failed) commands) met) same
-      (subst (λ (f : Bool). AllMayMeet r 65536 start (lines_of (not f) commands) met) (sym is)
-      (subst (λ (k : ℕ). AllMayMeet r k start (lines_of (not failed) commands) met) room may))
+      subst (λ (y : Recording). AllMayMeet y journal_of_one start (lines_of (not left.failed) commands) met) same
+      (subst (λ (f : Bool). AllMayMeet r journal_of_one start (lines_of (not f) commands) met) (sym is)
+      (subst (λ (k : JournalSize). AllMayMeet r k start (lines_of (not failed) commands) met) of_one may))
+    where
+      of_one : size_of d ≡ journal_of_one
+      of_one = cc
 
   -- no write failed
-  whole_transcript : (status : ExitStatus) (commands written : List ℕ) (met : List Met) (failed : Bool) → AllMayMeet r (journal_room d.table) start (lines_of (not failed) commands) met → All MeetsNoOther met → Receives from left commands → Sends old new written → left.failed ≡ failed
+  whole_transcript : (status : ExitStatus) (commands written : List ℕ) (met : List Met) (failed : Bool) → AllMayMeet r (size_of d) start (lines_of (not failed) commands) met → All MeetsNoOther met → Receives from left commands → Sends old new written → left.failed ≡ failed
       → new.failed ≡ false → written ≡ replies r start (not failed) commands met → status ≡ status_of (Ok r) failed false → (status ≡ Done → IsOver left ⊎ (has_quit (lines_of false commands) ≡ true))
       → Transcribes recording from left old new status
   whole_transcript status commands written met failed may no_others reads writes is unfailed all ends complete =

@@ -4,7 +4,7 @@ use Rattle.std.specs.List.{All, concat}
 use Rattle.std.proofs.lemmas.List.Elements.{All-cons, All-head, All-nil, All-tail}
 use Rattle.atomic_table.specs.Seated.{TableId}
 use Rattle.nr_rev.specs.Run.{Recording}
-use Rattle.nr_journal.specs.Rule.{StartsWith, journal_room}
+use Rattle.nr_journal.specs.Rule.{Covers, StartsWith, journal_room}
 use Rattle.nr_front.specs.FrontState.{FrontState}
 use Rattle.nr_lines.specs.Engine.{Answered, Ends, Grows, is_read_failure, is_write_failure, lines_of}
 use Rattle.nr_lines.specs.declared.ending.End.{End}
@@ -14,13 +14,13 @@ use Rattle.nr_lines.specs.declared.ending.LineEnd.TheVariants.{Read, Write}
 use Rattle.nr_lines.proofs.GrowLemmas.{turns_grow}
 use Rattle.nr_lines.proofs.TurnLemmas.{turns_more}
 use Rattle.nr_serving.specs.Fronts.{Course, ServesCaller, ServesCallers}
-use Rattle.nr_serving.specs.Told.{Conversation}
+use Rattle.nr_serving.specs.Conversations.{Conversation}
 use Rattle.nr_serving.specs.Session.{BeginsFresh, HasOwn, IsShared, last_pass_state}
 use Rattle.nr_serving.proofs.TagLemmas.{serving_keeps_tag}
-use Rattle.nr_programs.specs.Shared.{AreAnswered, IsAnswered, StandsIn, StartsList, tag_at_end, words_seen}
-use Rattle.nr_programs.specs.Transcript.{AllMayMeet, Met, SessionState, replies, start, texts}
+use Rattle.nr_programs.specs.Shared.{AreAnswered, IsAnswered, HasRun, StartsList, tag_at_end, words_seen}
+use Rattle.nr_programs.specs.Transcript.{AllMayMeet, JournalSize, Met, SessionState, replies, start, texts}
 use Rattle.nr_programs.proofs.RepliesLemmas.{Replied, all_answered, all_of, true_is_false, up_to_failure, up_to_quit}
-use Rattle.nr_programs.proofs.TranscriptLemmas.{Stands}
+use Rattle.nr_programs.proofs.TranscriptLemmas.{IsInState, same_size, size_of}
 
 starts_trans : (a b c : List ℕ) → StartsWith b a → StartsWith c b → StartsWith c a
 starts_trans a b c one other = (one.0 ++ other.0, other.1 ∙ ap (λ (l : List ℕ). l ++ other.0) one.1 ∙ append_assoc a one.0 other.0)
@@ -41,14 +41,15 @@ caller_grows c d d' h = lines_grow c.ending h.serves.ended d _ _ d' h.serves.end
     lines_grow (Err (Write whole part)) ended d lines out d' e =
         turns_grow d _ _ d' (turns_more d e.front e.texts e.mid e.line e.text d' e.turns e.turn)
 
--- it is answered, and the front stands somewhere then
+-- it is answered, and the front is in some state then
 record Goes (r : Recording) (c : Conversation) (s : SessionState) (d d' : FrontState) : Type 0 where
-  pub answered : IsAnswered r (journal_room d.table) d.pass_state.tag c s
+  pub answered : IsAnswered r (size_of d) d.pass_state.tag c s
   pub after : SessionState
-  pub there : Stands r after d'
+  pub there : IsInState r after d'
   pub seen : d'.pass_state.seen ≡ d.pass_state.seen ++ words_seen d.pass_state.tag r s answered.ran answered.met
   pub tag : d'.pass_state.tag ≡ d.pass_state.tag
   pub table : d'.table ≡ d.table
+  pub company : d'.pass_state.passes ≡ d.pass_state.passes
 
 -- one caller, of whom these bytes were received and to whom these were sent
 module _ (r : Recording) (c : Conversation) (s : SessionState) (d d' : FrontState) (read out : List ℕ) (received : c.input.received ≡ read) (sent : c.output.sent ≡ out) where
@@ -65,12 +66,12 @@ module _ (r : Recording) (c : Conversation) (s : SessionState) (d d' : FrontStat
       record {
         answered = record {
           met = all.met;
-          may = subst (λ (l : List (List ℕ)). AllMayMeet r (journal_room d.table) s l all.met) (lines failed is) all.may;
+          may = subst (λ (l : List (List ℕ)). AllMayMeet r (size_of d) s l all.met) (lines failed is) all.may;
           begins = all_of (replies r s (not c.input.failed) c.input.received all.met) c.output.sent says;
           whole = λ _. says;
           ran = all.ran;
           first = subst (λ (l : List (List ℕ)). StartsList l all.ran) (lines failed is) all.first;
-          told = subst (StartsWith (concat (texts r s all.ran all.met))) (sym sent) all.told;
+          nothing_else = subst (StartsWith (concat (texts r s all.ran all.met))) (sym sent) all.nothing_else;
           others = all.theirs;
         };
         after = all.after;
@@ -78,6 +79,7 @@ module _ (r : Recording) (c : Conversation) (s : SessionState) (d d' : FrontStat
         seen = all.seen;
         tag = all.tag;
         table = all.table;
+        company = all.company;
       }
 
   -- one failed
@@ -85,12 +87,12 @@ module _ (r : Recording) (c : Conversation) (s : SessionState) (d d' : FrontStat
   cut_of is failed part = record {
     answered = record {
       met = part.met;
-      may = subst (λ (l : List (List ℕ)). AllMayMeet r (journal_room d.table) s l part.met) (lines false is) part.may;
+      may = subst (λ (l : List (List ℕ)). AllMayMeet r (size_of d) s l part.met) (lines false is) part.may;
       begins = subst (λ (t : List ℕ). StartsWith t c.output.sent) (replies_are false part.met is) (subst (StartsWith (replies r s true read part.met)) (sym sent) part.says_it);
       whole = λ calm. absurd (true_is_false (sym failed ∙ calm));
       ran = part.ran;
       first = subst (λ (l : List (List ℕ)). StartsList l part.ran) (lines false is) part.first;
-      told = subst (StartsWith (concat (texts r s part.ran part.met))) (sym sent) part.told;
+      nothing_else = subst (StartsWith (concat (texts r s part.ran part.met))) (sym sent) part.nothing_else;
       others = part.theirs;
     };
     after = part.after;
@@ -98,17 +100,18 @@ module _ (r : Recording) (c : Conversation) (s : SessionState) (d d' : FrontStat
     seen = part.seen;
     tag = part.tag;
     table = part.table;
+    company = part.company;
   }
 
   -- by how it ended
-  goes_by : (ending : Result End LineEnd) (ended : Bool) → Stands r s d → c.input.failed ≡ is_read_failure ending → c.output.failed ≡ is_write_failure ending → Ends ending ended d (lines_of ended read) out d'
+  goes_by : (ending : Result End LineEnd) (ended : Bool) → IsInState r s d → c.input.failed ≡ is_read_failure ending → c.output.failed ≡ is_write_failure ending → Ends ending ended d (lines_of ended read) out d'
       → Goes r c s d d'
   goes_by (Ok Closed) ended here reading writing e = whole_of false reading (all_answered r s d d' here read out true (subst (λ t. Answered d (lines_of t read) out d') e.0 e.1))
   goes_by (Ok Quit) ended here reading writing e = whole_of false reading (up_to_quit r s d d' here read out ended e)
   goes_by (Err Read) ended here reading writing e = whole_of true reading (all_answered r s d d' here read out false (subst (λ t. Answered d (lines_of t read) out d') e.0 e.1))
   goes_by (Err (Write whole part)) ended here reading writing e = cut_of reading writing (up_to_failure r s d d' here read out ended whole part e)
 
-caller_goes : (r : Recording) (c : Conversation) (s : SessionState) (d d' : FrontState) → Stands r s d → ServesCaller c d d' → Goes r c s d d'
+caller_goes : (r : Recording) (c : Conversation) (s : SessionState) (d d' : FrontState) → IsInState r s d → ServesCaller c d d' → Goes r c s d d'
 caller_goes r c s d d' here h =
     let a = h.serves in
     goes_by r c s d d' a.read a.out a.reads.received a.writes.sent c.ending a.ended here h.read_failed h.write_failed a.ends
@@ -120,49 +123,55 @@ callers_grow [] d d' is = subst (λ (x : FrontState). StartsWith x.pass_state.se
 callers_grow (c ∷ callers) d d' h =
     starts_trans d.pass_state.seen h.0.pass_state.seen d'.pass_state.seen (caller_grows c d h.0 h.1).words (callers_grow callers h.0 d' h.2)
 
-callers_answered : (r : Recording) (history : List ℕ) (callers : List Conversation) (s : SessionState) (d d' : FrontState) → Stands r s d → ServesCallers callers d d' → StartsWith history d'.pass_state.seen
-    → AreAnswered r (journal_room d.table) d.pass_state.tag history s d.pass_state.seen callers
-callers_answered r history [] s d d' here h prefix = tt
-callers_answered r history (c ∷ callers) s d d' here h prefix =
+callers_answered : (r : Recording) (history : List ℕ) (callers : List Conversation) (s : SessionState) (d d' : FrontState) → IsInState r s d → ServesCallers callers d d' → Covers history d'.pass_state.tag d'.pass_state.seen
+    → AreAnswered r (size_of d) d.pass_state.tag history s d.pass_state.seen callers
+callers_answered r history [] s d d' here h own = subst (λ (x : FrontState). Covers history x.pass_state.tag x.pass_state.seen) h own
+callers_answered r history (c ∷ callers) s d d' here h own =
     let mid = h.0 in
     let one = caller_goes r c s d mid here h.1 in
-    let stands : StandsIn r history mid.pass_state.seen one.after = record {
-      prefix = starts_trans mid.pass_state.seen d'.pass_state.seen history (callers_grow callers mid d' h.2) prefix;
+    let has_run : HasRun r history mid.pass_state.seen one.after = record {
+      prefix = starts_trans mid.pass_state.seen d'.pass_state.seen history (callers_grow callers mid d' h.2) (own.0, own.1);
       placed = one.there.placed;
       at = one.there.at;
     } in
-    let later : AreAnswered r (journal_room d.table) d.pass_state.tag history one.after mid.pass_state.seen callers =
-    subst (λ (k : ℕ). AreAnswered r k d.pass_state.tag history one.after mid.pass_state.seen callers) (ap journal_room one.table)
-    (subst (λ (t : ℕ). AreAnswered r (journal_room mid.table) t history one.after mid.pass_state.seen callers) one.tag (callers_answered r history callers one.after mid d' one.there h.2 prefix)) in (
+    let later : AreAnswered r (size_of d) d.pass_state.tag history one.after mid.pass_state.seen callers =
+    subst (λ (k : JournalSize). AreAnswered r k d.pass_state.tag history one.after mid.pass_state.seen callers) (same_size d mid one.table one.company)
+    (subst (λ (t : ℕ). AreAnswered r (size_of mid) t history one.after mid.pass_state.seen callers) one.tag (callers_answered r history callers one.after mid d' one.there h.2 own)) in (
       one.answered,
       one.after,
-      subst (λ (l : List ℕ). StandsIn r history l one.after) one.seen stands,
-      subst (λ (l : List ℕ). AreAnswered r (journal_room d.table) d.pass_state.tag history one.after l callers) one.seen later,
+      subst (λ (l : List ℕ). HasRun r history l one.after) one.seen has_run,
+      subst (λ (l : List ℕ). AreAnswered r (size_of d) d.pass_state.tag history one.after l callers) one.seen later,
     )
 
 -- ---- all fronts
 
-front_answered : (table : TableId) (r : Recording) (depth workers : ℕ) (history : List ℕ) (course : Course) → BeginsFresh table r depth workers course → HasOwn history (last_pass_state course)
-    → AreAnswered r (journal_room table) (tag_at_end course) history start [] course.callers
-front_answered table r depth workers history course begins own =
-    let here : Stands r start begins.start = subst (Stands r start) (sym begins.fresh.2) (record { recording = refl; placed = refl; owed = refl; at = refl }) in
-    let none : begins.start.pass_state.seen ≡ [] = ap (λ (x : FrontState). x.pass_state.seen) begins.fresh.2 in
-    let table_is : begins.start.table ≡ table = ap (λ (x : FrontState). x.table) begins.fresh.2 in
-    subst (λ (k : ℕ). AreAnswered r k (tag_at_end course) history start [] course.callers) (ap journal_room table_is)
-    (subst (λ (t : ℕ). AreAnswered r (journal_room begins.start.table) t history start [] course.callers) (sym (serving_keeps_tag course.callers begins.start course.last begins.serving))
-    (subst (λ (l : List ℕ). AreAnswered r (journal_room begins.start.table) begins.start.pass_state.tag history start l course.callers) none
-    (callers_answered r history course.callers start begins.start course.last here begins.serving (own.0, own.1))))
+module _ (table : TableId) (r : Recording) (fronts depth workers : ℕ) (history : List ℕ) where
+  -- the size of the journal
+  abbrev size : JournalSize
+  size = record { room = journal_room table; passes = fronts }
 
-all_answered_so : (table : TableId) (r : Recording) (depth workers : ℕ) (history : List ℕ) (courses : List Course) → All (BeginsFresh table r depth workers) courses → All (HasOwn history) (map last_pass_state courses)
-    → All (λ course. AreAnswered r (journal_room table) (tag_at_end course) history start [] course.callers) courses
-all_answered_so table r depth workers history [] served own = All-nil (λ (course : Course). AreAnswered r (journal_room table) (tag_at_end course) history start [] course.callers)
-all_answered_so table r depth workers history (course ∷ courses) served own =
-    All-cons (λ (x : Course). AreAnswered r (journal_room table) (tag_at_end x) history start [] x.callers) course courses
-    (front_answered table r depth workers history course (All-head (BeginsFresh table r depth workers) course courses served) (All-head (HasOwn history) (last_pass_state course) (map last_pass_state courses) own))
-    (all_answered_so table r depth workers history courses (All-tail (BeginsFresh table r depth workers) course courses served) (All-tail (HasOwn history) (last_pass_state course) (map last_pass_state courses) own))
+  abbrev IsCourseAnswered : Course → Type 0
+  IsCourseAnswered course = AreAnswered r size (tag_at_end course) history start [] course.callers
+
+  front_answered : (course : Course) → BeginsFresh table r fronts depth workers course → HasOwn history (last_pass_state course) → IsCourseAnswered course
+  front_answered course begins own =
+      let here : IsInState r start begins.start = subst (IsInState r start) (sym begins.fresh.2) (record { recording = refl; placed = refl; owed = refl; at = refl }) in
+      let none : begins.start.pass_state.seen ≡ [] = ap (λ (x : FrontState). x.pass_state.seen) begins.fresh.2 in
+      let size_is : size_of begins.start ≡ size = ap size_of begins.fresh.2 in
+      subst (λ (k : JournalSize). AreAnswered r k (tag_at_end course) history start [] course.callers) size_is
+      (subst (λ (t : ℕ). AreAnswered r (size_of begins.start) t history start [] course.callers) (sym (serving_keeps_tag course.callers begins.start course.last begins.serving).0)
+      (subst (λ (l : List ℕ). AreAnswered r (size_of begins.start) begins.start.pass_state.tag history start l course.callers) none
+      (callers_answered r history course.callers start begins.start course.last here begins.serving own)))
+
+  all_answered_so : (courses : List Course) → All (BeginsFresh table r fronts depth workers) courses → All (HasOwn history) (map last_pass_state courses) → All IsCourseAnswered courses
+  all_answered_so [] served own = All-nil IsCourseAnswered
+  all_answered_so (course ∷ courses) served own =
+      All-cons IsCourseAnswered course courses
+      (front_answered course (All-head (BeginsFresh table r fronts depth workers) course courses served) (All-head (HasOwn history) (last_pass_state course) (map last_pass_state courses) own))
+      (all_answered_so courses (All-tail (BeginsFresh table r fronts depth workers) course courses served) (All-tail (HasOwn history) (last_pass_state course) (map last_pass_state courses) own))
 
 pub shared_answered : (r : Recording) (room fronts depth workers : ℕ) (history : List ℕ) (failed : Bool) → (shared : IsShared r room fronts depth workers (Some history) failed)
-    → All (λ course. AreAnswered r room (tag_at_end course) history start [] course.callers) shared.courses
+    → All (λ course. AreAnswered r (record { room = room; passes = fronts }) (tag_at_end course) history start [] course.callers) shared.courses
 shared_answered r room fronts depth workers history failed shared =
-    subst (λ (k : ℕ). All (λ course. AreAnswered r k (tag_at_end course) history start [] course.callers) shared.courses) shared.room_is
-    (all_answered_so shared.table r depth workers history shared.courses shared.served shared.one_history.own)
+    subst (λ (k : ℕ). All (λ course. AreAnswered r (record { room = k; passes = fronts }) (tag_at_end course) history start [] course.callers) shared.courses) shared.room_is
+    (all_answered_so shared.table r fronts depth workers history shared.courses shared.served shared.one_history.own)

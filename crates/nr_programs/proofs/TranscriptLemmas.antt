@@ -1,5 +1,5 @@
 -- What the lines of a front are answered is the transcript.
-use Rattle.std.proofs.Common.{◌≡◌, inl, inr, ℕ, ◌+◌, true, List, [], ◌∷◌, ◌++◌, length, Option, Some, None, Result, Ok, Err, refl, sym, ap, ◌∙◌, subst, append-nil, append_assoc, length-append}
+use Rattle.std.proofs.Common.{◌≡◌, inl, inr, ℕ, ◌+◌, List, [], ◌∷◌, ◌++◌, length, Option, Some, None, Result, Ok, Err, refl, sym, ap, ◌∙◌, subst, append-nil, append_assoc, length-append}
 use Rattle.std.proofs.lemmas.List.{same_from_push}
 use Rattle.nr_rev.specs.Run.{Recording}
 use Rattle.nr_command.specs.Debugger.{Searches, after_words, opening, query_reply, run}
@@ -26,27 +26,34 @@ use Rattle.nr_journal.specs.Rule.{IsOthers, journal_room}
 use Rattle.nr_journal.specs.declared.view.PassState.{PassState}
 use Rattle.std.proofs.lemmas.List.Elements.{All-nil}
 use Rattle.nr_programs.specs.Shared.{MeetsOthers, own_word, words_with}
-use Rattle.nr_programs.specs.Transcript.{Answered, MayMeet, Met, SessionState, Supply, enough, no_memory, no_memory_to_search, no_room, calm, behind_others, line_answer, owing}
+use Rattle.nr_programs.specs.Transcript.{Answered, JournalSize, MayMeet, Met, SessionState, Supply, enough, no_memory, no_memory_to_search, no_room, calm, behind_others, line_answer, owing}
 
--- the front is where it stands by the transcript
-pub record Stands (r : Recording) (s : SessionState) (d : FrontState) : Type 0 where
+-- the front is in this state of the transcript
+pub record IsInState (r : Recording) (s : SessionState) (d : FrontState) : Type 0 where
   pub recording : d.recording ≡ r
   pub placed : s.placed ≡ length d.pass_state.seen
   pub owed : s.owed ≡ owed_command d
   pub at : IsAt r d.pass_state.seen s.owed s.debugger
 
--- a line may be answered so, by what it meets; and a pass that is alone meets nothing of others
+-- the size of a front's journal
+abbrev pub size_of : FrontState → JournalSize
+size_of d = record { room = journal_room d.table; passes = d.pass_state.passes }
+
+pub same_size : (d d' : FrontState) → d'.table ≡ d.table → d'.pass_state.passes ≡ d.pass_state.passes → size_of d' ≡ size_of d
+same_size d d' table passes = let room : journal_room d'.table ≡ journal_room d.table = ap journal_room table in cc
+
+-- a line may be answered so, by what it meets; and the only pass of a journal meets nothing of others
 pub record MayGive (r : Recording) (owed : Option Command) (asked : Result Line LineFault) (s : SessionState) (d : FrontState) (reply : Option Reply) (d' : FrontState) : Type 0 where
   pub met : Met
   pub reply_is : (line_answer r owed asked met s).0 ≡ reply
-  pub there : Stands r (line_answer r owed asked met s).1 d'
-  pub company : d'.pass_state.alone ≡ d.pass_state.alone
-  pub no_others : d.pass_state.alone ≡ true → met.others ≡ []
+  pub there : IsInState r (line_answer r owed asked met s).1 d'
+  pub company : d'.pass_state.passes ≡ d.pass_state.passes
+  pub no_others : d.pass_state.passes ≡ 1 → met.others ≡ []
   pub tag : d'.pass_state.tag ≡ d.pass_state.tag
   pub seen : d'.pass_state.seen ≡ d.pass_state.seen ++ words_with d.pass_state.tag owed asked met
   pub theirs : MeetsOthers d.pass_state.tag met
   pub table : d'.table ≡ d.table
-  pub may : MayMeet r (journal_room d.table) owed asked met s
+  pub may : MayMeet r (size_of d) owed asked met s
 
 -- the command that is due is the own one that is owed
 due_command : (pending : Pending) (owed due : Command) → own_pending pending ≡ Some owed → pending_command pending ≡ Some due → due ≡ owed
@@ -59,7 +66,7 @@ one_behind : (r : Recording) (words : List ℕ) (command : Command) (a b : Debug
 one_behind r words command a b one other =
     one.behind ∙ ap (after_words r opening) (same_from_push one.before other.before one.word other.word (sym one.last ∙ other.last)).0 ∙ sym other.behind
 
-module _ (r : Recording) (s : SessionState) (d : FrontState) (here : Stands r s d) where
+module _ (r : Recording) (s : SessionState) (d : FrontState) (here : IsInState r s d) where
   -- others' words were seen, and none of the own
   seen_others : (words own : List ℕ) (d' : FrontState) → d'.pass_state.seen ≡ d.pass_state.seen ++ words → own ≡ [] → d'.pass_state.seen ≡ d.pass_state.seen ++ (words ++ own)
   seen_others words own d' seen none = seen ∙ ap (λ (l : List ℕ). d.pass_state.seen ++ l) (sym (ap (λ (l : List ℕ). words ++ l) none ∙ append-nil words))
@@ -84,7 +91,7 @@ module _ (r : Recording) (s : SessionState) (d : FrontState) (here : Stands r s 
       ap (λ (x : Debugger). after_words r x words) (at_words unowed) ∙ sym (after_words-append r opening d.pass_state.seen words)
 
   -- words of others were seen
-  learnt : (d' : FrontState) → (l : Learns d d') → Stands r (behind_others r l.sees_others.0 s) d'
+  learnt : (d' : FrontState) → (l : Learns d d') → IsInState r (behind_others r l.sees_others.0 s) d'
   learnt d' l =
       let words = l.sees_others.0 in
       let seen = l.sees_others.1 in
@@ -129,7 +136,7 @@ module _ (r : Recording) (s : SessionState) (d : FrontState) (here : Stands r s 
           owed = sym (ap own_pending ran);
           at = run_last r d'.pass_state.seen command replies.debugger _ behind (ap (λ x. (run r command x).1) same);
         };
-        company = p.alone;
+        company = p.passes;
         no_others = p.none_between;
         tag = p.tag;
         seen = p.placed ∙ append_assoc d.pass_state.seen p.between (word_of d.pass_state.tag command ∷ []);
@@ -155,7 +162,7 @@ module _ (r : Recording) (s : SessionState) (d : FrontState) (here : Stands r s 
           owed = sym left.now_owed;
           at = subst (λ x. IsBehind r d'.pass_state.seen command x) (sym same) behind;
         };
-        company = p.alone;
+        company = p.passes;
         no_others = p.none_between;
         tag = p.tag;
         seen = p.placed ∙ append_assoc d.pass_state.seen p.between (word_of d.pass_state.tag command ∷ []);
@@ -166,13 +173,13 @@ module _ (r : Recording) (s : SessionState) (d : FrontState) (here : Stands r s 
 
   -- others' words were seen, and then there was no memory or no room
   refused : (asked : Result Line LineFault) (reply : Option Reply) (supply : Supply) (d' : FrontState) → (l : Learns d d') → own_word d.pass_state.tag None asked supply ≡ []
-      → MayMeet r (journal_room d.table) None asked (record { others = l.sees_others.0; supply = supply }) s
+      → MayMeet r (size_of d) None asked (record { others = l.sees_others.0; supply = supply }) s
       → line_answer r None asked (record { others = l.sees_others.0; supply = supply }) s ≡ (reply, behind_others r l.sees_others.0 s) → MayGive r s.owed asked s d reply d'
   refused asked reply supply d' l none may is =
       subst (λ o. MayGive r o asked s d reply d') (sym (none_owed l.unowed)) (record {
         met = record { others = l.sees_others.0; supply = supply };
         reply_is = ap (λ (a : Answered). a.0) is;
-        there = subst (λ (a : Answered). Stands r a.1 d') (sym is) (learnt d' l);
+        there = subst (λ (a : Answered). IsInState r a.1 d') (sym is) (learnt d' l);
         company = l.sees_others.5;
         no_others = l.sees_others.6;
         tag = l.sees_others.3;
@@ -184,14 +191,14 @@ module _ (r : Recording) (s : SessionState) (d : FrontState) (here : Stands r s 
 
   -- a reply was owed, and nothing was done
   stays_owed : (asked : Result Line LineFault) (supply : Supply) (d' : FrontState) (place : ℕ) → (stays : StaysOwed d d' place)
-      → MayMeet r (journal_room d.table) (Some stays.command) asked (record { others = []; supply = supply }) s
+      → MayMeet r (size_of d) (Some stays.command) asked (record { others = []; supply = supply }) s
       → line_answer r (Some stays.command) asked (record { others = []; supply = supply }) s ≡ owing s → MayGive r s.owed asked s d (Some (Fault (faults.Placed place))) d'
   stays_owed asked supply d' place stays may is =
       subst (λ o. MayGive r o asked s d (Some (Fault (faults.Placed place))) d') (sym (here.owed ∙ stays.still_owed)) (record {
         met = record { others = []; supply = supply };
         reply_is = ap (λ (a : Answered). a.0) is ∙ ap (λ n. Some (Fault (faults.Placed n))) (here.placed ∙ sym stays.at);
-        there = subst (λ (a : Answered). Stands r a.1 d') (sym is) (subst (Stands r s) (sym stays.unchanged) here);
-        company = ap (λ (x : FrontState). x.pass_state.alone) stays.unchanged;
+        there = subst (λ (a : Answered). IsInState r a.1 d') (sym is) (subst (IsInState r s) (sym stays.unchanged) here);
+        company = ap (λ (x : FrontState). x.pass_state.passes) stays.unchanged;
         no_others = λ _. refl;
         tag = ap (λ (x : FrontState). x.pass_state.tag) stays.unchanged;
         seen = seen_none _ d' (ap (λ (x : FrontState). x.pass_state) stays.unchanged) refl;
@@ -204,16 +211,16 @@ module _ (r : Recording) (s : SessionState) (d : FrontState) (here : Stands r s 
   executed : (command : Command) (d' : FrontState) (given : Result Reply FrontFault) → Executes command d d' given → MayGive r s.owed (Ok (Run command)) s d (Some (reply_given given)) d'
   executed command d' (Ok reply) h =
       subst (λ o. MayGive r o (Ok (Run command)) s d (Some reply) d') (sym (none_owed h.places.unowed)) (command_run command d' reply h.places h.replies h.run)
-  executed command d' (Err Memory) h = refused (Ok (Run command)) (Some (Fault faults.Memory)) no_memory d' h.learns refl tt refl
+  executed command d' (Err Memory) h = refused (Ok (Run command)) (Some (Fault faults.Memory)) no_memory d' h.learns refl (λ only. h.company (h.learns.sees_others.5 ∙ only)) refl
   executed command d' (Err (Placed place)) (inl left) =
       subst (λ o. MayGive r o (Ok (Run command)) s d (Some (Fault (faults.Placed place))) d') (sym (none_owed left.places.unowed)) (command_owed command d' place left)
   executed command d' (Err (Placed place)) (inr stays) = stays_owed (Ok (Run command)) enough d' place stays refl refl
   executed command d' (Err Full) h = refused (Ok (Run command)) (Some (Fault faults.JournalFull)) no_room d' h.learns refl ((learnt d' h.learns).placed ∙ h.full) refl
 
   -- the walker doesn't matter
-  walked : (s' : SessionState) (walker_state : WalkerState) (mid d' : FrontState) → d' ≡ with_walker_state walker_state mid → Stands r s' mid → Stands r s' d'
+  walked : (s' : SessionState) (walker_state : WalkerState) (mid d' : FrontState) → d' ≡ with_walker_state walker_state mid → IsInState r s' mid → IsInState r s' d'
   walked s' walker_state mid d' is there =
-      subst (Stands r s') (sym is) (record { recording = there.recording; placed = there.placed; owed = there.owed; at = there.at })
+      subst (IsInState r s') (sym is) (record { recording = there.recording; placed = there.placed; owed = there.owed; at = there.at })
 
   -- a look that is answered
   look_given : (query : Query) (d' : FrontState) (reply : Reply) → RepliesToLook query d d' reply → MayGive r None (Ok (Look query)) s d (Some reply) d'
@@ -226,7 +233,7 @@ module _ (r : Recording) (s : SessionState) (d : FrontState) (here : Stands r s 
         met = record { others = l.sees_others.0; supply = enough };
         reply_is = ap (λ x. Some (query_reply r x query)) same ∙ ap Some (sym given);
         there = walked (behind_others r l.sees_others.0 s) _ h.caught_up d' h.led (learnt h.caught_up l);
-        company = ap (λ (x : FrontState). x.pass_state.alone) h.led ∙ l.sees_others.5;
+        company = ap (λ (x : FrontState). x.pass_state.passes) h.led ∙ l.sees_others.5;
         no_others = l.sees_others.6;
         tag = ap (λ (x : FrontState). x.pass_state.tag) h.led ∙ l.sees_others.3;
         seen = seen_others l.sees_others.0 _ d' (ap (λ (x : FrontState). x.pass_state.seen) h.led ∙ l.sees_others.1) refl;
@@ -246,7 +253,7 @@ module _ (r : Recording) (s : SessionState) (d : FrontState) (here : Stands r s 
         met = record { others = l.sees_others.0; supply = no_memory };
         reply_is = refl;
         there = walked (behind_others r l.sees_others.0 s) _ h.caught_up d' h.moved (learnt h.caught_up l);
-        company = ap (λ (x : FrontState). x.pass_state.alone) h.moved ∙ l.sees_others.5;
+        company = ap (λ (x : FrontState). x.pass_state.passes) h.moved ∙ l.sees_others.5;
         no_others = l.sees_others.6;
         tag = ap (λ (x : FrontState). x.pass_state.tag) h.moved ∙ l.sees_others.3;
         seen = seen_others l.sees_others.0 _ d' (ap (λ (x : FrontState). x.pass_state.seen) h.moved ∙ l.sees_others.1) refl;
@@ -266,13 +273,13 @@ module _ (r : Recording) (s : SessionState) (d : FrontState) (here : Stands r s 
       let given : reply ≡ (run r command replies.debugger).0 = replies.answer ∙ ap (λ x. (run x command replies.debugger).0) here.recording in record {
         met = calm;
         reply_is = ap (λ x. Some (run r command x).0) same ∙ ap Some (sym given);
-        there = subst (Stands r (record { debugger = (run r command s.debugger).1; placed = s.placed; owed = None })) (sym now) (record {
+        there = subst (IsInState r (record { debugger = (run r command s.debugger).1; placed = s.placed; owed = None })) (sym now) (record {
           recording = here.recording;
           placed = here.placed;
           owed = refl;
           at = run_last r d.pass_state.seen command s.debugger _ mine refl;
         });
-        company = ap (λ (x : FrontState). x.pass_state.alone) now;
+        company = ap (λ (x : FrontState). x.pass_state.passes) now;
         no_others = λ _. refl;
         tag = ap (λ (x : FrontState). x.pass_state.tag) now;
         seen = seen_none _ d' (ap (λ (x : FrontState). x.pass_state) now) refl;
@@ -299,8 +306,8 @@ module _ (r : Recording) (s : SessionState) (d : FrontState) (here : Stands r s 
       subst (λ o. MayGive r o (Ok Resume) s d (Some NothingOwed) d') (sym (none_owed h.unowed)) (record {
         met = calm;
         reply_is = refl;
-        there = subst (Stands r s) (sym h.unchanged) here;
-        company = ap (λ (x : FrontState). x.pass_state.alone) h.unchanged;
+        there = subst (IsInState r s) (sym h.unchanged) here;
+        company = ap (λ (x : FrontState). x.pass_state.passes) h.unchanged;
         no_others = λ _. refl;
         tag = ap (λ (x : FrontState). x.pass_state.tag) h.unchanged;
         seen = seen_none _ d' (ap (λ (x : FrontState). x.pass_state) h.unchanged) refl;
@@ -317,13 +324,13 @@ module _ (r : Recording) (s : SessionState) (d : FrontState) (here : Stands r s 
 
   -- what is answered the same, whether a reply is owed or not
   quiet : (asked : Result Line LineFault) (reply given : Option Reply) (d' : FrontState) → ((o : Option Command) → line_answer r o asked calm s ≡ (reply, s))
-      → ((o : Option Command) → own_word d.pass_state.tag o asked enough ≡ []) → ((o : Option Command) → MayMeet r (journal_room d.table) o asked calm s) → given ≡ reply → d' ≡ d → MayGive r s.owed asked s d given d'
+      → ((o : Option Command) → own_word d.pass_state.tag o asked enough ≡ []) → ((o : Option Command) → MayMeet r (size_of d) o asked calm s) → given ≡ reply → d' ≡ d → MayGive r s.owed asked s d given d'
   quiet asked reply given d' each none may is same =
       let e = each s.owed in record {
         met = calm;
         reply_is = ap (λ (a : Answered). a.0) e ∙ sym is;
-        there = subst (Stands r (line_answer r s.owed asked calm s).1) (sym same) (subst (λ x. Stands r x d) (sym (ap (λ (a : Answered). a.1) e)) here);
-        company = ap (λ (x : FrontState). x.pass_state.alone) same;
+        there = subst (IsInState r (line_answer r s.owed asked calm s).1) (sym same) (subst (λ x. IsInState r x d) (sym (ap (λ (a : Answered). a.1) e)) here);
+        company = ap (λ (x : FrontState). x.pass_state.passes) same;
         no_others = λ _. refl;
         tag = ap (λ (x : FrontState). x.pass_state.tag) same;
         seen = seen_none _ d' (ap (λ (x : FrontState). x.pass_state) same) (none s.owed);
@@ -339,10 +346,10 @@ module _ (r : Recording) (s : SessionState) (d : FrontState) (here : Stands r s 
   line_given (Ok Resume) reply d' h = subst (λ x. MayGive r s.owed (Ok Resume) s d x d') (sym h.2) (resumes d' h.0 h.1)
   line_given (Ok Quit) reply d' h = quiet (Ok Quit) (Some Bye) reply d' (λ o. elim o as (λ k. line_answer r k (Ok Quit) calm s ≡ (Some Bye, s)) [ None ↦ refl | Some c ↦ refl ])
       (λ o. elim o as (λ k. own_word d.pass_state.tag k (Ok Quit) enough ≡ []) [ None ↦ refl | Some c ↦ refl ])
-      (λ o. elim o as (λ k. MayMeet r (journal_room d.table) k (Ok Quit) calm s) [ None ↦ refl | Some c ↦ refl ]) h.0 h.1
+      (λ o. elim o as (λ k. MayMeet r (size_of d) k (Ok Quit) calm s) [ None ↦ refl | Some c ↦ refl ]) h.0 h.1
   line_given (Ok Empty) reply d' h = quiet (Ok Empty) None reply d' (λ o. elim o as (λ k. line_answer r k (Ok Empty) calm s ≡ (None, s)) [ None ↦ refl | Some c ↦ refl ])
       (λ o. elim o as (λ k. own_word d.pass_state.tag k (Ok Empty) enough ≡ []) [ None ↦ refl | Some c ↦ refl ])
-      (λ o. elim o as (λ k. MayMeet r (journal_room d.table) k (Ok Empty) calm s) [ None ↦ refl | Some c ↦ refl ]) h.0 h.1
+      (λ o. elim o as (λ k. MayMeet r (size_of d) k (Ok Empty) calm s) [ None ↦ refl | Some c ↦ refl ]) h.0 h.1
   line_given (Err fault) reply d' h = quiet (Err fault) (Some (Fault (faults.Line fault))) reply d' (λ o. elim o as (λ k. line_answer r k (Err fault) calm s ≡ (Some (Fault (faults.Line fault)), s)) [ None ↦ refl | Some c ↦ refl ])
       (λ o. elim o as (λ k. own_word d.pass_state.tag k (Err fault) enough ≡ []) [ None ↦ refl | Some c ↦ refl ])
-      (λ o. elim o as (λ k. MayMeet r (journal_room d.table) k (Err fault) calm s) [ None ↦ refl | Some c ↦ refl ]) h.0 h.1
+      (λ o. elim o as (λ k. MayMeet r (size_of d) k (Err fault) calm s) [ None ↦ refl | Some c ↦ refl ]) h.0 h.1

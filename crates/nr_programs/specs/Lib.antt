@@ -1,4 +1,5 @@
 -- what callers need
+pub mod Accepted
 pub mod Examples
 pub mod Opening
 pub mod Run
@@ -6,6 +7,5 @@ pub mod Serving
 pub mod Shared
 pub mod Sharing
 pub mod ShortRuns
-pub mod Shown
 pub mod Transcript
 pub mod Upgrade

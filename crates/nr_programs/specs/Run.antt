@@ -36,8 +36,8 @@ EndsPrinting text wanted old new status =
     ⊎ ((status ≡ StreamFailed) × ((part : ℕ) × WritesPrefix old new text part))
 
 -- The lines that were read are answered by a front that had seen no word, over a journal whose only
--- pass it has, with one worker and a walker that keeps its last DELTAS_KEPT deltas. A failure of a stream
--- is reported where there was one, and only there.
+-- pass it has, with one worker and a walker that keeps its last DELTAS_KEPT deltas. A failure of a
+-- stream is reported where there was one, and only there.
 pub record Walks (from left : Incoming) (old new : Outgoing) (r : Recording) (status : ExitStatus) :
     Type 0 where
   pub table : TableId

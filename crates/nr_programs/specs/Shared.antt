@@ -2,7 +2,7 @@
 use Rattle.std.specs.Prelude.{◌≡◌, ℕ, false, not, List, [], ◌∷◌, ◌++◌, length, drop, Option, None, Result, Ok, ⊤, if◌then◌else◌}
 use Rattle.std.specs.List.{All, concat}
 use Rattle.nr_rev.specs.Run.{Recording}
-use Rattle.nr_journal.specs.Rule.{IsOthers, StartsWith}
+use Rattle.nr_journal.specs.Rule.{Covers, IsOthers, StartsWith}
 use Rattle.nr_command.specs.Command.{meaning_of}
 use Rattle.nr_command.specs.Word.{word_of}
 use Rattle.nr_command.specs.declared.command.Command.{Command}
@@ -13,8 +13,8 @@ use Rattle.nr_front.specs.FrontState.{IsAt}
 use Rattle.nr_lines.specs.Engine.{lines_of}
 use Rattle.nr_lines.specs.Turn.{is_quit}
 use Rattle.nr_serving.specs.Fronts.{Course}
-use Rattle.nr_serving.specs.Told.{Conversation}
-use Rattle.nr_programs.specs.Transcript.{AllMayMeet, Met, SessionState, Supply, enough, line_answer, next_met, no_memory_to_search, replies, texts}
+use Rattle.nr_serving.specs.Conversations.{Conversation}
+use Rattle.nr_programs.specs.Transcript.{AllMayMeet, JournalSize, Met, SessionState, Supply, enough, line_answer, next_met, no_memory_to_search, replies, texts}
 
 -- the lines begin with these
 abbrev pub StartsList : List (List ℕ) → List (List ℕ) → Type 0
@@ -53,39 +53,41 @@ placed_words tag r s (line ∷ lines) met =
 abbrev pub MeetsOthers : ℕ → Met → Type 0
 MeetsOthers tag m = All (IsOthers tag) m.others
 
--- One caller of a front: what was sent to it is a prefix of the replies to what was received from it,
--- from where the front stood; all of it unless a write failed. Where a read failed, an unfinished
+-- One caller of a front: what was sent to it is a prefix of the replies to what was received from
+-- it, from where the front was; all of it unless a write failed. Where a read failed, an unfinished
 -- last line is no command. These lines were run: the first ones, up to one that is `quit`, or whose
--- reply wasn't written, or all; nothing was sent but their texts. They met what lines may meet, where the journal has this room.
-pub record IsAnswered (r : Recording) (room tag : ℕ) (c : Conversation) (s : SessionState) : Type 0
-  where
+-- reply wasn't written, or all; nothing was sent but their texts. They met what lines may meet,
+-- where the journal is of this size.
+pub record IsAnswered (r : Recording) (journal : JournalSize) (tag : ℕ) (c : Conversation)
+    (s : SessionState) : Type 0 where
     pub met : List Met
-    pub may : AllMayMeet r room s (lines_of (not c.input.failed) c.input.received) met
+    pub may : AllMayMeet r journal s (lines_of (not c.input.failed) c.input.received) met
     pub begins : StartsWith (replies r s (not c.input.failed) c.input.received met) c.output.sent
     pub whole : c.output.failed ≡ false
         → c.output.sent ≡ replies r s (not c.input.failed) c.input.received met
     pub ran : List (List ℕ)
     pub first : StartsList (lines_of (not c.input.failed) c.input.received) ran
-    pub told : StartsWith (concat (texts r s ran met)) c.output.sent
+    pub nothing_else : StartsWith (concat (texts r s ran met)) c.output.sent
     pub others : All (MeetsOthers tag) met
 
--- The front stands behind a prefix of the history: its debugger is that of these words, less the
--- last where its reply is owed.
-pub record StandsIn (r : Recording) (history seen : List ℕ) (s : SessionState) : Type 0 where
+-- The front has run a prefix of the history: its debugger is that of these words, less the last
+-- where its reply is owed.
+pub record HasRun (r : Recording) (history seen : List ℕ) (s : SessionState) : Type 0 where
   pub prefix : StartsWith history seen
   pub placed : s.placed ≡ length seen
   pub at : IsAt r seen s.owed s.debugger
 
 -- The callers of a front, one after the other, where it had seen these words. Behind each the front
--- stands in the one history, and further on by the words that it saw with the caller's lines: those
--- of others before each, and each placed command's own, once.
-abbrev pub AreAnswered : Recording → ℕ → ℕ → List ℕ → SessionState → List ℕ → List Conversation
-    → Type 0
-AreAnswered r room tag history s seen [] = ⊤
-AreAnswered r room tag history s seen (c ∷ callers) =
-    (one : IsAnswered r room tag c s) × (next : SessionState)
-    × StandsIn r history (seen ++ words_seen tag r s one.ran one.met) next
-    × AreAnswered r room tag history next (seen ++ words_seen tag r s one.ran one.met) callers
+-- is in the one history, and further on by the words that it saw with the caller's lines: those of
+-- others before each, and each placed command's own, once. Behind the last, no word of the history
+-- that it hasn't seen has its tag.
+abbrev pub AreAnswered : Recording → JournalSize → ℕ → List ℕ → SessionState → List ℕ
+    → List Conversation → Type 0
+AreAnswered r journal tag history s seen [] = Covers history tag seen
+AreAnswered r journal tag history s seen (c ∷ callers) =
+    (one : IsAnswered r journal tag c s) × (next : SessionState)
+    × HasRun r history (seen ++ words_seen tag r s one.ran one.met) next
+    × AreAnswered r journal tag history next (seen ++ words_seen tag r s one.ran one.met) callers
 
 -- the tag of a front's words
 abbrev pub tag_at_end : Course → ℕ

@@ -1,5 +1,5 @@
 -- The transcript: what the lines of a front are answered, as a function of the bytes.
-use Rattle.std.specs.Prelude.{◌≡◌, ◌⊎◌, ℕ, ◌+◌, Bool, true, false, not, ◌||◌, List, [], ◌∷◌, length, drop, Option, Some, None, Result, Ok, Err, ⊤, if◌then◌else◌}
+use Rattle.std.specs.Prelude.{◌≡◌, ◌≢◌, ◌⊎◌, ℕ, ◌+◌, Bool, true, false, not, ◌||◌, List, [], ◌∷◌, length, drop, Option, Some, None, Result, Ok, Err, ⊤, if◌then◌else◌}
 use Rattle.nr_text.specs.Streams.{Incoming, IsOver, Outgoing, Receives, Sends}
 use Rattle.std.specs.List.{All, concat}
 use Rattle.nr_rev.specs.Run.{Recording}
@@ -50,8 +50,8 @@ next_met (m ∷ met) = m
 
 -- ---- a front between two lines
 
--- The debugger that the words placed so far lead to, how many these are, and the command whose reply
--- is owed. Where one is, its word is the last, and the debugger is that of the words before it.
+-- The debugger that the words placed so far lead to, how many these are, and the command whose
+-- reply is owed. Where one is, its word is the last, and the debugger is that of the words before.
 pub record SessionState : Type 0 where
   pub debugger : Debugger
   pub placed : ℕ
@@ -108,7 +108,8 @@ resume_answer r command enough s = with_run (run r command s.debugger) s.placed
 resume_answer r command _ s = owing s
 
 -- a line where the reply to this command is owed
-abbrev pub answer_owing : Recording → Command → Result Line LineFault → Met → SessionState → Answered
+abbrev pub answer_owing : Recording → Command → Result Line LineFault → Met → SessionState
+    → Answered
 answer_owing r command (Ok (Run next)) m s = owing s
 answer_owing r command (Ok (Look query)) m s = owing s
 answer_owing r command (Ok Resume) m s = resume_answer r command m.supply s
@@ -122,13 +123,23 @@ line_answer r (Some command) asked m s = answer_owing r command asked m s
 
 -- ---- what a line may meet
 
--- A command may meet this, as the line finds the session: its search runs out of memory only where it
--- searches by copies of worlds, and there is no room only where the journal has so many words.
-abbrev pub CommandMayMeet : Recording → ℕ → Command → Supply → SessionState → Type 0
-CommandMayMeet r room command enough s = ⊤
-CommandMayMeet r room command no_memory s = ⊤
-CommandMayMeet r room command no_memory_to_search s = Searches r command s.debugger
-CommandMayMeet r room command no_room s = s.placed ≡ room
+-- how many words a journal has room for, and how many passes it has at most
+pub record JournalSize : Type 0 where
+  pub room : ℕ
+  pub passes : ℕ
+
+-- the journal of a session of one: 65,536 words and one pass
+abbrev pub journal_of_one : JournalSize
+journal_of_one = record { room = 65536; passes = 1 }
+
+-- A command may meet this, as the line finds the session: there is no memory before it is placed
+-- only where others may have placed words; its search runs out of memory only where it searches by
+-- copies of worlds; there is no room only where the journal has so many words.
+abbrev pub CommandMayMeet : Recording → JournalSize → Command → Supply → SessionState → Type 0
+CommandMayMeet r journal command enough s = ⊤
+CommandMayMeet r journal command no_memory s = journal.passes ≢ 1
+CommandMayMeet r journal command no_memory_to_search s = Searches r command s.debugger
+CommandMayMeet r journal command no_room s = s.placed ≡ journal.room
 
 -- a look may run out of memory
 abbrev pub LookMayMeet : Supply → Type 0
@@ -144,16 +155,16 @@ ResumeMayMeet r command no_memory s = Searches r command s.debugger
 ResumeMayMeet r command no_memory_to_search s = ⊥
 ResumeMayMeet r command no_room s = ⊥
 
--- What a line may meet, by whether a reply is owed, where the journal has room for so many words. All
--- lines that place no command and show nothing meet nothing.
-abbrev pub MayMeet : Recording → ℕ → Option Command → Result Line LineFault → Met → SessionState
-    → Type 0
-MayMeet r room None (Ok (Run command)) m s =
-    CommandMayMeet r room command m.supply (behind_others r m.others s)
-MayMeet r room None (Ok (Look query)) m s = LookMayMeet m.supply
-MayMeet r room (Some command) (Ok Resume) m s =
+-- What a line may meet, by whether a reply is owed, where the journal is of this size. All lines
+-- that place no command and show nothing meet nothing.
+abbrev pub MayMeet : Recording → JournalSize → Option Command → Result Line LineFault → Met
+    → SessionState → Type 0
+MayMeet r journal None (Ok (Run command)) m s =
+    CommandMayMeet r journal command m.supply (behind_others r m.others s)
+MayMeet r journal None (Ok (Look query)) m s = LookMayMeet m.supply
+MayMeet r journal (Some command) (Ok Resume) m s =
     (m.others ≡ []) × ResumeMayMeet r command m.supply s
-MayMeet r room owed asked m s = m ≡ calm
+MayMeet r journal owed asked m s = m ≡ calm
 
 -- ---- line after line
 
@@ -171,13 +182,13 @@ UnlessQuit true later = ⊤
 UnlessQuit false later = later
 
 -- each of some lines, up to the first `quit`, met what it may
-abbrev pub AllMayMeet : Recording → ℕ → SessionState → List (List ℕ) → List Met → Type 0
-AllMayMeet r room s [] met = ⊤
-AllMayMeet r room s (line ∷ lines) met =
+abbrev pub AllMayMeet : Recording → JournalSize → SessionState → List (List ℕ) → List Met → Type 0
+AllMayMeet r journal s [] met = ⊤
+AllMayMeet r journal s (line ∷ lines) met =
     let asked = meaning_of line in
     let a = line_answer r s.owed asked (next_met met) s in
-    MayMeet r room s.owed asked (next_met met) s
-    × UnlessQuit (is_quit asked) (AllMayMeet r room a.1 lines (drop 1 met))
+    MayMeet r journal s.owed asked (next_met met) s
+    × UnlessQuit (is_quit asked) (AllMayMeet r journal a.1 lines (drop 1 met))
 
 -- The replies to the lines of a text, by what they meet. Where the text isn't at its end, what
 -- follows the last line feed is no line yet.
@@ -218,7 +229,7 @@ pub record Transcribes (recording : List ℕ) (from left : Incoming) (old new : 
   pub writes : Sends old new written
   pub alone : All (λ m. m.others ≡ []) met
   pub may : (r : Recording) → opened recording ≡ Ok r
-      → AllMayMeet r 65536 start (lines_of (not left.failed) commands) met
+      → AllMayMeet r journal_of_one start (lines_of (not left.failed) commands) met
   pub begins : StartsWith (transcript_by recording (not left.failed) commands met) written
   pub whole : new.failed ≡ false
       → written ≡ transcript_by recording (not left.failed) commands met
@@ -227,7 +238,7 @@ pub record Transcribes (recording : List ℕ) (from left : Incoming) (old new : 
   pub unread : (fault : OpenFault) → opened recording ≡ Err fault → commands ≡ []
   pub ends : status ≡ status_of (opened recording) left.failed new.failed
 
--- The program `run`: it writes its transcript, or there was no memory to begin, and that is printed.
+-- The program `run`: it writes its transcript, or there was no memory to begin, which is printed.
 abbrev pub RunsTranscript : List ℕ → Incoming → Incoming → Outgoing → Outgoing → ExitStatus
     → Type 0
 RunsTranscript recording from left old new status =

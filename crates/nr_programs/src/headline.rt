@@ -5,6 +5,7 @@ ghost use Rattle.std.specs.Prelude.{◌≡◌, ◌≤◌, length, IfErr, IfOk, O
 ghost use Rattle.nr_rev.specs.Cell.{cell};
 ghost use Rattle.nr_rev.specs.Reversible.{Refuses};
 ghost use Rattle.nr_rev.specs.Run.{world_at};
+ghost use Rattle.nr_rev.specs.WellFormed.{WellFormed};
 ghost use Rattle.nr_walker.specs.Walk.{IsRefusedBy, route};
 
 use nr_rev::{Cell, CellValue, Memory, Refusal, Reversible, Worlds};
@@ -24,8 +25,9 @@ pub fn there_and_back<M: Reversible>(machine: &mut M, op: &M::Op) -> Result<M::A
     Ok(answer)
 }
 
-/// Leads a walker to position n, from wherever it stands, and returns the value of a cell there: that of the world which
-/// replaying the first n steps of its recording leads to. Out of memory, the walker is where `Walker::goto` leaves it then.
+/// Leads a walker to position n, from wherever it is, and returns the value of a cell there: that of the world which
+/// replaying the first n steps of its recording leads to, which is a well-formed one. Out of memory, the walker is where
+/// `Walker::goto` leaves it then.
 pub fn value_at<W: Worlds + Drop>(
     walker: &mut Walker<'_, W>,
     n: usize,
@@ -36,6 +38,7 @@ where
     W::Snapshot: Drop,
     requires { n ≤ length walker.old.film.recording.steps }
     ensures value { IfOk result (λ value. value ≡ cell (world_at walker.old.film.recording n) what) }
+    ensures possible { OnOk result (WellFormed (world_at walker.old.film.recording n)) }
     ensures there { OnOk result (walker.new.position ≡ n) }
     ensures film { OnOk result (walker.new.film ≡ walker.old.film) }
     ensures refused { OnErr result (IsRefusedBy (route walker.old n) walker.old n walker.new) }

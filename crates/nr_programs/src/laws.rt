@@ -1,6 +1,6 @@
 //! Laws: public functions with empty bodies, whose contracts are the laws.
 
-ghost use Rattle.std.specs.Prelude.{◌≡◌, ℕ, Bool, List, [], Some, true, slice_get, filter, ◌<◌, ◌==◌};
+ghost use Rattle.std.specs.Prelude.{◌≡◌, ℕ, Bool, List, [], Some, true, slice_get, filter, map, ◌<◌, ◌==◌};
 ghost use Rattle.std.specs.List.{All};
 ghost use Rattle.nr_rev.specs.Run.{Recording};
 ghost use Rattle.nr_rev.specs.declared.answer.Answer.{Answer};
@@ -9,11 +9,11 @@ ghost use Rattle.nr_recording.specs.Recording.{recorded_at};
 ghost use Rattle.nr_snaps.specs.Answers.{Agrees, answer_at};
 ghost use Rattle.nr_command.specs.Looking.{is_at_world};
 ghost use Rattle.nr_command.specs.declared.command.Query.{Query};
-ghost use Rattle.nr_serving.specs.Session.{IsShared};
+ghost use Rattle.nr_serving.specs.Session.{IsShared, IsTheirs, last_pass_state};
 ghost use Rattle.nr_programs.specs.Opening.{IsGoodText};
 ghost use Rattle.nr_programs.specs.Shared.{AreAnswered, MeetsOthers, placed_words, tag_at_end, words_seen};
 ghost use Rattle.nr_journal.specs.Rule.{tag_of};
-ghost use Rattle.nr_programs.specs.Shown.{LeadsOnAt};
+ghost use Rattle.nr_programs.specs.Accepted.{LeadsOnAt};
 ghost use Rattle.nr_programs.specs.Transcript.{Met, SessionState, calm, enough, look_answer, start, transcript, transcript_by};
 ghost use Rattle.nr_programs.specs.declared.opening.TheConstants.{COPY_EVERY};
 ghost use Rattle.nr_programs.specs.declared.run.TheConstants.{DELTAS_KEPT, JOURNAL_ROOM};
@@ -28,13 +28,18 @@ pub fn a_calm_session_has_one_transcript()
         → transcript recording commands ≡ transcript_by recording true commands [] }
 {}
 
-/// Each caller of a shared session is answered by the transcript of what was received from it, from where the front stands that
-/// serves it. Every front stands in the one history, whose length `placed K` prints: with each line that was run it sees the
-/// words that others placed before it, none of them its own, and then the line's own, once, where the line places a command.
+/// Each caller of a shared session is answered by the transcript of what was received from it, from where the front is that
+/// serves it. Every front is in the one history, whose length `placed K` prints: with each line that was run it sees the
+/// words that others placed before it, none of them its own, and then the line's own, once, where the line places a command. All
+/// of its own words in the history are among these, and each word of the history is one front's.
 pub fn callers_are_answered_in_one_history()
-    ensures { (r : Recording) (room fronts depth workers : ℕ) (history : List ℕ) (failed : Bool)
+    ensures answered { (r : Recording) (room fronts depth workers : ℕ) (history : List ℕ) (failed : Bool)
         → (shared : IsShared r room fronts depth workers (Some history) failed)
-        → All (λ course. AreAnswered r room (tag_at_end course) history start [] course.callers) shared.courses }
+        → All (λ course. AreAnswered r (record { room = room; passes = fronts }) (tag_at_end course)
+        history start [] course.callers) shared.courses }
+    ensures theirs { (r : Recording) (room fronts depth workers : ℕ) (history : List ℕ) (failed : Bool)
+        → (shared : IsShared r room fronts depth workers (Some history) failed)
+        → All (IsTheirs (map last_pass_state shared.courses)) history }
 {}
 
 /// Of the words that a front sees with its callers' lines its own are those of the commands that the lines placed: in the lines'
@@ -46,14 +51,14 @@ pub fn each_placed_command_is_there_once()
 {}
 
 /// What a look at the world shows is decided by the position alone, whatever marks, checkpoints and direction there are, and
-/// whichever way led there: two sessions that stand at one position show the same.
+/// whichever way led there: two sessions that are at one position show the same.
 pub fn a_position_shows_one_thing()
     ensures { (r : Recording) (query : Query) (s t : SessionState) → is_at_world query ≡ true
         → s.debugger.position ≡ t.debugger.position
         → (look_answer r query enough s).0 ≡ (look_answer r query enough t).0 }
 {}
 
-/// A recording that is accepted is a run of the machine: each of its steps applies where it stands and leads to the next
+/// A recording that is accepted is a run of the machine: each of its steps applies where it is and leads to the next
 /// position, and the answer that is recorded of it, if any, is the one that it gives.
 pub fn an_accepted_recording_is_a_run()
     ensures runs { (bytes : List ℕ) (r : Recording) (n : ℕ) (step : Step) → IsGoodText bytes r

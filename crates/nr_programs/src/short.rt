@@ -26,7 +26,7 @@ pub fn short_runs_have_their_replies()
 
 /// Two fronts, one with `stepi 3` and one with `reverse-stepi`, in both orders and over a journal of one word; and a search that is
 /// refused memory until `resume` has it.
-pub fn what_two_fronts_meet_is_told()
+pub fn what_two_fronts_meet_is_answered()
     ensures forward_first { replies woken_run start true (codes "stepi 3\n") [] ≡ codes "at 3\n" }
     ensures then_back { replies woken_run start true (codes "reverse-stepi\n") (record { others = 196609 ∷ []; supply = enough } ∷ []) ≡ codes "at 2\n" }
     ensures back_first { replies woken_run start true (codes "reverse-stepi\n") [] ≡ codes "at 0 start\n" }

@@ -19,7 +19,7 @@ use std::io::Write;
 
 /// Opens the recording, of either version, and writes it in version 2: each step with the answer that it gives.
 ///
-/// `Refused`: the recording's first fault was printed, or `fault 108 memory`, as one line; the latter may stand behind
+/// `Refused`: the recording's first fault was printed, or `fault 108 memory`, as one line; the latter may follow
 /// whole lines of the recording, where there was no memory for the next one. `StreamFailed`: a write failed; then a
 /// prefix of these texts is written.
 pub fn upgrade_bytes<W: Worlds + Drop, O: Write>(

@@ -20,7 +20,7 @@ pub fn examples_have_their_replies()
 
 /// What a line is answered that lacks something: memory for a look; memory for a search, until `resume` has it; room in the
 /// journal. And a command behind another front's `stepi 5`.
-pub fn what_lines_meet_is_told()
+pub fn what_lines_meet_is_answered()
     ensures refused_look { replies first_run start true (codes "print lock 0\nprint lock 0\n")
         (record { others = []; supply = no_memory } ∷ []) ≡ codes "fault 301 memory\nlock 0 = absent\n" }
     ensures refused_search { replies first_run start true (codes "continue\nstepi\nresume\ninfo position\n")

@@ -1,17 +1,17 @@
 -- What a pass sees last is the history.
-use Rattle.std.proofs.Common.{◌≡◌, ◌≢◌, ◌<◌, ◌≤◌, ℕ, inl, inr, List, [], ◌∷◌, ◌++◌, map, refl, ◌∙◌, sym, ap, subst, arith, append_assoc, append-nil, Result, Ok, Err}
+use Rattle.std.proofs.Common.{◌≡◌, ◌≢◌, ◌<◌, ◌+◌, ℕ, zero, suc, add-one, inl, inr, List, [], ◌∷◌, ◌++◌, map, refl, ◌∙◌, sym, ap, subst, arith, append_assoc, append-nil, Result, Ok, Err}
 use Rattle.std.specs.Prelude.{IfOk, IfSome}
 use Rattle.std.specs.Global.{Vec}
 use Rattle.std.specs.declared.alloc.AllocError.{AllocError}
-use Rattle.std.specs.List.{All, AllPairs, Contains}
+use mathlib.Core.Logic.{dite}
+use native.Mathlib.Decide.{ℕ_discrete}
+use Rattle.std.specs.List.{All, Contains}
 use Rattle.std.proofs.lemmas.List.{append_cancel_left, map-append}
-use Rattle.std.proofs.lemmas.List.Elements.{All-append, All-cons, All-head, All-map, All-nil, All-push, All-tail, All-weaker, Contains-push}
-use Rattle.std.proofs.lemmas.List.Quantifiers.{all_pairs_push}
+use Rattle.std.proofs.lemmas.List.Elements.{All-append, All-cons, All-head, All-map, All-nil, All-push, All-tail, All-weaker, Contains-append_left, Contains-push}
 use Rattle.nr_journal.specs.Pass.{CatchesUp, SeesOthers}
-use Rattle.nr_journal.specs.Rule.{Covers, IsOthers, StartsWith, informed}
+use Rattle.nr_journal.specs.Rule.{Covers, HasTagBelow, IsOthers, StartsWith, informed, tag_of}
 use Rattle.nr_journal.specs.declared.view.PassState.{PassState}
-use Rattle.nr_front.specs.FrontState.{FrontState}
-use Rattle.nr_serving.specs.Session.{HasOwn, IsHistory, IsSeenBy, words_of}
+use Rattle.nr_serving.specs.Session.{HasOwn, IsHistory, IsSeenBy, IsTheirs, numbers_below, words_of}
 use Rattle.nr_serving.specs.declared.fronts.Done.{Done}
 
 -- what holds of all of a list holds of those in front
@@ -78,15 +78,58 @@ others_more room (Ok words) rest all other met mid fin later reported more split
     (All-push (λ d. HasOwn words.items d.pass.pass_state) rest other own (own_more room words.items fin.seen more mid other.pass.pass_state later s is first g last))
 others_more room (Err fault) rest all other met mid fin later reported more split s is first was sees_others last own = tt
 
+-- the tags of the words, where as many passes may be
+pub below_as : (given : Result (Vec ℕ) AllocError) (passes passes' : ℕ) → passes' ≡ passes → IfOk given (λ words. All (HasTagBelow passes') words.items) → IfOk given (λ words. All (HasTagBelow passes) words.items)
+below_as given passes passes' is below = subst (λ (n : ℕ). IfOk given (λ words. All (HasTagBelow n) words.items)) is below
+
+pub below_seen : (given : Result (Vec ℕ) AllocError) (passes passes' : ℕ) (seen : List ℕ) → passes' ≡ passes → IfOk given (λ words. words.items ≡ seen) → All (HasTagBelow passes') seen
+    → IfOk given (λ words. All (HasTagBelow passes) words.items)
+below_seen (Ok words) passes passes' seen is are below = subst (All (HasTagBelow passes)) (sym are) (subst (λ (n : ℕ). All (HasTagBelow n) seen) is below)
+below_seen (Err fault) passes passes' seen is are below = tt
+
 -- none of the others is left
 pub others_none : (given : Result (Vec ℕ) AllocError) (all : List Done) → all ≡ [] → IfOk given (λ words. All (λ d. HasOwn words.items d.pass.pass_state) all)
 others_none (Ok words) all none = subst (All (λ d. HasOwn words.items d.pass.pass_state)) (sym none) (All-nil (λ d. HasOwn words.items d.pass.pass_state))
 others_none (Err fault) all none = tt
 
+-- the numbers of a list with one item more
+pub numbers_more : {A : Type 0} (number : A → ℕ) (xs all : List A) (x : A) (n : ℕ) → all ≡ xs ++ x ∷ [] → map number xs ≡ numbers_below n → number x ≡ n → map number all ≡ numbers_below (n + 1)
+numbers_more number xs all x n split so_far is =
+    ap (map number) split ∙ map-append number xs (x ∷ []) ∙ ap (λ (l : List ℕ). l ++ number x ∷ []) so_far ∙ ap (λ (m : ℕ). numbers_below n ++ m ∷ []) is ∙ ap numbers_below (sym (add-one n))
+
+-- each number below is among them
+pub among_below : (n k : ℕ) → k < n → Contains (numbers_below n) k
+among_below zero k below = absurd (omega (arith, below))
+among_below (suc n) k below = dite (ℕ_discrete k n)
+    (λ (same : k ≡ n). subst (λ (m : ℕ). Contains (numbers_below n ++ n ∷ []) m) (sym same) (Contains-push (numbers_below n) n))
+    (λ (other : k ≢ n). Contains-append_left (numbers_below n) (n ∷ []) k (among_below n k (omega (arith, below, other))))
+
+-- what holds of all of a list holds of the last
+all_last : (P : Done → Type 0) (xs : List Done) (x : Done) → All P (xs ++ x ∷ []) → P x
+all_last P [] x h = All-head P x [] h
+all_last P (y ∷ xs) x h = all_last P xs x (All-tail P y (xs ++ x ∷ []) h)
+
+-- the tags of what the passes know
+tags_known : (all : List Done) → map (λ p. p.tag) (map (λ d. d.pass.pass_state) all) ≡ map (λ d. d.pass.pass_state.tag) all
+tags_known [] = refl
+tags_known (d ∷ all) = ap (λ (l : List ℕ). d.pass.pass_state.tag ∷ l) (tags_known all)
+
+-- where the passes have all tags, no word is anybody else's
+theirs : (words : List ℕ) (n : ℕ) (all : List Done) (passes : ℕ) → map (λ d. d.pass.pass_state.tag) all ≡ numbers_below n → passes ≡ n → All (HasTagBelow passes) words
+    → All (IsTheirs (map (λ d. d.pass.pass_state) all)) words
+theirs words n all passes tags is below =
+    All-weaker (HasTagBelow passes) (IsTheirs (map (λ d. d.pass.pass_state) all))
+    (λ word (lower : HasTagBelow passes word). subst (λ (l : List ℕ). Contains l (tag_of word)) (sym (tags_known all ∙ tags)) (among_below n (tag_of word) (subst (λ (m : ℕ). tag_of word < m) is lower)))
+    words below
+
 -- the history of those that ended
-pub history_of : (room : ℕ) (given : Result (Vec ℕ) AllocError) (rest all : List Done) (last : Done) → all ≡ rest ++ last ∷ [] → IfOk given (λ words. IsSeenBy room words.items last.pass.pass_state)
-    → IfOk given (λ words. All (λ d. HasOwn words.items d.pass.pass_state) rest) → IfSome (words_of given) (IsHistory room (map (λ d. d.pass.pass_state) all))
-history_of room (Ok words) rest all last split s own = record {
+pub history_of : (room n : ℕ) (given : Result (Vec ℕ) AllocError) (rest all : List Done) (last : Done) → all ≡ rest ++ last ∷ [] → IfOk given (λ words. IsSeenBy room words.items last.pass.pass_state)
+    → IfOk given (λ words. All (λ d. HasOwn words.items d.pass.pass_state) rest) → IfOk given (λ words. All (HasTagBelow last.pass.pass_state.passes) words.items)
+    → map (λ d. d.pass.pass_state.tag) all ≡ numbers_below n → All (λ d. d.pass.pass_state.passes ≡ n) all
+    → IfSome (words_of given) (IsHistory room (map (λ d. d.pass.pass_state) all))
+history_of room n (Ok words) rest all last split s own below tags passes = record {
+  theirs = theirs words.items n all last.pass.pass_state.passes tags
+      (all_last (λ d. d.pass.pass_state.passes ≡ n) rest last (subst (All (λ d. d.pass.pass_state.passes ≡ n)) split passes)) below;
   own = subst (λ (l : List Done). All (HasOwn words.items) (map (λ d. d.pass.pass_state) l)) (sym split)
       (All-map (HasOwn words.items) (λ d. d.pass.pass_state) (rest ++ last ∷ [])
       (All-push (λ d. HasOwn words.items d.pass.pass_state) rest last own (own_seen room words.items last.pass.pass_state s)));
@@ -97,31 +140,13 @@ history_of room (Ok words) rest all last split s own = record {
     s,
   );
 }
-history_of room (Err fault) rest all last split s own = tt
+history_of room n (Err fault) rest all last split s own below tags passes = tt
 
 -- there was none
 pub no_history : (room : ℕ) (all : List Done) (words : List ℕ) → all ≡ [] → words ≡ [] → IsHistory room (map (λ d. d.pass.pass_state) all) words
 no_history room all words none empty = record {
   own = subst (λ (l : List Done). All (HasOwn words) (map (λ d. d.pass.pass_state) l)) (sym none) (All-nil (HasOwn words));
+  theirs = subst (All (IsTheirs (map (λ d. d.pass.pass_state) all))) (sym empty) (All-nil (IsTheirs (map (λ d. d.pass.pass_state) all)));
   whole = inr (ap (map (λ d. d.pass.pass_state)) none, empty);
 }
 
--- a number that isn't below another isn't one that is
-differs : (tag least greater : ℕ) → tag < least → least ≤ greater → tag ≢ greater
-differs tag least greater below above is = omega (arith, below, above, is)
-
--- one front more, with a greater tag
-pub apart_more : {A : Type 0} (fronts all : List (FrontState × A)) (front : FrontState × A) (least : ℕ) → all ≡ fronts ++ front ∷ []
-    → AllPairs (λ one other. one ≢ other) (map (λ f. f.0.pass_state.tag) fronts) → All (λ f. f.0.pass_state.tag < least) fronts → least ≤ front.0.pass_state.tag
-    → AllPairs (λ one other. one ≢ other) (map (λ f. f.0.pass_state.tag) all)
-apart_more {A} fronts all front least split apart below above =
-    let lower = All-map (λ t. t < least) (λ f. f.0.pass_state.tag) fronts below in
-    subst (AllPairs (λ one other. one ≢ other)) (sym (ap (map {A = FrontState × A} {B = ℕ} (λ f. f.0.pass_state.tag)) split ∙ map-append (λ f. f.0.pass_state.tag) fronts (front ∷ [])))
-    (all_pairs_push (λ one other. one ≢ other) (map (λ f. f.0.pass_state.tag) fronts) front.0.pass_state.tag apart (λ k d lt. differs _ least _ (lower k d lt) above))
-
-pub below_more : {A : Type 0} (fronts all : List (FrontState × A)) (front : FrontState × A) (least more : ℕ) → all ≡ fronts ++ front ∷ [] → All (λ f. f.0.pass_state.tag < least) fronts
-    → least ≤ front.0.pass_state.tag → front.0.pass_state.tag < more → All (λ f. f.0.pass_state.tag < more) all
-below_more {A} fronts all front least more split below above under =
-    subst (All (λ f. f.0.pass_state.tag < more)) (sym split)
-    (All-push (λ f. f.0.pass_state.tag < more) fronts front (All-weaker (λ f. f.0.pass_state.tag < least) (λ f. f.0.pass_state.tag < more) (λ f one. omega (arith, one, above, under)) fronts below)
-    under)

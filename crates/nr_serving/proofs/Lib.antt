@@ -3,4 +3,4 @@ pub mod ReadAwayLemmas
 pub mod ServingLemmas
 pub mod SessionLemmas
 pub mod TagLemmas
-pub mod ToldWalks
+pub mod NoFieldsWalks

@@ -7,9 +7,9 @@ use Rattle.std.proofs.Math.Bool.{or-false}
 use Rattle.std.proofs.lemmas.List.{map-append}
 use Rattle.nr_front.specs.FrontState.{FrontState}
 use Rattle.nr_serving.specs.Fronts.{Adds, AreServed, IsServed, ServesCaller, ServesCallers, came, is_failure}
-use Rattle.nr_serving.specs.Told.{Conversation}
-use Rattle.nr_serving.specs.declared.told.Arrival.{Arrival}
-use Rattle.nr_serving.specs.declared.told.Arrival.TheVariants.{Came}
+use Rattle.nr_serving.specs.Conversations.{Conversation}
+use Rattle.nr_serving.specs.declared.conversations.Arrival.{Arrival}
+use Rattle.nr_serving.specs.declared.conversations.Arrival.TheVariants.{Came}
 use Rattle.nr_serving.specs.declared.fronts.Done.{Done}
 
 -- one caller more
@@ -25,9 +25,9 @@ reported_more callers c was now reported is =
     is ∙ ap (λ (t : Bool). t || is_failure c) reported ∙ ap (λ (t : Bool). list_any is_failure callers || t) (sym (or-false (is_failure c))) ∙ sym (list_any-append is_failure callers (c ∷ []))
 
 -- one caller more came and was served
-pub came_more : (callers told : List Conversation) (c : Conversation) (before arrived : List Arrival) → told ≡ callers ++ c ∷ [] → before ≡ came callers → arrived ≡ before ++ Came ∷ []
+pub came_more : (callers conversations : List Conversation) (c : Conversation) (before arrived : List Arrival) → conversations ≡ callers ++ c ∷ [] → before ≡ came callers → arrived ≡ before ++ Came ∷ []
     → arrived ≡ came (callers ++ c ∷ [])
-came_more callers told c before arrived is was now = now ∙ ap (λ (l : List Arrival). l ++ Came ∷ []) was ∙ sym (map-append (λ c. Came) callers (c ∷ []))
+came_more callers conversations c before arrived is was now = now ∙ ap (λ (l : List Arrival). l ++ Came ∷ []) was ∙ sym (map-append (λ c. Came) callers (c ∷ []))
 
 -- the last of some pairs was taken
 pub last_taken : {A B : Type 0} (old new : List (A × B)) (taken : Option (A × B)) → old ≡ new ++ option_to_list taken

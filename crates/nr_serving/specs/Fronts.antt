@@ -4,12 +4,12 @@ use Rattle.std.specs.List.{list_any}
 use Rattle.nr_text.specs.Streams.{Incoming, Outgoing}
 use Rattle.nr_front.specs.FrontState.{FrontState, pass_of}
 use Rattle.nr_lines.specs.Engine.{AnswersLines, is_read_failure, is_write_failure}
-use Rattle.nr_serving.specs.Told.{Conversation}
+use Rattle.nr_serving.specs.Conversations.{Conversation}
 use Rattle.nr_serving.specs.declared.connection.Next.{Next}
 use Rattle.nr_serving.specs.declared.connection.Next.TheVariants as nexts
 use Rattle.nr_serving.specs.declared.fronts.Done.{Done}
-use Rattle.nr_serving.specs.declared.told.Arrival.{Arrival}
-use Rattle.nr_serving.specs.declared.told.Arrival.TheVariants as arrivals
+use Rattle.nr_serving.specs.declared.conversations.Arrival.{Arrival}
+use Rattle.nr_serving.specs.declared.conversations.Arrival.TheVariants as arrivals
 
 -- a reader of which no read was made, and which has these bytes, where they are known
 abbrev pub unread : Option (List ℕ) → Incoming
@@ -20,7 +20,7 @@ abbrev pub unwritten : Option (List ℕ) → Outgoing
 unwritten known = record { contents = known; sent = []; failed = false }
 
 -- A front that was d served a caller and is d' then, over a reader and a writer that were new: what
--- was sent answers the lines of what was received, as the ending says. It tells of a failure exactly
+-- was sent answers the lines of what was received, as the ending says. It reports a failure exactly
 -- where a read or a write failed.
 pub record ServesCaller (c : Conversation) (d d' : FrontState) : Type 0 where
   pub remaining : Option (List ℕ)
@@ -72,8 +72,8 @@ has_failed course = course.cut_off || list_any is_failure course.callers
 -- failure is reported exactly where there was one.
 pub record IsServed (start : FrontState) (done : Done) : Type 0 where
   pub course : Course
-  pub told : done.told.callers ≡ course.callers
-  pub whole : IsWhole done.told.arrivals course.callers course.cut_off
+  pub passed : done.conversations.callers ≡ course.callers
+  pub whole : IsWhole done.conversations.arrivals course.callers course.cut_off
   pub serving : ServesCallers course.callers start course.last
   pub failed : done.failed ≡ has_failed course
   pub pass : done.pass ≡ pass_of course.last

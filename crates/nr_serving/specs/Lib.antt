@@ -1,4 +1,4 @@
 -- what callers need
 pub mod Fronts
 pub mod Session
-pub mod Told
+pub mod Conversations

@@ -3,11 +3,11 @@
 ghost use Rattle.std.specs.Prelude.{◌≡◌, ◌+◌, ◌≤◌, ◌∷◌, ◌++◌, [], map, vec_len, vec_capacity, IfSome, IfNone};
 ghost use Rattle.std.specs.List.{All};
 ghost use Rattle.nr_serving.specs.Fronts.{Adds, IsServed, ServesCaller, arrival_of};
-ghost use Rattle.nr_serving.specs.Told.{Conversation};
+ghost use Rattle.nr_serving.specs.Conversations.{Conversation};
 ghost use denote.Param.Send.{IsSend, IsSync};
 
 use crate::connection::{Connections, Next, read_away};
-use crate::told::{Arrival, Told};
+use crate::conversations::{Arrival, Conversations};
 use nr_front::Front;
 use nr_journal::{Journal, Pass};
 use nr_lines::{End, LineEnd, serve};
@@ -24,13 +24,13 @@ pub struct Done {
     /// Its callers couldn't be had any more, or a read or a write failed.
     pub failed: bool,
     /// What passed between it and its callers.
-    pub told: Told,
+    pub conversations: Conversations,
 }
 
 // Waits for the next caller, and notes what came of that.
-fn next_caller<C: Connections>(connections: &mut C, told: &mut Told) -> Next<C::Reader, C::Writer>
-    ensures arrivals { told.new.arrivals ≡ told.old.arrivals ++ arrival_of result ∷ [] }
-    ensures callers { told.new.callers ≡ told.old.callers }
+fn next_caller<C: Connections>(connections: &mut C, conversations: &mut Conversations) -> Next<C::Reader, C::Writer>
+    ensures arrivals { conversations.new.arrivals ≡ conversations.old.arrivals ++ arrival_of result ∷ [] }
+    ensures callers { conversations.new.callers ≡ conversations.old.callers }
 {
     let next = connections.next();
     let arrival = match &next {
@@ -38,7 +38,7 @@ fn next_caller<C: Connections>(connections: &mut C, told: &mut Told) -> Next<C::
         Next::Ended => Arrival::Ended,
         Next::Failed => Arrival::Failed,
     };
-    *told = told.arrived(&arrival);
+    *conversations = conversations.arrived(&arrival);
     next
 }
 
@@ -51,7 +51,7 @@ fn serve_caller<R, W, F, C>(
     writer: C::Writer,
     front: &mut Front<'_, W, F>,
     journal: &Journal,
-    told: &mut Told,
+    conversations: &mut Conversations,
 ) -> Result<End, LineEnd>
 where
     R: Wait,
@@ -62,14 +62,14 @@ where
     C: Connections,
     requires { front.old.table ≡ journal.now }
     ensures table { front.new.table ≡ front.old.table }
-    ensures arrivals { told.new.arrivals ≡ told.old.arrivals }
-    ensures serves { (c : Conversation) × (told.new.callers ≡ told.old.callers ++ c ∷ [])
+    ensures arrivals { conversations.new.arrivals ≡ conversations.old.arrivals }
+    ensures serves { (c : Conversation) × (conversations.new.callers ≡ conversations.old.callers ++ c ∷ [])
         × (c.ending ≡ result) × ServesCaller c front.old front.new }
 {
     let mut source = Source::new(reader);
     let mut sink = Sink::new(writer);
     let ending = serve(rt, &mut source, &mut sink, front, journal);
-    *told = told.and(&source, &sink, &ending);
+    *conversations = conversations.and(&source, &sink, &ending);
     if matches!(ending, Ok(End::Quit)) && C::end_replies(&sink.into_inner()).is_ok() {
         read_away(&mut source.into_inner());
     }
@@ -94,12 +94,12 @@ where
     ensures { IsServed front.entry result }
 {
     let mut failed = false;
-    let mut told = Told::new();
+    let mut conversations = Conversations::new();
     for _ in rt.forever() {
-        match next_caller(&mut connections, &mut told) {
+        match next_caller(&mut connections, &mut conversations) {
             Next::Serve(reader, writer) => {
                 let ending = serve_caller::<R, W, F, C>(
-                    rt, reader, writer, &mut front, journal, &mut told,
+                    rt, reader, writer, &mut front, journal, &mut conversations,
                 );
                 failed = failed | ending.is_err();
             }
@@ -107,14 +107,14 @@ where
                 return Done {
                     pass: front.end(),
                     failed,
-                    told,
+                    conversations,
                 };
             }
             Next::Failed => {
                 return Done {
                     pass: front.end(),
                     failed: true,
-                    told,
+                    conversations,
                 };
             }
         }

@@ -4,9 +4,9 @@
 mod connection;
 mod fronts;
 mod session;
-mod told;
+mod conversations;
 
 pub use connection::{Connections, Next, Ports, read_away};
 pub use fronts::{Done, serve_each};
 pub use session::{Ended, Shape, Unshared, share};
-pub use told::{Arrival, Told};
+pub use conversations::{Arrival, Conversations};

@@ -1,17 +1,17 @@
 //! A session that several people share.
 
-ghost use Rattle.std.specs.Prelude.{◌≡◌, ◌≢◌, ◌≤◌, ◌<◌, ◌+◌, ◌++◌, ◌∷◌, [], map, vec_len, vec_capacity, IfOk, IfSome, IfNone, OnOk};
-ghost use Rattle.std.specs.List.{All, AllPairs};
+ghost use Rattle.std.specs.Prelude.{◌≡◌, ◌≤◌, ◌+◌, ◌++◌, ◌∷◌, [], map, vec_len, vec_capacity, IfOk, IfSome, IfNone, OnOk};
+ghost use Rattle.std.specs.List.{All};
 ghost use Rattle.nr_walker.specs.declared.walker.TheConstants.{LEAST_DEPTH, MOST_DEPTH};
 ghost use Rattle.nr_journal.specs.declared.rule.TheConstants.{MOST_WORDS};
 ghost use Rattle.nr_serving.specs.declared.session.Unshared.TheVariants as unshared;
-ghost use Rattle.nr_journal.specs.Rule.{entering, journal_room};
-ghost use Rattle.nr_serving.specs.Session.{HasOwn, IsFresh, IsHistory, IsSeenBy, IsShared, any_failed, words_of};
+ghost use Rattle.nr_journal.specs.Rule.{entering, HasTagBelow, journal_room};
+ghost use Rattle.nr_serving.specs.Session.{HasOwn, IsFresh, IsHistory, IsSeenBy, IsShared, any_failed, numbers_below, words_of};
 
 use crate::connection::{Connections, Ports};
 use crate::fronts::{Done, serve_each};
 use nr_front::Front;
-use nr_journal::{Journal, Pass, Seat};
+use nr_journal::{Journal, MOST_PASSES, Pass, Seat};
 use nr_rev::{Memory, Worlds};
 use nr_search::Finder;
 use nr_snaps::Film;
@@ -56,31 +56,28 @@ impl From<Memory> for Unshared {
     }
 }
 
-// Enters with the first tag that nobody has. It is greater than those of all who entered before.
-fn enter(journal: &Journal, seat: &mut Seat, least: &mut u8) -> Result<Pass, Unshared>
+// Enters as the pass of this number, where so many entered before.
+fn enter(journal: &Journal, seat: &mut Seat, number: usize) -> Result<Pass, Unshared>
     requires { seat.old.table ≡ journal.now }
-    ensures table { seat.new.table ≡ journal.now }
-    ensures entered { IfOk result (λ pass. (pass.table ≡ journal.now) × (pass.pass_state ≡ entering pass.pass_state.tag)) }
-    ensures rises { IfOk result (λ pass. (least.old ≤ pass.pass_state.tag) × (pass.pass_state.tag < least.new)) }
+    ensures seat { seat.new ≡ seat.old }
+    ensures entered { IfOk result (λ pass. (pass.table ≡ journal.now) × (pass.pass_state ≡ entering seat.old.passes number)) }
 {
     let Ok(pass) = journal.enter(journal.split(seat)) else {
         return Err(Unshared::NoTag);
     };
-    let tag = pass.tag();
-    // never so: tags are drawn from the least on
-    if tag < *least {
+    // never so: nobody else enters, and the first tag that is left is drawn
+    if usize::from(pass.tag()) != number {
         return Err(Unshared::NoTag);
     }
-    *least = tag + 1;
     Ok(pass)
 }
 
-// Opens a front over the film, with a greater tag than those before.
+// Opens the front of this number over the film, where so many were opened before.
 fn open_front<'f, W: Worlds + Drop + Sync, F: Finder + Drop>(
     alloc: Global,
     journal: &Journal,
     seat: &mut Seat,
-    least: &mut u8,
+    number: usize,
     film: &'f Film<W>,
     finder: F,
     depth: usize,
@@ -90,11 +87,12 @@ where
     W::Snapshot: Drop + Sync,
     requires table { seat.old.table ≡ journal.now }
     requires depth { (LEAST_DEPTH ≤ depth) × (depth ≤ MOST_DEPTH) }
-    ensures table { seat.new.table ≡ journal.now }
-    ensures fresh { IfOk result (IsFresh journal.now film.now.recording depth (F.count finder)) }
-    ensures rises { IfOk result (λ front. (least.old ≤ front.pass_state.tag) × (front.pass_state.tag < least.new)) }
+    ensures seat { seat.new ≡ seat.old }
+    ensures fresh { IfOk result (IsFresh journal.now film.now.recording seat.old.passes depth
+        (F.count finder)) }
+    ensures tag { IfOk result (λ front. front.pass_state.tag ≡ number) }
 {
-    let pass = enter(journal, seat, least)?;
+    let pass = enter(journal, seat, number)?;
     match Front::new(alloc, pass, film, finder, depth) {
         Ok(front) => Ok(front),
         Err(_) => Err(Unshared::Memory),
@@ -115,22 +113,22 @@ where
     W::Delta: Drop,
     W::Snapshot: Drop + Sync,
     requires table { seat.table ≡ journal.now }
+    requires passes { seat.passes ≡ shape.fronts }
     requires depth { (LEAST_DEPTH ≤ shape.depth) × (shape.depth ≤ MOST_DEPTH) }
     ensures fresh { IfOk result (λ fronts.
-        All (λ f. IsFresh journal.now film.now.recording shape.depth (F.count finder) f.0)
+        All (λ f. IsFresh journal.now film.now.recording shape.fronts shape.depth (F.count finder) f.0)
         fronts.items) }
     ensures count { IfOk result (λ fronts. vec_len fronts ≡ shape.fronts) }
-    ensures apart { IfOk result (λ fronts.
-        AllPairs (λ one other. one ≢ other) (map (λ f. f.0.pass_state.tag) fronts.items)) }
+    ensures tags { IfOk result (λ fronts.
+        map (λ f. f.0.pass_state.tag) fronts.items ≡ numbers_below shape.fronts) }
 {
     let mut fronts = Vec::with_capacity(alloc, shape.fronts)?;
-    let mut least = 0;
     for number in 0..shape.fronts {
         let front = open_front(
             alloc,
             journal,
             &mut seat,
-            &mut least,
+            number,
             film,
             finder,
             shape.depth,
@@ -142,7 +140,9 @@ where
 
 // Returns the history of the fronts that ended, and whether one failed.
 fn finish(alloc: Global, journal: &Journal, mut done: Vec<Done>) -> Ended
-    requires { All (λ d. d.pass.table ≡ journal.now) done.items }
+    requires tables { All (λ d. d.pass.table ≡ journal.now) done.items }
+    requires passes { All (λ d. d.pass.pass_state.passes ≡ vec_len done) done.items }
+    requires tags { map (λ d. d.pass.pass_state.tag) done.items ≡ numbers_below (vec_len done) }
     ensures history { IfSome (words_of result.history)
         (IsHistory (journal_room journal.now) (map (λ d. d.pass.pass_state) done.items)) }
     ensures failed { result.failed ≡ any_failed done.items }
@@ -164,6 +164,7 @@ fn collect(journal: &Journal, last: &mut Pass, mut done: Vec<Done>) -> Result<Ve
     ensures seen { IfOk result (λ words. words.items ≡ last.new.pass_state.seen) }
     ensures last { IfOk result (λ words. IsSeenBy (journal_room journal.now) words.items last.old.pass_state) }
     ensures others { IfOk result (λ words. All (λ d. HasOwn words.items d.pass.pass_state) done.items) }
+    ensures tags { IfOk result (λ words. All (HasTagBelow last.old.pass_state.passes) words.items) }
 {
     let Some(mut other) = take_done(journal, &mut done) else {
         return journal.finish(last);
@@ -189,7 +190,7 @@ fn take_done(journal: &Journal, done: &mut Vec<Done>) -> Option<Done>
 /// Opens the fronts, each with a debugger of its own over the film. Serves each in a thread of its own until its callers
 /// end, and returns the history that they placed.
 ///
-/// An error comes before any caller is served. `NoTag` means that the journal had no tag left for a front: it has
+/// An error comes before any caller is served. `NoTag` means that these are more fronts than a journal has tags for,
 /// `MOST_PASSES`. The contract doesn't say when an error comes. Where the history runs out of memory, after the last
 /// caller, `Ended` says so in its place.
 pub fn share<W, F, R, P>(
@@ -212,7 +213,10 @@ where
     ensures { IfOk result (λ ended. IsShared film.now.recording shape.room shape.fronts
         shape.depth (F.count finder) (words_of ended.history) ended.failed) }
 {
-    let (journal, seat) = Journal::new(alloc, shape.room)?;
+    if shape.fronts > MOST_PASSES as usize {
+        return Err(Unshared::NoTag);
+    }
+    let (journal, seat) = Journal::for_passes(alloc, shape.room, shape.fronts as u32)?;
     let fronts = open_fronts(alloc, &journal, seat, film, finder, shape, ports)?;
     let done = Vec::with_capacity(alloc, fronts.len())?;
     let done = serve_each(rt, &journal, fronts, done);

@@ -1,5 +1,5 @@
 use Rattle.std.proofs.Common.{ap, Some}
-use Rattle.nr_programs.proofs.ShownLemmas.{shows_one}
+use Rattle.nr_programs.proofs.AcceptedLemmas.{shows_one}
 use Rattle.nr_programs.proofs.laws.a_position_shows_one_thing.Goals as goal
 
 pub returns : goal.returns

@@ -1,7 +1,7 @@
 use Rattle.std.proofs.Common.{◌≡◌, Some, subst, sym}
 use Rattle.nr_rev.specs.Run.{Recording}
 use Rattle.nr_snaps.specs.Answers.{answer_at}
-use Rattle.nr_programs.proofs.ShownLemmas.{is_a_run}
+use Rattle.nr_programs.proofs.AcceptedLemmas.{is_a_run}
 use Rattle.nr_programs.proofs.laws.an_accepted_recording_is_a_run.Goals as goal
 
 pub returns-clause-runs : goal.returns-clause-runs

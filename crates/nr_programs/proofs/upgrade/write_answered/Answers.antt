@@ -10,7 +10,7 @@ use Rattle.nr_programs.specs.declared.run.ExitStatus.TheVariants as statuses
 use Rattle.nr_programs.proofs.UpgradeLemmas.{behind, wrote_part}
 use Rattle.nr_programs.proofs.upgrade.write_answered.Goals as goal
 
--- some lines went out, and then it is told that memory ran out
+-- some lines went out, and then it is said that memory ran out
 pub returns-in-Err-Memory : goal.returns-in-Err-Memory
 returns-in-Err-Memory g c =
     let old = c.args.output.now in

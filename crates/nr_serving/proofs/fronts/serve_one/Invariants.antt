@@ -7,4 +7,4 @@ use Rattle.nr_serving.proofs.fronts.serve_one.Given as goal
 abbrev pub invariant-loop : goal.invariant-loop
 invariant-loop g l =
     (goal.iterator-loop g).can_next l.iterator' × (goal.iterator-loop g).is_finite l.iterator'
-    × (l.front.table ≡ l.journal) × (l.told.arrivals ≡ came l.told.callers) × ServesCallers l.told.callers l.fn.front l.front × (l.failed ≡ list_any is_failure l.told.callers)
+    × (l.front.table ≡ l.journal) × (l.conversations.arrivals ≡ came l.conversations.callers) × ServesCallers l.conversations.callers l.fn.front l.front × (l.failed ≡ list_any is_failure l.conversations.callers)

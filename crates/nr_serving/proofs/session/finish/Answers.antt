@@ -1,5 +1,5 @@
 use Rattle.std.proofs.Common.{ℕ, Result, map, subst, sym, rules}
-use Rattle.std.specs.Prelude.{IfSome}
+use Rattle.std.specs.Prelude.{IfSome, vec_len}
 use Rattle.std.specs.Global.{Vec}
 use Rattle.std.specs.declared.alloc.AllocError.{AllocError}
 use Rattle.nr_journal.specs.Rule.{journal_room}
@@ -15,7 +15,8 @@ returns-clause-history c =
     let done = c.args.done.items in
     elim c.match-take_done.branch [
       | in-Some w ↦ subst (λ (h : Result (Vec ℕ) AllocError). IfSome (words_of h) (IsHistory room (map (λ d. d.pass.pass_state) done))) (sym w.history-is)
-          (history_of room w.collect-history.result c.take_done.new.done.items done w.in-Some.last w.in-Some.ensures.last w.collect-history.ensures.last w.collect-history.ensures.others)
+          (history_of room (vec_len c.args.done) w.collect-history.result c.take_done.new.done.items done w.in-Some.last w.in-Some.ensures.last w.collect-history.ensures.last w.collect-history.ensures.others
+          w.collect-history.ensures.tags c.requires.tags c.requires.passes)
       | in-None w ↦ subst (λ (h : Result (Vec ℕ) AllocError). IfSome (words_of h) (IsHistory room (map (λ d. d.pass.pass_state) done))) (sym w.history-is)
           (no_history room done w.new.result.items w.in-None.ensures.none (search rules))
     ]

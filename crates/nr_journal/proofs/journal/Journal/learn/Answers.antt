@@ -3,7 +3,7 @@ use Rattle.atomic_table.specs.Table.{Splits, Joins}
 use Rattle.nr_journal.specs.declared.view.View.TheVariants.{Within, Note, Spent}
 use Rattle.nr_journal.specs.Step.{Seat, note_of, learned_from}
 use Rattle.nr_journal.specs.Pass.{Entered, pass_state_of}
-use Rattle.nr_journal.proofs.MeetLemmas.{tells, learns}
+use Rattle.nr_journal.proofs.MeetLemmas.{notes, learns}
 use Rattle.nr_journal.proofs.RuleLemmas.{Rule}
 use Rattle.nr_journal.proofs.journal.Journal.learn.Goals as goal
 
@@ -12,7 +12,7 @@ split_seat-note-requires c =
     let p = c.from.invariant in (
       ap (λ (f : Entered). f.table) c.from.view_is ∙ (c.requires.1 ∙ sym c.self.view_is),
       omega (arith, c.self.invariant.1),
-      subst (λ (m : Seat). Splits (Rule c.self.inside.table.shared.key) c.from.inside.seat.id m.0 m.0 (note_of m.0)) (sym p.0) (tells _ _ (pass_state_of c.from.inside.seat.me.0)),
+      subst (λ (m : Seat). Splits (Rule c.self.inside.table.shared.key) c.from.inside.seat.id m.0 m.0 (note_of m.0)) (sym p.0) (notes _ _ (pass_state_of c.from.inside.seat.me.0)),
     )
 
 pub join_seat-requires : goal.join_seat-requires

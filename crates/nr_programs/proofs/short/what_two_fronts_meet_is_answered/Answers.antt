@@ -1,7 +1,7 @@
 -- Each is computed.
 use Rattle.std.proofs.Common.{refl}
 use Rattle.std.specs.Fmt.{digits}
-use Rattle.nr_programs.proofs.short.what_two_fronts_meet_is_told.Goals as goal
+use Rattle.nr_programs.proofs.short.what_two_fronts_meet_is_answered.Goals as goal
 
 pub returns-clause-forward_first : goal.returns-clause-forward_first
 unfolding digits

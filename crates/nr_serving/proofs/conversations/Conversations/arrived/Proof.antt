@@ -1,7 +1,7 @@
 -- `arrived` makes a struct of no fields, and picks what passed that its clause names.
 use Rattle.std.proofs.Common.{[], ◌∷◌, ◌++◌, refl}
 use Rattle.std.proofs.raw_atomic.Walks.{proved}
-use Rattle.nr_serving.proofs.ToldWalks.{nothing_made, of_no_fields}
+use Rattle.nr_serving.proofs.NoFieldsWalks.{nothing_made, of_no_fields}
 use contract.Running.{tables}
 use types.Kit.{‵, raw, ◌⊛◌, ◌$◌, ◌∵◌, !, qed, keep, split, move, drop, fjoin, suffices, done}
 use types.Part.{agg}
@@ -15,11 +15,11 @@ use denote.Signature.{plain, types_at}
 use denote.Steps.{nothing}
 use denote.Triple.Entry.{alive}
 use denote.Triple.Walked.{Stays, Goes-dropped, stay_dropped, walk_of, says, ends_at}
-use Rattle.nr_serving.specs.contracts.told.Arrival as Arrival
-use Rattle.nr_serving.specs.contracts.told.Told as Told
-use Rattle.nr_serving.specs.contracts.told.Told.arrived as f
-use Rattle.nr_serving.proofs.told.Told.arrived.Statement.{statement}
-use Rattle.nr_serving.proofs.told.Told.arrived.Code as code
+use Rattle.nr_serving.specs.contracts.conversations.Arrival as Arrival
+use Rattle.nr_serving.specs.contracts.conversations.Conversations as Conversations
+use Rattle.nr_serving.specs.contracts.conversations.Conversations.arrived as f
+use Rattle.nr_serving.proofs.conversations.Conversations.arrived.Statement.{statement}
+use Rattle.nr_serving.proofs.conversations.Conversations.arrived.Code as code
 
 abbrev stayed : Stays f.ended.signature.params f.ended.kept
 stayed = (stay_dropped _ yes, (stay_dropped _ yes, tt))
@@ -27,12 +27,12 @@ stayed = (stay_dropped _ yes, (stay_dropped _ yes, tt))
 pub arrived_spec : {M : Type 1} → statement M
 arrived_spec 𝓤 𝓛 𝓜 𝓡 wired =
     let c = f.clauses 𝓛 𝓜.mem 𝓡.returns in let 𝓣 = tables 𝓤 𝓛.H 𝓜 𝓡 𝓡.env in
-    let self_goes = Goes-dropped 𝓛 2 (RefOf (0 ∷ []) tt (plain (λ _. Told.the_row)) (λ _. tt)) yes (λ κs x r. refl) in
+    let self_goes = Goes-dropped 𝓛 2 (RefOf (0 ∷ []) tt (plain (λ _. Conversations.the_row)) (λ _. tt)) yes (λ κs x r. refl) in
     let arrival_goes = Goes-dropped 𝓛 2 (RefOf (1 ∷ []) tt (plain (λ _. Arrival.the_row)) (λ _. tt)) yes (λ κs x r. refl) in
     proved 𝓛 f.ended stayed c 𝓜 𝓡 (self_goes, (arrival_goes, tt)) f.Key.name code.function (code.unfolded 𝓤 𝓛.H 𝓜 𝓡 wired)
     (λ κs. (shr_vals, (shr_vals, tt))) (λ κs. ((λ r vs is. is.0), ((λ r vs is. is.0), tt))) (λ κs qs bounds a g are.
     let y : (walk_of 𝓛 f.ended stayed c).Ghost = ((κs, qs, bounds, a, (shr_vals a.0, (shr_vals a.1.0, tt))), g) in
-    let longer : Told.the_row.Denot = record { arrivals = a.0.now.arrivals ++ a.1.0.now ∷ []; callers = a.0.now.callers } in
+    let longer : Conversations.the_row.Denot = record { arrivals = a.0.now.arrivals ++ a.1.0.now ∷ []; callers = a.0.now.callers } in
     qed 𝓛 ((raw (alive 𝓛 f.signature κs qs) ⊛ ‵ (owns (types_at f.signature.params κs) a y.0.4)) ∷ raw ((c κs a).requires g) ∷ []) ∵
     keep ! (0 ∷ []) $ split ! $ move ! (1 ∷ []) $ drop ! $
     enter ! _ _ _ _ _ $ alloc_all ! (λ l. pass_all ! refl ((tt, tt), ((tt, tt), tt)) $

@@ -1,4 +1,4 @@
--- What the walks of `Told` share: how a struct of no fields is made.
+-- What the walks of `Conversations` share: how a struct of no fields is made.
 use Rattle.std.proofs.Common.{List, [], ◌∷◌, refl}
 use seplogic.Ra.Ura.{Ura}
 use mir.Val.{Val, vstruct, vnil}

@@ -1,7 +1,7 @@
 -- `new` makes a struct of no fields, and picks that nothing passed.
 use Rattle.std.proofs.Common.{[], ◌∷◌, refl}
 use Rattle.std.proofs.raw_atomic.Walks.{proved}
-use Rattle.nr_serving.proofs.ToldWalks.{nothing_made, of_no_fields}
+use Rattle.nr_serving.proofs.NoFieldsWalks.{nothing_made, of_no_fields}
 use contract.Running.{tables}
 use types.Kit.{raw, ◌$◌, ◌∵◌, !, qed, drop, fjoin, suffices, done}
 use types.Part.{agg}
@@ -10,10 +10,10 @@ use types.ByLocal.{alloc_all, pass_all, free_all, look_at, sets}
 use denote.Steps.{nothing}
 use denote.Triple.Entry.{on_entry}
 use denote.Triple.Walked.{Stays, walk_of, says, ends_at}
-use Rattle.nr_serving.specs.contracts.told.Told as Told
-use Rattle.nr_serving.specs.contracts.told.Told.new as f
-use Rattle.nr_serving.proofs.told.Told.new.Statement.{statement}
-use Rattle.nr_serving.proofs.told.Told.new.Code as code
+use Rattle.nr_serving.specs.contracts.conversations.Conversations as Conversations
+use Rattle.nr_serving.specs.contracts.conversations.Conversations.new as f
+use Rattle.nr_serving.proofs.conversations.Conversations.new.Statement.{statement}
+use Rattle.nr_serving.proofs.conversations.Conversations.new.Code as code
 
 abbrev stayed : Stays f.ended.signature.params f.ended.kept
 stayed = tt
@@ -24,7 +24,7 @@ new_spec 𝓤 𝓛 𝓜 𝓡 wired =
     proved 𝓛 f.ended stayed c 𝓜 𝓡 tt f.Key.name code.function (code.unfolded 𝓤 𝓛.H 𝓜 𝓡 wired)
     (λ κs. tt) (λ κs. tt) (λ κs qs bounds a g are.
     let y : (walk_of 𝓛 f.ended stayed c).Ghost = ((κs, qs, bounds, a, tt), g) in
-    let none : Told.the_row.Denot = record { arrivals = []; callers = [] } in
+    let none : Conversations.the_row.Denot = record { arrivals = []; callers = [] } in
     qed 𝓛 (raw (on_entry 𝓛 f.signature κs qs a y.0.4) ∷ raw ((c κs a).requires g) ∷ []) ∵ drop ! $ drop ! $
     enter ! _ _ _ _ _ $ alloc_all ! (λ l. pass_all ! refl tt $
     sets ! (agg ! (no_more !)) refl (tt, tt) $

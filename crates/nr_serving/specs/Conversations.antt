@@ -7,11 +7,11 @@ use Rattle.nr_lines.specs.declared.ending.End.{End}
 use Rattle.nr_lines.specs.declared.ending.End.TheVariants.{Closed, Quit}
 use Rattle.nr_lines.specs.declared.ending.LineEnd.{LineEnd}
 use Rattle.nr_lines.specs.declared.ending.LineEnd.TheVariants.{Read, Write}
-use Rattle.nr_serving.specs.declared.told.Arrival.{Arrival}
-use Rattle.nr_serving.specs.declared.told.Arrival.TheVariants as arrivals
+use Rattle.nr_serving.specs.declared.conversations.Arrival.{Arrival}
+use Rattle.nr_serving.specs.declared.conversations.Arrival.TheVariants as arrivals
 
--- What passed between a front and a caller: what was received from the caller, what was sent, and how
--- serving the caller ended.
+-- What passed between a front and a caller: what was received from the caller, what was sent, and
+-- how serving the caller ended.
 pub record Conversation : Type 0 where
   pub input : Incoming
   pub output : Outgoing
@@ -36,7 +36,8 @@ arrival_of-number_of arrivals.Failed = refl
 
 abbrev pub arrivals_code : Coded (List Arrival)
 arrivals_code =
-    coded_list (code_by (Option Bool) (coded_option coded_bool) number_of arrival_of arrival_of-number_of)
+    coded_list (code_by (Option Bool) (coded_option coded_bool) number_of arrival_of
+    arrival_of-number_of)
 
 abbrev EndingParts : Type 0
 EndingParts = Option (Option (Option (ℕ × ℕ)))
@@ -53,7 +54,8 @@ ending_of (Some None) = Ok Quit
 ending_of (Some (Some None)) = Err Read
 ending_of (Some (Some (Some p))) = Err (Write p.0 p.1)
 
-pub ending_of-ending_parts : (ending : Result End LineEnd) → ending_of (ending_parts ending) ≡ ending
+pub ending_of-ending_parts : (ending : Result End LineEnd)
+    → ending_of (ending_parts ending) ≡ ending
 ending_of-ending_parts (Ok Closed) = refl
 ending_of-ending_parts (Ok Quit) = refl
 ending_of-ending_parts (Err Read) = refl
@@ -91,10 +93,20 @@ from_parts-to_parts c =
     ap (λ (e : Result End LineEnd). record { input = c.input; output = c.output; ending = e })
     (ending_of-ending_parts c.ending)
 
+abbrev coded_bytes : Coded (List ℕ)
+coded_bytes = coded_list coded_ℕ
+
+abbrev coded_input : Coded InputParts
+coded_input =
+    coded× (coded_option coded_bytes) (coded× coded_bytes (coded× coded_bool coded_bool))
+
+abbrev coded_output : Coded OutputParts
+coded_output = coded× (coded_option coded_bytes) (coded× coded_bytes coded_bool)
+
+abbrev coded_ending : Coded EndingParts
+coded_ending = coded_option (coded_option (coded_option (coded× coded_ℕ coded_ℕ)))
+
 abbrev pub conversations_code : Coded (List Conversation)
 conversations_code =
-    coded_list (code_by Parts
-    (coded× (coded× (coded_option (coded_list coded_ℕ)) (coded× (coded_list coded_ℕ) (coded× coded_bool coded_bool)))
-    (coded× (coded× (coded_option (coded_list coded_ℕ)) (coded× (coded_list coded_ℕ) coded_bool))
-    (coded_option (coded_option (coded_option (coded× coded_ℕ coded_ℕ))))))
-    to_parts from_parts from_parts-to_parts)
+    coded_list (code_by Parts (coded× coded_input (coded× coded_output coded_ending)) to_parts
+    from_parts from_parts-to_parts)

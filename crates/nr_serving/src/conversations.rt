@@ -2,8 +2,8 @@
 
 ghost use Rattle.std.specs.Prelude.{◌≡◌, [], ◌∷◌, ◌++◌, List};
 ghost use Rattle.std.specs.Borrow.{ftrue};
-ghost use Rattle.nr_serving.specs.Told.{Conversation, arrivals_code, conversations_code};
-ghost use Rattle.nr_serving.specs.declared.told.Arrival.{Arrival as ToldArrival};
+ghost use Rattle.nr_serving.specs.Conversations.{Conversation, arrivals_code, conversations_code};
+ghost use Rattle.nr_serving.specs.declared.conversations.Arrival.{Arrival as DeclaredArrival};
 
 use nr_lines::{End, LineEnd};
 use nr_text::{Sink, Source};
@@ -23,33 +23,33 @@ pub enum Arrival {
 
 /// What passed between a front and its callers: who came, and the conversation with each, in their order.
 #[derive(Drop)]
-pub struct Told {
-    pub ghost arrivals: { List ToldArrival } by { arrivals_code },
+pub struct Conversations {
+    pub ghost arrivals: { List DeclaredArrival } by { arrivals_code },
     pub ghost callers: { List Conversation } by { conversations_code },
 }
 
-impl Model for Told {
+impl Model for Conversations {
     ghost also_owns = { λ _. ftrue };
 }
 
 // It owns nothing.
-unsafe impl Send for Told {}
+unsafe impl Send for Conversations {}
 
-impl Told {
+impl Conversations {
     // Nothing yet.
-    pub(crate) fn new() -> Told
+    pub(crate) fn new() -> Conversations
         ensures { (result.arrivals ≡ []) × (result.callers ≡ []) }
     {
-        Told {}
+        Conversations {}
     }
 
     // This came of waiting once more.
     #[inline(always)]
-    pub(crate) fn arrived(&self, _arrival: &Arrival) -> Told
+    pub(crate) fn arrived(&self, _arrival: &Arrival) -> Conversations
         ensures { (result.arrivals ≡ self.now.arrivals ++ _arrival.now ∷ [])
             × (result.callers ≡ self.now.callers) }
     {
-        Told {}
+        Conversations {}
     }
 
     // One conversation more, as its streams remember it.
@@ -59,10 +59,10 @@ impl Told {
         _source: &Source<I>,
         _sink: &Sink<O>,
         _ending: &Result<End, LineEnd>,
-    ) -> Told
+    ) -> Conversations
         ensures { (result.arrivals ≡ self.now.arrivals) × (result.callers ≡ self.now.callers
             ++ record { input = _source.now; output = _sink.now; ending = _ending.now } ∷ []) }
     {
-        Told {}
+        Conversations {}
     }
 }

@@ -1,4 +1,4 @@
--- What is shown at a position, and what an accepted recording is.
+-- What a look at a position gives, and what an accepted recording is.
 use Rattle.std.proofs.Common.{◌≡◌, ℕ, true, Some, Ok, Err, refl, ap, ◌∙◌}
 use Rattle.std.specs.Prelude.{List, slice_get, IsOk}
 use Rattle.nr_rev.specs.Cell.{bytes_of, cell, queue_of}
@@ -14,7 +14,7 @@ use Rattle.nr_command.specs.declared.command.Query.TheVariants as queries
 use Rattle.nr_command.specs.declared.debugger.Debugger.{Debugger}
 use Rattle.nr_command.specs.declared.reply.Reply.TheVariants as replies
 use Rattle.nr_programs.specs.Opening.{IsGoodText}
-use Rattle.nr_programs.specs.Shown.{LeadsOnAt}
+use Rattle.nr_programs.specs.Accepted.{LeadsOnAt}
 
 -- a look at the world shows what its position decides
 pub shows_one : (r : Recording) (query : Query) (d e : Debugger) → is_at_world query ≡ true → d.position ≡ e.position → query_reply r d query ≡ query_reply r e query
