@@ -3,6 +3,7 @@
 ghost use Rattle.nr_rev.specs.Limits.{AreInRange};
 
 use crate::comparing::{Pair, Stop};
+use crate::tally::Tally;
 use crate::walked::Walked;
 use nr_machine::World;
 use nr_plain::PlainWorld;
@@ -62,28 +63,32 @@ impl Both {
     }
 
     /// Compares the two where they are.
-    pub fn compare(&self) -> Result<(), Stop> {
+    pub fn compare(&self, tally: &mut Tally) -> Result<(), Stop> {
         self.pair("plain", "packed")
-            .compare_worlds(&self.plain, &self.packed)
+            .compare_worlds(&self.plain, &self.packed, tally)
     }
 
     /// Takes a step with both, and with a copy of each that keeps no way back. Compares the four answers and the four
     /// worlds, and gives the answer.
-    pub fn apply(&mut self, step: &Step) -> Result<Result<Answer, Refusal>, Stop> {
+    pub fn apply(
+        &mut self,
+        step: &Step,
+        tally: &mut Tally,
+    ) -> Result<Result<Answer, Refusal>, Stop> {
         let pair = self.pair("plain", "plain copy");
-        let plain = apply_beside_copy(&pair, &mut self.plain, step)?;
+        let plain = apply_beside_copy(&pair, &mut self.plain, step, tally)?;
         let pair = self.pair("packed", "packed copy");
-        let packed = apply_beside_copy(&pair, &mut self.packed, step)?;
+        let packed = apply_beside_copy(&pair, &mut self.packed, step, tally)?;
         self.pair("plain", "packed").compare_answers(plain, packed)?;
-        self.compare()?;
+        self.compare(tally)?;
         Ok(plain)
     }
 
     /// Undoes the last step of both, and compares them.
-    pub fn undo(&mut self) -> Result<(), Stop> {
+    pub fn undo(&mut self, tally: &mut Tally) -> Result<(), Stop> {
         self.plain.undo();
         self.packed.undo();
-        self.compare()
+        self.compare(tally)
     }
 }
 
@@ -92,6 +97,7 @@ fn apply_beside_copy<W>(
     pair: &Pair<'_>,
     walked: &mut Walked<W>,
     step: &Step,
+    tally: &mut Tally,
 ) -> Result<Result<Answer, Refusal>, Stop>
 where
     W: Worlds + Drop,
@@ -100,7 +106,7 @@ where
     let Ok(mut copy) = walked.copy(pair.alloc) else {
         return Err(Stop::Memory);
     };
-    apply_beside(pair, walked, &mut copy, step)
+    apply_beside(pair, walked, &mut copy, step, tally)
 }
 
 fn apply_beside<W>(
@@ -108,6 +114,7 @@ fn apply_beside<W>(
     walked: &mut Walked<W>,
     copy: &mut Walked<W>,
     step: &Step,
+    tally: &mut Tally,
 ) -> Result<Result<Answer, Refusal>, Stop>
 where
     W: Worlds + Drop,
@@ -116,6 +123,6 @@ where
     let advanced = copy.advance(step);
     let applied = walked.apply(step);
     pair.compare_answers(applied, advanced)?;
-    pair.compare_worlds(walked, copy)?;
+    pair.compare_worlds(walked, copy, tally)?;
     Ok(applied)
 }

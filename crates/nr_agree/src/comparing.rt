@@ -1,5 +1,6 @@
 //! Comparing two worlds in all that can be read of them.
 
+use crate::tally::Tally;
 use crate::walked::Walked;
 use nr_rev::{Answer, Bytes, Cell, CellValue, Limits, Queue, Refusal, Side, Worlds};
 use std::alloc::{AllocError, AllocFailed, Global};
@@ -89,24 +90,29 @@ impl Pair<'_> {
     }
 
     /// Compares every cell, every buffer and every queue, of each number below the limits and of the next one.
-    pub fn compare_worlds<V, W>(&self, left: &Walked<V>, right: &Walked<W>) -> Result<(), Stop>
+    pub fn compare_worlds<V, W>(
+        &self,
+        left: &Walked<V>,
+        right: &Walked<W>,
+        tally: &mut Tally,
+    ) -> Result<(), Stop>
     where
         V: Worlds + Drop,
         V::Delta: Drop,
         W: Worlds + Drop,
         W::Delta: Drop,
     {
-        self.compare_cells(left, right, &WORLD_CELLS)?;
+        self.compare_cells(left, right, &WORLD_CELLS, tally)?;
         for goroutine in 0..=self.limits.goroutines {
-            self.compare_cells(left, right, &[Cell::Goroutine(goroutine)])?;
+            self.compare_cells(left, right, &[Cell::Goroutine(goroutine)], tally)?;
         }
         for socket in 0..=self.limits.sockets {
-            self.compare_cells(left, right, &socket_cells(socket))?;
+            self.compare_cells(left, right, &socket_cells(socket), tally)?;
             self.compare_socket(left, right, socket, Side::Read)?;
             self.compare_socket(left, right, socket, Side::Write)?;
         }
         for descriptor in 0..=self.limits.descriptors {
-            self.compare_cells(left, right, &descriptor_cells(descriptor))?;
+            self.compare_cells(left, right, &descriptor_cells(descriptor), tally)?;
         }
         Ok(())
     }
@@ -116,6 +122,7 @@ impl Pair<'_> {
         left: &Walked<V>,
         right: &Walked<W>,
         cells: &[Cell],
+        tally: &mut Tally,
     ) -> Result<(), Stop>
     where
         V: Worlds + Drop,
@@ -124,7 +131,11 @@ impl Pair<'_> {
         W::Delta: Drop,
     {
         for cell in cells {
-            self.compare_values(*cell, left.cell(*cell), right.cell(*cell))?;
+            let value = left.cell(*cell);
+            if value != CellValue::Absent {
+                tally.compared_cell(*cell);
+            }
+            self.compare_values(*cell, value, right.cell(*cell))?;
         }
         Ok(())
     }

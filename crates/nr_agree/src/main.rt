@@ -18,18 +18,21 @@ use crate::arguments::{Task, USAGE, read_arguments};
 use crate::comparing::Stop;
 use crate::playing::{play_random, play_recording};
 use crate::random::Random;
-use crate::tally::{Place, Tally};
+use crate::tally::{CELL_PLACES, KIND_PLACES, Place, Tally};
 use nr_recording::{ReadFault, read};
-use nr_rev::Kind;
+use nr_rev::{Cell, Kind};
 use std::alloc::Global;
 use std::process::ExitCode;
 use std::{env, fs, io};
+
+// In so many random recordings each kind of step is taken and applies, and each cell is compared.
+const ENOUGH: u32 = 1_000;
 
 fn main(rt: HostRuntime) -> ExitCode {
     match run(&rt) {
         Ok(status) => ExitCode::from(status),
         Err(error) => {
-            let _told = eprintln!(rt; "nr_agree: {error}");
+            let _printed = eprintln!(rt; "nr_agree: {error}");
             ExitCode::from(1)
         }
     }
@@ -87,7 +90,61 @@ fn play_generated(rt: &HostRuntime, count: u32, seed: u64, tally: &mut Tally) ->
             return print_stop(rt, name.as_str(), tally, &stop);
         }
     }
+    let is_short = count >= ENOUGH && print_left_out(rt, tally)?;
+    if is_short {
+        return Ok(1);
+    }
     print_agreement(rt, tally)
+}
+
+// Says which kinds and cells random recordings left out; returns whether they left any out.
+fn print_left_out(rt: &HostRuntime, tally: &Tally) -> io::Result<bool> {
+    let kinds = print_kinds_left_out(rt, tally)?;
+    let cells = print_cells_left_out(rt, tally)?;
+    Ok(kinds || cells)
+}
+
+// A line for each kind that was never taken, or never applied.
+fn print_kinds_left_out(rt: &HostRuntime, tally: &Tally) -> io::Result<bool> {
+    let mut is_any = false;
+    for place in 1..KIND_PLACES {
+        if tally.applied[place] > 0 {
+            continue;
+        }
+        if let Some(kind) = Kind::numbered(place as u8) {
+            let what = if tally.taken[place] > 0 {
+                "applied"
+            } else {
+                "taken"
+            };
+            println!(rt; "kind {}: never {what}", kind.name())?;
+            is_any = true;
+        }
+    }
+    Ok(is_any)
+}
+
+// A line for each cell that was never compared where it had a value.
+fn print_cells_left_out(rt: &HostRuntime, tally: &Tally) -> io::Result<bool> {
+    let mut is_any = false;
+    for place in 1..CELL_PLACES {
+        if tally.cells[place] > 0 {
+            continue;
+        }
+        if let Some(cell) = cell_numbered(place as u8) {
+            println!(rt; "cell {}: never compared", cell.name())?;
+            is_any = true;
+        }
+    }
+    Ok(is_any)
+}
+
+// The cell of this number: the one that there is, or the first of them.
+fn cell_numbered(number: u8) -> Option<Cell> {
+    match Cell::numbered(number, None) {
+        None => Cell::numbered(number, Some(0)),
+        cell => cell,
+    }
 }
 
 fn print_agreement(rt: &HostRuntime, tally: &Tally) -> io::Result<u8> {
@@ -116,9 +173,8 @@ fn print_stop(rt: &HostRuntime, name: &str, tally: &Tally, stop: &Stop) -> io::R
 
 // A line for each kind: how often it was taken, and how often it applied.
 fn print_kinds(rt: &HostRuntime, tally: &Tally) -> io::Result<()> {
-    for number in 1..=31 {
-        if let Some(kind) = Kind::numbered(number) {
-            let place = number as usize;
+    for place in 1..KIND_PLACES {
+        if let Some(kind) = Kind::numbered(place as u8) {
             println!(rt;
                 "{} {} {}",
                 kind.name(),

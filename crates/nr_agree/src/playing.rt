@@ -59,7 +59,7 @@ fn play_random_steps(
 // A recording begins.
 fn start(both: &Both, tally: &mut Tally) -> Result<(), Stop> {
     tally.begin();
-    both.compare()?;
+    both.compare(tally)?;
     tally.compared();
     Ok(())
 }
@@ -71,7 +71,7 @@ fn forward(both: &mut Both, step: &Step, tally: &mut Tally) -> Result<(), Stop> 
         _ => 1,
     };
     tally.place = Place::Step(number);
-    let answer = both.apply(step)?;
+    let answer = both.apply(step, tally)?;
     tally.compared();
     tally.answered(step, answer);
     Ok(())
@@ -80,7 +80,7 @@ fn forward(both: &mut Both, step: &Step, tally: &mut Tally) -> Result<(), Stop> 
 // Undoes all steps.
 fn back(both: &mut Both, tally: &mut Tally) -> Result<(), Stop> {
     for _ in 0..both.undoable() {
-        both.undo()?;
+        both.undo(tally)?;
         tally.place = Place::Back(both.undoable());
         tally.compared();
     }
@@ -91,7 +91,7 @@ fn back(both: &mut Both, tally: &mut Tally) -> Result<(), Stop> {
 fn there_and_back(both: &mut Both, steps: &[RecordedStep], tally: &mut Tally) -> Result<(), Stop> {
     for (number, recorded) in steps.iter().enumerate() {
         tally.place = Place::Step((number as u64).wrapping_add(1));
-        let _answer = both.apply(&recorded.step)?;
+        let _answer = both.apply(&recorded.step, tally)?;
         tally.compared();
     }
     back(both, tally)

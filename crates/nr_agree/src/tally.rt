@@ -1,6 +1,12 @@
 //! What was walked so far.
 
-use nr_rev::{Answer, Refusal, Step};
+use nr_rev::{Answer, Cell, Kind, Refusal, Step};
+
+/// One place for each kind's number, which is from 1 on.
+pub const KIND_PLACES: usize = Kind::COUNT + 1;
+
+/// One place for each cell's number, which is from 1 on.
+pub const CELL_PLACES: usize = Cell::COUNT + 1;
 
 /// Where a walk is.
 #[derive(Clone, Copy)]
@@ -13,14 +19,16 @@ pub enum Place {
     Back(usize),
 }
 
-/// How much was walked, and how often each kind of step was taken and applied. The counts wrap, which they don't come to.
+/// How much was walked, how often each kind of step was taken and applied, and how often each cell that had a value was
+/// compared. The counts wrap, which they don't come to.
 #[derive(Clone, Copy)]
 pub struct Tally {
     pub recordings: u64,
     pub steps: u64,
     pub positions: u64,
-    pub taken: [u64; 32],
-    pub applied: [u64; 32],
+    pub taken: [u64; KIND_PLACES],
+    pub applied: [u64; KIND_PLACES],
+    pub cells: [u64; CELL_PLACES],
     pub place: Place,
 }
 
@@ -31,8 +39,9 @@ impl Tally {
             recordings: 0,
             steps: 0,
             positions: 0,
-            taken: [0; 32],
-            applied: [0; 32],
+            taken: [0; KIND_PLACES],
+            applied: [0; KIND_PLACES],
+            cells: [0; CELL_PLACES],
             place: Place::Start,
         }
     }
@@ -46,6 +55,12 @@ impl Tally {
     /// The worlds were compared at one more position.
     pub fn compared(&mut self) {
         self.positions = self.positions.wrapping_add(1);
+    }
+
+    /// A cell that had a value was compared.
+    pub fn compared_cell(&mut self, cell: Cell) {
+        let number = cell.number() as usize;
+        self.cells[number] = self.cells[number].wrapping_add(1);
     }
 
     /// A step of the recording was answered so.

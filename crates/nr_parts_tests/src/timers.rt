@@ -7,7 +7,7 @@ ghost use Rattle.nr_timers.specs.State.{IsTimers};
 use arrayvec::ArrayVec;
 use nr_rev::{Entry, Refusal, Reversible, Side, Timer, TimerFunction, transact, undo_all};
 use nr_timers::{Timers, TimersOp};
-use std::alloc::Global;
+use std::alloc::{AllocError, Global};
 use std::test::Fail;
 
 fn arm(descriptor: u32, due: i64) -> TimersOp {
@@ -286,11 +286,11 @@ fn copies(timers: &Timers, places: &[(i64, u64)]) -> Result<bool, Refusal> {
 }
 
 /// Timers at once or, where memory was refused, the next time.
-fn made(alloc: Global) -> Result<Timers, Refusal>
+fn made(alloc: Global) -> Result<Timers, AllocError>
     ensures { IfOk result IsTimers }
 {
     match Timers::with_limits(alloc, 2) {
-        Err(Refusal::Memory) => Timers::with_limits(alloc, 2),
+        Err(AllocError) => Timers::with_limits(alloc, 2),
         made => made,
     }
 }
