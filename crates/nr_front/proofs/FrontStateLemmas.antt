@@ -70,8 +70,7 @@ replies_last view front_state command debugger debugger' reply is pending at ran
 pub seen_at : (r : Recording) (old new : PassState) (word : ℕ) (debugger : Debugger) (was pending : Pending) → was ≡ Nothing → IsAt r old.seen (pending_command was) debugger
     → new ≡ having_seen old word → old.passes ≢ 1 → pending ≡ pending_after (command_of word) → IsAt r new.seen (pending_command pending) debugger × HasCompany pending new.passes
 seen_at r old new word debugger was pending without_pending at is others left =
-    let was_at : IsAt r old.seen None debugger = subst (λ (d : Pending). IsAt r old.seen (pending_command d) debugger) without_pending at in
-    (
+    let was_at : IsAt r old.seen None debugger = subst (λ (d : Pending). IsAt r old.seen (pending_command d) debugger) without_pending at in (
       rw (is, left) (is_at_more r old.seen word debugger was_at),
       rw (is, left) (company (command_of word)),
     )

@@ -11,7 +11,7 @@ use native.Mathlib.Decide.{ℕ_discrete}
 use Rattle.nr_journal.specs.declared.view.PassState.{PassState}
 use Rattle.nr_journal.specs.declared.rule.Purpose.{Purpose}
 use Rattle.nr_journal.specs.declared.view.View.{View}
-use Rattle.nr_journal.specs.declared.view.View.TheVariants.{Outside, Within, Note, Spent}
+use Rattle.nr_journal.specs.declared.view.View.TheVariants.{Within}
 use Rattle.nr_journal.specs.Laws.{AnOnlyPassSeesAll}
 use Rattle.nr_journal.specs.Rule.{tag_of, AreDrawn, AreFew, AreTaken, IsEntry, IsOthers, Fits, AreApart, Kept, entering_alone}
 use Rattle.nr_journal.proofs.RowLemmas.{All-right}
