@@ -149,4 +149,3 @@ no_history room all words none empty = record {
   theirs = subst (All (IsTheirs (map (λ d. d.pass.pass_state) all))) (sym empty) (All-nil (IsTheirs (map (λ d. d.pass.pass_state) all)));
   whole = inr (ap (map (λ d. d.pass.pass_state)) none, empty);
 }
-

@@ -28,7 +28,10 @@ pub struct Done {
 }
 
 // Waits for the next caller, and notes what came of that.
-fn next_caller<C: Connections>(connections: &mut C, conversations: &mut Conversations) -> Next<C::Reader, C::Writer>
+fn next_caller<C: Connections>(
+    connections: &mut C,
+    conversations: &mut Conversations,
+) -> Next<C::Reader, C::Writer>
     ensures arrivals { conversations.new.arrivals ≡ conversations.old.arrivals ++ arrival_of result ∷ [] }
     ensures callers { conversations.new.callers ≡ conversations.old.callers }
 {
@@ -99,7 +102,12 @@ where
         match next_caller(&mut connections, &mut conversations) {
             Next::Serve(reader, writer) => {
                 let ending = serve_caller::<R, W, F, C>(
-                    rt, reader, writer, &mut front, journal, &mut conversations,
+                    rt,
+                    reader,
+                    writer,
+                    &mut front,
+                    journal,
+                    &mut conversations,
                 );
                 failed = failed | ending.is_err();
             }

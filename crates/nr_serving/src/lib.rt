@@ -2,11 +2,11 @@
 #![tactic(auto)]
 
 mod connection;
+mod conversations;
 mod fronts;
 mod session;
-mod conversations;
 
 pub use connection::{Connections, Next, Ports, read_away};
+pub use conversations::{Arrival, Conversations};
 pub use fronts::{Done, serve_each};
 pub use session::{Ended, Shape, Unshared, share};
-pub use conversations::{Arrival, Conversations};

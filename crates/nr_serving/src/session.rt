@@ -124,15 +124,7 @@ where
 {
     let mut fronts = Vec::with_capacity(alloc, shape.fronts)?;
     for number in 0..shape.fronts {
-        let front = open_front(
-            alloc,
-            journal,
-            &mut seat,
-            number,
-            film,
-            finder,
-            shape.depth,
-        )?;
+        let front = open_front(alloc, journal, &mut seat, number, film, finder, shape.depth)?;
         fronts.push_reserved((front, ports.open(number)));
     }
     Ok(fronts)
