@@ -11,22 +11,85 @@ use std::test::Fail;
 const WRITTEN_HEADER: &str = "{\"buf\":16,\"desc\":2,\"gor\":4,\"netrev\":1,\"sock\":2}\n";
 
 /// Two goroutines take a lock in turn.
-const TAKES_TURNS: &str =
-    "[\"spawn\"]\n[\"sockopen\",16,16]\n[\"rwlock\",0,0,\"r\"]\n[\"rwlock\",1,0,\"r\"]\n[\"acquire\",1]\n[\"rwunlock\",0,0,\"r\"]\n[\"release\",0]\n[\"rwlock\",0,0,\"r\"]\n[\"acquire\",1]\n[\"rwlock\",1,0,\"r\"]\n";
+const TAKES_TURNS: &str = r#"["spawn"]
+["sockopen",16,16]
+["rwlock",0,0,"r"]
+["rwlock",1,0,"r"]
+["acquire",1]
+["rwunlock",0,0,"r"]
+["release",0]
+["rwlock",0,0,"r"]
+["acquire",1]
+["rwlock",1,0,"r"]
+"#;
 
 /// A socket is closed while a goroutine waits for its lock.
-const CLOSES: &str =
-    "[\"spawn\"]\n[\"spawn\"]\n[\"sockopen\",16,16]\n[\"incref\",0,0]\n[\"rwlock\",0,0,\"r\"]\n[\"rwlock\",1,0,\"r\"]\n[\"rwunlock\",0,0,\"r\"]\n[\"increfclose\",2,0]\n[\"decref\",2,0]\n[\"exit\",2]\n";
+const CLOSES: &str = r#"["spawn"]
+["spawn"]
+["sockopen",16,16]
+["incref",0,0]
+["rwlock",0,0,"r"]
+["rwlock",1,0,"r"]
+["rwunlock",0,0,"r"]
+["increfclose",2,0]
+["decref",2,0]
+["exit",2]
+"#;
 
-/// Each kind, with the least and the greatest of its arguments.
-const ALL_KINDS: &str =
-    "[\"spawn\"]\n[\"exit\",4294967295]\n[\"sockopen\",0,4294967295]\n[\"arrive\",0,\"00ff\"]\n[\"peerclose\",0]\n[\"sysread\",1,2,3]\n[\"syswrite\",1,2,\"\"]\n[\"drain\",1,2]\n[\"incref\",1,2]\n[\"increfclose\",1,2]\n[\"decref\",1,2]\n[\"rwlock\",1,2,\"r\"]\n[\"rwunlock\",1,2,\"w\"]\n[\"acquire\",1]\n[\"release\",1]\n[\"pollopen\",1,2]\n[\"pollclose\",1,2]\n[\"pollreset\",1,2,\"w\"]\n[\"waitbegin\",1,2,\"r\"]\n[\"blockarm\",1]\n[\"blockcheck\",1]\n[\"parkcommit\",1]\n[\"blockswap\",1]\n[\"waitcheck\",1]\n[\"setdeadline\",1,2,\"rw\",-9223372036854775808]\n[\"evict\",1,2]\n[\"pollevent\",1,18446744073709551615,\"w\",1]\n[\"tick\",9223372036854775807]\n[\"pop\"]\n[\"fire\",4294967295]\n";
+/// Each kind of version 1, with the least and the greatest of its arguments.
+const ALL_KINDS: &str = r#"["spawn"]
+["exit",4294967295]
+["sockopen",0,4294967295]
+["arrive",0,"00ff"]
+["peerclose",0]
+["sysread",1,2,3]
+["syswrite",1,2,""]
+["drain",1,2]
+["incref",1,2]
+["increfclose",1,2]
+["decref",1,2]
+["rwlock",1,2,"r"]
+["rwunlock",1,2,"w"]
+["acquire",1]
+["release",1]
+["pollopen",1,2]
+["pollclose",1,2]
+["pollreset",1,2,"w"]
+["waitbegin",1,2,"r"]
+["blockarm",1]
+["blockcheck",1]
+["parkcommit",1]
+["blockswap",1]
+["waitcheck",1]
+["setdeadline",1,2,"rw",-9223372036854775808]
+["evict",1,2]
+["pollevent",1,18446744073709551615,"w",1]
+["tick",9223372036854775807]
+["pop"]
+["fire",4294967295]
+"#;
 
 const ANSWERED_HEADER: &str = "{\"buf\":1048576,\"desc\":2,\"gor\":4,\"netrev\":2,\"sock\":2}\n";
 
 /// Each answer, with the least and the greatest number, behind steps of several shapes.
-const ALL_ANSWERS: &str =
-    "[\"spawn\",[\"number\",0]]\n[\"spawn\",[\"number\",4294967295]]\n[\"waitcheck\",0,[\"code\",3]]\n[\"sysread\",1,2,3,[\"got\",1]]\n[\"syswrite\",1,2,\"00ff\",[\"put\",2]]\n[\"tick\",0,\"done\"]\n[\"incref\",1,2,\"yes\"]\n[\"incref\",1,2,\"no\"]\n[\"blockarm\",1,\"wait\"]\n[\"decref\",1,2,\"last\"]\n[\"decref\",1,2,\"notlast\"]\n[\"sysread\",1,2,3,\"eof\"]\n[\"sysread\",1,2,3,\"again\"]\n[\"fire\",0,\"stale\"]\n[\"syswrite\",1,2,\"\",\"pipe\"]\n[\"closewrite\",1,2,\"done\"]\n[\"pop\",\"pipe\"]\n";
+const ALL_ANSWERS: &str = r#"["spawn",["number",0]]
+["spawn",["number",4294967295]]
+["waitcheck",0,["code",3]]
+["sysread",1,2,3,["got",1]]
+["syswrite",1,2,"00ff",["put",2]]
+["tick",0,"done"]
+["incref",1,2,"yes"]
+["incref",1,2,"no"]
+["blockarm",1,"wait"]
+["decref",1,2,"last"]
+["decref",1,2,"notlast"]
+["sysread",1,2,3,"eof"]
+["sysread",1,2,3,"again"]
+["fire",0,"stale"]
+["syswrite",1,2,"","pipe"]
+["closewrite",1,2,"done"]
+["pop","pipe"]
+"#;
 
 fn written(rt: &HostRuntime, recording: &Recording) -> Result<Vec<u8>, Fail> {
     let mut out = Sink::new(Vec::new(rt.alloc()));
@@ -72,26 +135,26 @@ fn writes_what_is_read(rt: HostRuntime) -> Result<(), Fail> {
     Ok(())
 }
 
-/// Whether a writer that fails behind so many bytes has just those of the text, and that is told.
+/// Whether a writer that fails behind so many bytes has just those of the text, and `write` reports the failure.
 fn is_cut(alloc: Global, recording: &Recording, text: &[u8], room: usize) -> bool {
     let mut out = Sink::new(Stutter::new(Cup {
         held: Vec::new(alloc),
         room,
         then: AtBrim::Fails,
     }));
-    let told = write(alloc, recording, &mut out);
+    let written = write(alloc, recording, &mut out);
     let wanted = if room < text.len() {
         Err(WriteFault::Device)
     } else {
         Ok(())
     };
-    told == wanted
+    written == wanted
         && out.has_failed() == wanted.is_err()
         && Some(out.into_inner().stream.held.as_slice()) == text.get(..room)
 }
 
 #[test]
-fn tells_a_failed_write(rt: HostRuntime) -> Result<(), Fail> {
+fn reports_a_failed_write(rt: HostRuntime) -> Result<(), Fail> {
     let text = format!(in rt.alloc(); "{WRITTEN_HEADER}{CLOSES}")?;
     let recording = read(rt.alloc(), text.as_bytes())?;
     for room in 0..text.len() + 1 {

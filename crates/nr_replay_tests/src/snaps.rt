@@ -81,7 +81,7 @@ fn fault_of_second(alloc: Global, opened: Answer, step: Step, answer: Answer) ->
     Snaps::load::<World>(alloc, recording, 64).err()
 }
 
-/// The same where the second step sets the clock to 1.
+/// The fault of a recording of two steps in version 2: a socket is opened, and then the clock is set to 1.
 fn fault_of_tick(alloc: Global, opened: Answer, answer: Answer) -> Option<LoadFault> {
     fault_of_second(alloc, opened, Step::Tick { time: 1 }, answer)
 }

@@ -102,7 +102,7 @@ fn applies_all_or_none(rt: HostRuntime) -> Result<(), Fail> {
 fn there_and_back(
     world: &mut World,
     steps: &[Step],
-    shown: Cell,
+    observed: Cell,
 ) -> Result<(usize, CellValue, CellValue), Refusal>
     requires well_formed { IsWorld world.old }
     requires few { length steps.now ≤ 8 }
@@ -112,9 +112,9 @@ fn there_and_back(
     let mut deltas = ArrayVec::new();
     transact(world, steps, &mut deltas)?;
     let made = deltas.len();
-    let there = world.cell(shown);
+    let there = world.cell(observed);
     undo_all(world, &mut deltas);
-    Ok((made, there, world.cell(shown)))
+    Ok((made, there, world.cell(observed)))
 }
 
 /// A reference taken and given up, in all and one by one.
