@@ -1,5 +1,5 @@
 -- What the callers of a shared session are answered.
-use Rattle.std.specs.Prelude.{◌≡◌, ℕ, false, not, List, [], ◌∷◌, ◌++◌, length, drop, Option, None, Result, Ok, ⊤, if◌then◌else◌}
+use Rattle.std.specs.Prelude.{◌≡◌, ℕ, false, not, List, [], ◌∷◌, ◌++◌, length, drop, Option, None, Result, Ok, if◌then◌else◌}
 use Rattle.std.specs.List.{All, concat}
 use Rattle.nr_rev.specs.Run.{Recording}
 use Rattle.nr_journal.specs.Rule.{Covers, IsOthers, StartsWith}
@@ -60,15 +60,15 @@ MeetsOthers tag m = All (IsOthers tag) m.others
 -- where the journal is of this size.
 pub record IsAnswered (r : Recording) (journal : JournalSize) (tag : ℕ) (c : Conversation)
     (s : SessionState) : Type 0 where
-    pub met : List Met
-    pub may : AllMayMeet r journal s (lines_of (not c.input.failed) c.input.received) met
-    pub begins : StartsWith (replies r s (not c.input.failed) c.input.received met) c.output.sent
-    pub whole : c.output.failed ≡ false
-        → c.output.sent ≡ replies r s (not c.input.failed) c.input.received met
-    pub ran : List (List ℕ)
-    pub first : StartsList (lines_of (not c.input.failed) c.input.received) ran
-    pub nothing_else : StartsWith (concat (texts r s ran met)) c.output.sent
-    pub others : All (MeetsOthers tag) met
+  pub met : List Met
+  pub may : AllMayMeet r journal s (lines_of (not c.input.failed) c.input.received) met
+  pub begins : StartsWith (replies r s (not c.input.failed) c.input.received met) c.output.sent
+  pub whole : c.output.failed ≡ false
+      → c.output.sent ≡ replies r s (not c.input.failed) c.input.received met
+  pub ran : List (List ℕ)
+  pub first : StartsList (lines_of (not c.input.failed) c.input.received) ran
+  pub nothing_else : StartsWith (concat (texts r s ran met)) c.output.sent
+  pub others : All (MeetsOthers tag) met
 
 -- The front has run a prefix of the history: its debugger is that of these words, less the last
 -- where its reply is owed.
