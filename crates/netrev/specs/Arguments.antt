@@ -35,8 +35,8 @@ serve_program =
     (option_rule (codes "port"))) (option_rule (codes "fronts"))) (option_rule (codes "workers")))
     (option_rule (codes "journal"))) (option_rule (codes "connections"))
 
--- `netrev run FILE`, `netrev check FILE`, `netrev upgrade FILE` and `netrev serve FILE --port P ..`,
--- and no other
+-- `netrev run FILE`, `netrev check FILE`, `netrev upgrade FILE` and
+-- `netrev serve FILE --port P ..`, and no other
 abbrev pub netrev : App
 netrev =
     with_subcommand (with_subcommand (with_subcommand (with_subcommand (on_top (λ s. record s {

@@ -1,5 +1,5 @@
 -- What a program does over its file, and what is printed where none runs.
-use Rattle.std.specs.Prelude.{◌≡◌, ℕ, true, List, take, codes}
+use Rattle.std.specs.Prelude.{◌≡◌, ℕ, true, List, ◌++◌, take, codes}
 use Rattle.std.specs.declared.io.ErrorKind.{ErrorKind}
 use Rattle.std.specs.declared.io.ErrorKind.TheVariants as kind
 use Rattle.nr_text.specs.Streams.{Incoming, Outgoing, Sends}
@@ -31,8 +31,11 @@ unstarted_by _ other = other
 -- how netrev is called
 abbrev pub usage_text : List ℕ
 usage_text =
-    codes
-    "usage: netrev run FILE\n       netrev check FILE\n       netrev upgrade FILE\n       netrev serve FILE --port P [--fronts N] [--workers W] [--journal H] [--connections C]\n"
+    codes "usage: netrev run FILE\n"
+    ++ codes "       netrev check FILE\n"
+    ++ codes "       netrev upgrade FILE\n"
+    ++ codes "       netrev serve FILE --port P [--fronts N] [--workers W] [--journal H]"
+    ++ codes " [--connections C]\n"
 
 -- the numbers that a program is asked for with are in their ranges
 abbrev pub IsInRange : Program → Type 0
@@ -41,7 +44,8 @@ IsInRange (program.Check file) = Unit {0}
 IsInRange (program.Upgrade file) = Unit {0}
 IsInRange (program.Serve file sharing) = is_in_range sharing ≡ true
 
--- What a program does over the bytes of its file. Only `run` reads input, and writes its transcript.
+-- What a program does over the bytes of its file. Only `run` reads input, and it writes its
+-- transcript.
 abbrev pub Plays : Program → List ℕ → Incoming → Incoming → Outgoing → Outgoing → ExitStatus
     → Type 0
 Plays (program.Run file) bytes input left old new status =

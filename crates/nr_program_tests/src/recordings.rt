@@ -14,7 +14,7 @@ const SMALL: &str = "{\"buf\":16,\"desc\":1,\"gor\":2,\"netrev\":1,\"sock\":1}\n
 const NARROW: &str = "{\"buf\":1,\"desc\":1,\"gor\":1,\"netrev\":1,\"sock\":1}\n";
 
 /// A recording, and the line and the status that it ends with.
-struct Told {
+struct Report {
     header: &'static str,
     steps: &'static str,
     status: ExitStatus,
@@ -22,47 +22,47 @@ struct Told {
 }
 
 /// First each reason that a recording can meet, by its number.
-static RECORDINGS: [Told; 34] = [
-    Told {
+static RECORDINGS: [Report; 34] = [
+    Report {
         header: SMALL,
         steps: r#"["exit",1]"#,
         status: ExitStatus::Refused,
         line: "step 1: fault 107 reason 1\n",
     },
-    Told {
+    Report {
         header: SMALL,
         steps: r#"["sockopen",1,1]
 ["blockarm",0]"#,
         status: ExitStatus::Refused,
         line: "step 2: fault 107 reason 2\n",
     },
-    Told {
+    Report {
         header: SMALL,
         steps: r#"["spawn"]
 ["spawn"]"#,
         status: ExitStatus::Refused,
         line: "step 2: fault 107 reason 3\n",
     },
-    Told {
+    Report {
         header: SMALL,
         steps: r#"["incref",0,0]"#,
         status: ExitStatus::Refused,
         line: "step 1: fault 107 reason 4\n",
     },
-    Told {
+    Report {
         header: SMALL,
         steps: r#"["pollreset",0,0,"r"]"#,
         status: ExitStatus::Refused,
         line: "step 1: fault 107 reason 5\n",
     },
-    Told {
+    Report {
         header: SMALL,
         steps: r#"["sockopen",1,1]
 ["decref",0,0]"#,
         status: ExitStatus::Refused,
         line: "step 2: fault 107 reason 7\n",
     },
-    Told {
+    Report {
         header: SMALL,
         steps: r#"["spawn"]
 ["sockopen",1,1]
@@ -72,7 +72,7 @@ static RECORDINGS: [Told; 34] = [
         status: ExitStatus::Refused,
         line: "step 5: fault 107 reason 8\n",
     },
-    Told {
+    Report {
         header: SMALL,
         steps: r#"["sockopen",1,1]
 ["pollopen",0,0]
@@ -80,7 +80,7 @@ static RECORDINGS: [Told; 34] = [
         status: ExitStatus::Refused,
         line: "step 3: fault 107 reason 9\n",
     },
-    Told {
+    Report {
         header: SMALL,
         steps: r#"["sockopen",1,1]
 ["pollopen",0,0]
@@ -89,7 +89,7 @@ static RECORDINGS: [Told; 34] = [
         status: ExitStatus::Refused,
         line: "step 4: fault 107 reason 10\n",
     },
-    Told {
+    Report {
         header: SMALL,
         steps: r#"["spawn"]
 ["sockopen",1,1]
@@ -99,46 +99,46 @@ static RECORDINGS: [Told; 34] = [
         status: ExitStatus::Refused,
         line: "step 5: fault 107 reason 11\n",
     },
-    Told {
+    Report {
         header: SMALL,
         steps: r#"["tick",5]
 ["tick",4]"#,
         status: ExitStatus::Refused,
         line: "step 2: fault 107 reason 12\n",
     },
-    Told {
+    Report {
         header: SMALL,
         steps: r#"["pop"]"#,
         status: ExitStatus::Refused,
         line: "step 1: fault 107 reason 13\n",
     },
-    Told {
+    Report {
         header: SMALL,
         steps: r#"["fire",0]"#,
         status: ExitStatus::Refused,
         line: "step 1: fault 107 reason 15\n",
     },
-    Told {
+    Report {
         header: SMALL,
         steps: r#"["sockopen",1,1]
 ["arrive",0,"6869"]"#,
         status: ExitStatus::Refused,
         line: "step 2: fault 107 reason 16\n",
     },
-    Told {
+    Report {
         header: SMALL,
         steps: r#"["sockopen",1,1]
 ["drain",0,1]"#,
         status: ExitStatus::Refused,
         line: "step 2: fault 107 reason 17\n",
     },
-    Told {
+    Report {
         header: SMALL,
         steps: r#"["sockopen",0,1]"#,
         status: ExitStatus::Refused,
         line: "step 1: fault 107 reason 19\n",
     },
-    Told {
+    Report {
         header: SMALL,
         steps: r#"["sockopen",1,1]
 ["peerclose",0]
@@ -146,7 +146,7 @@ static RECORDINGS: [Told; 34] = [
         status: ExitStatus::Refused,
         line: "step 3: fault 107 reason 20\n",
     },
-    Told {
+    Report {
         header: NARROW,
         steps: r#"["sockopen",1,1]
 ["pollopen",0,0]
@@ -163,7 +163,7 @@ static RECORDINGS: [Told; 34] = [
         status: ExitStatus::Refused,
         line: "step 11: fault 107 reason 14\n",
     },
-    Told {
+    Report {
         header: NARROW,
         steps: r#"["sockopen",1,1]
 ["pollopen",0,0]
@@ -179,7 +179,7 @@ static RECORDINGS: [Told; 34] = [
         status: ExitStatus::Done,
         line: "ok 10 steps\n",
     },
-    Told {
+    Report {
         header: HEADER,
         steps: r#"["sockopen",16,16]
 ["pollopen",0,0]
@@ -189,7 +189,7 @@ static RECORDINGS: [Told; 34] = [
         status: ExitStatus::Refused,
         line: "line 6: fault 102 not JSON\n",
     },
-    Told {
+    Report {
         header: HEADER,
         steps: r#"["sockopen",16,16]
 ["pollopen",0,0]
@@ -199,80 +199,80 @@ static RECORDINGS: [Told; 34] = [
         status: ExitStatus::Refused,
         line: "step 5: fault 107 reason 2\n",
     },
-    Told {
+    Report {
         header: HEADER,
         steps: r#"["spawn""#,
         status: ExitStatus::Refused,
         line: "line 2: fault 102 not JSON\n",
     },
-    Told {
+    Report {
         header: HEADER,
         steps: "\n[\"spawn\"]\n[\"jump\"]\n",
         status: ExitStatus::Refused,
         line: "line 4: fault 103 unknown step\n",
     },
-    Told {
+    Report {
         header: HEADER,
         steps: r#"["spawn",1]"#,
         status: ExitStatus::Refused,
         line: "line 2: fault 104 arguments\n",
     },
-    Told {
+    Report {
         header: HEADER,
         steps: "[\"spawn\"]\n[\"blockswap\",0]\n",
         status: ExitStatus::Refused,
         line: "step 2: fault 107 reason 2\n",
     },
-    Told {
+    Report {
         header: HEADER,
         steps: r#"["exit",1]"#,
         status: ExitStatus::Refused,
         line: "step 1: fault 107 reason 1\n",
     },
-    Told {
+    Report {
         header: HEADER,
         steps: r#"["sockopen",0,1]"#,
         status: ExitStatus::Refused,
         line: "step 1: fault 107 reason 19\n",
     },
     // every line is read before the first step is tried
-    Told {
+    Report {
         header: HEADER,
         steps: "[\"blockswap\",0]\n[\"spawn\",1]\n",
         status: ExitStatus::Refused,
         line: "line 3: fault 104 arguments\n",
     },
-    Told {
+    Report {
         header: "",
         steps: "",
         status: ExitStatus::Refused,
         line: "line 1: fault 101 header\n",
     },
-    Told {
+    Report {
         header: "{\"netrev\":1,\"gor\":0,\"sock\":2,\"desc\":2,\"buf\":16}",
         steps: "",
         status: ExitStatus::Refused,
         line: "line 1: fault 105 limit\n",
     },
-    Told {
+    Report {
         header: HEADER,
         steps: "",
         status: ExitStatus::Done,
         line: "ok 0 steps\n",
     },
-    Told {
+    Report {
         header: HEADER,
         steps: r#"["spawn"]"#,
         status: ExitStatus::Done,
         line: "ok 1 steps\n",
     },
-    Told {
+    Report {
         header: HEADER,
         steps: EARLY,
         status: ExitStatus::Done,
         line: "ok 9 steps\n",
     },
-    Told {
+    Report {
         header: HEADER,
         steps: WAITS,
         status: ExitStatus::Done,
@@ -281,32 +281,32 @@ static RECORDINGS: [Told; 34] = [
 ];
 
 /// Whether `check` says so.
-fn is_checked(alloc: Global, told: &Told) -> Result<bool, AllocError> {
-    let played = check(alloc, told.header, told.steps)?;
-    Ok(played.is(told.status, told.line))
+fn is_checked(alloc: Global, report: &Report) -> Result<bool, AllocError> {
+    let played = check(alloc, report.header, report.steps)?;
+    Ok(played.is(report.status, report.line))
 }
 
 /// Whether `run` says so too of one that is refused, and reads nothing.
 fn is_refused<R: Wait + Threads + Sync>(
     rt: &R,
     alloc: Global,
-    told: &Told,
+    report: &Report,
 ) -> Result<bool, AllocError> {
-    let ended = run_over(rt, alloc, told.header, told.steps)?;
+    let ended = run_over(rt, alloc, report.header, report.steps)?;
     Ok(
         ended.reader == SCRIPT.as_bytes()
-            && ended.status == told.status
-            && ended.writer.as_slice() == told.line.as_bytes(),
+            && ended.status == report.status
+            && ended.writer.as_slice() == report.line.as_bytes(),
     )
 }
 
 #[test]
-fn recordings_are_told(rt: HostRuntime) -> Result<(), AllocError> {
-    for told in RECORDINGS.iter() {
-        let steps = told.steps;
-        assert!(rt; is_checked(rt.alloc(), told)?, "check of {steps}");
-        if told.status == ExitStatus::Refused {
-            assert!(rt; is_refused(&rt, rt.alloc(), told)?, "run of {steps}");
+fn recordings_are_reported(rt: HostRuntime) -> Result<(), AllocError> {
+    for report in RECORDINGS.iter() {
+        let steps = report.steps;
+        assert!(rt; is_checked(rt.alloc(), report)?, "check of {steps}");
+        if report.status == ExitStatus::Refused {
+            assert!(rt; is_refused(&rt, rt.alloc(), report)?, "run of {steps}");
         }
     }
     Ok(())

@@ -176,7 +176,7 @@ static SESSIONS: [Session; 23] = [
         replies: "mark 1\nat 7 by 1\nat 0 start\nfault 401 no such mark\nmark 2\n",
     },
     Session {
-        topic: "all marks that hit are told",
+        topic: "all marks that hit are listed",
         header: HEADER,
         steps: WAITS,
         script: "b arrive\nwatch rg 0\nb @8\ndelete 2\ndelete 2\ndelete 0\nwatch rg 0\nsi 5\nc\ninfo breakpoints\n",
@@ -197,7 +197,7 @@ static SESSIONS: [Session; 23] = [
         replies: "at 5\ncheckpoint 1 at 5\nat 7\nat 5\ncheckpoints 1\n1 at 5\ndeleted checkpoint 1\nfault 403 no such checkpoint\nat 0\nfault 403 no such checkpoint\ncheckpoint 2 at 0\ncheckpoints 1\n2 at 0\nlock 0 = absent\nat 0\n",
     },
     Session {
-        topic: "lock words are shown both ways",
+        topic: "lock words are printed both ways",
         header: HEADER,
         steps: LOCKS,
         script: SCRIPT,

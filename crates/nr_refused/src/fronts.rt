@@ -394,7 +394,7 @@ static SIX_LINES: [(&str, &str, usize); 6] = [
 
 // Sends a line until it is answered: where it or another's command was refused memory it is sent again, and where its own
 // command is placed and its reply is owed, which only a search's is, that is asked for.
-fn settle<H: Threads + Sync>(
+fn answered<H: Threads + Sync>(
     journal: &Journal,
     front: &mut Lone<'_, H>,
     line: &str,
@@ -419,13 +419,13 @@ fn settle<H: Threads + Sync>(
 }
 
 // The six lines. What comes of them all is wrong where one is, and else refused where one was.
-fn settle_all<H: Threads + Sync>(journal: &Journal, front: &mut Lone<'_, H>) -> Came
+fn answered_all<H: Threads + Sync>(journal: &Journal, front: &mut Lone<'_, H>) -> Came
     requires { front.old.table ≡ journal.now }
     ensures { front.new.table ≡ journal.now }
 {
     let mut all = Came::Right;
     for (line, text, placed) in SIX_LINES.iter() {
-        let came = settle(journal, front, line, text, *placed);
+        let came = answered(journal, front, line, text, *placed);
         all = all.and(came);
     }
     all
@@ -442,7 +442,7 @@ fn six_lines<H: Threads + Sync>(
     requires other { other.old.table ≡ journal.now }
 {
     refuse(rt);
-    let first = settle_all(journal, one);
+    let first = answered_all(journal, one);
     grant(rt);
     let lines = [
         ("info position", "at 2 of 12 forward\n"),

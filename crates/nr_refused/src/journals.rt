@@ -35,7 +35,7 @@ fn has_room_for_two(journal: &Journal, pass: &mut Pass) -> bool
     placed == [true, true, false] && pass.seen() == 2
 }
 
-// The same of its first seat.
+// Whether just two words can be placed in a new journal, whose first seat this is.
 fn seats_two(journal: &Journal, seat: Seat) -> bool
     requires { seat.table ≡ journal.now }
 {

@@ -30,7 +30,7 @@ fn main(rt: HostRuntime) -> ExitCode {
     match run(&rt, &rt) {
         Ok(status) => ExitCode::from(status),
         Err(error) => {
-            let _told = eprintln!(rt; "nr_refused: {error}");
+            let _printed = eprintln!(rt; "nr_refused: {error}");
             ExitCode::from(1)
         }
     }

@@ -3,7 +3,7 @@
 
 use crate::twice::{Came, Twice, grant, refuse};
 use nr_gsema::{GOperation, GTable};
-use nr_rev::{Bytes, Refusal, Reversible, Side, Status, Step, TimerFunction};
+use nr_rev::{Bytes, Reversible, Side, Status, Step, TimerFunction};
 use nr_sockbuf::{Sock, SockSnapshot};
 use nr_timers::{Timers, TimersOp};
 use std::alloc::{AllocError, Global};
@@ -155,11 +155,10 @@ pub(crate) fn restore_sock_twice(rt: &HostRuntime) -> Option<Twice> {
     })
 }
 
-fn came_of_timers(made: Result<Timers, Refusal>, times: &[i64]) -> Came {
+fn came_of_timers(made: Result<Timers, AllocError>, times: &[i64]) -> Came {
     match made {
         Ok(timers) => Came::of(has_times(&timers, times)),
-        Err(Refusal::Memory) => Came::Refused,
-        Err(_) => Came::Wrong,
+        Err(AllocError) => Came::Refused,
     }
 }
 

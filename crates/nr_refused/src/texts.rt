@@ -24,7 +24,7 @@ pub(crate) const TEXT: &str = r#"{"buf":16,"desc":2,"gor":4,"netrev":1,"sock":2}
 ["rwunlock",0,0,"r"]
 "#;
 
-/// The same in version 2, each step with its answer.
+/// The recording of `TEXT` in version 2, each step with its answer.
 const ANSWERED: &str = r#"{"buf":16,"desc":2,"gor":4,"netrev":2,"sock":2}
 ["sockopen",16,16,["number",0]]
 ["pollopen",0,0,["number",0]]
@@ -188,7 +188,7 @@ fn upgrade_into(alloc: Global, room: &mut [u8]) -> (ExitStatus, usize) {
     (status, all.saturating_sub(left))
 }
 
-// Where it was refused memory, that is told behind whole lines.
+// Upgrading that was refused memory ends with the line of that fault, behind whole lines.
 fn came_of_upgrading(status: ExitStatus, out: Option<&[u8]>) -> Came {
     let Some(out) = out else {
         return Came::Wrong;

@@ -74,16 +74,16 @@ impl Twice {
 
 /// From now on requests for memory may be refused.
 pub(crate) fn refuse(rt: &HostRuntime) {
-    let _told = println!(rt; "refuse");
+    let _printed = println!(rt; "refuse");
 }
 
 /// The next request for memory is refused, and that isn't counted: it is how a call is prepared that comes behind a
 /// refused one.
 pub(crate) fn refuse_next(rt: &HostRuntime) {
-    let _told = println!(rt; "refuse the next");
+    let _printed = println!(rt; "refuse the next");
 }
 
 /// No request is refused any more.
 pub(crate) fn grant(rt: &HostRuntime) {
-    let _told = println!(rt; "grant");
+    let _printed = println!(rt; "grant");
 }

@@ -69,18 +69,18 @@ impl Leg {
 }
 
 // Whether the walker is at a position, with its world.
-fn stands_at(walker: &Walker<'_, World>, position: usize) -> bool {
+fn is_at_position(walker: &Walker<'_, World>, position: usize) -> bool {
     walker.position() == position && is_at(walker.world(), position)
 }
 
 // Whether it is at a stop.
 fn stops_at(walker: &Walker<'_, World>, stop: &Stop) -> bool {
-    stands_at(walker, stop.position) && walker.kept() == stop.kept
+    is_at_position(walker, stop.position) && walker.kept() == stop.kept
 }
 
 fn came_of_making(made: Result<Walker<'_, World>, AllocError>) -> Came {
     match made {
-        Ok(walker) => Came::of(stands_at(&walker, 0) && walker.kept() == 0),
+        Ok(walker) => Came::of(is_at_position(&walker, 0) && walker.kept() == 0),
         Err(AllocError) => Came::Refused,
     }
 }
@@ -112,7 +112,7 @@ fn go(walker: &mut Walker<'_, World>, position: usize) -> Result<Moved, AllocErr
 
 fn came_of_going(walker: &Walker<'_, World>, leg: &Leg, went: Result<Moved, AllocError>) -> Came {
     match went {
-        Ok(_) => Came::of(stands_at(walker, leg.to)),
+        Ok(_) => Came::of(is_at_position(walker, leg.to)),
         Err(AllocError) => {
             let stops = stops_at(walker, &leg.stops[0]) || stops_at(walker, &leg.stops[1]);
             Came::Refused.leaving(stops)

@@ -206,7 +206,7 @@ impl<R: Threads + Sync> Finder for Misled<R> {
     }
 }
 
-/// Whether workers who are told this find the same.
+/// Whether misled workers find the same, whose claims and hint are preset to these.
 fn is_found_by_misled<R: Threads + Sync>(
     rt: &R,
     alloc: Global,
@@ -226,10 +226,10 @@ fn is_found_by_misled<R: Threads + Sync>(
 fn a_wrong_hint_changes_nothing(rt: HostRuntime) -> Result<(), Fail> {
     let film = ticking(rt.alloc()).ok_or("no film")?;
     for workers in [1, 2, 3, 16] {
-        for told in [(0, 0), (0, 1), (0, 2), (1, 9), (2, 9), (3, 9), (1, 0)] {
+        for preset in [(0, 0), (0, 1), (0, 2), (1, 9), (2, 9), (3, 9), (1, 0)] {
             assert!(rt;
-                is_found_by_misled(&rt, rt.alloc(), &film, workers, told),
-                "{workers} told {told:?}"
+                is_found_by_misled(&rt, rt.alloc(), &film, workers, preset),
+                "{workers} with {preset:?}"
             );
         }
     }

@@ -1,5 +1,5 @@
 use Rattle.std.proofs.Common.{◌≡◌}
-use Rattle.nr_refused.proofs.fronts.settle_all.Given as goal
+use Rattle.nr_refused.proofs.fronts.answered_all.Given as goal
 
 abbrev pub invariant-loop-line : goal.invariant-loop-line
 invariant-loop-line g l = l.front.table ≡ l.journal
