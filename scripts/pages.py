@@ -1,7 +1,7 @@
 #!/usr/bin/env python3
-"""Reads the pages against the tree:  scripts/pages.py [--source] [--diagram] [RULE ..]
+"""Reads the pages against the tree:  scripts/pages.py [--diagram] [RULE ..]
 
-The gate runs all rules of the first list. They are of pages and Python, and of what pages say of the source:
+The gate runs all rules. These are of pages and Python, and of what pages say of the source:
 
     quotes, texts, runs  what docs/THEOREM.md quotes, and the computed sessions, are as in their files
     words                words that docs/GLOSSARY.md gives up are nowhere in pages and Python, as its table says
@@ -14,7 +14,7 @@ The gate runs all rules of the first list. They are of pages and Python, and of 
     docstrings           no docstring leans on what is before it
     sentences            no sentence of a page has more than 40 words
 
-The source doesn't pass these rules yet, so the gate leaves them out, and `--source` runs them too:
+And these of the source itself:
 
     source-words         words that are given up, in the crates, and on docs/THEOREM.md, which quotes them
     modules              the two groups of a specs/Lib.antt are what callers need, and what is inside
@@ -45,7 +45,7 @@ def given_up(tree: Tree) -> Iterator[Finding]:
     yield from words.in_python(tree)
 
 
-OF_PAGES: dict[str, Rule] = {
+RULES: dict[str, Rule] = {
     "quotes": quotes.quotes,
     "texts": quotes.texts,
     "runs": quotes.runs,
@@ -60,8 +60,6 @@ OF_PAGES: dict[str, Rule] = {
     "diagram": lists.diagram,
     "docstrings": sentences.leaning_docstrings,
     "sentences": sentences.long_sentences,
-}
-OF_SOURCE: dict[str, Rule] = {
     "source-words": words.in_source,
     "modules": definitions.groups,
     "comments": sentences.leaning_comments,
@@ -72,21 +70,19 @@ OF_SOURCE: dict[str, Rule] = {
 def main(given_words: list[str] | None = None) -> int:
     """Runs the rules that are asked for, by these words or by those of the command line."""
     given = argparse.ArgumentParser(description=__doc__, formatter_class=argparse.RawDescriptionHelpFormatter)
-    given.add_argument("--source", action="store_true", help="the rules too that the source doesn't pass yet")
     given.add_argument("--diagram", action="store_true", help="print the diagram of the crates")
     given.add_argument("--root", type=Path, default=Path(__file__).resolve().parent.parent, help=argparse.SUPPRESS)
     given.add_argument("rules", nargs="*", metavar="RULE", help="just these")
     asked = given.parse_args(given_words)
-    if unknown := [name for name in asked.rules if name not in OF_PAGES | OF_SOURCE]:
+    if unknown := [name for name in asked.rules if name not in RULES]:
         given.error(f"there is no rule {', '.join(unknown)}")
     tree = Tree(asked.root)
     if asked.diagram:
         print(lists.drawn(tree), end="")
         return 0
-    rules = {**OF_PAGES, **(OF_SOURCE if asked.source or asked.rules else {})}
-    names = asked.rules or list(rules)
+    names = asked.rules or list(RULES)
     faults = [f"there is no {path}" for path in NEEDED if not asked.rules and not tree.has(path)]
-    faults += [f"{finding} [{name}]" for name in names for finding in sorted(rules[name](tree))]
+    faults += [f"{finding} [{name}]" for name in names for finding in sorted(RULES[name](tree))]
     print(*faults, f"pages: {len(tree.pages)} pages, {len(names)} rules, {len(faults)} findings", sep="\n")
     return 1 if faults else 0
 

@@ -196,7 +196,7 @@ class Pages(unittest.TestCase):
         return status, printed.getvalue()
 
     def test_finds_nothing_where_there_is_no_mistake(self) -> None:
-        self.assertEqual(self.run_over("--source"), (0, "pages: 5 pages, 18 rules, 0 findings\n"))
+        self.assertEqual(self.run_over(), (0, "pages: 5 pages, 18 rules, 0 findings\n"))
 
     def test_each_mistake_is_found_by_its_rule(self) -> None:
         for rule, path, old, new, says in PLANTED:
@@ -209,10 +209,10 @@ class Pages(unittest.TestCase):
                 self.assertIn(says, printed)
 
     def test_each_rule_has_a_mistake(self) -> None:
-        self.assertEqual({rule for rule, *_ in PLANTED}, {*PAGES.OF_PAGES, *PAGES.OF_SOURCE})
+        self.assertEqual({rule for rule, *_ in PLANTED}, set(PAGES.RULES))
 
     def test_each_rule_is_named_where_it_is_said_what_they_are(self) -> None:
-        self.assertEqual([rule for rule in PAGES.OF_PAGES | PAGES.OF_SOURCE if rule not in str(PAGES.__doc__)], [])
+        self.assertEqual([rule for rule in PAGES.RULES if rule not in str(PAGES.__doc__)], [])
 
     def test_a_page_that_is_gone_is_missed(self) -> None:
         (self.top / "docs/THEOREM.md").unlink()
