@@ -1,6 +1,6 @@
 //! Worked sessions over short runs: their bodies are empty; the prover computes each clause.
 
-ghost use Rattle.std.specs.Prelude.{◌≡◌, ◌∷◌, [], true, codes, Ok};
+ghost use Rattle.std.specs.Prelude.{◌≡◌, ◌∷◌, ◌++◌, [], true, codes, Ok};
 ghost use Rattle.nr_programs.specs.Opening.{opened_as};
 ghost use Rattle.nr_programs.specs.ShortRuns.{early_run, early_swap_run, empty_run, last_moment_run, overtaken_run, reopened_run, taken_run, three_firings_run, woken_run, of_version_one};
 ghost use Rattle.nr_programs.specs.Transcript.{calm, enough, no_memory_to_search, no_room, replies, replies_over, start};
@@ -9,30 +9,85 @@ ghost use Rattle.nr_programs.specs.Transcript.{calm, enough, no_memory_to_search
 /// new deadline overtakes; an event that comes before its goroutine parks; a lock that is taken from a woken goroutine. And of
 /// an empty run, of a deadline at the last moment, and of a descriptor that is opened again.
 pub fn short_runs_have_their_replies()
-    ensures lock_and_reference { replies woken_run start true (codes "stepi 3\nprint lock 0\n") [] ≡ codes "at 3\nlock 0 = 10\n" }
-    ensures watched_there_and_back { replies woken_run start true (codes "watch rg 0\ncontinue\ncontinue\ncontinue\ncontinue\ncontinue\ncontinue\nreverse-continue\nreverse-continue\nreverse-continue\nreverse-continue\nreverse-continue\nreverse-continue\n") [] ≡ codes "mark 1\nat 2 by 1\nat 5 by 1\nat 7 by 1\nat 9 by 1\nat 10 by 1\nat 12 end\nat 10 by 1\nat 9 by 1\nat 7 by 1\nat 5 by 1\nat 2 by 1\nat 0 start\n" }
-    ensures hit_at_the_start { replies woken_run start true (codes "stepi\nbreak sockopen\nreverse-continue\nreverse-continue\n") [] ≡ codes "at 1\nmark 1\nat 0 by 1\nat 0 start\n" }
-    ensures no_step { replies empty_run start true (codes "stepi\nreverse-stepi\ncontinue\n") [] ≡ codes "at 0 end\nat 0 start\nat 0 end\n" }
-    ensures counts { replies woken_run start true (codes "stepi 4294967295\nreverse-stepi 12\nstepi 12\nstepi 0\n") [] ≡ codes "at 12 end\nat 0\nat 12\nfault 202 bad argument\n" }
-    ensures late_firing { replies overtaken_run start true (codes "stepi 7\nprint rd 0\nprint wd 0\nprint rseq 0\nprint wseq 0\nprint firings\nprint timers\nprint least\nstepi 2\nprint wd 0\nprint info 0\nprint timers\nprint least\nreverse-stepi 3\nprint firings\nprint wd 0\n") [] ≡ codes "at 7\nrd 0 = 150\nwd 0 = 100\nrseq 0 = 2\nwseq 0 = 1\nfirings = 0\ntimers = 2\nleast = 100\nat 9\nwd 0 = -1\ninfo 0 = 8\ntimers = 1\nleast = 150\nat 6\nfirings = 1\nwd 0 = 100\n" }
-    ensures last_moment { replies last_moment_run start true (codes "stepi 4\nprint rd 0\n") [] ≡ codes "at 4\nrd 0 = 9223372036854775807\n" }
-    ensures event_comes_first { replies early_run start true (codes "stepi 5\nprint rg 0\nstepi\nprint rg 0\nstepi\nprint rg 0\nstepi\nprint rg 0\nstepi\nprint rg 0\nprint waiters\nreverse-stepi\nprint rg 0\nreverse-stepi\nprint rg 0\nreverse-stepi\nprint rg 0\nreverse-stepi\nprint rg 0\nreverse-stepi\nprint rg 0\n") [] ≡ codes "at 5\nrg 0 = wait\nat 6\nrg 0 = wait\nat 7\nrg 0 = ready\nat 8\nrg 0 = ready\nat 9\nrg 0 = nil\nwaiters = 0\nat 8\nrg 0 = ready\nat 7\nrg 0 = ready\nat 6\nrg 0 = wait\nat 5\nrg 0 = wait\nat 4\nrg 0 = nil\n" }
-    ensures event_of_a_first_life { replies reopened_run start true (codes "stepi 6\nprint fdseq 0\nprint rseq 0\nprint rg 0\n") [] ≡ codes "at 6\nfdseq 0 = 2\nrseq 0 = 3\nrg 0 = nil\n" }
-    ensures lock_taken { replies taken_run start true (codes "stepi 5\ndump rq 0\nstepi 2\nprint rsem 0\nprint gor 1\nprint lock 0\nstepi 3\nprint rsem 0\nprint lock 0\nprint gor 1\n") [] ≡ codes "at 5\nrq 0 = 1\nat 7\nrsem 0 = 1\ngor 1 = acquiring 0 r\nlock 0 = 0\nat 10\nrsem 0 = 0\nlock 0 = 8388618\ngor 1 = acquiring 0 r\n" }
-    ensures bytes_come_back { replies woken_run start true (codes "stepi 8\ndump in 0\nstepi 3\ndump in 0\nreverse-stepi\ndump in 0\n") [] ≡ codes "at 8\nin 0 = 6869\nat 11\nin 0 = -\nat 10\nin 0 = 6869\n" }
-    ensures checkpoints { replies woken_run start true (codes "stepi 5\ncheckpoint\nstepi 2\nrestart 1\ninfo checkpoints\ndelete checkpoint 1\nrestart 1\nrestart 0\n") [] ≡ codes "at 5\ncheckpoint 1 at 5\nat 7\nat 5\ncheckpoints 1\n1 at 5\ndeleted checkpoint 1\nfault 403 no such checkpoint\nat 0\n" }
-    ensures quits_without_a_line_feed { replies woken_run start true (codes "stepi 3\nprint lock 0\nfrob\nreverse-stepi\nquit") [] ≡ codes "at 3\nlock 0 = 10\nfault 201 unknown command\nat 2\nbye\n" }
+    ensures lock_and_reference { replies woken_run start true
+        (codes "stepi 3\nprint lock 0\n") []
+        ≡ codes "at 3\nlock 0 = 10\n" }
+    ensures watched_there_and_back { replies woken_run start true
+        (codes "watch rg 0\ncontinue\ncontinue\ncontinue\ncontinue\ncontinue\ncontinue\n"
+        ++ codes "reverse-continue\nreverse-continue\nreverse-continue\nreverse-continue\n"
+        ++ codes "reverse-continue\nreverse-continue\n") []
+        ≡ codes "mark 1\nat 2 by 1\nat 5 by 1\nat 7 by 1\nat 9 by 1\nat 10 by 1\nat 12 end\n"
+        ++ codes "at 10 by 1\nat 9 by 1\nat 7 by 1\nat 5 by 1\nat 2 by 1\nat 0 start\n" }
+    ensures hit_at_the_start { replies woken_run start true
+        (codes "stepi\nbreak sockopen\nreverse-continue\nreverse-continue\n") []
+        ≡ codes "at 1\nmark 1\nat 0 by 1\nat 0 start\n" }
+    ensures no_step { replies empty_run start true
+        (codes "stepi\nreverse-stepi\ncontinue\n") []
+        ≡ codes "at 0 end\nat 0 start\nat 0 end\n" }
+    ensures counts { replies woken_run start true
+        (codes "stepi 4294967295\nreverse-stepi 12\nstepi 12\nstepi 0\n") []
+        ≡ codes "at 12 end\nat 0\nat 12\nfault 202 bad argument\n" }
+    ensures late_firing { replies overtaken_run start true
+        (codes "stepi 7\nprint rd 0\nprint wd 0\nprint rseq 0\nprint wseq 0\nprint firings\n"
+        ++ codes "print timers\nprint least\nstepi 2\nprint wd 0\nprint info 0\nprint timers\n"
+        ++ codes "print least\nreverse-stepi 3\nprint firings\nprint wd 0\n") []
+        ≡ codes "at 7\nrd 0 = 150\nwd 0 = 100\nrseq 0 = 2\nwseq 0 = 1\nfirings = 0\ntimers = 2\n"
+        ++ codes "least = 100\nat 9\nwd 0 = -1\ninfo 0 = 8\ntimers = 1\nleast = 150\nat 6\n"
+        ++ codes "firings = 1\nwd 0 = 100\n" }
+    ensures last_moment { replies last_moment_run start true
+        (codes "stepi 4\nprint rd 0\n") []
+        ≡ codes "at 4\nrd 0 = 9223372036854775807\n" }
+    ensures event_comes_first { replies early_run start true
+        (codes "stepi 5\nprint rg 0\nstepi\nprint rg 0\nstepi\nprint rg 0\nstepi\nprint rg 0\n"
+        ++ codes "stepi\nprint rg 0\nprint waiters\nreverse-stepi\nprint rg 0\nreverse-stepi\n"
+        ++ codes "print rg 0\nreverse-stepi\nprint rg 0\nreverse-stepi\nprint rg 0\nreverse-stepi\n"
+        ++ codes "print rg 0\n") []
+        ≡ codes "at 5\nrg 0 = wait\nat 6\nrg 0 = wait\nat 7\nrg 0 = ready\nat 8\nrg 0 = ready\nat 9\n"
+        ++ codes "rg 0 = nil\nwaiters = 0\nat 8\nrg 0 = ready\nat 7\nrg 0 = ready\nat 6\nrg 0 = wait\n"
+        ++ codes "at 5\nrg 0 = wait\nat 4\nrg 0 = nil\n" }
+    ensures event_of_a_first_life { replies reopened_run start true
+        (codes "stepi 6\nprint fdseq 0\nprint rseq 0\nprint rg 0\n") []
+        ≡ codes "at 6\nfdseq 0 = 2\nrseq 0 = 3\nrg 0 = nil\n" }
+    ensures lock_taken { replies taken_run start true
+        (codes "stepi 5\ndump rq 0\nstepi 2\nprint rsem 0\nprint gor 1\nprint lock 0\nstepi 3\n"
+        ++ codes "print rsem 0\nprint lock 0\nprint gor 1\n") []
+        ≡ codes "at 5\nrq 0 = 1\nat 7\nrsem 0 = 1\ngor 1 = acquiring 0 r\nlock 0 = 0\nat 10\n"
+        ++ codes "rsem 0 = 0\nlock 0 = 8388618\ngor 1 = acquiring 0 r\n" }
+    ensures bytes_come_back { replies woken_run start true
+        (codes "stepi 8\ndump in 0\nstepi 3\ndump in 0\nreverse-stepi\ndump in 0\n") []
+        ≡ codes "at 8\nin 0 = 6869\nat 11\nin 0 = -\nat 10\nin 0 = 6869\n" }
+    ensures checkpoints { replies woken_run start true
+        (codes "stepi 5\ncheckpoint\nstepi 2\nrestart 1\ninfo checkpoints\ndelete checkpoint 1\n"
+        ++ codes "restart 1\nrestart 0\n") []
+        ≡ codes "at 5\ncheckpoint 1 at 5\nat 7\nat 5\ncheckpoints 1\n1 at 5\ndeleted checkpoint 1\n"
+        ++ codes "fault 403 no such checkpoint\nat 0\n" }
+    ensures quits_without_a_line_feed { replies woken_run start true
+        (codes "stepi 3\nprint lock 0\nfrob\nreverse-stepi\nquit") []
+        ≡ codes "at 3\nlock 0 = 10\nfault 201 unknown command\nat 2\nbye\n" }
 {}
 
 /// Two fronts, one with `stepi 3` and one with `reverse-stepi`, in both orders and over a journal of one word; and a search that is
 /// refused memory until `resume` has it.
 pub fn what_two_fronts_meet_is_answered()
     ensures forward_first { replies woken_run start true (codes "stepi 3\n") [] ≡ codes "at 3\n" }
-    ensures then_back { replies woken_run start true (codes "reverse-stepi\n") (record { others = 196609 ∷ []; supply = enough } ∷ []) ≡ codes "at 2\n" }
+    ensures then_back { replies woken_run start true
+        (codes "reverse-stepi\n")
+        (record { others = 196609 ∷ []; supply = enough } ∷ [])
+        ≡ codes "at 2\n" }
     ensures back_first { replies woken_run start true (codes "reverse-stepi\n") [] ≡ codes "at 0 start\n" }
-    ensures then_forward { replies woken_run start true (codes "stepi 3\n") (record { others = 65794 ∷ []; supply = enough } ∷ []) ≡ codes "at 3\n" }
-    ensures journal_of_one { replies woken_run start true (codes "reverse-stepi\ninfo position\n") (record { others = 196609 ∷ []; supply = no_room } ∷ []) ≡ codes "fault 303 journal full\nat 3 of 12 forward\n" }
-    ensures search_without_memory { replies woken_run start true (codes "watch rg 0\ncontinue\nstepi\nresume\nresume\n") (calm ∷ record { others = []; supply = no_memory_to_search } ∷ []) ≡ codes "mark 1\nfault 302 memory, placed 2\nfault 302 memory, placed 2\nat 2 by 1\nnothing owed\n" }
+    ensures then_forward { replies woken_run start true
+        (codes "stepi 3\n")
+        (record { others = 65794 ∷ []; supply = enough } ∷ [])
+        ≡ codes "at 3\n" }
+    ensures journal_of_one { replies woken_run start true
+        (codes "reverse-stepi\ninfo position\n")
+        (record { others = 196609 ∷ []; supply = no_room } ∷ [])
+        ≡ codes "fault 303 journal full\nat 3 of 12 forward\n" }
+    ensures search_without_memory { replies woken_run start true
+        (codes "watch rg 0\ncontinue\nstepi\nresume\nresume\n")
+        (calm ∷ record { others = []; supply = no_memory_to_search } ∷ [])
+        ≡ codes "mark 1\nfault 302 memory, placed 2\nfault 302 memory, placed 2\nat 2 by 1\n"
+        ++ codes "nothing owed\n" }
 {}
 
 /// A recording is refused at its first step that doesn't apply.
