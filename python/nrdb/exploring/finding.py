@@ -4,7 +4,7 @@ from collections import Counter
 from dataclasses import replace
 from typing import Any, Callable, Iterator, NamedTuple, Optional
 
-from netrev_model.machine import SIDES, Answer, Limits, Status, World
+from netrev_model.machine import Answer, Limits, Status, World
 
 from ..recording import Recording
 from ..suspects import suspects_of
@@ -12,6 +12,7 @@ from ..suspects.found import Rule, Suspect
 from ..suspects.ranking import WOKEN_WRONGLY
 from .arrivals import with_events
 from .control import Place, Step
+from .hanging import hangs, waits_for_ever
 from .playing import Player
 from .runs import Delay, Impossible, Made
 from .schedules import Schedule, schedules, single_delays
@@ -21,6 +22,7 @@ COPIES, MOST_COPIES = 200, 2_000  # of the recorded run, from which schedules go
 APART = 10  # steps between two copies, as long as there aren't more of them
 LONGER = 4  # how much longer than the recording a schedule may be
 HANG = "a call that hangs"
+NEWS = (("code", 2), ("pipe",))
 ORDERED = (Rule.LOST_WAKE_UP, Rule.TAKEN_BACK, Rule.LEFT_BEHIND, Rule.WRITE_BEHIND_SHUT)  # what an order decides
 
 Key = tuple[Any, ...]
@@ -75,7 +77,9 @@ class Exploring:
         self._most = LONGER * script.length + 200
         self._copies: list[tuple[float, Player]] = []
         self.delays = single_delays(self.script)
+        self.seed = 0  # the last that drew a schedule
         self._recorded = self._play_recorded()
+        self._parked = {g for g, status in enumerate(self._recorded.world.goroutines) if status[0] == "parked"}
         self.known = {finding.key for finding in self._findings(Schedule((), 0), self._recorded)}
 
     def _play_recorded(self) -> Played:
@@ -103,16 +107,17 @@ class Exploring:
     def play(self, schedule: Schedule) -> None:
         """Plays a schedule, and keeps what it ends with."""
         self.played += 1
+        self.seed = schedule.seed or self.seed
         try:
             played = self._play(schedule.delays)
         except Impossible:
             self.left += 1
             return
-        for finding in self._findings(schedule, played) if played else ():
+        for finding in self._findings(schedule, played) if played and self._is_otherwise(played) else ():
             if finding.key in self.known:
                 continue
             self.times[finding.key] += 1
-            if finding.key not in self.found or len(schedule.delays) < len(self.found[finding.key].schedule.delays):
+            if finding.key not in self.found or schedule.is_simpler_than(self.found[finding.key].schedule):
                 self.found[finding.key] = finding
 
     def least(self, finding: Finding) -> Finding:
@@ -141,12 +146,24 @@ class Exploring:
         last = max(delay.until for delay in delays)
         for time, copy in self._copies[at + 1 :]:
             player.run(time, self._most)
-            if time > last and player.is_as(copy):
+            if time > last and not self._has_news(player.steps) and player.is_as(copy):
                 return None
         player.end(self._most)
         return self._all_of(player)
 
     # ---- what it ends with
+
+    def _is_otherwise(self, played: Played) -> bool:
+        """Whether it may end with something else than the recorded run."""
+        parked = {g for g, status in enumerate(played.world.goroutines) if status[0] == "parked"}
+        return bool(parked - self._parked) or self._has_news(played.steps)
+
+    def _has_news(self, steps: list[Made]) -> bool:
+        """Whether a time ran out, or a pipe was broken, where it didn't in the recorded run."""
+        answers = self.script.answers
+        return any(
+            made.answer in NEWS and (not made.number or answers[made.number - 1] != made.answer) for made in steps
+        )
 
     def _findings(self, schedule: Schedule, played: Played) -> Iterator[Finding]:
         suspects = [one for one in suspects_of(Steps(played.steps)).suspects if self._counts(one, played)]
@@ -154,7 +171,7 @@ class Exploring:
             yield Finding(self._key(suspect, played), suspect, -1, schedule, played)
         named = {suspect.goroutine for suspect in suspects}
         for g in range(len(played.world.goroutines)):
-            if g not in named and self._hangs(g, played):
+            if g not in named and hangs(self.script, g, played.places[g], played.world, played.steps):
                 operation = self.script.goroutines[g][played.places[g].operation]
                 number = operation.steps[0] if operation.steps else 0
                 yield Finding((HANG, self.line_of(number) or (g, operation.socket)), None, g, schedule, played)
@@ -168,12 +185,8 @@ class Exploring:
         status = played.world.goroutines[suspect.goroutine]
         if status[0] != "parked":
             return False
-        is_cut_off = suspect.rule is Rule.TAKEN_BACK and self._waits_for_ever(status, played.world)
+        is_cut_off = suspect.rule is Rule.TAKEN_BACK and waits_for_ever(status, played.world)
         return is_cut_off or self._has_come(status, played.world)
-
-    @staticmethod
-    def _waits_for_ever(status: Status, world: World) -> bool:
-        return not world.descs[status[1]].deadlines[SIDES.index(status[2])]
 
     @staticmethod
     def _has_come(status: Status, world: World) -> bool:
@@ -187,18 +200,6 @@ class Exploring:
             return suspect.rule, line
         back = {number: socket for socket, number in played.sockets.items()}
         return suspect.rule, suspect.goroutine, back.get(suspect.socket if suspect.socket is not None else -1)
-
-    def _hangs(self, g: int, played: Played) -> bool:
-        """Whether a goroutine is parked without a deadline, in a call that ended in the recording without having got or put
-        anything: since its deadline had passed, its socket was closed."""
-        status = played.world.goroutines[g]
-        if status[0] != "parked" or not self._waits_for_ever(status, played.world):
-            return False
-        operation = self.script.goroutines[g][played.places[g].operation]
-        if not operation.steps:
-            return True
-        answer = self.script.answers[operation.steps[-1] - 1]
-        return operation.kinds[-1] in ("waitcheck", "waitbegin") and answer[1] != 0
 
 
 def _wide(limits: Limits) -> Limits:

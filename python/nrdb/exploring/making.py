@@ -4,6 +4,7 @@ from netrev_model.machine import Limits
 
 from ..recording import Recording
 from ..reducing.events import Events
+from .orders import causes_of, orders_of
 from .scripts import Item, Script
 from .taking_apart import goroutines_of
 
@@ -23,21 +24,19 @@ def script_of(recording: Recording) -> Script:
     openers = {event.arguments[1] for event in events.all if event.kind == "pollopen"}
     network, clock, made = _others(events, openers)
     count = 1 + sum(event.kind == "spawn" for event in events.all)
-    causes: list[list[int]] = [[] for _ in range(count)]
-    for event in events.all:
-        if event.kind in CAUSES:
-            causes[event.arguments[0]].append(event.number)
+    goroutines = goroutines_of(events, count)
     return Script(
         limits,
         len(events.all),
-        goroutines_of(events, count),
+        goroutines,
         network,
         clock,
         made,
         [use.socket for use in events.uses],
         ordinals,
-        causes,
+        causes_of(goroutines, CAUSES),
         [event.answer for event in events.all],
+        orders_of(goroutines, recording.lines.orders),
     )
 
 

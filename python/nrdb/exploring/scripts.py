@@ -61,6 +61,23 @@ class Item(NamedTuple):
     timer: Optional[Timer] = None
 
 
+class Order(NamedTuple):
+    """A goroutine's operation begins when another's one is over."""
+
+    operation: int
+    other: int
+    until: int
+
+
+class Cause(NamedTuple):
+    """A recorded step that somebody else may answer: its number, whose it is, in which operation, and where in that."""
+
+    number: int
+    goroutine: int
+    operation: int
+    at: int
+
+
 @dataclass
 class Script:
     """The operations of each goroutine; what the network did to each socket; timers and the clock; and what was made by nobody
@@ -74,5 +91,6 @@ class Script:
     made: list[Item]
     sockets: list[int]  # of each use
     ordinals: list[int]  # which use of its descriptor each is, from 0
-    causes: list[list[int]]  # of each goroutine the steps that somebody else may answer
+    causes: list[Cause]
     answers: list[tuple[Any, ...]]
+    orders: Optional[list[list[Order]]] = None  # of each goroutine, if the recorder saw what the program orders

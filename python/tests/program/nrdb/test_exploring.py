@@ -40,12 +40,12 @@ class Exploring(unittest.TestCase):
             suspect = suspects_of(Recording.read(name)).suspects[0]
             self.assertEqual((suspect.rule, suspect.goroutine), (Rule.TAKEN_BACK, 1))
         self.assertLess(Recording.read("cancelled-read-other-1-short.jsonl").length, Recording.read(files[0][0]).length)
-        self.assertEqual(said.count(UNLESS), said.count("pauses before"))
+        self.assertEqual(said.count(UNLESS), said.count("short: "))
         self.assertEqual(len(re.findall(r"^\| \d\. ", said, re.MULTILINE)), said.count(UNLESS))
 
     def test_nothing_is_written_where_nothing_is_found(self) -> None:
         said = nrdb("--batch", "-ex", "explore 300", EXAMPLES / "temporary-break.jsonl")
-        self.assertIn("| 300 schedules near the recorded one in ", said)
+        self.assertIn("| 14 schedules near the recorded one in ", said)
         self.assertIn("; nothing found\n", said)
         self.assertEqual(os.listdir("."), [])
         nrdb("--explore", EXAMPLES / "temporary-break.jsonl")
