@@ -45,7 +45,7 @@ HEALTHY = ("answers", "first", "temporary-break", "shut-write-side", "real/half"
 
 def examples() -> list[Path]:
     """All recordings that netrev takes."""
-    found = [path for folder in ("", "hunts", "real") for path in sorted((EXAMPLES / folder).glob("*.jsonl"))]
+    found = [path for folder in ("", "hunts", "real", "races") for path in sorted((EXAMPLES / folder).glob("*.jsonl"))]
     return [path for path in found if path.stem not in REFUSED]
 
 
@@ -187,6 +187,17 @@ class Delays(unittest.TestCase):
             for spawn in (made.number for made in player.steps if made.step[0] == "spawn"):
                 before = {number for number in order if 0 < number < spawn} - set(order[: order.index(spawn)])
                 self.assertNotIn(delay.before, before)
+
+    def test_a_schedule_that_goes_on_from_a_copy_is_the_same_as_from_the_beginning(self) -> None:
+        for name in ("races/early-cancel", "races/http-watchdog"):
+            exploring = Exploring(script_at(name), lambda number: "")
+            for delay in exploring.delays[::3]:
+                player = Player(exploring.script, (delay,))
+                player.end(1_000)
+                if played := exploring.ends_of((delay,)):
+                    self.assertEqual([made.step for made in played.steps], [made.step for made in player.steps])
+                else:
+                    self.assertEqual(player.world.goroutines, exploring.recorded.world.goroutines)
 
     def test_a_step_that_cannot_be_is_no_schedule(self) -> None:
         script = script_of(recording_of(GOOD))

@@ -5,20 +5,36 @@ import unittest
 from itertools import islice
 from typing import Optional
 
-from nrdb.exploring.finding import HANG, Exploring
+from nrdb.exploring.finding import HANG
 from nrdb.exploring.hanging import ended_by, moved_by
 from nrdb.exploring.making import script_of
 from nrdb.exploring.playing import Player
 from nrdb.exploring.runs import Delay
 from nrdb.exploring.schedules import single_delays
 from nrdb.exploring.scripts import Script
-from nrdb.recording import Recording
+from nrdb.suspects import suspects_of
 from nrdb.suspects.found import Rule
-from tests.test_exploring import GOOD, answered, examples, explored
+from tests.test_exploring import EXAMPLES, GOOD, answered, explored
 from tests.test_suspects import OPEN, recording_of
 
 Pairs = list[tuple[int, int]]
 BEGUN, ENDED, SET, TAKES_BACK = 4, 16, 11, 17  # steps of GOOD: the read's first and last, and both calls' first
+RACES = sorted((EXAMPLES / "races").glob("*.jsonl"))
+TAKEN = {Rule.TAKEN_BACK, HANG}
+SORTS: dict[str, set[object]] = {
+    "taken-back": TAKEN,
+    "http-watchdog": TAKEN,
+    "tls-handshake": TAKEN,
+    "rpc-keepalive": TAKEN,
+    "early-cancel": {HANG},
+    "http-idle": {HANG},
+    "left-behind": {Rule.LEFT_BEHIND},
+    "http-hijack": {Rule.LEFT_BEHIND},
+    "rpc-call": {Rule.LEFT_BEHIND},
+    "behind-shut": {Rule.WRITE_BEHIND_SHUT},
+    "tls-shut": {Rule.WRITE_BEHIND_SHUT},
+    "lost-wake-up": set(),  # (what a RawConn's function tries isn't recorded)
+}
 LATE = OPEN + [["incref", 0, 0], ["setdeadline", 0, 0, "rw", 50], ["decref", 0, 0]]
 LATE += [["incref", 0, 0], ["setdeadline", 0, 0, "r", 900], ["decref", 0, 0]]
 LATE += [["rwlock", 1, 0, "w"], ["pollreset", 1, 0, "w"], ["syswrite", 1, 0, "00"], ["rwunlock", 1, 0, "w"]]
@@ -42,12 +58,34 @@ class Kept(unittest.TestCase):
         self.assertEqual({key[0] for key in found}, {Rule.TAKEN_BACK, HANG})
 
     def test_in_each_schedule_each_order_is_kept(self) -> None:
-        for path in examples():
-            recording = answered(path)
-            orders = recording.lines.orders or []
-            for delay in islice(single_delays(script_of(recording)), 0, None, 25) if orders else ():
+        for path in RACES:
+            recording, script = answered(path), script_of(answered(path))
+            self.assertTrue(recording.lines.orders)
+            for delay in islice(single_delays(script), 0, None, 10):
                 with self.subTest(path.stem, delay=delay):
-                    self.assertEqual(broken(script_of(recording), delay, orders), [])
+                    self.assertEqual(broken(script, delay, recording.lines.orders or []), [])
+
+    def test_what_the_network_does_comes_behind_what_it_may_come_of(self) -> None:
+        script = script_of(answered(EXAMPLES / "races" / "http-idle.jsonl"))
+        for delay in islice(single_delays(script), 0, None, 10):
+            player = Player(script, (delay,))
+            player.end(2_000)
+            at = {made.number: at for at, made in enumerate(player.steps) if made.number}
+            late = [cause.number for cause in script.causes if cause.number not in at]
+            for item in (item for row in script.network.values() for item in row if item.event.number in at):
+                before = {cause.number for cause in script.causes if cause.number < item.event.number} - set(late)
+                self.assertTrue(all(at[number] < at[item.event.number] for number in before), (delay, item))
+
+
+class Planted(unittest.TestCase):
+    def test_each_race_is_found_in_a_good_recording(self) -> None:
+        self.assertEqual({path.stem for path in RACES}, set(SORTS))
+        for path in RACES:
+            with self.subTest(path.stem):
+                recording = answered(path)
+                self.assertEqual([one for one in suspects_of(recording).suspects if one.is_shown], [])
+                found = explored(script_of(recording), 90).found
+                self.assertEqual({key[0] for key in found}, SORTS[path.stem])
 
     def test_who_is_made_waits_for_its_maker_alone(self) -> None:
         steps = [*OPEN[1:], ["incref", 0, 0], ["decref", 0, 0], OPEN[0], ["rwlock", 1, 0, "r"], ["rwunlock", 1, 0, "r"]]

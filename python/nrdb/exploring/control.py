@@ -33,6 +33,7 @@ BY_SORT = {
     Sort.MAKE: "sockopen",
 }
 NEVER = float("inf")
+Step = tuple[Any, ...]
 OF_SOCKETS = frozenset((Sort.LOCK, Sort.UNLOCK, Sort.REFER, Sort.GIVE_UP, Sort.CLOSE, Sort.SHUT, Sort.OPEN))
 
 
@@ -101,12 +102,20 @@ class Numbers:
         made.fdseqs, made.use_of = dict(self.fdseqs), dict(self.use_of)
         return made
 
+    def see(self, step: Step, answer: Answer, operation: Operation, world: World) -> None:
+        """What a goroutine has made or freed by a step."""
+        if step[0] == "sockopen":
+            self.sockets[operation.socket] = answer[1]
+        elif step[0] == "pollopen":
+            self.descriptors[operation.use] = answer[1]
+            self.fdseqs[operation.use] = world.descs[answer[1]].fdseq
+            self.use_of[operation.socket] = operation.use
+        elif step[0] == "pollclose":
+            self.use_of.pop(operation.socket, None)
+
 
 class NotMade(Exception):
     """What a step is about isn't there yet: another goroutine has still to make it."""
-
-
-Step = tuple[Any, ...]
 
 
 def next_step(

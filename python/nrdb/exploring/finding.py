@@ -19,7 +19,7 @@ from .schedules import Schedule, schedules, single_delays
 from .scripts import Script
 
 COPIES, MOST_COPIES = 200, 2_000  # of the recorded run, from which schedules go on
-APART = 10  # steps between two copies, as long as there aren't more of them
+APART = 5  # steps between two copies, as long as there aren't more of them
 LONGER = 4  # how much longer than the recording a schedule may be
 HANG = "a call that hangs"
 NEWS = (("code", 2), ("pipe",))
@@ -78,9 +78,9 @@ class Exploring:
         self._copies: list[tuple[float, Player]] = []
         self.delays = single_delays(self.script)
         self.seed = 0  # the last that drew a schedule
-        self._recorded = self._play_recorded()
-        self._parked = {g for g, status in enumerate(self._recorded.world.goroutines) if status[0] == "parked"}
-        self.known = {finding.key for finding in self._findings(Schedule((), 0), self._recorded)}
+        self.recorded = self._play_recorded()
+        self._parked = {g for g, status in enumerate(self.recorded.world.goroutines) if status[0] == "parked"}
+        self.known = {finding.key for finding in self._findings(Schedule((), 0), self.recorded)}
 
     def _play_recorded(self) -> Played:
         """Plays the recorded schedule, and keeps copies on the way."""
@@ -109,7 +109,7 @@ class Exploring:
         self.played += 1
         self.seed = schedule.seed or self.seed
         try:
-            played = self._play(schedule.delays)
+            played = self.ends_of(schedule.delays)
         except Impossible:
             self.left += 1
             return
@@ -133,12 +133,12 @@ class Exploring:
     def _ends(self, schedule: Schedule) -> list[Finding]:
         """What a schedule ends with."""
         try:
-            played = self._play(schedule.delays)
+            played = self.ends_of(schedule.delays)
         except Impossible:
             return []
         return list(self._findings(schedule, played)) if played else []
 
-    def _play(self, delays: tuple[Delay, ...]) -> Optional[Played]:
+    def ends_of(self, delays: tuple[Delay, ...]) -> Optional[Played]:
         """Plays a schedule from the last copy before its first delay; None where it comes back to the recorded run."""
         first = min(delay.before for delay in delays)
         at = max(at for at, (time, _) in enumerate(self._copies) if time < first or at == 0)

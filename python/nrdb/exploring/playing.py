@@ -2,7 +2,7 @@
 doesn't have at once; who is held is due later. What isn't due waits, and what can't be yet: who sleeps, and who needs what another
 has still to make."""
 
-from heapq import heappop, heappush
+from heapq import heapify, heappop, heappush
 from typing import Optional
 
 from netrev_model.machine import Answer, Refused, World
@@ -20,6 +20,7 @@ ASLEEP = ("parked", "queued")
 WAKING = frozenset(("pollevent", "setdeadline", "evict", "fire", "release"))
 MAKING = frozenset(("spawn", "sockopen", "pollopen"))
 GOROUTINE, CLOCK, MADE, NETWORK = range(4)  # who acts
+Due = tuple[float, int, int, int]  # when, which of those at that time, who acts, and its number
 
 
 class Player:
@@ -41,7 +42,7 @@ class Player:
         self.lacking: list[tuple[int, int]] = []  # who waits for what isn't made
         self.others = Others(script)
         self.now = 0.0
-        self._heap: list[tuple[float, int, int, int]] = []
+        self._heap: list[Due] = []
         self._count = 0
         self._alike: Optional[Alike] = None
         self._streams: dict[tuple[int, int], Stream] = {}
@@ -59,8 +60,19 @@ class Player:
         made.held, made.asleep, made.lacking = dict(self.held), set(self.asleep), list(self.lacking)
         made.off, made.following = set(self.off), dict(self.following)
         made.passing = self.passing.copy(made.places)
-        made._heap = list(self._heap)
+        made._heap = [made._held(one) if one[2] == GOROUTINE else one for one in self._heap]
+        heapify(made._heap)
         return made
+
+    def _held(self, one: Due) -> Due:
+        """What is due of a goroutine: later where it pauses before that."""
+        due, count, actor, g = one
+        place = self.places[g]
+        number = number_of(self.script.goroutines[g][place.operation], place, self.following[g][0])
+        if number not in self.until:
+            return one
+        self.held[g] = max(due, self.until[number])
+        return self.held[g], count, actor, g
 
     def is_as(self, other: "Player") -> bool:
         """Whether it is where the other is, so that both go on alike."""
@@ -126,25 +138,28 @@ class Player:
         world = self.world
         if g >= len(world.goroutines) or g in self.asleep:
             return None
-        operations = self.script.goroutines[g]
-        while True:
-            place = self.places[g]
-            if place.operation >= len(operations):
-                return None
-            operation = operations[place.operation]
-            if operation.sort is not Sort.WAIT or place.is_waiting or not self._has_come(g):
-                break
-            self.places[g] = Place(place.operation + 1)
-            self._passes(g)
-        return next_step(world, self.numbers, g, place, operation, self._stream(g, place.operation))
+        operations, place = self.script.goroutines[g], self.places[g]
+        if place.operation >= len(operations):
+            return None
+        stream = self._stream(g, place.operation)
+        return next_step(world, self.numbers, g, place, operations[place.operation], stream)
 
-    def _has_come(self, g: int) -> bool:
-        """Whether what a goroutine would wait for has come already, so that its call went on without a wait."""
-        operation = self.script.goroutines[g][self.places[g].operation]
+    def _needs_no_wait(self, g: int) -> bool:
+        """Whether what a goroutine is about to wait for has come already, so that its call goes on without a wait. It does then."""
+        place = self.places[g]
+        operation = self.script.goroutines[g][place.operation]
+        if operation.sort is not Sort.WAIT or place.is_waiting:
+            return False
         if operation.is_brief:
             d = self.numbers.descriptors.get(operation.use)
-            return d is None or self.world.descs[d].words["rw".index(operation.side)] != "ready"
-        return operation.cause is not None and operation.cause in self.others.told
+            if d is not None and self.world.descs[d].words["rw".index(operation.side)] == "ready":
+                return False
+        elif operation.cause is None or operation.cause not in self.others.told:
+            return False
+        self.places[g] = Place(place.operation + 1)
+        self._passes(g)
+        self._push_goroutine(g)
+        return True
 
     def _push_goroutine(self, g: int) -> None:
         """Puts a goroutine's next step where it is due."""
@@ -173,10 +188,8 @@ class Player:
         """Lets a goroutine make its step."""
         if self.held and self.held.pop(g, 0) > self.script.length + 1:
             self._let_its_deadline_pass(g)
-        step: Optional[Step] = self.following.pop(g)
-        if step is None or step[0] == "waitbegin":  # (what it would wait for may have come meanwhile)
-            step = self._next(g)
-        if step is None:
+        step = self.following.pop(g)
+        if step[0] == "waitbegin" and self._needs_no_wait(g):
             return
         place = self.places[g]
         operation = self.script.goroutines[g][place.operation]
@@ -193,7 +206,9 @@ class Player:
         self.places[g] = behind(place, operation, step[0], answer, status, self._stream(g, place.operation))
         if self.places[g].operation != place.operation and place.made < len(operation.steps):
             self.off.add(g)
-        self._made_by(g, step, answer, operation.socket, operation.use)
+        self.numbers.see(step, answer, operation, self.world)
+        if step[0] in MAKING:
+            self._look_again()
         self._passes(g)
         if status in ASLEEP:
             self.asleep.add(g)
@@ -204,20 +219,6 @@ class Player:
         """The clock goes on to the deadline of what a goroutine is about to do, if it has one, and timers go off."""
         for step in self.others.passed(self.world, self.following[g]):
             self._apply(step, 0)
-
-    def _made_by(self, g: int, step: Step, answer: Answer, socket: int, use: int) -> None:
-        """What a goroutine has made or freed."""
-        if step[0] == "sockopen":
-            self.numbers.sockets[socket] = answer[1]
-        elif step[0] == "pollopen":
-            d = answer[1]
-            self.numbers.descriptors[use] = d
-            self.numbers.fdseqs[use] = self.world.descs[d].fdseq
-            self.numbers.use_of[socket] = use
-        elif step[0] == "pollclose":
-            self.numbers.use_of.pop(socket, None)
-        if step[0] in MAKING:
-            self._look_again()
 
     def _passes(self, g: int) -> None:
         """A goroutine has gone on: who waited for that may go on too."""
