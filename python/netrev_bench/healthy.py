@@ -33,6 +33,9 @@ WANTED = {
     Suite("github.com/gorilla/websocket"): 2,
     Suite("github.com/miekg/dns", "Serv|Client|Dial|Conn|TCP|Timeout|Shutdown"): 2,
     Suite("github.com/valyala/fasthttp", "Client|Server|Conn|Timeout|Pipeline|Dial|Listen|Shutdown"): 2,
+    Suite("net", "Deadline|Timeout|Cancel|Close"): 4,
+    Suite("net/http", "Deadline|Timeout|Cancel|Abort|Hijack|Background|Close"): 6,
+    Suite("crypto/tls", "Deadline|Timeout|Cancel|Close"): 2,
 }
 
 

@@ -22,7 +22,6 @@ COPIES, MOST_COPIES = 200, 2_000  # of the recorded run, from which schedules go
 APART = 5  # steps between two copies, as long as there aren't more of them
 LONGER = 4  # how much longer than the recording a schedule may be
 HANG = "a call that hangs"
-NEWS = (("code", 2), ("pipe",))
 ORDERED = (Rule.LOST_WAKE_UP, Rule.TAKEN_BACK, Rule.LEFT_BEHIND, Rule.WRITE_BEHIND_SHUT)  # what an order decides
 
 Key = tuple[Any, ...]
@@ -35,6 +34,7 @@ class Played(NamedTuple):
     world: World
     places: list[Place]
     sockets: dict[int, int]  # by their numbers in the recording
+    has_news: bool
 
     def pairs(self) -> list[tuple[Step, Answer]]:
         return [(made.step, made.answer) for made in self.steps]
@@ -96,7 +96,7 @@ class Exploring:
 
     def _all_of(self, player: Player) -> Played:
         steps = self._steps[: player.before] + player.steps
-        return Played(steps, player.world, player.places, player.numbers.sockets)
+        return Played(steps, player.world, player.places, player.numbers.sockets, player.has_news)
 
     def run(self, most: int, tell: Callable[[], None]) -> None:
         """Plays so many schedules; `tell` is called behind each."""
@@ -146,7 +146,7 @@ class Exploring:
         last = max(delay.until for delay in delays)
         for time, copy in self._copies[at + 1 :]:
             player.run(time, self._most)
-            if time > last and not self._has_news(player.steps) and player.is_as(copy):
+            if time > last and not player.has_news and player.is_as(copy):
                 return None
         player.end(self._most)
         return self._all_of(player)
@@ -156,14 +156,7 @@ class Exploring:
     def _is_otherwise(self, played: Played) -> bool:
         """Whether it may end with something else than the recorded run."""
         parked = {g for g, status in enumerate(played.world.goroutines) if status[0] == "parked"}
-        return bool(parked - self._parked) or self._has_news(played.steps)
-
-    def _has_news(self, steps: list[Made]) -> bool:
-        """Whether a time ran out, or a pipe was broken, where it didn't in the recorded run."""
-        answers = self.script.answers
-        return any(
-            made.answer in NEWS and (not made.number or answers[made.number - 1] != made.answer) for made in steps
-        )
+        return played.has_news or bool(parked - self._parked)
 
     def _findings(self, schedule: Schedule, played: Played) -> Iterator[Finding]:
         suspects = [one for one in suspects_of(Steps(played.steps)).suspects if self._counts(one, played)]

@@ -18,6 +18,7 @@ from .scripts import Script, Sort
 
 ASLEEP = ("parked", "queued")
 WAKING = frozenset(("pollevent", "setdeadline", "evict", "fire", "release"))
+NEWS = (("code", 2), ("pipe",))  # a time ran out, a pipe is broken
 MAKING = frozenset(("spawn", "sockopen", "pollopen"))
 GOROUTINE, CLOCK, MADE, NETWORK = range(4)  # who acts
 Due = tuple[float, int, int, int]  # when, which of those at that time, who acts, and its number
@@ -37,6 +38,7 @@ class Player:
         self.passing = Passing(script.orders, script.causes, self.places)
         self.following: dict[int, Step] = {}  # of a goroutine that is put where it is due, its step
         self.off: set[int] = set()  # who has made steps that the recording doesn't have
+        self.has_news = False  # where there was none in the recording
         self.held: dict[int, float] = {}  # who pauses, until when
         self.asleep: set[int] = set()
         self.lacking: list[tuple[int, int]] = []  # who waits for what isn't made
@@ -113,15 +115,10 @@ class Player:
         """Plays all there is, and then timers that are due and what the poller has still to tell, as long as anybody goes on."""
         while True:
             self.run(NEVER, most)
-            if self.before + len(self.steps) >= most or not self._goes_on():
+            step = next(self.others.left(self.world, self.numbers), None)
+            if step is None or self.before + len(self.steps) >= most:
                 return
-
-    def _goes_on(self) -> bool:
-        """Makes what is left to others at the end; whether there was anything."""
-        for step in self.others.left(self.world, self.numbers):
             self._apply(step, 0)
-            return True
-        return False
 
     # ---- goroutines
 
@@ -196,7 +193,7 @@ class Player:
         number = number_of(operation, place, step[0])
         answer = self._apply(step, number)
         if number:
-            place = place._replace(made=place.made + 1)
+            place = Place(place[0], place[1] + 1, *place[2:])
             self.off.discard(g)
         else:
             self.off.add(g)
@@ -246,6 +243,8 @@ class Player:
         except Refused as refused:
             raise Impossible(f"{step}: reason {refused.reason}") from None
         self.steps.append(Made(step, answer, number))
+        if answer in NEWS and (not number or self.script.answers[number - 1] != answer):
+            self.has_news = True
         self.others.see(step, self.world)
         if step[0] in WAKING and self.asleep:
             statuses = self.world.goroutines
