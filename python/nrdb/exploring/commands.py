@@ -18,6 +18,7 @@ from .finding import Exploring, Finding
 from .hanging import moved_by
 from .making import script_of
 from .telling import Telling, summary
+from .workers import Share, play_all, processors
 
 USAGE = "explore [N]: N is how many schedules are played, from 1 to 1000000"
 MOST, GREATEST = 3_000, 1_000_000
@@ -47,11 +48,12 @@ def explored(session: Session, most: int = MOST) -> Explored:
     answered = answered_recording(session.program, recording, recording.length)
     answered.lines = recording.lines
     begun = time.monotonic()
-    exploring = Exploring(script_of(answered), recording.lines.words)
+    script = script_of(answered)
+    exploring = Exploring(script, recording.lines.words)
     progress = Progress(exploring, most, session.interrupts.check)
     is_stopped = False
     try:
-        exploring.run(most, progress.tell)
+        play_all(exploring, Share(script, recording.lines, most, 0, processors()), progress.tell)
     except Interrupted:
         is_stopped = True
     progress.end()

@@ -104,21 +104,27 @@ class Exploring:
             self.play(schedule)
             tell()
 
-    def play(self, schedule: Schedule) -> None:
-        """Plays a schedule, and keeps what it ends with."""
+    def play(self, schedule: Schedule) -> set[Key]:
+        """Plays a schedule, and keeps what it ends with; the keys of that."""
         self.played += 1
         self.seed = schedule.seed or self.seed
         try:
             played = self.ends_of(schedule.delays)
         except Impossible:
             self.left += 1
-            return
-        for finding in self._findings(schedule, played) if played and self._is_otherwise(played) else ():
-            if finding.key in self.known:
-                continue
+            return set()
+        if not played or not self._is_otherwise(played):
+            return set()
+        findings = [finding for finding in self._findings(schedule, played) if finding.key not in self.known]
+        for finding in findings:
             self.times[finding.key] += 1
             if finding.key not in self.found or schedule.is_simpler_than(self.found[finding.key].schedule):
                 self.found[finding.key] = finding
+        return {finding.key for finding in findings}
+
+    def keep(self, key: Key, schedule: Schedule) -> None:
+        """Keeps what another process has found in a schedule."""
+        self.found.update((finding.key, finding) for finding in self._ends(schedule) if finding.key == key)
 
     def least(self, finding: Finding) -> Finding:
         """A finding without the delays that it doesn't need."""

@@ -37,9 +37,10 @@ class Schedule(NamedTuple):
 
     def is_simpler_than(self, other: "Schedule") -> bool:
         """Whether it has fewer delays, or else shorter ones."""
-        return self._measure() < other._measure()
+        return self.measure() < other.measure()
 
-    def _measure(self) -> tuple[int, int]:
+    def measure(self) -> tuple[int, int]:
+        """How many delays it has, and how long they are."""
         return len(self.delays), sum(delay.until - delay.before for delay in self.delays)
 
 
