@@ -5,6 +5,7 @@ import unittest
 from itertools import islice
 from typing import Optional
 
+from nrdb.calls import book_of
 from nrdb.exploring.finding import HANG
 from nrdb.exploring.hanging import ended_by, moved_by
 from nrdb.exploring.making import script_of
@@ -12,8 +13,10 @@ from nrdb.exploring.playing import Player
 from nrdb.exploring.runs import Delay
 from nrdb.exploring.schedules import single_delays
 from nrdb.exploring.scripts import Script
+from nrdb.exploring.telling import IF_RAW, LEFT_UNKNOWN, UNLESS, Telling
 from nrdb.suspects import suspects_of
 from nrdb.suspects.found import Rule
+from nrdb.where import Lines
 from tests.test_exploring import EXAMPLES, GOOD, answered, explored
 from tests.test_suspects import OPEN, recording_of
 
@@ -33,7 +36,7 @@ SORTS: dict[str, set[object]] = {
     "rpc-call": {Rule.LEFT_BEHIND},
     "behind-shut": {Rule.WRITE_BEHIND_SHUT},
     "tls-shut": {Rule.WRITE_BEHIND_SHUT},
-    "lost-wake-up": set(),  # (what a RawConn's function tries isn't recorded)
+    "lost-wake-up": {Rule.LOST_WAKE_UP},
 }
 LATE = OPEN + [["incref", 0, 0], ["setdeadline", 0, 0, "rw", 50], ["decref", 0, 0]]
 LATE += [["incref", 0, 0], ["setdeadline", 0, 0, "r", 900], ["decref", 0, 0]]
@@ -106,6 +109,18 @@ def broken(script: Script, delay: Delay, orders: Pairs) -> Pairs:
     player.end(2_000)
     at = {made.number: at for at, made in enumerate(player.steps) if made.number}
     return [(one, other) for one, other in orders if one in at and other in at and at[other] < at[one]]
+
+
+class Raw(unittest.TestCase):
+    def test_what_a_function_of_the_programs_tries_is_left_open(self) -> None:
+        recording = answered(EXAMPLES / "races/lost-wake-up.jsonl")
+        for is_known in (True, False):
+            recording.lines = recording.lines if is_known else Lines()
+            exploring = explored(script_of(recording), 50)
+            said = [
+                Telling(recording, book_of(recording), exploring.script).unless(f) for f in exploring.found.values()
+            ]
+            self.assertEqual(said, [f"{UNLESS}{LEFT_UNKNOWN}; {IF_RAW}"] if is_known else [])
 
 
 class Hanging(unittest.TestCase):

@@ -145,7 +145,7 @@ class Player:
         """Whether what a goroutine is about to wait for has come already, so that its call goes on without a wait. It does then."""
         place = self.places[g]
         operation = self.script.goroutines[g][place.operation]
-        if operation.sort is not Sort.WAIT or place.is_waiting:
+        if operation.sort is not Sort.WAIT or place.is_waiting or operation.is_raw:
             return False
         if operation.is_brief:
             d = self.numbers.descriptors.get(operation.use)

@@ -50,6 +50,7 @@ class Operation:
     on_failure: int = 0
     cause: Optional[int] = None  # the step of the event that ended a wait behind which nothing was read or written
     is_brief: bool = False  # such a wait that took a readiness which was there
+    is_raw: bool = False  # whether it waits is for a function of the program's to say, which RawConn was given
     ends_unread: bool = False  # behind its last wait nothing was tried that is a step
 
 

@@ -4,6 +4,7 @@ from typing import Optional
 
 from ..calls import Book, Call
 from ..recording import Recording
+from ..suspects.found import Rule
 from ..words import counted
 from .finding import Exploring, Finding
 from .hanging import moved_by
@@ -12,6 +13,7 @@ from .scripts import Script
 
 UNLESS = "possible, unless your program orders these calls by what a recording doesn't show: "
 UNKNOWN = "a channel, a mutex, a condition"
+IF_RAW = "and only if the function that RawConn was given waits without a try, which isn't recorded"
 LEFT_UNKNOWN = "a lock that was free, an atomic"  # where the recorder saw what the program orders
 
 
@@ -30,9 +32,14 @@ class Telling:
             in_call, before = "", self._named(call)
         return f"goroutine {g}{in_call} pauses before {before} (step {delay.before}) until {self._until(delay.until)}"
 
-    def unless(self) -> str:
+    def unless(self, finding: Finding) -> str:
         """What isn't known of a finding."""
-        return UNLESS + (UNKNOWN if self.script.orders is None else LEFT_UNKNOWN)
+        unless = UNLESS + (UNKNOWN if self.script.orders is None else LEFT_UNKNOWN)
+        g = finding.suspect.goroutine if finding.suspect else None
+        if g is None or finding.key[0] is not Rule.LOST_WAKE_UP:
+            return unless
+        operation = self.script.goroutines[g][finding.played.places[g].operation]
+        return f"{unless}; {IF_RAW}" if operation.is_raw else unless
 
     def _until(self, number: int) -> str:
         if number > self.script.length:
@@ -72,7 +79,7 @@ class Telling:
                 lines.append(f"   Go:     step {number}, {self.recording.step(number).kind}: {words}")
         seed = f", the first by seed {finding.schedule.seed}" if finding.schedule.seed else ""
         lines.append(f"   so ended {counted(times, 'schedule')}{seed}")
-        lines.append(f"   {self.unless()}")
+        lines.append(f"   {self.unless(finding)}")
         return lines
 
     def _head(self, finding: Finding, file: str) -> str:
