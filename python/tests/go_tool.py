@@ -313,6 +313,23 @@ class Sentences(Tool):
         unfit = [line for line in said if line.startswith("unfit")]
         self.assertEqual(unfit, ["unfit runtime/netpoll.go netpollblock: gpp.Swap(...) stands there 0 times, not 1"])
 
+    def test_where_the_orders_do_not_fit_all_else_does(self) -> None:
+        status, said = self.fit(
+            {"runtime/chan.go": {"c.recvq.dequeue()": "c.recvq.first()", "chanbuf(c, c.sendx)": "c.at(c.sendx)"}}
+        )
+        self.assertEqual(status, 0)
+        self.assertEqual(
+            [line for line in said if not line.startswith("fits")],
+            ["without the program's orders: runtime/chan.go chansend: chanbuf(c, c.sendx) stands there 0 times, not 1"],
+        )
+        points, folder = points_program(find_go(), self.folder), self.folder / "made"
+        folder.mkdir()
+        subprocess.run([points, "overlay", self.folder, SOURCES / "log", folder], check=True, capture_output=True)
+        replaced = sorted(path.name for path in folder.glob("*.go"))
+        self.assertNotIn("runtime_chan.go", replaced)
+        self.assertNotIn("runtime_proc.go", replaced)
+        self.assertIn("runtime_sema.go", replaced)
+
     def test_rules_that_no_release_was_run_with_say_so(self) -> None:
         error, ready = "pd.setEventErr(ev.events == _EPOLLERR)", "netpollready(&toRun, pd, mode)"
         counted = {"atomic.Load(&root.nwait) == 0": "root.nwait.Load() == 0"}
