@@ -46,6 +46,7 @@ def parser() -> argparse.ArgumentParser:
     made.add_argument("--sockets", metavar="N", type=int, default=MOST_SOCKETS, help="the newest N sockets alone")
     made.add_argument("--pid", metavar="PID", type=int, help="convert: the process whose log it is")
     made.add_argument("--no-lines", action="store_true", help="records no lines of the source")
+    made.add_argument("--no-orders", action="store_true", help="records nothing of channels and of who made whom ready")
     made.add_argument("--words", action="store_true", help="writes Go's lock words to NAME.words")
     made.add_argument("--keep", action="store_true", help="keeps the logs, and says where")
     made.add_argument("command", choices=("run", "test", "build", "convert", "env", "doctor"), metavar="COMMAND")
@@ -73,7 +74,7 @@ def flags(go: Go, words: list[str]) -> list[str]:
 
 def record(options: argparse.Namespace, go: Go) -> int:
     wish, words = Wish(options.sockets, options.words), options.words_of_go
-    limits = Limits(options.n, options.procs, options.points, not options.no_lines)
+    limits = Limits(options.n, options.procs, options.points, not options.no_lines, not options.no_orders)
     once = ["-count=1"] if options.command == "test" else []
     command = [go.program, options.command, *flags(go, words), *once, *words]
     folder = logs_folder(options.points)

@@ -86,6 +86,11 @@ class Converter:
         self.words: list[tuple[int, int, int]] = []  # after which step, which socket, and Go's word then
         self.goroutines: dict[int, int] = {}
         self.last_steps: list[int] = []  # of each goroutine
+        self.names: list[int] = []  # Go's own, of each goroutine
+        self.made_of: dict[
+            int, list[tuple[int, int]]
+        ] = {}  # of a point's number the goroutines' steps, each with Go's name
+        self._made: list[tuple[int, int]] = []
         self.last_stacks: list[int] = []
         self.sockets = 0
         self.free: list[int] = []
@@ -106,7 +111,9 @@ class Converter:
             Kind.EVICT: self.evict, Kind.EVENT: self.event, Kind.FIRE: self.fire,
         }  # fmt: skip
         for point, socket in self.points:
+            self._made = []
             table[point.kind](point, socket)
+            self.made_of[point.number] = self._made
 
     def step(self, text: str) -> None:
         """A step of no goroutine's."""
@@ -120,12 +127,14 @@ class Converter:
         self.lines.append(text)
         self.stacks.append(stack or self.last_stacks[g])
         self.last_steps[g] = len(self.lines)
+        self._made.append((self.names[g], len(self.lines)))
 
     def goroutine(self, identity: int) -> int:
         """A goroutine's number; one that wasn't met before is spawned."""
         number = self.goroutines.get(identity)
         if number is None:
             number = self.goroutines[identity] = len(self.goroutines)
+            self.names.append(identity)
             self.last_steps.append(0)
             self.last_stacks.append(0)
             if number:

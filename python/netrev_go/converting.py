@@ -55,9 +55,10 @@ def convert(log: pathlib.Path, name: pathlib.Path, go: Go | None, wish: Wish) ->
     if go:
         roots = Roots(go.sources(), pathlib.Path.cwd())
         calls = lines_of(read, set(recording.stacks), program_of(log, read.program), go.program, roots)
-    if any(known.calls for known in calls.values()):
-        write_where(name.with_suffix(".where"), recording.stacks, calls)
-    elif any(recording.stacks):
+    has_lines = any(known.calls for known in calls.values())
+    if has_lines or recording.orders is not None:
+        write_where(name.with_suffix(".where"), recording.stacks, calls, recording.orders)
+    if any(recording.stacks) and not has_lines:
         recording.notes.append(
             "no lines: Go or the program's copy isn't here, or Go reads no lines of it (-buildmode=pie)"
         )

@@ -9,6 +9,8 @@ from netrev_model.built import netrev_program
 from .running import MOST_POINTS, logs_folder
 from .toolchain import HOW_TO_INSTALL, TRIED, Trouble, cache, find_go, fit
 
+WITHOUT = "without the program's orders"  # so begins a line of a rule that can be done without
+
 
 def doctor() -> int:
     """Prints a line for each thing that is needed; the status is 1 where one is missing."""
@@ -22,7 +24,12 @@ def doctor() -> int:
     fits, rules = fit(go)
     for rule in rules:
         print(f"  {rule}")
-    print("rules: all fit" if fits else f"rules: not all fit, so this Go can't record. {HOW_TO_INSTALL} (1.19.8)")
+    without = any(rule.startswith(WITHOUT) for rule in rules)
+    print(
+        f"rules: not all fit, so this Go can't record. {HOW_TO_INSTALL} (1.19.8)" if not fits
+        else "rules: all fit but those of the program's orders, which aren't recorded" if without
+        else "rules: all fit"
+    )  # fmt: skip
     try:
         folder = logs_folder(MOST_POINTS)
         print(f"room: the logs go to {folder.parent}")

@@ -32,15 +32,16 @@ class Header:
     """The first words of a log."""
 
     def __init__(self, text: bytes) -> None:
-        if len(text) < 11 * WORD:
+        if len(text) < 12 * WORD:
             raise NoLog("it is too short for a log")
-        words = struct.unpack_from("<11Q", text)
+        words = struct.unpack_from("<12Q", text)
         if words[0] != MAGIC:
             raise NoLog("it isn't a log of netrev-go's")
         self.passed, self.points, self.stacks = words[1:4]
         self.begin, self.process, self.text = words[4:7]
         self.program = f"{words[7]}.{words[8]}"
         self.ended, self.stacks_lost = words[9:11]
+        self.has_orders = words[11] == 1
         if not 0 < self.points <= MOST_POINTS or self.stacks > MOST_STACKS or self.begin >= 2**63:
             raise NoLog("its header can't be a log's")
         if self.ended:
@@ -118,6 +119,7 @@ def read_log(path: pathlib.Path) -> Log:
     points = behind_the_last_gap(read)
     kept = min(header.passed, header.points)
     log = Log(points, read_stacks(stacks), header.begin, header.process, header.text, header.program)
+    log.has_orders = header.has_orders
     log.from_the_start = header.passed <= header.points and len(points) == len(read)
     if header.ended:
         log.notes.append("there was no room for more of the log: it ends before the program did")

@@ -7,7 +7,8 @@ import pathlib
 from dataclasses import dataclass, field
 
 from .converter import Converter, Unconvertible
-from .points import Log
+from .orders import orders_of
+from .points import ORDERING, Log
 from .sockets import MOST_SOCKETS, chosen, owned
 
 
@@ -30,12 +31,13 @@ class Recording:
     goroutines: int
     last_steps: list[int]
     sockets: int
+    orders: list[tuple[int, int]] | None = None  # None where the log has nothing of them
     notes: list[str] = field(default_factory=list)
 
 
 def make(log: Log, most: int = MOST_SOCKETS) -> Recording:
     """The recording of a log's newest sockets, at most so many."""
-    found = owned(log.points)
+    found = owned([point for point in log.points if point.kind not in ORDERING])
     notes = list(log.notes)
     if not found.sockets:
         if log.from_the_start:
@@ -51,9 +53,10 @@ def make(log: Log, most: int = MOST_SOCKETS) -> Recording:
         notes.append(f"it has {len(kept)} of {len(found.sockets)} sockets: those still open first, and the newest")
     converter = Converter(points, log.begin)
     converter.convert()
+    orders = orders_of(log.points, converter.made_of) if log.has_orders else None
     return Recording(
         converter.header(), converter.lines, converter.stacks, converter.words,
-        len(converter.goroutines), converter.last_steps, converter.sockets, notes,
+        len(converter.goroutines), converter.last_steps, converter.sockets, orders, notes,
     )  # fmt: skip
 
 

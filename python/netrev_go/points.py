@@ -35,9 +35,17 @@ class Kind(IntEnum):
     FIRE = 30
     CLOSE_WRITE = 31
     OPEN_FAILED = 116
+    READY = 117
+    SENT = 118
+    RECEIVED = 119
+    MET = 120
+    CHANNEL_CLOSED = 121
+    FOUND_CLOSED = 122
 
 
 KINDS = frozenset(int(kind) for kind in Kind)
+# Points at which the program itself puts goroutines in order, and which are at no socket.
+ORDERING = frozenset(kind for kind in KINDS if kind >= Kind.READY)
 LOCKING = frozenset({Kind.INCREF, Kind.INCREF_CLOSE, Kind.DECREF, Kind.RW_LOCK, Kind.RW_UNLOCK})
 # Points at a lock word's address. All others but INIT are at a descriptor's.
 AT_A_WORD = LOCKING | {Kind.READ, Kind.WRITE, Kind.ACQUIRE, Kind.RELEASE, Kind.CLOSE_WRITE}
@@ -78,4 +86,5 @@ class Log:
     text: int = 0
     program: str = ""
     from_the_start: bool = True  # no point is missing before the first
+    has_orders: bool = False  # of the program
     notes: list[str] = field(default_factory=list)

@@ -68,12 +68,15 @@ def hang_lines(recording: Recording, calls: dict[int, Calls], waiting: dict[int,
     return told[:MOST_TOLD] + ([f"  and {rest} more"] if rest > 0 else [])
 
 
-def next_line(name: pathlib.Path, told: list[str]) -> str:
-    """The line to type next: nrdb, with what the first suspect says to look at, or with a look at who waits."""
+def next_line(name: pathlib.Path, told: list[str], is_good: bool = False) -> str:
+    """The line to type next: nrdb, with what the first suspect says to look at, or with a look at who waits. Of a run in which
+    nobody waits, other schedules."""
     looks = [line.strip().removeprefix("look:").split(";") for line in told if line.strip().startswith("look:")]
     commands = [command.strip() for command in looks[0]] if looks else ["continue", "info goroutines"]
     program = "nrdb" if shutil.which("nrdb") else "./nrdb"
     words = [program, str(name), *(word for command in commands for word in ("-ex", command))]
+    if is_good and not looks:
+        words = [program, "--explore", str(name)]
     return plain(f"next: {shlex.join(words)}")
 
 
@@ -96,11 +99,12 @@ def report(recording: Recording, name: pathlib.Path, calls: dict[int, Calls]) ->
         return False, [*lines, "  netrev refuses it: that is a fault of netrev-go's. Please keep the log and report it"]
     cells = [f"gor {g}" for g in range(recording.goroutines)] + [f"lock {s}" for s in range(recording.sockets)]
     values = at_the_end(netrev, name, len(recording.lines), cells)
-    lines += hang_lines(recording, calls, hanging(values))
+    waiting = hanging(values)
+    lines += hang_lines(recording, calls, waiting)
     lines += [
         f"  socket {s} is closed, and {left} of its references are held: info holders {s}"
         for s, left in never_closed(values).items()
     ]
     told = suspects(netrev, name)
     lines += ["  nrdb suspects:", *(f"    {plain(line)}" for line in told[:MOST_SUSPECTS])] if told else []
-    return True, [*lines, next_line(name, told)]
+    return True, [*lines, next_line(name, told, not waiting)]

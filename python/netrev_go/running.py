@@ -31,6 +31,7 @@ class Limits:
     processors: int | None = None
     points: int = MOST_POINTS
     lines: bool = True
+    orders: bool = True
 
 
 def logs_folder(points: int) -> pathlib.Path:
@@ -62,6 +63,8 @@ def environment(folder: pathlib.Path, limits: Limits) -> dict[str, str]:
         settings["GOMAXPROCS"] = str(limits.processors)
     if not limits.lines:
         settings["NETREV_LINES"] = "0"
+    if not limits.orders:
+        settings["NETREV_ORDERS"] = "0"
     return os.environ | settings
 
 

@@ -6,8 +6,10 @@ import json
 import pathlib
 
 from .lines import OF_A_LIBRARY, OF_THE_PROGRAM, Call, Calls
+from .orders import parts
 
 STEPS_A_LINE = 1_000
+Order = tuple[int, int]
 
 
 class Numbered:
@@ -41,13 +43,17 @@ class Numbered:
         return self.numbers[key]
 
 
-def write_where(name: pathlib.Path, stacks: list[int], calls: dict[int, Calls]) -> None:
-    """Writes the file of a recording whose steps have these stacks."""
+def write_where(
+    name: pathlib.Path, stacks: list[int], calls: dict[int, Calls], orders: list[Order] | None = None
+) -> None:
+    """Writes the file of a recording whose steps have these stacks, and which the program puts in these orders."""
     numbered = Numbered(calls)
     numbered.add({"where": 1, "steps": len(stacks)})
     numbers = [numbered.stack(key) for key in stacks]
     for first in range(0, len(stacks), STEPS_A_LINE):
         numbered.add({"step": first + 1, "stacks": numbers[first : first + STEPS_A_LINE]})
+    for part in parts(orders, STEPS_A_LINE) if orders is not None else ():
+        numbered.add({"orders": part})
     name.write_text("".join(numbered.lines), encoding="ascii")
 
 

@@ -54,11 +54,14 @@ class Lines:
     def __init__(self, text: str = "", steps: int = 0) -> None:
         self.steps = array("l")
         self.stacks: dict[int, Stack] = {0: Stack((), None)}
+        self.orders: Optional[
+            list[tuple[int, int]]
+        ] = None  # of the program, by steps; None where the recorder saw none
         self._calls: dict[int, Call] = {}
         try:
             self._read([json.loads(line) for line in text.splitlines()], steps)
         except (ValueError, TypeError, KeyError, AttributeError, OverflowError):
-            self.steps = array("l")
+            self.steps, self.orders = array("l"), None
 
     @classmethod
     def beside(cls, path: str, steps: int) -> "Lines":
@@ -79,6 +82,8 @@ class Lines:
             elif "stack" in line:
                 made = self._calls[line["made"]] if "made" in line else None
                 self.stacks[line["stack"]] = Stack(tuple(self._calls[number] for number in line["calls"]), made)
+            elif "orders" in line:
+                self.orders = [*(self.orders or ()), *((int(first), int(second)) for first, second in line["orders"])]
             elif line["step"] == len(self.steps) + 1:
                 self.steps.extend(number if number in self.stacks else 0 for number in line["stacks"])
 

@@ -1,6 +1,7 @@
 """netrev-go with a real Go: programs of all sorts, and each thing that can go wrong. It needs Go (Debian's golang-go) and
 netrev, and is run by `make real`:  python3 python unittest tests.go_tool"""
 
+import json
 import os
 import pathlib
 import signal
@@ -13,6 +14,7 @@ from typing import Callable
 
 from netrev_go.toolchain import SOURCES, find_go, points_program
 from netrev_model.built import netrev_program
+from nrdb.where import Lines
 
 ROOT = pathlib.Path(__file__).resolve().parents[2]
 SAMPLES = ROOT / "tools/go/samples"
@@ -53,6 +55,17 @@ RACING = program(
     '\t\t\tfor j := 0; j < 50; j++ {\n\t\t\t\tv := net.Buffers{[]byte("a"), []byte("b")}\n\t\t\t\tv.WriteTo(a)\n\t\t\t}\n'
     "\t\t}()\n\t}\n\tdone.Wait()",
     "sync",
+)
+
+
+# a goroutine reads and tells so, in each of these ways; then its socket is closed
+TELLS = (
+    ("done := make(chan int)", "done <- 1", "<-done", ()),
+    ("done := make(chan int, 1)", "done <- 1", "time.Sleep(5e6); <-done", ("time",)),
+    ("done := make(chan int)", "close(done)", "time.Sleep(5e6); <-done", ("time",)),
+    ("done := make(chan int)", "close(done)", "select { case <-done: case <-time.After(1e9): }", ("time",)),
+    ("var done sync.WaitGroup; done.Add(1)", "time.Sleep(5e6); done.Done()", "done.Wait()", ("sync", "time")),
+    ("var m sync.Mutex; m.Lock()", "time.Sleep(5e6); m.Unlock()", "m.Lock()", ("sync", "time")),
 )
 
 
@@ -153,6 +166,42 @@ class Programs(Tool):
         _, said = self.called("-o", "c", "run", "main.go")
         self.recorded(said, "c")
         self.recorded(said, "c-2")
+
+
+class Orders(Tool):
+    def lines(self, name: str) -> tuple[list[list[object]], Lines]:
+        """The steps of a recording, and the lines beside it."""
+        steps = [json.loads(line) for line in (self.folder / f"{name}.jsonl").read_text().splitlines()[1:]]
+        return steps, Lines.beside(str(self.folder / f"{name}.jsonl"), len(steps))
+
+    def test_what_the_program_orders_is_recorded(self) -> None:
+        for made, tells, awaits, imports in TELLS:
+            with self.subTest(tells, awaits=awaits):
+                reads = f"\t{made}\n\tgo func() {{ b.Read(make([]byte, 1)); {tells} }}()"
+                self.written(program(f'{reads}\n\ta.Write([]byte("x"))\n\t{awaits}\n\tb.Close()', *imports))
+                _, said = self.called("run", "main.go")
+                self.recorded(said)
+                steps, lines = self.lines("recording")
+                read = max(
+                    at for at, step in enumerate(steps, 1) if step[0] == "rwunlock" and step[3] == "r" and step[1]
+                )
+                closes = max(at for at, step in enumerate(steps, 1) if step[0] == "increfclose")
+                self.assertIn((read, closes), lines.orders or [])
+
+    def test_a_machines_own_wake_up_is_no_order(self) -> None:
+        self.written(program("\tgo b.Read(make([]byte, 1))\n\ttime.Sleep(5e6)\n\tb.Close()\n\ttime.Sleep(5e6)", "time"))
+        _, said = self.called("run", "main.go")
+        self.recorded(said)
+        steps, lines = self.lines("recording")
+        evicts = max(at for at, step in enumerate(steps, 1) if step[0] == "evict")
+        self.assertEqual([pair for pair in lines.orders or [] if pair[0] == evicts], [])
+        self.assertIn("waitcheck", [step[0] for step in steps[evicts:]])
+
+    def test_they_can_be_left_out(self) -> None:
+        self.written(ENDS)
+        _, said = self.called("--no-orders", "run", "main.go")
+        self.recorded(said)
+        self.assertIsNone(self.lines("recording")[1].orders)
 
 
 class RunningOn(Tool):
@@ -263,6 +312,23 @@ class Sentences(Tool):
         self.assertEqual(status, 1)
         unfit = [line for line in said if line.startswith("unfit")]
         self.assertEqual(unfit, ["unfit runtime/netpoll.go netpollblock: gpp.Swap(...) stands there 0 times, not 1"])
+
+    def test_where_the_orders_do_not_fit_all_else_does(self) -> None:
+        status, said = self.fit(
+            {"runtime/chan.go": {"c.recvq.dequeue()": "c.recvq.first()", "chanbuf(c, c.sendx)": "c.at(c.sendx)"}}
+        )
+        self.assertEqual(status, 0)
+        self.assertEqual(
+            [line for line in said if not line.startswith("fits")],
+            ["without the program's orders: runtime/chan.go chansend: chanbuf(c, c.sendx) stands there 0 times, not 1"],
+        )
+        points, folder = points_program(find_go(), self.folder), self.folder / "made"
+        folder.mkdir()
+        subprocess.run([points, "overlay", self.folder, SOURCES / "log", folder], check=True, capture_output=True)
+        replaced = sorted(path.name for path in folder.glob("*.go"))
+        self.assertNotIn("runtime_chan.go", replaced)
+        self.assertNotIn("runtime_proc.go", replaced)
+        self.assertIn("runtime_sema.go", replaced)
 
     def test_rules_that_no_release_was_run_with_say_so(self) -> None:
         error, ready = "pd.setEventErr(ev.events == _EPOLLERR)", "netpollready(&toRun, pd, mode)"

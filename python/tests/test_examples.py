@@ -1,6 +1,7 @@
 """The list of examples has what is in their folder, and the scripts that go by it find the same."""
 
 import os
+import re
 import subprocess
 import tempfile
 import unittest
@@ -19,8 +20,14 @@ def there(*patterns: str) -> list[str]:
 
 class Examples(unittest.TestCase):
     def test_the_list_has_each_recording_once(self) -> None:
-        self.assertEqual(sorted(example.name for example in ALL), there("**/*.jsonl"))
+        races = there("races/*.jsonl")  # (which have a list of their own)
+        self.assertEqual(sorted([*(example.name for example in ALL), *races]), there("**/*.jsonl"))
         self.assertEqual(set(KNOWN) & set(REFUSED), set())
+
+    def test_the_list_of_races_has_each_once_with_what_lies_beside_it(self) -> None:
+        rows = re.findall(r"^\| `([\w-]+)` \|", (EXAMPLES / "races/README.md").read_text(), re.MULTILINE)
+        for ending in ("jsonl", "where", "explored"):
+            self.assertEqual(sorted(f"races/{name}" for name in rows), there(f"races/*.{ending}"))
 
     def test_what_lies_beside_a_recording_is_whole(self) -> None:
         for example in ALL:

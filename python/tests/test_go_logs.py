@@ -226,6 +226,9 @@ class Told(unittest.TestCase):
             ),
         ):
             self.assertTrue(next_line(pathlib.Path("a.jsonl"), told).endswith(f"nrdb {words}"))
+            is_named = any("look:" in line for line in told)
+            explores = next_line(pathlib.Path("a.jsonl"), told, True).endswith("nrdb --explore a.jsonl")
+            self.assertEqual(explores, not is_named)
 
     def test_addresses_become_lines(self) -> None:
         told = "main.f\n/p/main.go:14\n?\n?:0\n"

@@ -14,10 +14,11 @@ from ..reducing.reduced import Reducing, Wanted, answered_recording, reduced_of
 from ..reducing.writing import answered_by, text_of, write_lines, written
 from ..session import Misused, Session
 from ..suspects import suspects_of
-from ..suspects.found import Suspect
 from .finding import Exploring, Finding
+from .hanging import moved_by
 from .making import script_of
 from .telling import Telling, summary
+from .workers import Share, play_all, processors
 
 USAGE = "explore [N]: N is how many schedules are played, from 1 to 1000000"
 MOST, GREATEST = 3_000, 1_000_000
@@ -47,11 +48,12 @@ def explored(session: Session, most: int = MOST) -> Explored:
     answered = answered_recording(session.program, recording, recording.length)
     answered.lines = recording.lines
     begun = time.monotonic()
-    exploring = Exploring(script_of(answered), recording.lines.words)
+    script = script_of(answered)
+    exploring = Exploring(script, recording.lines.words)
     progress = Progress(exploring, most, session.interrupts.check)
     is_stopped = False
     try:
-        exploring.run(most, progress.tell)
+        play_all(exploring, Share(script, recording.lines, most, 0, processors()), progress.tell)
     except Interrupted:
         is_stopped = True
     progress.end()
@@ -96,7 +98,7 @@ class Keeping:
         self.session, self.telling = session, telling
 
     def kept(self, at: int, finding: Finding, times: int) -> list[str]:
-        """Writes a finding's recording, and of a suspect the reduced one; what to say of it."""
+        """Writes a finding's recording, and the reduced one; what to say of it."""
         recording, played = self.telling.recording, finding.played
         file = f"{Path(self.session.path).stem}-other-{at}.jsonl"
         data = text_of(played.world, played.world.limits.buf, played.pairs(), recording.has_answers)
@@ -109,8 +111,7 @@ class Keeping:
         accepted = said.decode("utf-8", "replace").strip()
         *lines, unless = self.telling.finding(at, finding, times, file)
         lines.append(f"   netrev: {file}: {accepted}, so it is a run of the machine")
-        if finding.suspect:
-            lines.append(f"   short:  {self._shortened(file, finding.suspect)}")
+        lines.append(f"   short:  {self._shortened(file, finding)}")
         return [*lines, unless]
 
     def _write(self, file: str, data: bytes) -> None:
@@ -119,16 +120,25 @@ class Keeping:
             raise Misused(f"{file} is the recording itself; rename it")
         written(file, data)
 
-    def _shortened(self, file: str, suspect: Suspect) -> str:
+    def _shortened(self, file: str, finding: Finding) -> str:
         """Reduces what was kept; what to say of that."""
         whole = Recording.read(file)
         short = f"{Path(file).stem}-short.jsonl"
         if Path(short).exists() and Path(short).samefile(self.session.path):
             raise Misused(f"{short} is the recording itself; rename it")
-        shown = [one for one in suspects_of(whole).suspects if one.is_shown]
-        number = next((at for at, one in enumerate(shown, 1) if one.subject == suspect.subject), 1)
         reducing = Reducing(whole, self.session.program, self.session.interrupts.check)
         try:
-            return reduced_of(reducing, short, Wanted(number, "", "", whole.length)).words(whole.length)
+            return reduced_of(reducing, short, self._wanted(whole, finding)).words(whole.length)
         except Misused as wrong:
             return str(wrong)
+
+    def _wanted(self, whole: Recording, finding: Finding) -> Wanted:
+        """What has to show in the short one: its suspect, or who hangs, behind both deadlines."""
+        if finding.suspect:
+            shown = [one for one in suspects_of(whole).suspects if one.is_shown]
+            subjects = [one.subject for one in shown]
+            number = subjects.index(finding.suspect.subject) + 1 if finding.suspect.subject in subjects else 1
+            return Wanted(number, "", "", whole.length)
+        played = finding.played
+        behind = moved_by(self.telling.script, finding.hangs, played.places[finding.hangs], played.steps)
+        return Wanted(0, "", "", whole.length, finding.hangs, behind)

@@ -32,6 +32,8 @@ BY_SORT = {
     Sort.EXIT: "exit",
     Sort.MAKE: "sockopen",
 }
+NEVER = float("inf")
+Step = tuple[Any, ...]
 OF_SOCKETS = frozenset((Sort.LOCK, Sort.UNLOCK, Sort.REFER, Sort.GIVE_UP, Sort.CLOSE, Sort.SHUT, Sort.OPEN))
 
 
@@ -45,6 +47,22 @@ class Place(NamedTuple):
     waits: int = 0  # how often it has begun to wait
     is_waiting: bool = False
     destroys: int = -1  # the use whose descriptor it has to free
+
+
+def number_of(operation: Operation, place: Place, kind: str) -> int:
+    """The number in the recording of the step of this kind that a goroutine makes next, or 0."""
+    made = place.made
+    return operation.steps[made] if made < len(operation.kinds) and operation.kinds[made] == kind else 0
+
+
+def next_number(operations: list[Operation], place: Place) -> float:
+    """The number of the next step of the recording that a goroutine has still to make."""
+    made = place.made
+    for at in range(place.operation, len(operations)):
+        if made < len(operations[at].steps):
+            return operations[at].steps[made]
+        made = 0
+    return NEVER
 
 
 class Stream:
@@ -84,12 +102,20 @@ class Numbers:
         made.fdseqs, made.use_of = dict(self.fdseqs), dict(self.use_of)
         return made
 
+    def see(self, step: Step, answer: Answer, operation: Operation, world: World) -> None:
+        """What a goroutine has made or freed by a step."""
+        if step[0] == "sockopen":
+            self.sockets[operation.socket] = answer[1]
+        elif step[0] == "pollopen":
+            self.descriptors[operation.use] = answer[1]
+            self.fdseqs[operation.use] = world.descs[answer[1]].fdseq
+            self.use_of[operation.socket] = operation.use
+        elif step[0] == "pollclose":
+            self.use_of.pop(operation.socket, None)
+
 
 class NotMade(Exception):
     """What a step is about isn't there yet: another goroutine has still to make it."""
-
-
-Step = tuple[Any, ...]
 
 
 def next_step(

@@ -4,7 +4,7 @@ from collections import Counter
 from dataclasses import replace
 from typing import Any, Callable, Iterator, NamedTuple, Optional
 
-from netrev_model.machine import SIDES, Answer, Limits, Status, World
+from netrev_model.machine import Answer, Limits, Status, World
 
 from ..recording import Recording
 from ..suspects import suspects_of
@@ -12,13 +12,14 @@ from ..suspects.found import Rule, Suspect
 from ..suspects.ranking import WOKEN_WRONGLY
 from .arrivals import with_events
 from .control import Place, Step
+from .hanging import hangs, waits_for_ever
 from .playing import Player
 from .runs import Delay, Impossible, Made
 from .schedules import Schedule, schedules, single_delays
 from .scripts import Script
 
 COPIES, MOST_COPIES = 200, 2_000  # of the recorded run, from which schedules go on
-APART = 10  # steps between two copies, as long as there aren't more of them
+APART = 5  # steps between two copies, as long as there aren't more of them
 LONGER = 4  # how much longer than the recording a schedule may be
 HANG = "a call that hangs"
 ORDERED = (Rule.LOST_WAKE_UP, Rule.TAKEN_BACK, Rule.LEFT_BEHIND, Rule.WRITE_BEHIND_SHUT)  # what an order decides
@@ -33,6 +34,7 @@ class Played(NamedTuple):
     world: World
     places: list[Place]
     sockets: dict[int, int]  # by their numbers in the recording
+    has_news: bool
 
     def pairs(self) -> list[tuple[Step, Answer]]:
         return [(made.step, made.answer) for made in self.steps]
@@ -75,8 +77,10 @@ class Exploring:
         self._most = LONGER * script.length + 200
         self._copies: list[tuple[float, Player]] = []
         self.delays = single_delays(self.script)
-        self._recorded = self._play_recorded()
-        self.known = {finding.key for finding in self._findings(Schedule((), 0), self._recorded)}
+        self.seed = 0  # the last that drew a schedule
+        self.recorded = self._play_recorded()
+        self._parked = {g for g, status in enumerate(self.recorded.world.goroutines) if status[0] == "parked"}
+        self.known = {finding.key for finding in self._findings(Schedule((), 0), self.recorded)}
 
     def _play_recorded(self) -> Played:
         """Plays the recorded schedule, and keeps copies on the way."""
@@ -92,7 +96,7 @@ class Exploring:
 
     def _all_of(self, player: Player) -> Played:
         steps = self._steps[: player.before] + player.steps
-        return Played(steps, player.world, player.places, player.numbers.sockets)
+        return Played(steps, player.world, player.places, player.numbers.sockets, player.has_news)
 
     def run(self, most: int, tell: Callable[[], None]) -> None:
         """Plays so many schedules; `tell` is called behind each."""
@@ -100,20 +104,27 @@ class Exploring:
             self.play(schedule)
             tell()
 
-    def play(self, schedule: Schedule) -> None:
-        """Plays a schedule, and keeps what it ends with."""
+    def play(self, schedule: Schedule) -> set[Key]:
+        """Plays a schedule, and keeps what it ends with; the keys of that."""
         self.played += 1
+        self.seed = schedule.seed or self.seed
         try:
-            played = self._play(schedule.delays)
+            played = self.ends_of(schedule.delays)
         except Impossible:
             self.left += 1
-            return
-        for finding in self._findings(schedule, played) if played else ():
-            if finding.key in self.known:
-                continue
+            return set()
+        if not played or not self._is_otherwise(played):
+            return set()
+        findings = [finding for finding in self._findings(schedule, played) if finding.key not in self.known]
+        for finding in findings:
             self.times[finding.key] += 1
-            if finding.key not in self.found or len(schedule.delays) < len(self.found[finding.key].schedule.delays):
+            if finding.key not in self.found or schedule.is_simpler_than(self.found[finding.key].schedule):
                 self.found[finding.key] = finding
+        return {finding.key for finding in findings}
+
+    def keep(self, key: Key, schedule: Schedule) -> None:
+        """Keeps what another process has found in a schedule."""
+        self.found.update((finding.key, finding) for finding in self._ends(schedule) if finding.key == key)
 
     def least(self, finding: Finding) -> Finding:
         """A finding without the delays that it doesn't need."""
@@ -128,12 +139,12 @@ class Exploring:
     def _ends(self, schedule: Schedule) -> list[Finding]:
         """What a schedule ends with."""
         try:
-            played = self._play(schedule.delays)
+            played = self.ends_of(schedule.delays)
         except Impossible:
             return []
         return list(self._findings(schedule, played)) if played else []
 
-    def _play(self, delays: tuple[Delay, ...]) -> Optional[Played]:
+    def ends_of(self, delays: tuple[Delay, ...]) -> Optional[Played]:
         """Plays a schedule from the last copy before its first delay; None where it comes back to the recorded run."""
         first = min(delay.before for delay in delays)
         at = max(at for at, (time, _) in enumerate(self._copies) if time < first or at == 0)
@@ -141,12 +152,17 @@ class Exploring:
         last = max(delay.until for delay in delays)
         for time, copy in self._copies[at + 1 :]:
             player.run(time, self._most)
-            if time > last and player.is_as(copy):
+            if time > last and not player.has_news and player.is_as(copy):
                 return None
         player.end(self._most)
         return self._all_of(player)
 
     # ---- what it ends with
+
+    def _is_otherwise(self, played: Played) -> bool:
+        """Whether it may end with something else than the recorded run."""
+        parked = {g for g, status in enumerate(played.world.goroutines) if status[0] == "parked"}
+        return played.has_news or bool(parked - self._parked)
 
     def _findings(self, schedule: Schedule, played: Played) -> Iterator[Finding]:
         suspects = [one for one in suspects_of(Steps(played.steps)).suspects if self._counts(one, played)]
@@ -154,7 +170,7 @@ class Exploring:
             yield Finding(self._key(suspect, played), suspect, -1, schedule, played)
         named = {suspect.goroutine for suspect in suspects}
         for g in range(len(played.world.goroutines)):
-            if g not in named and self._hangs(g, played):
+            if g not in named and hangs(self.script, g, played.places[g], played.world, played.steps):
                 operation = self.script.goroutines[g][played.places[g].operation]
                 number = operation.steps[0] if operation.steps else 0
                 yield Finding((HANG, self.line_of(number) or (g, operation.socket)), None, g, schedule, played)
@@ -168,12 +184,8 @@ class Exploring:
         status = played.world.goroutines[suspect.goroutine]
         if status[0] != "parked":
             return False
-        is_cut_off = suspect.rule is Rule.TAKEN_BACK and self._waits_for_ever(status, played.world)
+        is_cut_off = suspect.rule is Rule.TAKEN_BACK and waits_for_ever(status, played.world)
         return is_cut_off or self._has_come(status, played.world)
-
-    @staticmethod
-    def _waits_for_ever(status: Status, world: World) -> bool:
-        return not world.descs[status[1]].deadlines[SIDES.index(status[2])]
 
     @staticmethod
     def _has_come(status: Status, world: World) -> bool:
@@ -187,18 +199,6 @@ class Exploring:
             return suspect.rule, line
         back = {number: socket for socket, number in played.sockets.items()}
         return suspect.rule, suspect.goroutine, back.get(suspect.socket if suspect.socket is not None else -1)
-
-    def _hangs(self, g: int, played: Played) -> bool:
-        """Whether a goroutine is parked without a deadline, in a call that ended in the recording without having got or put
-        anything: since its deadline had passed, its socket was closed."""
-        status = played.world.goroutines[g]
-        if status[0] != "parked" or not self._waits_for_ever(status, played.world):
-            return False
-        operation = self.script.goroutines[g][played.places[g].operation]
-        if not operation.steps:
-            return True
-        answer = self.script.answers[operation.steps[-1] - 1]
-        return operation.kinds[-1] in ("waitcheck", "waitbegin") and answer[1] != 0
 
 
 def _wide(limits: Limits) -> Limits:

@@ -4,10 +4,13 @@ from netrev_model.machine import Limits
 
 from ..recording import Recording
 from ..reducing.events import Events
-from .scripts import Item, Script
+from ..where import Lines
+from .orders import causes_of, orders_of
+from .scripts import Item, Operation, Script, Sort
 from .taking_apart import goroutines_of
 
 CLOCK = ("tick", "pop", "fire")
+RAW = ("internal/poll.(*FD).RawRead", "internal/poll.(*FD).RawWrite")
 CAUSES = ("syswrite", "closewrite", "pollopen", "evict", "pollclose")  # what the network may answer
 
 
@@ -23,22 +26,29 @@ def script_of(recording: Recording) -> Script:
     openers = {event.arguments[1] for event in events.all if event.kind == "pollopen"}
     network, clock, made = _others(events, openers)
     count = 1 + sum(event.kind == "spawn" for event in events.all)
-    causes: list[list[int]] = [[] for _ in range(count)]
-    for event in events.all:
-        if event.kind in CAUSES:
-            causes[event.arguments[0]].append(event.number)
+    goroutines = goroutines_of(events, count)
+    _mark_raw(goroutines, recording.lines)
     return Script(
         limits,
         len(events.all),
-        goroutines_of(events, count),
+        goroutines,
         network,
         clock,
         made,
         [use.socket for use in events.uses],
         ordinals,
-        causes,
+        causes_of(goroutines, CAUSES),
         [event.answer for event in events.all],
+        orders_of(goroutines, recording.lines.orders),
     )
+
+
+def _mark_raw(goroutines: list[list[Operation]], lines: Lines) -> None:
+    """Marks the waits of RawConn, where the program's lines are known."""
+    for operation in (operation for operations in goroutines for operation in operations):
+        if operation.sort is Sort.WAIT and operation.steps:
+            calls = lines.of(operation.steps[0]).calls
+            operation.is_raw = any(call.function in RAW for call in calls)
 
 
 def _others(events: Events, openers: set[int]) -> tuple[dict[int, list[Item]], list[Item], list[Item]]:

@@ -136,6 +136,15 @@ class Others:
         self.tries[number] = self.tries.get(number, 0) + 1
         return None if self.tries[number] < MOST_TRIES else []
 
+    @staticmethod
+    def passed(world: World, step: Step) -> list[Step]:
+        """What comes before the deadline of a step's descriptor has passed: the clock goes on, and timers go off."""
+        if step[0] != "pollreset":
+            return []
+        due = max((timer.when for timer in world.timers if (timer.desc, timer.side) == step[2:4]), default=0)
+        going = sum(timer.when <= due for timer in world.timers)
+        return [("tick", max(due, world.clock)), *[("pop",)] * going, *[("fire", 0)] * going] if going else []
+
     def left(self, world: World, numbers: Numbers) -> Iterator[Step]:
         """What is left to them where nobody else goes on: timers that are due, and events of what came."""
         if world.firings:

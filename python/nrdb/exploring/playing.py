@@ -2,23 +2,26 @@
 doesn't have at once; who is held is due later. What isn't due waits, and what can't be yet: who sleeps, and who needs what another
 has still to make."""
 
-from heapq import heappop, heappush
+from heapq import heapify, heappop, heappush
 from typing import Optional
 
 from netrev_model.machine import Answer, Refused, World
 from netrev_model.steps import apply
 
+from ..reducing.events import Event
 from .comparing import Alike, alike
-from .control import NotMade, Numbers, Place, Step, Stream, behind, next_step
+from .control import NEVER, NotMade, Numbers, Place, Step, Stream, behind, next_number, next_step, number_of
+from .orders import Passing
 from .others import Others
 from .runs import Delay, Impossible, Made
 from .scripts import Script, Sort
 
 ASLEEP = ("parked", "queued")
 WAKING = frozenset(("pollevent", "setdeadline", "evict", "fire", "release"))
+NEWS = (("code", 2), ("pipe",))  # a time ran out, a pipe is broken
 MAKING = frozenset(("spawn", "sockopen", "pollopen"))
-NEVER = float("inf")
 GOROUTINE, CLOCK, MADE, NETWORK = range(4)  # who acts
+Due = tuple[float, int, int, int]  # when, which of those at that time, who acts, and its number
 
 
 class Player:
@@ -32,14 +35,16 @@ class Player:
         self.before = 0  # steps of the player that it is a copy of
         self.steps: list[Made] = []  # those behind them
         self.places = [Place() for _ in script.goroutines]
+        self.passing = Passing(script.orders, script.causes, self.places)
         self.following: dict[int, Step] = {}  # of a goroutine that is put where it is due, its step
         self.off: set[int] = set()  # who has made steps that the recording doesn't have
+        self.has_news = False  # where there was none in the recording
         self.held: dict[int, float] = {}  # who pauses, until when
         self.asleep: set[int] = set()
         self.lacking: list[tuple[int, int]] = []  # who waits for what isn't made
         self.others = Others(script)
         self.now = 0.0
-        self._heap: list[tuple[float, int, int, int]] = []
+        self._heap: list[Due] = []
         self._count = 0
         self._alike: Optional[Alike] = None
         self._streams: dict[tuple[int, int], Stream] = {}
@@ -56,8 +61,20 @@ class Player:
         made.before, made.steps, made.places = self.before + len(self.steps), [], list(self.places)
         made.held, made.asleep, made.lacking = dict(self.held), set(self.asleep), list(self.lacking)
         made.off, made.following = set(self.off), dict(self.following)
-        made._heap = list(self._heap)
+        made.passing = self.passing.copy(made.places)
+        made._heap = [made._held(one) if one[2] == GOROUTINE else one for one in self._heap]
+        heapify(made._heap)
         return made
+
+    def _held(self, one: Due) -> Due:
+        """What is due of a goroutine: later where it pauses before that."""
+        due, count, actor, g = one
+        place = self.places[g]
+        number = number_of(self.script.goroutines[g][place.operation], place, self.following[g][0])
+        if number not in self.until:
+            return one
+        self.held[g] = max(due, self.until[number])
+        return self.held[g], count, actor, g
 
     def is_as(self, other: "Player") -> bool:
         """Whether it is where the other is, so that both go on alike."""
@@ -82,11 +99,6 @@ class Player:
         self._count += 1
         heappush(self._heap, (due if due > self.now else self.now, self._count, actor, which))
 
-    @property
-    def due(self) -> Optional[float]:
-        """When the next is due; None where nothing is."""
-        return self._heap[0][0] if self._heap else None
-
     def run(self, until: float, most: int) -> None:
         """Plays all that is due before a time, and stops behind so many steps."""
         heap = self._heap
@@ -103,34 +115,12 @@ class Player:
         """Plays all there is, and then timers that are due and what the poller has still to tell, as long as anybody goes on."""
         while True:
             self.run(NEVER, most)
-            if self.before + len(self.steps) >= most or not self._goes_on():
+            step = next(self.others.left(self.world, self.numbers), None)
+            if step is None or self.before + len(self.steps) >= most:
                 return
-
-    def _goes_on(self) -> bool:
-        """Makes what is left to others at the end; whether there was anything."""
-        for step in self.others.left(self.world, self.numbers):
             self._apply(step, 0)
-            return True
-        return False
 
     # ---- goroutines
-
-    def number_of(self, g: int, step_kind: str) -> int:
-        """The number in the recording of the step that a goroutine makes next, or 0."""
-        place = self.places[g]
-        operation = self.script.goroutines[g][place.operation]
-        made = place.made
-        return operation.steps[made] if made < len(operation.kinds) and operation.kinds[made] == step_kind else 0
-
-    def next_number(self, g: int) -> float:
-        """The number of the next step of the recording that a goroutine has still to make."""
-        operations, place = self.script.goroutines[g], self.places[g]
-        made = place.made
-        for at in range(place.operation, len(operations)):
-            if made < len(operations[at].steps):
-                return operations[at].steps[made]
-            made = 0
-        return NEVER
 
     def _stream(self, g: int, at: int) -> Optional[Stream]:
         operation = self.script.goroutines[g][at]
@@ -145,27 +135,34 @@ class Player:
         world = self.world
         if g >= len(world.goroutines) or g in self.asleep:
             return None
-        operations = self.script.goroutines[g]
-        while True:
-            place = self.places[g]
-            if place.operation >= len(operations):
-                return None
-            operation = operations[place.operation]
-            if operation.sort is not Sort.WAIT or place.is_waiting or not self._has_come(g):
-                break
-            self.places[g] = Place(place.operation + 1)
-        return next_step(world, self.numbers, g, place, operation, self._stream(g, place.operation))
+        operations, place = self.script.goroutines[g], self.places[g]
+        if place.operation >= len(operations):
+            return None
+        stream = self._stream(g, place.operation)
+        return next_step(world, self.numbers, g, place, operations[place.operation], stream)
 
-    def _has_come(self, g: int) -> bool:
-        """Whether what a goroutine would wait for has come already, so that its call went on without a wait."""
-        operation = self.script.goroutines[g][self.places[g].operation]
+    def _needs_no_wait(self, g: int) -> bool:
+        """Whether what a goroutine is about to wait for has come already, so that its call goes on without a wait. It does then."""
+        place = self.places[g]
+        operation = self.script.goroutines[g][place.operation]
+        if operation.sort is not Sort.WAIT or place.is_waiting or operation.is_raw:
+            return False
         if operation.is_brief:
             d = self.numbers.descriptors.get(operation.use)
-            return d is None or self.world.descs[d].words["rw".index(operation.side)] != "ready"
-        return operation.cause is not None and operation.cause in self.others.told
+            if d is not None and self.world.descs[d].words["rw".index(operation.side)] == "ready":
+                return False
+        elif operation.cause is None or operation.cause not in self.others.told:
+            return False
+        self.places[g] = Place(place.operation + 1)
+        self._passes(g)
+        self._push_goroutine(g)
+        return True
 
     def _push_goroutine(self, g: int) -> None:
         """Puts a goroutine's next step where it is due."""
+        if (other := self.passing.has_still_to_go_on(g)) is not None:
+            self.passing.wait(other, GOROUTINE, g)
+            return
         try:
             step = self._next(g)
         except NotMade:
@@ -174,9 +171,10 @@ class Player:
         if step is None:
             return
         self.following[g] = step
-        number = self.number_of(g, step[0])
+        operations, place = self.script.goroutines[g], self.places[g]
+        number = number_of(operations[place.operation], place, step[0])
         due = float(number)
-        if not number and g not in self.off and self.next_number(g) == NEVER:
+        if not number and g not in self.off and next_number(operations, place) == NEVER:
             due = self.script.length + 1.0  # what it did then isn't recorded, since the recording ended
         elif number in self.until:
             due = max(due, self.until[number])
@@ -185,19 +183,17 @@ class Player:
 
     def _turn(self, g: int) -> None:
         """Lets a goroutine make its step."""
-        if self.held:
-            self.held.pop(g, None)
-        step: Optional[Step] = self.following.pop(g)
-        if step is None or step[0] == "waitbegin":  # (what it would wait for may have come meanwhile)
-            step = self._next(g)
-        if step is None:
+        if self.held and self.held.pop(g, 0) > self.script.length + 1:
+            self._let_its_deadline_pass(g)
+        step = self.following.pop(g)
+        if step[0] == "waitbegin" and self._needs_no_wait(g):
             return
-        number = self.number_of(g, step[0])
-        answer = self._apply(step, number)
         place = self.places[g]
         operation = self.script.goroutines[g][place.operation]
+        number = number_of(operation, place, step[0])
+        answer = self._apply(step, number)
         if number:
-            place = place._replace(made=place.made + 1)
+            place = Place(place[0], place[1] + 1, *place[2:])
             self.off.discard(g)
         else:
             self.off.add(g)
@@ -207,25 +203,27 @@ class Player:
         self.places[g] = behind(place, operation, step[0], answer, status, self._stream(g, place.operation))
         if self.places[g].operation != place.operation and place.made < len(operation.steps):
             self.off.add(g)
-        self._made_by(g, step, answer, operation.socket, operation.use)
+        self.numbers.see(step, answer, operation, self.world)
+        if step[0] in MAKING:
+            self._look_again()
+        self._passes(g)
         if status in ASLEEP:
             self.asleep.add(g)
         elif status != "gone":
             self._push_goroutine(g)
 
-    def _made_by(self, g: int, step: Step, answer: Answer, socket: int, use: int) -> None:
-        """What a goroutine has made or freed."""
-        if step[0] == "sockopen":
-            self.numbers.sockets[socket] = answer[1]
-        elif step[0] == "pollopen":
-            d = answer[1]
-            self.numbers.descriptors[use] = d
-            self.numbers.fdseqs[use] = self.world.descs[d].fdseq
-            self.numbers.use_of[socket] = use
-        elif step[0] == "pollclose":
-            self.numbers.use_of.pop(socket, None)
-        if step[0] in MAKING:
-            self._look_again()
+    def _let_its_deadline_pass(self, g: int) -> None:
+        """The clock goes on to the deadline of what a goroutine is about to do, if it has one, and timers go off."""
+        for step in self.others.passed(self.world, self.following[g]):
+            self._apply(step, 0)
+
+    def _passes(self, g: int) -> None:
+        """A goroutine has gone on: who waited for that may go on too."""
+        for actor, which in self.passing.waiting.pop(g, ()):
+            if actor == GOROUTINE:
+                self._push_goroutine(which)
+            else:
+                self._push(self.now, actor, which)
 
     def _look_again(self) -> None:
         """Something was made: who lacked it may go on."""
@@ -245,6 +243,8 @@ class Player:
         except Refused as refused:
             raise Impossible(f"{step}: reason {refused.reason}") from None
         self.steps.append(Made(step, answer, number))
+        if answer in NEWS and (not number or self.script.answers[number - 1] != answer):
+            self.has_news = True
         self.others.see(step, self.world)
         if step[0] in WAKING and self.asleep:
             statuses = self.world.goroutines
@@ -258,8 +258,7 @@ class Player:
         item = self.others.next(actor, which)
         if item is None:
             return
-        if actor != CLOCK and (until := self._held_back(actor, item.event.number)):
-            self._push(until + 0.25, actor, which)
+        if self._is_held_back(actor, which, item.event):
             return
         try:
             steps = self.others.steps_of(item, self.world, self.numbers)
@@ -282,14 +281,17 @@ class Player:
         if (following := self.others.next(actor, which)) is not None:
             self._push(following.due, actor, which)
 
-    def _held_back(self, actor: int, number: int) -> float:
-        """Until when somebody pauses who has still to make a step that this one may come of; 0 where nobody does."""
-        until = 0.0
-        for g, due in self.held.items():
-            first = self.next_number(g)
-            if first < number and (actor == MADE or self._causes(g, first, number)):
-                until = max(until, due)
-        return until
-
-    def _causes(self, g: int, first: float, number: int) -> bool:
-        return any(first <= cause < number for cause in self.script.causes[g])
+    def _is_held_back(self, actor: int, which: int, event: Event) -> bool:
+        """Whether what is due has to wait: the network for the steps that it may come of, and who is made, where it isn't known by
+        whom, for those who pause."""
+        if actor == NETWORK:
+            if (cause := self.passing.has_still_to_cause(event.number)) is not None:
+                self.passing.wait(cause, actor, which)
+                return True
+        elif actor == MADE and (event.kind != "spawn" or self.script.orders is None):
+            pausing = [(next_number(self.script.goroutines[g], self.places[g]), due) for g, due in self.held.items()]
+            until = max((due for first, due in pausing if first < event.number), default=0.0)
+            if until:
+                self._push(until + 0.25, actor, which)
+                return True
+        return False

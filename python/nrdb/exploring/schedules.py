@@ -7,10 +7,11 @@ from itertools import islice
 from typing import Iterator, NamedTuple
 
 from .runs import Delay
-from .scripts import Script
+from .scripts import Operation, Script, Sort
 
 NEAR = 4  # steps of others about the same thing, until which one pauses
 AROUND = 40  # steps, within which several delays are drawn
+IN_VAIN = 2_000  # seeds that draw nothing new, behind which no more are drawn
 LOCK, WAIT, BYTES = "lock", "wait", "bytes"  # the things of a socket that a step is about
 OF_THING = {
     LOCK: ("rwlock", "rwunlock", "increfclose", "acquire", "release"),
@@ -33,6 +34,14 @@ class Schedule(NamedTuple):
 
     delays: tuple[Delay, ...]
     seed: int
+
+    def is_simpler_than(self, other: "Schedule") -> bool:
+        """Whether it has fewer delays, or else shorter ones."""
+        return self.measure() < other.measure()
+
+    def measure(self) -> tuple[int, int]:
+        """How many delays it has, and how long they are."""
+        return len(self.delays), sum(delay.until - delay.before for delay in self.delays)
 
 
 class Touched(NamedTuple):
@@ -80,16 +89,41 @@ def single_delays(script: Script) -> list[Delay]:
                 others = (other.number for other in steps[at + 1 :] if other.matters_to(one))
                 for distance, number in enumerate(islice(others, NEAR)):
                     by_distance[distance].add(Delay(one.number, number))
-    return list(dict.fromkeys(delay for delays in by_distance for delay in sorted(delays)))
+    return list(dict.fromkeys([*(delay for delays in by_distance for delay in sorted(delays)), *_late_delays(script)]))
+
+
+def _late_delays(script: Script) -> Iterator[Delay]:
+    """Delays of a call until its deadline has passed, which was set for both sides before the other side's was moved alone."""
+    sets = sorted(_of_sort(script, Sort.SET))
+    for number, reset in sorted(_of_sort(script, Sort.RESET)):
+        before = [(at, one) for at, one in sets if at < number and one.use == reset.use]
+        own = [(at, one) for at, one in before if reset.side in one.side]
+        if own and own[-1][1].side == "rw" and own[-1][1].values[0] > 0 and own[-1][0] < before[-1][0]:
+            yield Delay(number, script.length + 1)
+
+
+def _of_sort(script: Script, sort: Sort) -> Iterator[tuple[int, Operation]]:
+    """The operations of a sort that have steps, with the number of the first."""
+    for operations in script.goroutines:
+        for operation in operations:
+            if operation.sort is sort and operation.steps:
+                yield operation.steps[0], operation
 
 
 def schedules(delays: list[Delay], most: int) -> Iterator[Schedule]:
-    """So many schedules at most, of delays of which the nearest come first."""
+    """So many different schedules at most, of delays of which the nearest come first; fewer where seeds draw no more new ones."""
     for delay in delays[:most]:
         yield Schedule((delay,), 0)
     in_order = sorted(delays)
-    for seed in range(1, most - len(delays) + 1) if delays else ():
-        yield Schedule(drawn(delays, in_order, seed), seed)
+    drawn_before: set[tuple[Delay, ...]] = {(delay,) for delay in delays}
+    seed = last = 0
+    while delays and len(drawn_before) < most and seed - last < IN_VAIN:
+        seed += 1
+        chosen = drawn(delays, in_order, seed)
+        if chosen not in drawn_before:
+            last = seed
+            drawn_before.add(chosen)
+            yield Schedule(chosen, seed)
 
 
 def drawn(delays: list[Delay], in_order: list[Delay], seed: int) -> tuple[Delay, ...]:

@@ -50,6 +50,7 @@ class Operation:
     on_failure: int = 0
     cause: Optional[int] = None  # the step of the event that ended a wait behind which nothing was read or written
     is_brief: bool = False  # such a wait that took a readiness which was there
+    is_raw: bool = False  # whether it waits is for a function of the program's to say, which RawConn was given
     ends_unread: bool = False  # behind its last wait nothing was tried that is a step
 
 
@@ -59,6 +60,23 @@ class Item(NamedTuple):
     due: float
     event: Event
     timer: Optional[Timer] = None
+
+
+class Order(NamedTuple):
+    """A goroutine's operation begins when another's one is over."""
+
+    operation: int
+    other: int
+    until: int
+
+
+class Cause(NamedTuple):
+    """A recorded step that somebody else may answer: its number, whose it is, in which operation, and where in that."""
+
+    number: int
+    goroutine: int
+    operation: int
+    at: int
 
 
 @dataclass
@@ -74,5 +92,6 @@ class Script:
     made: list[Item]
     sockets: list[int]  # of each use
     ordinals: list[int]  # which use of its descriptor each is, from 0
-    causes: list[list[int]]  # of each goroutine the steps that somebody else may answer
+    causes: list[Cause]
     answers: list[tuple[Any, ...]]
+    orders: Optional[list[list[Order]]] = None  # of each goroutine, if the recorder saw what the program orders

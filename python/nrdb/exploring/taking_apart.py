@@ -49,8 +49,9 @@ class TakenApart:
         assert last
         is_ready = event.answer in (("yes",), ("code", 0)) and event.kind != "waitcheck"
         if is_ready and last.sort is Sort.WAIT:
-            last.is_brief = event.kind == "blockarm"
-            last.cause = None if last.is_brief else self.told.get((last.use, last.side))
+            cause = self.told.get((last.use, last.side))
+            last.is_brief = event.kind == "blockarm" and (cause is None or cause < last.steps[0])
+            last.cause = None if last.is_brief else cause
         if is_ready and last.sort in (Sort.READ, Sort.WRITE):
             last.ends_unread = True  # until it tries again
 

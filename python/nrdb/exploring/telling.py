@@ -4,14 +4,17 @@ from typing import Optional
 
 from ..calls import Book, Call
 from ..recording import Recording
+from ..suspects.found import Rule
 from ..words import counted
 from .finding import Exploring, Finding
+from .hanging import moved_by
 from .runs import Delay
 from .scripts import Script
 
-UNLESS = (
-    "possible, unless your program orders these calls by what a recording doesn't show: a channel, a mutex, a condition"
-)
+UNLESS = "possible, unless your program orders these calls by what a recording doesn't show: "
+UNKNOWN = "a channel, a mutex, a condition"
+IF_RAW = "and only if the function that RawConn was given waits without a try, which isn't recorded"
+LEFT_UNKNOWN = "a lock that was free, an atomic"  # where the recorder saw what the program orders
 
 
 class Telling:
@@ -29,7 +32,18 @@ class Telling:
             in_call, before = "", self._named(call)
         return f"goroutine {g}{in_call} pauses before {before} (step {delay.before}) until {self._until(delay.until)}"
 
+    def unless(self, finding: Finding) -> str:
+        """What isn't known of a finding."""
+        unless = UNLESS + (UNKNOWN if self.script.orders is None else LEFT_UNKNOWN)
+        g = finding.suspect.goroutine if finding.suspect else None
+        if g is None or finding.key[0] is not Rule.LOST_WAKE_UP:
+            return unless
+        operation = self.script.goroutines[g][finding.played.places[g].operation]
+        return f"{unless}; {IF_RAW}" if operation.is_raw else unless
+
     def _until(self, number: int) -> str:
+        if number > self.script.length:
+            return "its deadline has passed"
         kind, g = self._step(number)
         if g < 0:
             return f"behind {self.recording.step(number)} (step {number})"
@@ -65,7 +79,7 @@ class Telling:
                 lines.append(f"   Go:     step {number}, {self.recording.step(number).kind}: {words}")
         seed = f", the first by seed {finding.schedule.seed}" if finding.schedule.seed else ""
         lines.append(f"   so ended {counted(times, 'schedule')}{seed}")
-        lines.append(f"   {UNLESS}")
+        lines.append(f"   {self.unless(finding)}")
         return lines
 
     def _head(self, finding: Finding, file: str) -> str:
@@ -77,15 +91,16 @@ class Telling:
         call = self.call_of(g, before[-1].steps[0]) if before else None
         named = self._named(call) if call else f"a call on socket {operation.socket}"
         ended = f", which ended with {call.outcome.value!r} in the recording," if call else ""
-        return f"{finding.key[0]}, in {file}: {named}{ended} hangs: goroutine {g} is parked without a deadline"
+        set_at, moved_at = moved_by(self.script, g, finding.played.places[g], finding.played.steps)
+        says = f"goroutine {g} is parked without a deadline, since step {moved_at} moved that of step {set_at}"
+        return f"{finding.key[0]}, in {file}: {named}{ended} hangs: {says}"
 
 
 def summary(exploring: Exploring, seconds: float, is_stopped: bool) -> str:
     """How many schedules were played, and what came of them."""
-    seeds = exploring.played - min(exploring.played, len(exploring.delays))
-    how = f"one delay: {exploring.played - seeds} of {len(exploring.delays)}"
-    if seeds:
-        how += f"; two and three: seeds 1 to {seeds}"
+    how = f"one delay: {min(exploring.played, len(exploring.delays))} of {len(exploring.delays)}"
+    if exploring.seed:
+        how += f"; two and three: seeds 1 to {exploring.seed}"
     stopped = "stopped: " if is_stopped else ""
     said = f"{stopped}{counted(exploring.played, 'schedule')} near the recorded one in {seconds:.1f} s ({how})"
     if exploring.left:

@@ -2,7 +2,7 @@
 
 from abc import ABC, abstractmethod
 from fnmatch import fnmatchcase
-from typing import Any, Iterator, Optional
+from typing import Any, Iterator, Optional, Sequence
 
 from netrev_model.cells import value as value_of_cell
 from netrev_model.vocabulary import CELLS, Of
@@ -107,6 +107,22 @@ class CellTarget(Target):
         else:
             words[1] = str(_back(player.numbers["s"], int(words[1])))
         return " ".join(words)
+
+
+class HangTarget(CellTarget):
+    """A goroutine that is parked at the end without a deadline, behind some steps that have to stay."""
+
+    def __init__(self, events: Events, g: int, steps: Sequence[int], position: int) -> None:
+        super().__init__(events, f"gor {g}", "parked *", position)
+        self.steps = [*steps, position]
+        self.stays = {number - 1 for number in steps}
+        self.socket = next((socket for number in steps if (socket := events.socket_of(events.all[number - 1]))), None)
+
+    def shows(self, player: Player) -> bool:
+        if not self.stays.issubset(player.chosen) or not super().shows(player):
+            return False
+        status = player.world.goroutines[player.numbers["g"][self.which or 0]]
+        return not player.world.descs[status[1]].deadlines["rw".index(status[2])]
 
 
 def _back(numbers: dict[int, int], number: int) -> int:

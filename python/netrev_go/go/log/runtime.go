@@ -36,9 +36,10 @@ const (
 	netrevHeadProgramTime
 	netrevHeadEnded // the number of the first point that found no room, and 1; else 0
 	netrevHeadStacksLost
+	netrevHeadOrders // 1 where the log has points of the program's orders
 )
 
-// Kinds of points, numbered as the steps of a recording are; above 100 is what is no step.
+// Kinds of points, numbered as the steps of a recording are; above 100 is what is no step. orders.go has the others.
 const (
 	netrevOpen        = 16
 	netrevClose       = 17
@@ -67,6 +68,7 @@ const (
 var (
 	netrevOn     uint32 // set before the first socket is opened, and never taken back
 	netrevLines  bool
+	netrevOrders bool
 	netrevFile   int32
 	netrevBase   uintptr
 	netrevRing   uintptr
@@ -123,6 +125,7 @@ func init() {
 	}
 	netrevKeepProgram(path)
 	netrevLines = gogetenv("NETREV_LINES") != "0"
+	netrevOrders = gogetenv("NETREV_ORDERS") != "0"
 	atomic.Store(&netrevOn, 1)
 }
 
@@ -194,7 +197,7 @@ func netrevLog(kind uint64, goid uint64, at uintptr, a, b, c, now int64) {
 	}
 	p := (*[netrevPointWords]uint64)(unsafe.Pointer(netrevRing + uintptr(uint64(number)%netrevPoints)*netrevPointWords*8))
 	var stack uint64
-	if gp := getg(); netrevLines && gp.m != nil && gp == gp.m.curg {
+	if gp := getg(); netrevLines && kind <= netrevOpenFailed && gp.m != nil && gp == gp.m.curg {
 		stack = netrevStack(gp, getcallersp()-16)
 	}
 	atomic.Store64(&p[0], 0)

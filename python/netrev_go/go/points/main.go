@@ -20,6 +20,7 @@ type fitting struct {
 	variant *variant
 	changes []change
 	why     string
+	isOrder bool
 }
 
 // fit tries the variants of a rule from the first.
@@ -45,26 +46,43 @@ func fit(s *source, r rule) fitting {
 func fitAll(folder string) (map[string]*source, []fitting) {
 	sources := map[string]*source{}
 	var fittings []fitting
-	for _, r := range rules {
+	for i, r := range append(append([]rule{}, steps...), orders...) {
+		f := fitting{rule: r}
 		if sources[r.file] == nil {
 			s, err := readSource(filepath.Join(folder, filepath.FromSlash(r.file)))
 			if err != nil {
-				fittings = append(fittings, fitting{rule: r, why: err.Error()})
-				continue
+				f.why = err.Error()
+			} else {
+				sources[r.file] = s
 			}
-			sources[r.file] = s
 		}
-		fittings = append(fittings, fit(sources[r.file], r))
+		if sources[r.file] != nil {
+			f = fit(sources[r.file], r)
+		}
+		f.isOrder = i >= len(steps)
+		fittings = append(fittings, f)
 	}
 	return sources, fittings
 }
 
-// report prints a line for each rule, and says how many don't fit.
+// hasOrders says whether all rules of the program's orders fit.
+func hasOrders(fittings []fitting) bool {
+	for _, f := range fittings {
+		if f.isOrder && f.variant == nil {
+			return false
+		}
+	}
+	return true
+}
+
+// report prints a line for each rule, and says how many don't fit that can't be done without.
 func report(fittings []fitting) int {
 	unfit := 0
 	for _, f := range fittings {
 		name := f.rule.file + " " + f.rule.function
 		switch {
+		case f.variant == nil && f.isOrder:
+			fmt.Printf("without the program's orders: %s: %s\n", name, f.why)
 		case f.variant == nil:
 			unfit++
 			fmt.Printf("unfit %s: %s\n", name, f.why)
@@ -80,11 +98,17 @@ func report(fittings []fitting) int {
 // overlay writes the changed files and the list of them.
 func overlay(folder, log, out string, sources map[string]*source, fittings []fitting) error {
 	changes := map[string][]change{}
+	withOrders := hasOrders(fittings)
 	for _, f := range fittings {
-		changes[f.rule.file] = append(changes[f.rule.file], f.changes...)
+		if withOrders || !f.isOrder {
+			changes[f.rule.file] = append(changes[f.rule.file], f.changes...)
+		}
 	}
 	replaced := map[string]string{}
 	for file, s := range sources {
+		if len(changes[file]) == 0 {
+			continue
+		}
 		text := ""
 		if ours := appended[file]; ours != "" {
 			functions, imports, err := oursFor(folder, filepath.Join(log, ours), s)

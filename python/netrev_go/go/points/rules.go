@@ -38,10 +38,13 @@ const (
 	polling   = "runtime/netpoll.go"
 	epolling  = "runtime/netpoll_epoll.go"
 	queueing  = "runtime/sema.go"
+	making    = "runtime/proc.go"
+	channels  = "runtime/chan.go"
+	selecting = "runtime/select.go"
 )
 
 // Which file gets which functions of ours.
-var appended = map[string]string{lockWords: "poll.go", polling: "runtime.go"}
+var appended = map[string]string{lockWords: "poll.go", polling: "runtime.go", channels: "orders.go"}
 
 const swap = "atomic.CompareAndSwapUint64(&mu.state, old, new)"
 const isClosed = "old&mutexClosed != 0"
@@ -54,7 +57,8 @@ func orLogged(put string) string { return "(netrevOn == 0 && $0 || netrevOn != 0
 
 func one(how how, find string, put string) edit { return edit{how, find, 1, []string{put}} }
 
-var rules = []rule{
+// The points of steps. None can be done without.
+var steps = []rule{
 	{lockWords, "incref", all(
 		one(replace, isClosed, "$0 && (netrevOn == 0 || netrevClosed(9, mu, false))"),
 		one(replace, swap, orLogged("netrevSwap(9, mu, old, new, true, false)")))},

@@ -20,6 +20,8 @@ from .support import EXAMPLES, ROOT, nrdb
 from .test_suspects import checked
 
 SOME = 4
+SCHEDULES = 100  # of each race
+TIMED = re.compile(r" in [\d.]+ s")
 GOOD = EXAMPLES / "cancelled-read.jsonl"
 
 
@@ -40,12 +42,12 @@ class Exploring(unittest.TestCase):
             suspect = suspects_of(Recording.read(name)).suspects[0]
             self.assertEqual((suspect.rule, suspect.goroutine), (Rule.TAKEN_BACK, 1))
         self.assertLess(Recording.read("cancelled-read-other-1-short.jsonl").length, Recording.read(files[0][0]).length)
-        self.assertEqual(said.count(UNLESS), said.count("pauses before"))
+        self.assertEqual(said.count(UNLESS), said.count("short: "))
         self.assertEqual(len(re.findall(r"^\| \d\. ", said, re.MULTILINE)), said.count(UNLESS))
 
     def test_nothing_is_written_where_nothing_is_found(self) -> None:
         said = nrdb("--batch", "-ex", "explore 300", EXAMPLES / "temporary-break.jsonl")
-        self.assertIn("| 300 schedules near the recorded one in ", said)
+        self.assertIn("| 14 schedules near the recorded one in ", said)
         self.assertIn("; nothing found\n", said)
         self.assertEqual(os.listdir("."), [])
         nrdb("--explore", EXAMPLES / "temporary-break.jsonl")
@@ -59,6 +61,18 @@ class Exploring(unittest.TestCase):
         at = next(n for n in range(1, whole.length + 1) if whole.lines.words(n) == line)
         self.assertEqual(whole.step(at).kind, "setdeadline")
         self.assertEqual(checked(Path("good-other-1.jsonl")), f"ok {whole.length} steps\n")
+
+    def test_each_race_is_found_as_the_stored_sessions_say(self) -> None:
+        sessions = sorted((EXAMPLES / "races").glob("*.explored"))
+        self.assertEqual(len(sessions), 12)
+        for session in sessions:
+            with self.subTest(session.stem):
+                said = nrdb("--batch", "-ex", f"explore {SCHEDULES}", session.with_suffix(".jsonl"))
+                told = [TIMED.sub("", line) for line in said.splitlines()[3:]]
+                self.assertEqual(told, session.read_text().splitlines())
+                for name in Path().glob(f"{session.stem}-other-*.jsonl"):
+                    self.assertRegex(checked(name), r"^ok \d+ steps\n$")
+                    self.assertIn("-short" in name.stem or name.with_name(f"{name.stem}-short.jsonl").exists(), (True,))
 
     def test_other_words_and_the_recording_itself_are_refused(self) -> None:
         said = nrdb("--batch", "-ex", "explore many", "-ex", "explore 0", "-ex", "explore 3 4", GOOD)
@@ -74,9 +88,8 @@ class Exploring(unittest.TestCase):
         found = re.search(r"    \$ ./nrdb --explore (\S+)\n((?:    \| .*\n)+)", text)
         assert found
         said = nrdb("--explore", ROOT / found[1], status=SOME).splitlines()[2:]
-        timed = re.compile(r"in [\d.]+ s")
-        shown = [timed.sub("", line[4:]) for line in found[2].splitlines()]
-        self.assertEqual([timed.sub("", line) for line in said][: len(shown)], shown)
+        shown = [TIMED.sub("", line[4:]) for line in found[2].splitlines()]
+        self.assertEqual([TIMED.sub("", line) for line in said][: len(shown)], shown)
 
 
 def upgraded_with_lines(path: Path) -> tuple[Path, str]:

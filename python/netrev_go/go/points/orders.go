@@ -1,0 +1,33 @@
+package main
+
+// The points at which the program itself puts goroutines in order. Where one of these rules doesn't fit, all are left out.
+var orders = []rule{
+	ordered(making, "goready",
+		one(replace, "ready(gp, traceskip, true)", "ready(gp, netrevReadied(gp, traceskip), true)")),
+	ordered(making, "newproc",
+		one(replace, "newproc1(...)", "netrevMade($0)")),
+	ordered(polling, "netpollgoready",
+		one(replace, "goready(...)", "goready($1, $2+netrevSema)")),
+	ordered(queueing, "semrelease1",
+		one(replace, "readyWithTime(...)", "readyWithTime($1, $2+netrev)")),
+	ordered(channels, "chansend",
+		one(before, "chanbuf(c, c.sendx)", "netrevChannel(netrevSentKind, c)")),
+	ordered(channels, "chanrecv",
+		one(before, "chanbuf(c, c.recvx)", "netrevChannel(netrevReceivedKind, c)"),
+		one(replace, "c.qcount == 0", "$0 && netrevEnded(c)"),
+		edit{replace, "empty(c)", 2, []string{"", "$0 && netrevEnded(c)"}}),
+	ordered(channels, "send",
+		one(replace, "sg.elem != nil", "netrevToReceiver(c, sg.g) && $0")),
+	ordered(channels, "recv",
+		one(replace, "c.dataqsiz == 0", "netrevFromSender(c, sg.g, $0)")),
+	ordered(channels, "closechan",
+		one(behind, "lock(&c.lock)", "netrevChannel(netrevClosedKind, c)")),
+	ordered(selecting, "selectgo",
+		edit{replace, "c.closed != 0", 2, []string{"$0 && netrevEnded(c)", ""}},
+		one(before, "chanbuf(c, c.recvx)", "netrevChannel(netrevReceivedKind, c)"),
+		one(before, "chanbuf(c, c.sendx)", "netrevChannel(netrevSentKind, c)")),
+}
+
+func ordered(file, function string, edits ...edit) rule {
+	return rule{file, function, []variant{{"1.19", true, edits}}}
+}

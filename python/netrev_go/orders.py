@@ -1,0 +1,100 @@
+"""Which steps the program itself puts in order: by `go` statements, by channels, and by whom a goroutine made ready, as a mutex, a
+condition or a WaitGroup does. What goes through goroutines without a step is seen too. A lock that was free leaves no trace here."""
+
+from __future__ import annotations
+
+from collections import defaultdict, deque
+from collections.abc import Iterable, Iterator
+
+from .points import ORDERING, Kind, Point
+
+Frontier = dict[int, int]  # the last steps, by goroutine, behind which something comes
+
+
+class Channel:
+    """What the values in a channel's buffer, and its free places, come behind; and its close."""
+
+    def __init__(self) -> None:
+        self.values: deque[Frontier] = deque()
+        self.places: deque[Frontier] = deque()
+        self.closed: Frontier = {}
+
+
+def of_length(queue: deque[Frontier], length: int) -> deque[Frontier]:
+    """The queue, whose length is known: another channel may have been at its address, or the log begins later."""
+    while len(queue) > length:
+        queue.popleft()
+    while len(queue) < length:
+        queue.appendleft({})
+    return queue
+
+
+class Orders:
+    """The orders so far. Goroutines are named as Go does it."""
+
+    def __init__(self) -> None:
+        self.found: list[tuple[int, int]] = []  # of each the step that comes first, and the other
+        self.own: dict[int, int] = {}
+        self.behind: dict[int, Frontier] = defaultdict(dict)  # what a goroutine's next step comes behind
+        self.known: dict[int, Frontier] = defaultdict(dict)  # what its steps come behind so far
+        self.channels: dict[int, Channel] = defaultdict(Channel)
+
+    def step(self, goroutine: int, number: int) -> None:
+        """A goroutine makes a step."""
+        behind = self.behind.pop(goroutine, {})
+        self.found += sorted((first, number) for first in behind.values())
+        self.known[goroutine].update(behind)
+        self.own[goroutine] = number
+
+    def point(self, point: Point) -> None:
+        """The program puts goroutines in order."""
+        g = point.goroutine
+        if point.kind == Kind.READY:
+            self._comes_behind(point.a, self._frontier(g))
+        elif point.kind == Kind.MET:
+            there = self._frontier(point.a)
+            self._comes_behind(point.a, self._frontier(g))
+            self._comes_behind(g, there)
+        elif point.kind == Kind.CHANNEL_CLOSED:
+            self.channels[point.at].closed = self._frontier(g)
+        elif point.kind == Kind.FOUND_CLOSED:
+            self._comes_behind(g, self.channels[point.at].closed)
+        else:
+            self._buffer(point)
+
+    def _buffer(self, point: Point) -> None:
+        """A value goes into a channel's buffer, or out of it."""
+        channel, held = self.channels[point.at], max(0, min(point.a, point.b))
+        values, places = of_length(channel.values, held), of_length(channel.places, max(0, point.b) - held)
+        taken, put = (places, values) if point.kind == Kind.SENT else (values, places)
+        if taken:
+            self._comes_behind(point.goroutine, taken.popleft())
+            put.append(self._frontier(point.goroutine))
+
+    def _frontier(self, goroutine: int) -> Frontier:
+        own = {goroutine: self.own[goroutine]} if goroutine in self.own else {}
+        return {**self.behind.get(goroutine, {}), **own}
+
+    def _comes_behind(self, goroutine: int, frontier: Frontier) -> None:
+        known, behind = self.known[goroutine], self.behind[goroutine]
+        for other, number in frontier.items():
+            if other != goroutine and number > max(known.get(other, 0), behind.get(other, 0)):
+                behind[other] = number
+
+
+def orders_of(points: Iterable[Point], steps: dict[int, list[tuple[int, int]]]) -> list[tuple[int, int]]:
+    """Pairs of steps of which the first comes first in each run, by the second. `steps` has, for the number of a point, the steps
+    that were made of it: the goroutine and the step's number."""
+    orders = Orders()
+    for point in points:
+        if point.kind in ORDERING:
+            orders.point(point)
+        for goroutine, number in steps.get(point.number, ()):
+            orders.step(goroutine, number)
+    return orders.found
+
+
+def parts(found: list[tuple[int, int]], size: int) -> Iterator[list[tuple[int, int]]]:
+    """The pairs, so many at a time; one part at least."""
+    for first in range(0, max(len(found), 1), size):
+        yield found[first : first + size]

@@ -1,0 +1,57 @@
+package main
+
+import (
+	"crypto/ecdsa"
+	"crypto/elliptic"
+	"crypto/rand"
+	"crypto/tls"
+	"crypto/x509"
+	"math/big"
+	"time"
+)
+
+var server, client = configurations()
+
+// configurations are those of a server with a certificate of its own, and of a client that trusts it.
+func configurations() (*tls.Config, *tls.Config) {
+	key, err := ecdsa.GenerateKey(elliptic.P256(), rand.Reader)
+	must(err)
+	template := &x509.Certificate{SerialNumber: big.NewInt(1), NotAfter: time.Now().Add(24 * hour), DNSNames: []string{"here"}}
+	certificate, err := x509.CreateCertificate(rand.Reader, template, template, &key.PublicKey, key)
+	must(err)
+	own := tls.Certificate{Certificate: [][]byte{certificate}, PrivateKey: key}
+	return &tls.Config{Certificates: []tls.Certificate{own}}, &tls.Config{InsecureSkipVerify: true}
+}
+
+// tlsShut shuts the side of writing below TLS when the answer should be out.
+func tlsShut() bool {
+	end, other := pair()
+	defer end.Close()
+	defer other.Close()
+	done := make(chan bool, 1)
+	go func() {
+		answering := tls.Server(end, server)
+		answering.Read(make([]byte, 8))
+		_, err := answering.Write([]byte("answer"))
+		done <- err == nil
+	}()
+	asking := tls.Client(other, client)
+	asking.Write([]byte("question"))
+	time.Sleep(2 * moment)
+	end.CloseWrite()
+	return ended(done)
+}
+
+// tlsHandshake ends a handshake with a silent client by a deadline, which it takes back to send a last word.
+func tlsHandshake() bool {
+	end, other := pair()
+	defer end.Close()
+	defer other.Close()
+	done := make(chan bool, 1)
+	go func() { done <- tls.Server(end, server).Handshake() != nil }()
+	time.Sleep(moment)
+	end.SetDeadline(past)
+	time.Sleep(moment)
+	end.SetDeadline(time.Time{})
+	return ended(done)
+}
