@@ -13,6 +13,7 @@ mod bytes;
 mod cell;
 mod cell_value;
 mod descriptor;
+mod keeper;
 mod kept;
 mod kind;
 pub mod laws;
@@ -38,6 +39,7 @@ pub use cell_value::CellValue;
 pub use descriptor::{
     Descriptor, DescriptorRow, WaitWord, both_raised, deadline_from, raised_sequence,
 };
+pub use keeper::{Keeper, NoWayBack};
 pub use kept::KeptBytes;
 pub use kind::Kind;
 pub use limits::{Limits, MOST_BUFFER, MOST_DESCRIPTORS, MOST_GOROUTINES, MOST_SOCKETS, is_limit};

@@ -1,7 +1,8 @@
 //! What a world owes, whatever represents it.
 
-ghost use Rattle.std.specs.Prelude.{◌≡◌, Ok, Some, IfOk, IfErr, OnErr};
+ghost use Rattle.std.specs.Prelude.{◌≡◌, Ok, Some, IfOk, IfErr, OnOk, OnErr};
 ghost use Rattle.nr_rev.specs.Cell.{cell, bytes_of, queue_of};
+ghost use Rattle.nr_rev.specs.Reversible.{IsLight, Refuses};
 ghost use Rattle.nr_rev.specs.Step.{outcome};
 ghost use Rattle.nr_rev.specs.WellFormed.{WellFormed};
 ghost use Rattle.nr_rev.specs.World.{World, empty_world};
@@ -56,6 +57,20 @@ pub trait Worlds: Reversible<Op = Step, Answer = Answer> + Sized {
     fn restored(snapshot: &Self::Snapshot) -> Result<Self, Refusal>
         ensures ok { IfOk result (λ w. w ≡ kept snapshot.now) }
         ensures err { IfErr result (λ e. e ≡ Memory) };
+
+    /// A delta that puts nothing back, whose place `apply_to` may be given.
+    fn no_delta() -> Self::Delta;
+
+    /// Applies the step as `apply` does, and puts what leads back over it in the place of a delta. Where the step does not apply,
+    /// that place may hold any delta.
+    fn apply_to(&mut self, step: &Step, delta: &mut Self::Delta) -> Result<Answer, Refusal>
+        requires { Self.is_well_formed self.old }
+        ensures step { IfOk result (λ answer. Self.steps self.old step.now answer self.new) }
+        ensures well_formed { Self.is_well_formed self.new }
+        ensures back { OnOk result (Self.back delta.new self.new self.old) }
+        ensures weight { IfOk result (λ answer. IsLight Self.weight Self.allowance Self.bytes_out step.now answer delta.new) }
+        ensures refusal { IfErr result (Refuses Self.reason Self.takes_memory self.old step.now) }
+        ensures unchanged { OnErr result (self.new ≡ self.old) };
 
     /// Applies the step as `apply` does, and keeps no way back. Takes no memory.
     fn advance(&mut self, step: &Step) -> Result<Answer, Refusal>
