@@ -133,9 +133,9 @@ module _ (m : WorldParts) (h : IsWorld m) where
       takes_none (Some opened) rc wc some = omega (arith, some)
 
       -- what is refused of the buffers is refused
-      pub opening_refused : (step : Step) (e : Refusal) → IsOpening step → Refuses sock.sock_reason sock.TakesMemory before step e → Refuses parts_reason TakesMemory m step e
+      pub opening_refused : (step : Step) (e : Refusal) → IsOpening step → Refuses sock.sock_reason sock.TakesMemory before step e → parts_reason m step ≡ Some e
       opening_refused (SockOpen rc wc) e is (inl why) =
-          inl (ap refusal_of (at_buffers rc wc ∙ ap (lifted_opening (meant m)) (refused_for (sock.outcome before (SockOpen rc wc)) e why)))
+          ap refusal_of (at_buffers rc wc ∙ ap (lifted_opening (meant m)) (refused_for (sock.outcome before (SockOpen rc wc)) e why))
       opening_refused (SockOpen rc wc) e is (inr none) = absurd (takes_none before.opened rc wc none.2)
       opening_refused _ e is why = absurd is
 

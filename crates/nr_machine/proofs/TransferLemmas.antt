@@ -1,5 +1,5 @@
 -- The steps at the buffers of a socket: what the parts come to is what the machine comes to.
-use Rattle.std.proofs.Common.{◌≡◌, inl, inr, ℕ, ◌+◌, ◌/◌, ◌<◌, ◌≤◌, true, List, [], length, set, Option, Some, None, Result, Ok, Err, refl, sym, ap, subst, ◌∙◌, arith, length-set, set-set}
+use Rattle.std.proofs.Common.{◌≡◌, inl, inr, ℕ, ◌+◌, ◌/◌, ◌<◌, ◌≤◌, Bool, true, false, List, [], length, set, Option, Some, None, Result, Ok, Err, refl, sym, ap, subst, ◌∙◌, arith, length-set, set-set}
 use Rattle.std.proofs.lemmas.Option.{slice_get_past, slice_get_within}
 use Rattle.std.specs.Prelude.{◌==◌, ◌&&◌, IfErr, IfOk, OnErr, nat_le, nat_lt, slice_get}
 use Rattle.nr_rev.specs.declared.answer.Answer.{Answer}
@@ -23,12 +23,13 @@ use Rattle.nr_sockbuf.specs.Op as sock
 use Rattle.nr_sockbuf.specs.Sock.{OpenSock, SockParts, is_opened}
 use Rattle.nr_sockbuf.specs.declared.delta.SockDelta.{SockDelta}
 use Rattle.nr_machine.specs.declared.delta.TheConstants.{MOST_WORDS}
+use Rattle.nr_machine.specs.declared.delta.WorldUndo.{WorldUndo}
 use Rattle.nr_machine.specs.declared.delta.WorldUndo.TheVariants.{Sock}
 use Rattle.nr_machine.specs.Asked.{TimersMade, asked_of}
 use Rattle.nr_machine.specs.Fits.{IsWorld, PartsFit, SockFits}
-use Rattle.nr_machine.specs.Made.{Made, TakesMemory, parts_reason}
+use Rattle.nr_machine.specs.Made.{Advanced, MakesStep, TakesMemory, Undoes, parts_reason}
 use Rattle.nr_machine.specs.Sockets.{SocketRest, buffers_in, rest_at, socket_of}
-use Rattle.nr_machine.specs.Transfers.{Advanced, Advances, IsTransfer, transferring}
+use Rattle.nr_machine.specs.Transfers.{IsTransfer, transferring}
 use Rattle.nr_machine.specs.World.{WorldParts, meant}
 use Rattle.nr_machine.proofs.ListLemmas.{get_within, set_same}
 use Rattle.nr_machine.proofs.SocketsLemmas.{length-sockets_of, sock_at, sock_set, socket_at, socket_past}
@@ -226,19 +227,23 @@ module _ (m : WorldParts) (s : ℕ) (step : Step) (h : IsWorld m) (is : IsTransf
     no_reason (Err reason) why = cc
 
     -- what is refused of the buffers is refused, and memory is taken for bytes that leave
-    pub transfer_refused : (e : Refusal) → Refuses sock.sock_reason sock.TakesMemory before step e → Refuses parts_reason TakesMemory m step e
-    transfer_refused e (inl why) = inl (ap refusal_of (buffers_refused e why))
-    transfer_refused e (inr none) =
+    pub transfer_refused : (keeps : Bool) (e : Refusal) → keeps ≡ true → Refuses sock.sock_reason sock.TakesMemory before step e
+        → Refuses parts_reason (λ (k : WorldParts) (op : Step). (keeps ≡ true) × TakesMemory k op) m step e
+    transfer_refused keeps e is_kept (inl why) = inl (ap refusal_of (buffers_refused e why))
+    transfer_refused keeps e is_kept (inr none) =
         let loses : SockLoses before step = memory_is_for_bytes before step none.2 none.1 in
         inr (
           none.0,
           ap refusal_of at_buffers ∙ no_reason (sock.outcome before step) none.1,
-          record {
-            answer = loses.answer;
-            next = with_socket s (put_back loses.next.opened seen) (meant m);
-            applies = at_buffers ∙ ap (lifted s seen (meant m)) loses.applies;
-            loses = loses.loses;
-          },
+          (
+            is_kept,
+            record {
+              answer = loses.answer;
+              next = with_socket s (put_back loses.next.opened seen) (meant m);
+              applies = at_buffers ∙ ap (lifted s seen (meant m)) loses.applies;
+              loses = loses.loses;
+            },
+          ),
         )
 
     module _ (after : SockParts) (answer : Answer) (leads : sock.StepTo before step answer after) where
@@ -261,29 +266,30 @@ module _ (m : WorldParts) (s : ℕ) (step : Step) (h : IsWorld m) (is : IsTransf
             timers = subst (λ asked. TimersMade asked m.core.timers m.core.timers) (sym (asks_nothing m s step is)) refl;
           }
 
-      -- with a way back
-      pub transfer_made : (delta : SockDelta) → sock_delta.LeadsBack delta after before → sock_delta.delta_weight delta ≤ 3 + (bytes_left step answer + 7) / 8
-          → Made (outcome (meant m) step) (asked_of m step) (MOST_WORDS + (bytes_left step answer + 7) / 8) m answer (Sock s delta) (with_sock s after m)
-      transfer_made delta back light =
-          record {
-            leads = transfer_advanced.leads;
-            parts = transfer_advanced.parts;
-            timers = transfer_advanced.timers;
-            back = record {
-              before = before;
-              after = after;
-              there = slice_get-set_here m.socks s before after at;
-              back = back;
-              rest = ap (λ (socks : List SockParts). record m { socks = socks }) (sym (set-set m.socks s after before ∙ set_same m.socks s before at));
-            };
-            light = omega (arith, light);
-          }
+      -- and the delta of the buffers leads back
+      pub transfer_undoes : (delta : SockDelta) → sock_delta.LeadsBack delta after before → sock_delta.delta_weight delta ≤ 3 + (bytes_left step answer + 7) / 8
+          → Undoes (MOST_WORDS + (bytes_left step answer + 7) / 8) (with_sock s after m) m (Sock s delta)
+      transfer_undoes delta back light = (
+        record {
+          before = before;
+          after = after;
+          there = slice_get-set_here m.socks s before after at;
+          back = back;
+          rest = ap (λ (socks : List SockParts). record m { socks = socks }) (sym (set-set m.socks s after before ∙ set_same m.socks s before at));
+        },
+        omega (arith, light),
+      )
 
-    -- what the buffers come to with no way back
-    pub transfer_advances : (after : SockParts) (r : Result Answer Refusal) → IfOk r (λ answer. sock.StepTo before step answer after) → IfErr r (λ e. sock.sock_reason before step ≡ Some e)
-        → OnErr r (after ≡ before) → Advances step m r (with_sock s after m)
-    transfer_advances after (Ok answer) leads why same = transfer_advanced after answer leads
-    transfer_advances after (Err e) leads why same = (
-      buffers_refused e why,
+    -- what the buffers come to where no way back is kept
+    pub transfer_advances : {Place : Type 0} (keeps : Bool) (holds : Place → WorldUndo → Type 0) (place : Place) → keeps ≡ false → (after : SockParts) (r : Result Answer Refusal)
+        → IfOk r (λ answer. sock.StepTo before step answer after) → IfErr r (λ e. sock.sock_reason before step ≡ Some e) → OnErr r (after ≡ before)
+        → MakesStep keeps holds place step m r (with_sock s after m)
+    transfer_advances {Place} keeps holds place none after (Ok answer) leads why same =
+        (transfer_advanced after answer leads, λ is_kept. absurd (never is_kept none))
+      where
+        never : {b : Bool} → b ≡ true → b ≡ false → ⊥
+        never t f = cc
+    transfer_advances {Place} keeps holds place none after (Err e) leads why same = (
+      inl (ap refusal_of (buffers_refused e why)),
       ap (λ (t : SockParts). with_sock s t m) same ∙ ap (λ (socks : List SockParts). record m { socks = socks }) (set_same m.socks s before at),
     )

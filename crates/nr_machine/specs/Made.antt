@@ -1,9 +1,9 @@
 -- What a step is made of: its outcome, the way back, and what stays tied.
-use Rattle.std.specs.Prelude.{◌≡◌, ℕ, ◌+◌, ◌/◌, ◌≤◌, List, Option, Result, Ok, Err}
+use Rattle.std.specs.Prelude.{◌≡◌, ℕ, ◌+◌, ◌/◌, ◌≤◌, Bool, true, List, Option, Result, Ok, Err}
 use Rattle.nr_rev.specs.declared.answer.Answer.{Answer}
 use Rattle.nr_rev.specs.declared.refusal.Refusal.{Refusal}
 use Rattle.nr_rev.specs.declared.step.Step.{Step}
-use Rattle.nr_rev.specs.Reversible.{Refuses}
+use Rattle.nr_rev.specs.Reversible.{IfKept, Refuses}
 use Rattle.nr_rev.specs.Step.{Outcome, outcome}
 use Rattle.nr_rev.specs.Worlds.{LosesBytes, bytes_left, refusal_of}
 use Rattle.nr_timers.specs.declared.op.TimersOp.{TimersOp}
@@ -15,7 +15,14 @@ use Rattle.nr_machine.specs.Fits.{PartsFit}
 use Rattle.nr_machine.specs.World.{WorldParts, meant}
 
 -- The new parts mean the definition's next world and still fit together. The timers are exactly
--- what the asked operations leave. The undo leads back, in at most this many words.
+-- what the asked operations leave.
+pub record Advanced (due : Outcome) (asked : List TimersOp) (old : WorldParts) (answer : Answer)
+    (new : WorldParts) : Type 0 where
+  pub leads : due ≡ Ok (answer, meant new)
+  pub parts : PartsFit new
+  pub timers : TimersMade asked old.core.timers new.core.timers
+
+-- so does this undo, which leads back and holds at most so many words
 pub record Made (due : Outcome) (asked : List TimersOp) (most : ℕ) (old : WorldParts)
     (answer : Answer) (undo : WorldUndo) (new : WorldParts) : Type 0 where
   pub leads : due ≡ Ok (answer, meant new)
@@ -24,11 +31,13 @@ pub record Made (due : Outcome) (asked : List TimersOp) (most : ℕ) (old : Worl
   pub back : UndoBack undo new old
   pub light : undo_weight undo ≤ most
 
--- what a step comes to is made, or it has the machine's reason and changes nothing
-abbrev pub Makes : Outcome → List TimersOp → WorldParts → Result (Answer × WorldUndo) Refusal
-    → WorldParts → Type 0
-Makes due asked old (Ok (answer, undo)) new = Made due asked MOST_WORDS old answer undo new
-Makes due asked old (Err e) new = (due ≡ Err e) × (new ≡ old)
+-- what a step comes to is made, with an undo that the place holds if it keeps any; or the step has
+-- the machine's reason and changes nothing
+abbrev pub Makes : {Place : Type 0} → (Place → WorldUndo → Type 0) → Place → Outcome
+    → List TimersOp → WorldParts → Result Answer Refusal → WorldParts → Type 0
+Makes {Place} holds place due asked old (Ok answer) new =
+    (undo : WorldUndo) × holds place undo × Made due asked MOST_WORDS old answer undo new
+Makes {Place} holds place due asked old (Err e) new = (due ≡ Err e) × (new ≡ old)
 
 -- why a step does not apply
 abbrev pub parts_reason : WorldParts → Step → Option Refusal
@@ -38,9 +47,17 @@ parts_reason m step = refusal_of (outcome (meant m) step)
 abbrev pub TakesMemory : WorldParts → Step → Type 0
 TakesMemory m step = LosesBytes (meant m) step
 
--- a whole step is made, or has its reason, or is out of memory where bytes are to be kept
-abbrev pub MakesStep : Step → WorldParts → Result (Answer × WorldUndo) Refusal → WorldParts → Type 0
-MakesStep step old (Ok (answer, undo)) new =
-    Made (outcome (meant old) step) (asked_of old step)
-    (MOST_WORDS + (bytes_left step answer + 7) / 8) old answer undo new
-MakesStep step old (Err e) new = Refuses parts_reason TakesMemory old step e × (new ≡ old)
+-- an undo leads back, and holds at most so many words
+abbrev pub Undoes : ℕ → WorldParts → WorldParts → WorldUndo → Type 0
+Undoes most new old undo = UndoBack undo new old × (undo_weight undo ≤ most)
+
+-- A whole step is made, and the place holds an undo of it where it keeps one. Or the step has its
+-- reason; or it is out of memory, where bytes are to be kept.
+abbrev pub MakesStep : {Place : Type 0} → Bool → (Place → WorldUndo → Type 0) → Place → Step
+    → WorldParts → Result Answer Refusal → WorldParts → Type 0
+MakesStep {Place} keeps holds place step old (Ok answer) new =
+    Advanced (outcome (meant old) step) (asked_of old step) old answer new
+    × IfKept keeps holds place
+        (Undoes (MOST_WORDS + (bytes_left step answer + 7) / 8) new old)
+MakesStep {Place} keeps holds place step old (Err e) new =
+    Refuses parts_reason (λ m op. (keeps ≡ true) × TakesMemory m op) old step e × (new ≡ old)

@@ -1,18 +1,12 @@
 -- The steps at the buffers of a socket, and what they come to there.
-use Rattle.std.specs.Prelude.{◌≡◌, ℕ, List, Result, Ok, Err}
-use Rattle.nr_rev.specs.declared.answer.Answer.{Answer}
-use Rattle.nr_rev.specs.declared.refusal.Refusal.{Refusal}
+use Rattle.std.specs.Prelude.{◌≡◌, ℕ, Ok}
 use Rattle.nr_rev.specs.declared.step.Step.{Step}
 use Rattle.nr_rev.specs.declared.step.Step.TheVariants.{SockOpen, Arrive, PeerClose, SysRead, SysWrite, Drain, CloseWrite}
 use Rattle.nr_rev.specs.Refusing.{◌>>=◌}
-use Rattle.nr_rev.specs.Step.{Outcome, idle, outcome, socket_of}
+use Rattle.nr_rev.specs.Step.{Outcome, idle, socket_of}
 use Rattle.nr_rev.specs.World.{World}
 use Rattle.nr_sockbuf.specs.Machine.{lifted, sock_of}
 use Rattle.nr_sockbuf.specs.Op as sock
-use Rattle.nr_timers.specs.declared.op.TimersOp.{TimersOp}
-use Rattle.nr_machine.specs.Asked.{TimersMade, asked_of}
-use Rattle.nr_machine.specs.Fits.{PartsFit}
-use Rattle.nr_machine.specs.World.{WorldParts, meant}
 
 -- this step opens a socket
 abbrev pub IsOpening : Step → Type 0
@@ -41,22 +35,3 @@ abbrev pub transferring : ℕ → Step → World → Outcome
 transferring s step w = do
   socket ← socket_of s w
   lifted s socket w (sock.outcome (sock_of socket w) step)
-
--- The parts come to what the machine comes to and stay tied, with no way back.
-pub record Advanced (due : Outcome) (asked : List TimersOp) (old : WorldParts) (answer : Answer)
-    (new : WorldParts) : Type 0 where
-  pub leads : due ≡ Ok (answer, meant new)
-  pub parts : PartsFit new
-  pub timers : TimersMade asked old.core.timers new.core.timers
-
--- so a step is made, or it has the machine's reason and changes nothing
-abbrev pub Advances : Step → WorldParts → Result Answer Refusal → WorldParts → Type 0
-Advances step old (Ok answer) new =
-    Advanced (outcome (meant old) step) (asked_of old step) old answer new
-Advances step old (Err e) new = (outcome (meant old) step ≡ Err e) × (new ≡ old)
-
--- A step takes no bytes out of a buffer.
-abbrev pub TakesNoBytes : Step → Type 0
-TakesNoBytes (SysRead g s n) = ⊥
-TakesNoBytes (Drain s n) = ⊥
-TakesNoBytes _ = Unit {0}

@@ -6,113 +6,113 @@ ghost use Rattle.nr_machine.specs.Made.{MakesStep};
 
 use crate::delta::{MOST_WORDS, WorldDelta, WorldUndo};
 use crate::world::World;
-use nr_rev::{Answer, Refusal, Reversible, Step};
+use nr_rev::{Answer, Keeper, Refusal, Reversible, Step};
 
 impl World {
     /// Makes a step of changes of the parts, or changes nothing and says why it does not apply.
     #[inline(always)]
     #[tactic(auto, using(crate::proofs::MadeLemmas::makes_step))]
-    pub(crate) fn make(&mut self, step: &Step) -> Result<(Answer, WorldUndo), Refusal>
+    pub(crate) fn make<K: Keeper<WorldUndo>>(&mut self, step: &Step, way: &mut K) -> Result<Answer, Refusal>
         requires { IsWorld self.old }
-        ensures made { MakesStep step.now self.old result self.new }
+        ensures made { MakesStep K.KEEPS K.holds way.new step.now self.old result self.new }
         ensures timely { IsTimely step.now }
     {
         match step {
-            Step::Spawn => self.spawn(),
-            Step::Exit { goroutine: g } => self.exit(*g),
+            Step::Spawn => self.spawn(way),
+            Step::Exit { goroutine: g } => self.exit(*g, way),
             Step::SockOpen {
                 read_capacity: _,
                 write_capacity: _,
-            } => self.sockopen(step),
+            } => self.sockopen(step, way),
             Step::Arrive {
                 socket: s,
                 bytes: _,
-            } => self.transfer(*s, step),
-            Step::PeerClose { socket: s } => self.transfer(*s, step),
+            } => self.transfer(*s, step, way),
+            Step::PeerClose { socket: s } => self.transfer(*s, step, way),
             Step::SysRead {
                 goroutine: g,
                 socket: s,
                 count: _,
-            } => self.transfer_of(*g, *s, step),
+            } => self.transfer_of(*g, *s, step, way),
             Step::SysWrite {
                 goroutine: g,
                 socket: s,
                 bytes: _,
-            } => self.transfer_of(*g, *s, step),
+            } => self.transfer_of(*g, *s, step, way),
             Step::Drain {
                 socket: s,
                 count: _,
-            } => self.transfer(*s, step),
+            } => self.transfer(*s, step, way),
             Step::CloseWrite {
                 goroutine: g,
                 socket: s,
-            } => self.transfer_of(*g, *s, step),
+            } => self.transfer_of(*g, *s, step, way),
             Step::Incref {
                 goroutine: g,
                 socket: s,
-            } => self.incref(*g, *s),
+            } => self.incref(*g, *s, way),
             Step::IncrefClose {
                 goroutine: g,
                 socket: s,
-            } => self.increfclose(*g, *s),
+            } => self.increfclose(*g, *s, way),
             Step::Decref {
                 goroutine: g,
                 socket: s,
-            } => self.decref(*g, *s),
+            } => self.decref(*g, *s, way),
             Step::RwLock {
                 goroutine: g,
                 socket: s,
                 side,
-            } => self.rwlock(*g, *s, *side),
+            } => self.rwlock(*g, *s, *side, way),
             Step::RwUnlock {
                 goroutine: g,
                 socket: s,
                 side,
-            } => self.rwunlock(*g, *s, *side),
-            Step::Acquire { goroutine: g } => self.acquire(*g),
-            Step::Release { goroutine: g } => self.release(*g),
+            } => self.rwunlock(*g, *s, *side, way),
+            Step::Acquire { goroutine: g } => self.acquire(*g, way),
+            Step::Release { goroutine: g } => self.release(*g, way),
             Step::PollOpen {
                 goroutine: g,
                 socket: s,
-            } => self.pollopen(*g, *s),
+            } => self.pollopen(*g, *s, way),
             Step::PollClose {
                 goroutine: g,
                 descriptor: d,
-            } => self.pollclose(*g, *d),
+            } => self.pollclose(*g, *d, way),
             Step::PollReset {
                 goroutine: g,
                 descriptor: d,
                 side,
-            } => self.pollreset(*g, *d, *side),
+            } => self.pollreset(*g, *d, *side, way),
             Step::WaitBegin {
                 goroutine: g,
                 descriptor: d,
                 side,
-            } => self.waitbegin(*g, *d, *side),
-            Step::BlockArm { goroutine: g } => self.blockarm(*g),
-            Step::BlockCheck { goroutine: g } => self.blockcheck(*g),
-            Step::ParkCommit { goroutine: g } => self.parkcommit(*g),
-            Step::BlockSwap { goroutine: g } => self.blockswap(*g),
-            Step::WaitCheck { goroutine: g } => self.waitcheck(*g),
+            } => self.waitbegin(*g, *d, *side, way),
+            Step::BlockArm { goroutine: g } => self.blockarm(*g, way),
+            Step::BlockCheck { goroutine: g } => self.blockcheck(*g, way),
+            Step::ParkCommit { goroutine: g } => self.parkcommit(*g, way),
+            Step::BlockSwap { goroutine: g } => self.blockswap(*g, way),
+            Step::WaitCheck { goroutine: g } => self.waitcheck(*g, way),
             Step::SetDeadline {
                 goroutine: g,
                 descriptor: d,
                 mode,
                 time,
-            } => self.setdeadline(*g, *d, *mode, *time),
+            } => self.setdeadline(*g, *d, *mode, *time, way),
             Step::Evict {
                 goroutine: g,
                 descriptor: d,
-            } => self.evict(*g, *d),
+            } => self.evict(*g, *d, way),
             Step::PollEvent {
                 descriptor: d,
                 tag,
                 mode,
                 error,
-            } => self.pollevent(*d, *tag, *mode, *error),
-            Step::Tick { time } => self.tick(*time),
-            Step::Pop => self.pop(),
-            Step::Fire { place } => self.fire(*place),
+            } => self.pollevent(*d, *tag, *mode, *error, way),
+            Step::Tick { time } => self.tick(*time, way),
+            Step::Pop => self.pop(way),
+            Step::Fire { place } => self.fire(*place, way),
         }
     }
 }
@@ -158,7 +158,8 @@ impl Reversible for World {
     #[inline(always)]
     #[tactic(auto, using(crate::proofs::MadeLemmas::made_fits))]
     fn apply(&mut self, step: &Step) -> Result<(Answer, WorldDelta), Refusal> {
-        let (answer, undo) = self.make(step)?;
+        let mut undo = WorldUndo::Still;
+        let answer = self.make(step, &mut undo)?;
         Ok((answer, WorldDelta { undo }))
     }
 

@@ -24,22 +24,23 @@ use crate::delta::{DescUndo, WorldUndo};
 use crate::world::World;
 use crate::world_core::Core;
 use nr_desc::{Desc, DescOp};
-use nr_rev::{Answer, Refusal, Reversible, Side, Sides, TimerOrder};
+use nr_rev::{Answer, Keeper, Refusal, Reversible, Side, Sides, TimerOrder};
 use nr_timers::{TimersDelta, TimersOp};
 
 impl World {
     /// An operation on a descriptor, which has been read: its timers obey, and those that its words held go on.
     #[inline(always)]
-    pub(crate) fn change(
+    pub(crate) fn change<K: Keeper<WorldUndo>>(
         &mut self,
         descriptor: u32,
         desc: Desc,
         op: &DescOp,
-    ) -> Result<(Answer, WorldUndo), Refusal>
+        way: &mut K,
+    ) -> Result<Answer, Refusal>
         requires world { IsWorld self.old }
         requires there { step.row_of descriptor (meant self.old)
             ≡ Ok (row_of desc (timers_of self.old.core.timers.entries descriptor)) }
-        ensures { Makes (changing descriptor op.now (meant self.old)) (asked_at descriptor op.now self.old)
+        ensures { Makes K.holds way.new (changing descriptor op.now (meant self.old)) (asked_at descriptor op.now self.old)
             self.old result self.new }
     {
         let mut desc = desc;
@@ -47,30 +48,31 @@ impl World {
         let timers = self.core.obey(descriptor, left.orders.sides())?;
         self.core.set_descriptor(descriptor, desc);
         self.core.wake_both(descriptor, left.woken);
-        let undo = WorldUndo::Changed {
+        way.put(WorldUndo::Changed {
             desc: DescUndo { descriptor, before },
             timers,
             woken: left.woken,
-        };
-        Ok((left.answer, undo))
+        });
+        Ok(left.answer)
     }
 
     /// An operation that a firing runs on a descriptor, which has been read. It orders nothing: the firing leaves, and those
     /// that the descriptor's words held go on.
     #[inline(always)]
-    pub(crate) fn change_by_firing(
+    pub(crate) fn change_by_firing<K: Keeper<WorldUndo>>(
         &mut self,
         place: u32,
         descriptor: u32,
         desc: Desc,
         op: &DescOp,
-    ) -> Result<(Answer, WorldUndo), Refusal>
+        way: &mut K,
+    ) -> Result<Answer, Refusal>
         requires world { IsWorld self.old }
         requires within { place < length self.old.core.timers.firings }
         requires there { step.row_of descriptor (meant self.old)
             ≡ Ok (row_of desc (timers_of self.old.core.timers.entries descriptor)) }
         requires quiet { asked_at descriptor op.now self.old ≡ [] }
-        ensures { Makes (changing descriptor op.now (without_firing place (meant self.old)))
+        ensures { Makes K.holds way.new (changing descriptor op.now (without_firing place (meant self.old)))
             (TakeFiring place ∷ []) self.old result self.new }
     {
         let mut desc = desc;
@@ -78,15 +80,15 @@ impl World {
         let taken = self.core.take_firing(place);
         self.core.set_descriptor(descriptor, desc);
         self.core.wake_both(descriptor, left.woken);
-        let undo = WorldUndo::Changed {
+        way.put(WorldUndo::Changed {
             desc: DescUndo { descriptor, before },
             timers: Sides {
                 read: Some(taken),
                 write: None,
             },
             woken: left.woken,
-        };
-        Ok((left.answer, undo))
+        });
+        Ok(left.answer)
     }
 }
 

@@ -3,7 +3,7 @@
 use nr_desc::DescDelta;
 use nr_gsema::GDelta;
 use nr_lock::LockDelta;
-use nr_rev::Sides;
+use nr_rev::{Keeper, Sides};
 use nr_sockbuf::SockDelta;
 use nr_timers::TimersDelta;
 
@@ -81,5 +81,21 @@ impl Default for WorldDelta {
         WorldDelta {
             undo: WorldUndo::Still,
         }
+    }
+}
+
+/// An undo is a place for an undo.
+impl Keeper<WorldUndo> for WorldUndo {
+    ghost use Rattle.std.specs.Prelude.{◌≡◌, true};
+
+    const KEEPS: bool = true;
+
+    ghost KEEPS = { true };
+
+    ghost holds = { λ place undo. place ≡ undo };
+
+    #[inline(always)]
+    fn put(&mut self, undo: WorldUndo) {
+        *self = undo;
     }
 }

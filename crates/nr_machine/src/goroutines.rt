@@ -10,35 +10,36 @@ ghost use Rattle.nr_machine.specs.World.{meant};
 use crate::delta::WorldUndo;
 use crate::world::World;
 use nr_gsema::GOperation;
-use nr_rev::{Answer, Refusal, Reversible};
+use nr_rev::{Answer, Keeper, Refusal, Reversible};
 
 impl World {
     /// What goroutines and semaphores alone do.
     #[inline(always)]
-    pub(crate) fn goroutine(&mut self, op: GOperation) -> Result<(Answer, WorldUndo), Refusal>
+    pub(crate) fn goroutine<K: Keeper<WorldUndo>>(&mut self, op: GOperation, way: &mut K) -> Result<Answer, Refusal>
         requires world { IsWorld self.old }
         requires step { IsStep op }
-        ensures { Makes (goroutine_outcome op (meant self.old)) [] self.old result self.new }
+        ensures { Makes K.holds way.new (goroutine_outcome op (meant self.old)) [] self.old result self.new }
     {
         let (answer, delta) = self.core.goroutines.apply(&op)?;
-        Ok((answer, WorldUndo::Goroutine(delta)))
+        way.put(WorldUndo::Goroutine(delta));
+        Ok(answer)
     }
 
     /// `spawn`.
     #[inline(always)]
-    pub(crate) fn spawn(&mut self) -> Result<(Answer, WorldUndo), Refusal>
+    pub(crate) fn spawn<K: Keeper<WorldUndo>>(&mut self, way: &mut K) -> Result<Answer, Refusal>
         requires { IsWorld self.old }
-        ensures { Makes (step.spawn (meant self.old)) [] self.old result self.new }
+        ensures { Makes K.holds way.new (step.spawn (meant self.old)) [] self.old result self.new }
     {
-        self.goroutine(GOperation::Spawn)
+        self.goroutine(GOperation::Spawn, way)
     }
 
     /// `exit`.
     #[inline(always)]
-    pub(crate) fn exit(&mut self, goroutine: u32) -> Result<(Answer, WorldUndo), Refusal>
+    pub(crate) fn exit<K: Keeper<WorldUndo>>(&mut self, goroutine: u32, way: &mut K) -> Result<Answer, Refusal>
         requires { IsWorld self.old }
-        ensures { Makes (step.exit goroutine (meant self.old)) [] self.old result self.new }
+        ensures { Makes K.holds way.new (step.exit goroutine (meant self.old)) [] self.old result self.new }
     {
-        self.goroutine(GOperation::Exit { goroutine })
+        self.goroutine(GOperation::Exit { goroutine }, way)
     }
 }

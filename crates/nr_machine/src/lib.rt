@@ -1,7 +1,6 @@
 //! A packed world: one machine of lock words, descriptors, goroutines linked in queues, rings and a timer heap.
 #![tactic(auto)]
 
-mod advancing;
 mod apply;
 mod cells;
 mod changing;

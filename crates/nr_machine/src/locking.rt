@@ -14,105 +14,112 @@ ghost use Rattle.nr_machine.specs.World.{meant};
 use crate::delta::WorldUndo;
 use crate::world::World;
 use nr_lock::{LockAnswer, LockOp};
-use nr_rev::{Answer, Refusal, Side, Sides, Status};
+use nr_rev::{Answer, Keeper, Refusal, Side, Sides, Status};
 
 impl World {
     /// `incref`.
     #[inline(always)]
-    pub(crate) fn incref(
+    pub(crate) fn incref<K: Keeper<WorldUndo>>(
         &mut self,
         goroutine: u32,
         socket: u32,
-    ) -> Result<(Answer, WorldUndo), Refusal>
+        way: &mut K,
+    ) -> Result<Answer, Refusal>
         requires { IsWorld self.old }
-        ensures { Makes (step.incref goroutine socket (meant self.old)) [] self.old result self.new }
+        ensures { Makes K.holds way.new (step.incref goroutine socket (meant self.old)) [] self.old result self.new }
     {
         self.idle(goroutine)?;
-        self.lock(goroutine, Status::Idle, socket, LockOp::Incref)
+        self.lock(goroutine, Status::Idle, socket, LockOp::Incref, way)
     }
 
     /// `increfclose`.
     #[inline(always)]
-    pub(crate) fn increfclose(
+    pub(crate) fn increfclose<K: Keeper<WorldUndo>>(
         &mut self,
         goroutine: u32,
         socket: u32,
-    ) -> Result<(Answer, WorldUndo), Refusal>
+        way: &mut K,
+    ) -> Result<Answer, Refusal>
         requires { IsWorld self.old }
-        ensures { Makes (step.increfclose goroutine socket (meant self.old)) []
+        ensures { Makes K.holds way.new (step.increfclose goroutine socket (meant self.old)) []
             self.old result self.new }
     {
         self.idle(goroutine)?;
-        self.lock(goroutine, Status::Idle, socket, LockOp::IncrefClose)
+        self.lock(goroutine, Status::Idle, socket, LockOp::IncrefClose, way)
     }
 
     /// `decref`.
     #[inline(always)]
-    pub(crate) fn decref(
+    pub(crate) fn decref<K: Keeper<WorldUndo>>(
         &mut self,
         goroutine: u32,
         socket: u32,
-    ) -> Result<(Answer, WorldUndo), Refusal>
+        way: &mut K,
+    ) -> Result<Answer, Refusal>
         requires { IsWorld self.old }
-        ensures { Makes (step.decref goroutine socket (meant self.old)) [] self.old result self.new }
+        ensures { Makes K.holds way.new (step.decref goroutine socket (meant self.old)) [] self.old result self.new }
     {
         self.idle(goroutine)?;
-        self.lock(goroutine, Status::Idle, socket, LockOp::Decref)
+        self.lock(goroutine, Status::Idle, socket, LockOp::Decref, way)
     }
 
     /// `rwlock`.
     #[inline(always)]
-    pub(crate) fn rwlock(
+    pub(crate) fn rwlock<K: Keeper<WorldUndo>>(
         &mut self,
         goroutine: u32,
         socket: u32,
         side: Side,
-    ) -> Result<(Answer, WorldUndo), Refusal>
+        way: &mut K,
+    ) -> Result<Answer, Refusal>
         requires { IsWorld self.old }
-        ensures { Makes (step.rwlock goroutine socket side (meant self.old)) []
+        ensures { Makes K.holds way.new (step.rwlock goroutine socket side (meant self.old)) []
             self.old result self.new }
     {
         let from = self.status_of(goroutine)?;
         if !from.may_lock(socket, side) {
             return Err(Refusal::NotThere);
         }
-        self.lock(goroutine, from, socket, LockOp::RwLock(side))
+        self.lock(goroutine, from, socket, LockOp::RwLock(side), way)
     }
 
     /// `rwunlock`.
     #[inline(always)]
-    pub(crate) fn rwunlock(
+    pub(crate) fn rwunlock<K: Keeper<WorldUndo>>(
         &mut self,
         goroutine: u32,
         socket: u32,
         side: Side,
-    ) -> Result<(Answer, WorldUndo), Refusal>
+        way: &mut K,
+    ) -> Result<Answer, Refusal>
         requires { IsWorld self.old }
-        ensures { Makes (step.rwunlock goroutine socket side (meant self.old)) []
+        ensures { Makes K.holds way.new (step.rwunlock goroutine socket side (meant self.old)) []
             self.old result self.new }
     {
         self.idle(goroutine)?;
-        self.lock(goroutine, Status::Idle, socket, LockOp::RwUnlock(side))
+        self.lock(goroutine, Status::Idle, socket, LockOp::RwUnlock(side), way)
     }
 
     /// An operation on a socket's lock, of a goroutine that may try it and goes on to where that leads.
     #[inline(always)]
-    fn lock(
+    fn lock<K: Keeper<WorldUndo>>(
         &mut self,
         goroutine: u32,
         from: Status,
         socket: u32,
         op: LockOp,
-    ) -> Result<(Answer, WorldUndo), Refusal>
+        way: &mut K,
+    ) -> Result<Answer, Refusal>
         requires world { IsWorld self.old }
         requires there { step.status_of goroutine (meant self.old) ≡ Ok from }
         requires movable { is_movable from ≡ true }
-        ensures { Makes (locking goroutine socket op (meant self.old)) [] self.old result self.new }
+        ensures { Makes K.holds way.new (locking goroutine socket op (meant self.old)) [] self.old result self.new }
     {
         let (left, lock) = self.core.lock(socket, op)?;
         let to = status_left(socket, op, left);
         let moved = self.core.move_on(goroutine, from, to);
-        Ok((left.answer, WorldUndo::Locked { lock, moved }))
+        way.put(WorldUndo::Locked { lock, moved });
+        Ok(left.answer)
     }
 }
 

@@ -13,49 +13,50 @@ ghost use Rattle.nr_machine.specs.World.{meant};
 use crate::delta::{DescUndo, WorldUndo};
 use crate::world::World;
 use nr_desc::{Desc, DescOp};
-use nr_rev::{Answer, Mode, Refusal, Reversible, Side};
+use nr_rev::{Answer, Keeper, Mode, Refusal, Reversible, Side};
 
 impl World {
     /// `pollopen`.
     #[inline(always)]
-    pub(crate) fn pollopen(
+    pub(crate) fn pollopen<K: Keeper<WorldUndo>>(
         &mut self,
         goroutine: u32,
         socket: u32,
-    ) -> Result<(Answer, WorldUndo), Refusal>
+        way: &mut K,
+    ) -> Result<Answer, Refusal>
         requires { IsWorld self.old }
-        ensures { Makes (step.pollopen goroutine socket (meant self.old)) [] self.old result self.new }
+        ensures { Makes K.holds way.new (step.pollopen goroutine socket (meant self.old)) [] self.old result self.new }
     {
         self.idle(goroutine)?;
         if socket as usize >= self.core.locks.len() {
             return Err(Refusal::NoSuchSocket);
         }
         match self.core.free.get(0) {
-            None => self.open_new(socket),
-            Some(descriptor) => self.reopen(descriptor, socket),
+            None => self.open_new(socket, way),
+            Some(descriptor) => self.reopen(descriptor, socket, way),
         }
     }
 
     /// The descriptor whose number is the first of the free ones is opened again.
     #[inline(always)]
-    fn reopen(&mut self, descriptor: u32, socket: u32) -> Result<(Answer, WorldUndo), Refusal>
+    fn reopen<K: Keeper<WorldUndo>>(&mut self, descriptor: u32, socket: u32, way: &mut K) -> Result<Answer, Refusal>
         requires world { IsWorld self.old }
         requires first { slice_get self.old.core.free.items 0 ≡ Some descriptor }
-        ensures { Makes (opening_of socket self.old.core.free.items (meant self.old)) [] self.old result self.new }
+        ensures { Makes K.holds way.new (opening_of socket self.old.core.free.items (meant self.old)) [] self.old result self.new }
     {
         let mut desc = self.desc_of(descriptor)?;
         let (_, before) = desc.apply(&DescOp::Open { socket })?;
         let _ = self.core.free.take_first();
         self.core.set_descriptor(descriptor, desc);
-        let undo = WorldUndo::Reopened(DescUndo { descriptor, before });
-        Ok((Answer::Number(descriptor), undo))
+        way.put(WorldUndo::Reopened(DescUndo { descriptor, before }));
+        Ok(Answer::Number(descriptor))
     }
 
     /// A descriptor that was never opened before is opened.
     #[inline(always)]
-    fn open_new(&mut self, socket: u32) -> Result<(Answer, WorldUndo), Refusal>
+    fn open_new<K: Keeper<WorldUndo>>(&mut self, socket: u32, way: &mut K) -> Result<Answer, Refusal>
         requires { IsWorld self.old }
-        ensures { Makes (opening_of socket [] (meant self.old)) [] self.old result self.new }
+        ensures { Makes K.holds way.new (opening_of socket [] (meant self.old)) [] self.old result self.new }
     {
         let made = self.core.descriptors.len();
         if made >= self.core.limits.descriptors as usize {
@@ -64,18 +65,20 @@ impl World {
         let mut desc = Desc::never_opened();
         let _ = desc.apply(&DescOp::Open { socket })?;
         self.core.descriptors.push(desc);
-        Ok((Answer::Number(made as u32), WorldUndo::Made))
+        way.put(WorldUndo::Made);
+        Ok(Answer::Number(made as u32))
     }
 
     /// `pollclose`.
     #[inline(always)]
-    pub(crate) fn pollclose(
+    pub(crate) fn pollclose<K: Keeper<WorldUndo>>(
         &mut self,
         goroutine: u32,
         descriptor: u32,
-    ) -> Result<(Answer, WorldUndo), Refusal>
+        way: &mut K,
+    ) -> Result<Answer, Refusal>
         requires { IsWorld self.old }
-        ensures { Makes (step.pollclose goroutine descriptor (meant self.old)) [] self.old result self.new }
+        ensures { Makes K.holds way.new (step.pollclose goroutine descriptor (meant self.old)) [] self.old result self.new }
     {
         self.idle(goroutine)?;
         let closing = self.open_desc_of(descriptor)?.closing();
@@ -87,42 +90,46 @@ impl World {
         }
         let (_, desc) = self.core.describe(descriptor, &DescOp::Close)?;
         self.core.free.insert(0, descriptor);
-        Ok((Answer::Done, WorldUndo::Closed(desc)))
+        way.put(WorldUndo::Closed(desc));
+        Ok(Answer::Done)
     }
 
     /// `evict`.
     #[inline(always)]
-    pub(crate) fn evict(
+    pub(crate) fn evict<K: Keeper<WorldUndo>>(
         &mut self,
         goroutine: u32,
         descriptor: u32,
-    ) -> Result<(Answer, WorldUndo), Refusal>
+        way: &mut K,
+    ) -> Result<Answer, Refusal>
         requires { IsWorld self.old }
-        ensures { Makes (step.evict goroutine descriptor (meant self.old))
+        ensures { Makes K.holds way.new (step.evict goroutine descriptor (meant self.old))
             (asked_at descriptor desc.Evict self.old) self.old result self.new }
     {
         self.idle(goroutine)?;
         let desc = self.open_desc_of(descriptor)?;
-        self.change(descriptor, desc, &DescOp::Evict)
+        self.change(descriptor, desc, &DescOp::Evict, way)
     }
 
     /// `pollevent`.
     #[inline(always)]
-    pub(crate) fn pollevent(
+    pub(crate) fn pollevent<K: Keeper<WorldUndo>>(
         &mut self,
         descriptor: u32,
         tag: u64,
         mode: Mode,
         error: bool,
-    ) -> Result<(Answer, WorldUndo), Refusal>
+        way: &mut K,
+    ) -> Result<Answer, Refusal>
         requires { IsWorld self.old }
-        ensures { Makes (step.pollevent descriptor tag mode error (meant self.old)) []
+        ensures { Makes K.holds way.new (step.pollevent descriptor tag mode error (meant self.old)) []
             self.old result self.new }
     {
         let desc = self.desc_of(descriptor)?;
         if self.is_free(descriptor) || tag != desc.fdseq() {
-            return Ok((Answer::Stale, WorldUndo::Still));
+            way.put(WorldUndo::Still);
+            return Ok(Answer::Stale);
         }
-        self.change(descriptor, desc, &DescOp::Event { tag, mode, error })
+        self.change(descriptor, desc, &DescOp::Event { tag, mode, error }, way)
     }
 }

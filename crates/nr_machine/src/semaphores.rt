@@ -9,24 +9,24 @@ ghost use Rattle.nr_machine.specs.World.{meant};
 use crate::delta::WorldUndo;
 use crate::world::World;
 use nr_gsema::GOperation;
-use nr_rev::{Answer, Refusal};
+use nr_rev::{Answer, Keeper, Refusal};
 
 impl World {
     /// `acquire`.
     #[inline(always)]
-    pub(crate) fn acquire(&mut self, goroutine: u32) -> Result<(Answer, WorldUndo), Refusal>
+    pub(crate) fn acquire<K: Keeper<WorldUndo>>(&mut self, goroutine: u32, way: &mut K) -> Result<Answer, Refusal>
         requires { IsWorld self.old }
-        ensures { Makes (step.acquire goroutine (meant self.old)) [] self.old result self.new }
+        ensures { Makes K.holds way.new (step.acquire goroutine (meant self.old)) [] self.old result self.new }
     {
-        self.goroutine(GOperation::Acquire { goroutine })
+        self.goroutine(GOperation::Acquire { goroutine }, way)
     }
 
     /// `release`.
     #[inline(always)]
-    pub(crate) fn release(&mut self, goroutine: u32) -> Result<(Answer, WorldUndo), Refusal>
+    pub(crate) fn release<K: Keeper<WorldUndo>>(&mut self, goroutine: u32, way: &mut K) -> Result<Answer, Refusal>
         requires { IsWorld self.old }
-        ensures { Makes (step.release goroutine (meant self.old)) [] self.old result self.new }
+        ensures { Makes K.holds way.new (step.release goroutine (meant self.old)) [] self.old result self.new }
     {
-        self.goroutine(GOperation::Release { goroutine })
+        self.goroutine(GOperation::Release { goroutine }, way)
     }
 }

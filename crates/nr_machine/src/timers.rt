@@ -10,43 +10,45 @@ ghost use Rattle.nr_timers.specs.declared.op.TimersOp.TheVariants as timers;
 use crate::delta::WorldUndo;
 use crate::world::World;
 use nr_desc::DescOp;
-use nr_rev::{Answer, Refusal, Reversible};
+use nr_rev::{Answer, Keeper, Refusal, Reversible};
 use nr_timers::TimersOp;
 use nr_timers::laws::entries_are_the_descriptors;
 
 impl World {
     /// `tick`.
     #[inline(always)]
-    pub(crate) fn tick(&mut self, time: i64) -> Result<(Answer, WorldUndo), Refusal>
+    pub(crate) fn tick<K: Keeper<WorldUndo>>(&mut self, time: i64, way: &mut K) -> Result<Answer, Refusal>
         requires { IsWorld self.old }
-        ensures { Makes (step.tick time (meant self.old)) [] self.old result self.new }
+        ensures { Makes K.holds way.new (step.tick time (meant self.old)) [] self.old result self.new }
     {
         let before = self.core.clock;
         if time < before {
             return Err(Refusal::ClockGoesBack);
         }
         self.core.clock = time;
-        Ok((Answer::Done, WorldUndo::Clock(before)))
+        way.put(WorldUndo::Clock(before));
+        Ok(Answer::Done)
     }
 
     /// `pop`.
     #[inline(always)]
-    pub(crate) fn pop(&mut self) -> Result<(Answer, WorldUndo), Refusal>
+    pub(crate) fn pop<K: Keeper<WorldUndo>>(&mut self, way: &mut K) -> Result<Answer, Refusal>
         requires { IsWorld self.old }
-        ensures { Makes (step.pop (meant self.old)) (timers.Pop self.old.core.clock ∷ []) self.old result self.new }
+        ensures { Makes K.holds way.new (step.pop (meant self.old)) (timers.Pop self.old.core.clock ∷ []) self.old result self.new }
     {
         // A law, which does nothing: the heap's first entry is the least of all descriptors' timers.
         entries_are_the_descriptors();
         let now = self.core.clock;
         let (_, delta) = self.core.timers.apply(&TimersOp::Pop { now })?;
-        Ok((Answer::Done, WorldUndo::Timers(delta)))
+        way.put(WorldUndo::Timers(delta));
+        Ok(Answer::Done)
     }
 
     /// `fire`.
     #[inline(always)]
-    pub(crate) fn fire(&mut self, place: u32) -> Result<(Answer, WorldUndo), Refusal>
+    pub(crate) fn fire<K: Keeper<WorldUndo>>(&mut self, place: u32, way: &mut K) -> Result<Answer, Refusal>
         requires { IsWorld self.old }
-        ensures { Makes (step.fire place (meant self.old)) (timers.TakeFiring place ∷ [])
+        ensures { Makes K.holds way.new (step.fire place (meant self.old)) (timers.TakeFiring place ∷ [])
             self.old result self.new }
     {
         let Some(entry) = self.core.timers.firing(place as usize) else {
@@ -57,6 +59,6 @@ impl World {
             function: entry.timer.function,
             sequence: entry.timer.sequence,
         };
-        self.change_by_firing(place, entry.descriptor, desc, &op)
+        self.change_by_firing(place, entry.descriptor, desc, &op, way)
     }
 }

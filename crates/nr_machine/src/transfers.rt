@@ -7,15 +7,15 @@ ghost use Rattle.nr_machine.specs.World.{meant};
 
 use crate::delta::WorldUndo;
 use crate::world::World;
-use nr_rev::{Answer, Refusal, Reversible, Step};
+use nr_rev::{Answer, Keeper, Refusal, Reversible, Step};
 
 impl World {
     /// `sockopen`.
     #[inline(always)]
-    pub(crate) fn sockopen(&mut self, step: &Step) -> Result<(Answer, WorldUndo), Refusal>
+    pub(crate) fn sockopen<K: Keeper<WorldUndo>>(&mut self, step: &Step, way: &mut K) -> Result<Answer, Refusal>
         requires world { IsWorld self.old }
         requires step { IsOpening step.now }
-        ensures { MakesStep step.now self.old result self.new }
+        ensures { MakesStep K.KEEPS K.holds way.new step.now self.old result self.new }
     {
         let opened = self.core.locks.len();
         if opened >= self.core.limits.sockets as usize {
@@ -23,40 +23,48 @@ impl World {
         }
         let (_, delta) = self.socks[opened].apply(step)?;
         self.core.add_lock();
-        Ok((Answer::Number(opened as u32), WorldUndo::Opened(delta)))
+        way.put(WorldUndo::Opened(delta));
+        Ok(Answer::Number(opened as u32))
     }
 
     /// What one socket's buffers do.
     #[inline(always)]
-    pub(crate) fn transfer(
+    pub(crate) fn transfer<K: Keeper<WorldUndo>>(
         &mut self,
         socket: u32,
         step: &Step,
-    ) -> Result<(Answer, WorldUndo), Refusal>
+        way: &mut K,
+    ) -> Result<Answer, Refusal>
         requires world { IsWorld self.old }
         requires step { IsTransfer socket (meant self.old) step.now }
-        ensures { MakesStep step.now self.old result self.new }
+        ensures { MakesStep K.KEEPS K.holds way.new step.now self.old result self.new }
     {
         if socket as usize >= self.core.locks.len() {
             return Err(Refusal::NoSuchSocket);
         }
-        let (answer, delta) = self.socks[socket as usize].apply(step)?;
-        Ok((answer, WorldUndo::Sock { socket, delta }))
+        let sock = &mut self.socks[socket as usize];
+        if K::KEEPS {
+            let (answer, delta) = sock.apply(step)?;
+            way.put(WorldUndo::Sock { socket, delta });
+            return Ok(answer);
+        }
+        sock.advance(step)
     }
 
     /// What one socket's buffers do for a goroutine that has to be idle.
     #[inline(always)]
-    pub(crate) fn transfer_of(
+    pub(crate) fn transfer_of<K: Keeper<WorldUndo>>(
         &mut self,
         goroutine: u32,
         socket: u32,
         step: &Step,
-    ) -> Result<(Answer, WorldUndo), Refusal>
+        way: &mut K,
+    ) -> Result<Answer, Refusal>
         requires world { IsWorld self.old }
         requires step { IsTransferOf goroutine socket step.now }
-        ensures { MakesStep step.now self.old result self.new }
+        ensures { MakesStep K.KEEPS K.holds way.new step.now self.old result self.new }
     {
         self.idle(goroutine)?;
-        self.transfer(socket, step)
+        self.transfer(socket, step, way)
     }
 }

@@ -14,74 +14,79 @@ ghost use Rattle.nr_machine.specs.World.{meant};
 use crate::delta::WorldUndo;
 use crate::world::World;
 use nr_desc::{DescOp, Goroutine};
-use nr_rev::{Answer, Refusal, Side, Status};
+use nr_rev::{Answer, Keeper, Refusal, Side, Status};
 
 impl World {
     /// `pollreset`.
     #[inline(always)]
-    pub(crate) fn pollreset(
+    pub(crate) fn pollreset<K: Keeper<WorldUndo>>(
         &mut self,
         goroutine: u32,
         descriptor: u32,
         side: Side,
-    ) -> Result<(Answer, WorldUndo), Refusal>
+        way: &mut K,
+    ) -> Result<Answer, Refusal>
         requires { IsWorld self.old }
-        ensures { Makes (step.pollreset goroutine descriptor side (meant self.old)) [] self.old result self.new }
+        ensures { Makes K.holds way.new (step.pollreset goroutine descriptor side (meant self.old)) [] self.old result self.new }
     {
         self.idle(goroutine)?;
         let code = self.open_desc_of(descriptor)?.check(side);
         if code != 0 {
-            return Ok((Answer::Code(code), WorldUndo::Still));
+            way.put(WorldUndo::Still);
+            return Ok(Answer::Code(code));
         }
         if self.is_waited(descriptor, side) {
             return Err(Refusal::WaiterInside);
         }
         let (_, desc) = self.core.describe(descriptor, &DescOp::Reset(side))?;
-        Ok((Answer::Code(0), WorldUndo::Described(desc)))
+        way.put(WorldUndo::Described(desc));
+        Ok(Answer::Code(0))
     }
 
     /// `waitbegin`.
     #[inline(always)]
-    pub(crate) fn waitbegin(
+    pub(crate) fn waitbegin<K: Keeper<WorldUndo>>(
         &mut self,
         goroutine: u32,
         descriptor: u32,
         side: Side,
-    ) -> Result<(Answer, WorldUndo), Refusal>
+        way: &mut K,
+    ) -> Result<Answer, Refusal>
         requires { IsWorld self.old }
-        ensures { Makes (step.waitbegin goroutine descriptor side (meant self.old)) [] self.old result self.new }
+        ensures { Makes K.holds way.new (step.waitbegin goroutine descriptor side (meant self.old)) [] self.old result self.new }
     {
         self.idle(goroutine)?;
         let code = self.open_desc_of(descriptor)?.check(side);
         if code != 0 {
-            return Ok((Answer::Code(code), WorldUndo::Still));
+            way.put(WorldUndo::Still);
+            return Ok(Answer::Code(code));
         }
         if self.is_waited(descriptor, side) {
             return Err(Refusal::DoubleWait);
         }
         let to = Status::Entering { descriptor, side };
-        Ok(self.go_on(Answer::Code(0), goroutine, Status::Idle, to))
+        Ok(self.go_on(Answer::Code(0), goroutine, Status::Idle, to, way))
     }
 
     /// `blockarm`.
     #[inline(always)]
     #[tactic(auto, using(crate::proofs::WaitingLemmas::blockarm_is))]
-    pub(crate) fn blockarm(&mut self, goroutine: u32) -> Result<(Answer, WorldUndo), Refusal>
+    pub(crate) fn blockarm<K: Keeper<WorldUndo>>(&mut self, goroutine: u32, way: &mut K) -> Result<Answer, Refusal>
         requires { IsWorld self.old }
-        ensures { Makes (step.blockarm goroutine (meant self.old)) [] self.old result self.new }
+        ensures { Makes K.holds way.new (step.blockarm goroutine (meant self.old)) [] self.old result self.new }
     {
         let from = self.status_of(goroutine)?;
         let Status::Entering { descriptor, side } = from else {
             return Err(Refusal::NotThere);
         };
-        self.wait(goroutine, from, descriptor, &DescOp::Arm(side))
+        self.wait(goroutine, from, descriptor, &DescOp::Arm(side), way)
     }
 
     /// `blockcheck`.
     #[inline(always)]
-    pub(crate) fn blockcheck(&mut self, goroutine: u32) -> Result<(Answer, WorldUndo), Refusal>
+    pub(crate) fn blockcheck<K: Keeper<WorldUndo>>(&mut self, goroutine: u32, way: &mut K) -> Result<Answer, Refusal>
         requires { IsWorld self.old }
-        ensures { Makes (step.blockcheck goroutine (meant self.old)) [] self.old result self.new }
+        ensures { Makes K.holds way.new (step.blockcheck goroutine (meant self.old)) [] self.old result self.new }
     {
         let from = self.status_of(goroutine)?;
         let Status::Armed { descriptor, side } = from else {
@@ -93,43 +98,43 @@ impl World {
         } else {
             Status::Swapping { descriptor, side }
         };
-        Ok(self.go_on(Answer::Code(code), goroutine, from, to))
+        Ok(self.go_on(Answer::Code(code), goroutine, from, to, way))
     }
 
     /// `parkcommit`.
     #[inline(always)]
     #[tactic(auto, using(crate::proofs::WaitingLemmas::parkcommit_is, crate::proofs::WaitingLemmas::below_most))]
-    pub(crate) fn parkcommit(&mut self, goroutine: u32) -> Result<(Answer, WorldUndo), Refusal>
+    pub(crate) fn parkcommit<K: Keeper<WorldUndo>>(&mut self, goroutine: u32, way: &mut K) -> Result<Answer, Refusal>
         requires { IsWorld self.old }
-        ensures { Makes (step.parkcommit goroutine (meant self.old)) [] self.old result self.new }
+        ensures { Makes K.holds way.new (step.parkcommit goroutine (meant self.old)) [] self.old result self.new }
     {
         let from = self.status_of(goroutine)?;
         let Status::Parking { descriptor, side } = from else {
             return Err(Refusal::NotThere);
         };
         let op = DescOp::Commit(side, Goroutine::of_number(goroutine));
-        self.wait(goroutine, from, descriptor, &op)
+        self.wait(goroutine, from, descriptor, &op, way)
     }
 
     /// `blockswap`.
     #[inline(always)]
     #[tactic(auto, using(crate::proofs::WaitingLemmas::blockswap_is))]
-    pub(crate) fn blockswap(&mut self, goroutine: u32) -> Result<(Answer, WorldUndo), Refusal>
+    pub(crate) fn blockswap<K: Keeper<WorldUndo>>(&mut self, goroutine: u32, way: &mut K) -> Result<Answer, Refusal>
         requires { IsWorld self.old }
-        ensures { Makes (step.blockswap goroutine (meant self.old)) [] self.old result self.new }
+        ensures { Makes K.holds way.new (step.blockswap goroutine (meant self.old)) [] self.old result self.new }
     {
         let from = self.status_of(goroutine)?;
         let Status::Swapping { descriptor, side } = from else {
             return Err(Refusal::NotThere);
         };
-        self.wait(goroutine, from, descriptor, &DescOp::Swap(side))
+        self.wait(goroutine, from, descriptor, &DescOp::Swap(side), way)
     }
 
     /// `waitcheck`.
     #[inline(always)]
-    pub(crate) fn waitcheck(&mut self, goroutine: u32) -> Result<(Answer, WorldUndo), Refusal>
+    pub(crate) fn waitcheck<K: Keeper<WorldUndo>>(&mut self, goroutine: u32, way: &mut K) -> Result<Answer, Refusal>
         requires { IsWorld self.old }
-        ensures { Makes (step.waitcheck goroutine (meant self.old)) [] self.old result self.new }
+        ensures { Makes K.holds way.new (step.waitcheck goroutine (meant self.old)) [] self.old result self.new }
     {
         let from = self.status_of(goroutine)?;
         let Status::Checking { descriptor, side } = from else {
@@ -141,22 +146,23 @@ impl World {
         } else {
             Status::Idle
         };
-        Ok(self.go_on(Answer::Code(code), goroutine, from, to))
+        Ok(self.go_on(Answer::Code(code), goroutine, from, to, way))
     }
 
     /// An operation on the word of a wait, of the goroutine inside it, which goes on to where that leads.
     #[inline(always)]
-    fn wait(
+    fn wait<K: Keeper<WorldUndo>>(
         &mut self,
         goroutine: u32,
         from: Status,
         descriptor: u32,
         op: &DescOp,
-    ) -> Result<(Answer, WorldUndo), Refusal>
+        way: &mut K,
+    ) -> Result<Answer, Refusal>
         requires world { IsWorld self.old }
         requires there { step.status_of goroutine (meant self.old) ≡ Ok from }
         requires movable { is_movable from ≡ true }
-        ensures { Makes (waiting goroutine descriptor op.now (meant self.old)) [] self.old result self.new }
+        ensures { Makes K.holds way.new (waiting goroutine descriptor op.now (meant self.old)) [] self.old result self.new }
     {
         let (left, desc) = self.core.describe(descriptor, op)?;
         let answer = left.answer;
@@ -164,33 +170,35 @@ impl World {
         let moved = self.core.move_to(goroutine, from, to);
         let parked = parks(op, answer);
         self.core.park(parked);
-        let undo = WorldUndo::Waited {
+        way.put(WorldUndo::Waited {
             desc,
             moved,
             parked,
-        };
-        Ok((answer, undo))
+        });
+        Ok(answer)
     }
 
     /// A goroutine goes on inside a wait or out of it, and nothing else changes.
     #[inline(always)]
-    fn go_on(
+    fn go_on<K: Keeper<WorldUndo>>(
         &mut self,
         answer: Answer,
         goroutine: u32,
         from: Status,
         to: Status,
-    ) -> (Answer, WorldUndo)
+        way: &mut K,
+    ) -> Answer
         requires world { IsWorld self.old }
         requires there { step.status_of goroutine (meant self.old) ≡ Ok from }
         requires from { is_movable from ≡ true }
         requires to { is_movable to ≡ true }
         requires named { socket_named to ≡ None }
-        ensures { Makes (Ok (answer, with_status goroutine to (meant self.old))) []
+        ensures { Makes K.holds way.new (Ok (answer, with_status goroutine to (meant self.old))) []
             self.old (Ok result) self.new }
     {
         let moved = self.core.move_to(goroutine, from, to);
-        (answer, WorldUndo::Goroutine(moved))
+        way.put(WorldUndo::Goroutine(moved));
+        answer
     }
 }
 

@@ -10,15 +10,15 @@ ghost use Rattle.nr_gsema.specs.Table.{queue_at};
 ghost use Rattle.nr_sockbuf.specs.Sock.{never_opened};
 ghost use Rattle.nr_machine.specs.Fits.{CoreFits, IsWorld};
 ghost use Rattle.nr_machine.specs.Fresh.{empty_core};
-ghost use Rattle.nr_machine.specs.Transfers.{Advances, IsTransfer};
 ghost use Rattle.nr_machine.specs.World.{meant};
 
+use crate::delta::WorldDelta;
 use crate::snapshot::{WorldSnapshot, count_opened, restored_socks, snapshots};
 use crate::world::World;
 use crate::world_core::Core;
 use nr_gsema::{GOperation, GTable};
 use nr_rev::{
-    Answer, Bytes, Cell, CellValue, Limits, Memory, Queue, Refusal, Reversible, RoomedList, Side,
+    Answer, Bytes, Cell, CellValue, Limits, Memory, NoWayBack, Queue, Refusal, Reversible, RoomedList, Side,
     Step, Worlds,
 };
 use nr_sockbuf::Sock;
@@ -88,19 +88,6 @@ fn copied_socks(alloc: Global, socks: &[Sock]) -> Result<Vec<Sock>, Memory>
 }
 
 impl World {
-    /// What one socket's buffers do, with no way back.
-    #[inline(always)]
-    pub(crate) fn advance_transfer(&mut self, socket: u32, step: &Step) -> Result<Answer, Refusal>
-        requires world { IsWorld self.old }
-        requires step { IsTransfer socket (meant self.old) step.now }
-        ensures { Advances step.now self.old result self.new }
-    {
-        if socket as usize >= self.core.locks.len() {
-            return Err(Refusal::NoSuchSocket);
-        }
-        self.socks[socket as usize].advance(step)
-    }
-
     /// Those queued, from the front to the back. Where nobody is, no memory is taken.
     fn queued(&self, socket: u32, side: Side) -> Result<Vec<u32>, Memory>
         ensures ok { IfOk result (λ items. items.items ≡ queue_at socket side self.now.core.goroutines) }
@@ -169,9 +156,20 @@ impl Worlds for World {
     }
 
     #[inline(always)]
-    #[tactic(auto, using(crate::proofs::MadeLemmas::advanced_step, crate::proofs::MadeLemmas::advanced_fits))]
+    fn no_delta() -> WorldDelta {
+        WorldDelta::default()
+    }
+
+    #[inline(always)]
+    #[tactic(auto, using(crate::proofs::MadeLemmas::made_fits))]
+    fn apply_to(&mut self, step: &Step, delta: &mut WorldDelta) -> Result<Answer, Refusal> {
+        self.make(step, &mut delta.undo)
+    }
+
+    #[inline(always)]
+    #[tactic(auto, using(crate::proofs::MadeLemmas::made_fits))]
     fn advance(&mut self, step: &Step) -> Result<Answer, Refusal> {
-        self.advance_step(step)
+        self.make(step, &mut NoWayBack)
     }
 
     fn cell(&self, what: Cell) -> CellValue {

@@ -22,7 +22,17 @@ impl Model for KeptBytes {
 }
 
 impl KeptBytes {
-    ghost use Rattle.std.specs.Prelude.{◌≡◌, ◌<◌, length, IfOk, OnErr};
+    ghost use Rattle.std.specs.Prelude.{◌≡◌, ◌<◌, [], length, IfOk, OnErr};
+
+    /// No bytes. It takes no memory.
+    #[inline(always)]
+    pub fn none(alloc: Global) -> KeptBytes
+        ensures { result ≡ [] }
+    {
+        KeptBytes {
+            items: Vec::new(alloc),
+        }
+    }
 
     /// A copy of the bytes. Only of some bytes can it be refused memory.
     pub fn copy_of(alloc: Global, bytes: &[u8]) -> Result<KeptBytes, Memory>

@@ -2,6 +2,7 @@ use Rattle.std.proofs.Common.{◌≡◌, Some, Ok, sym, subst}
 use Rattle.std.specs.Prelude.{slice_get}
 use Rattle.nr_rev.specs.Step.{row_of as find_row}
 use Rattle.nr_timers.specs.TimersOf.{timers_of}
+use Rattle.nr_machine.specs.declared.delta.WorldUndo.TheVariants.{Changed}
 use Rattle.nr_machine.specs.Fits.{IsWorld}
 use Rattle.nr_machine.specs.Rows.{row_of}
 use Rattle.nr_machine.specs.World.{WorldParts, meant}
@@ -9,7 +10,7 @@ use Rattle.nr_machine.proofs.ChangeLemmas.{change_can, change_made, row_there}
 use Rattle.nr_machine.proofs.world.World.change.Goals as goal
 
 pub wake_both-requires : goal.wake_both-requires
-wake_both-requires c =
+wake_both-requires g c =
     let m : WorldParts = record { core = c.self.inside.core; socks = c.self.inside.socks.items } in
     let d = c.args.descriptor in
     let there : slice_get m.core.descriptors.items d ≡ Some c.args.desc =
@@ -20,14 +21,14 @@ wake_both-requires c =
     c.in_ok-timers.ensures.obeyed c.in_ok-timers.ensures.back c.in_ok-timers.ensures.light c.set_descriptor.ensures
 
 pub returns : goal.returns
-returns c =
+returns g c =
     let m : WorldParts = record { core = c.self.inside.core; socks = c.self.inside.socks.items } in
     let d = c.args.descriptor in
     let there : slice_get m.core.descriptors.items d ≡ Some c.args.desc =
     row_there m d c.args.desc (subst (λ (k : WorldParts). find_row d (meant k) ≡ Ok (row_of c.args.desc (timers_of k.core.timers.entries d))) (sym c.self.view_is) c.requires.there) in
     let world : IsWorld m = subst IsWorld (sym c.self.view_is) c.requires.world in
     rw (← c.self.view_is)
-    (change_made m d c.args.op.now c.args.desc c.apply.new.self c.in_ok-left.left world there c.in_ok-left.ensures.step
+    (Changed (record { descriptor = d; before = c.in_ok-left.before }) c.in_ok-timers.timers c.in_ok-left.left.woken, c.put.ensures, change_made m d c.args.op.now c.args.desc c.apply.new.self c.in_ok-left.left world there c.in_ok-left.ensures.step
     c.sides.result c.in_ok-timers.timers c.in_ok-left.before c.obey.new.self c.set_descriptor.new.self c.wake_both.new.self c.sides.ensures
     c.in_ok-timers.ensures.obeyed c.in_ok-timers.ensures.back c.in_ok-timers.ensures.light c.in_ok-left.ensures.well_formed
     c.set_descriptor.ensures c.wake_both.ensures.woken c.wake_both.ensures.queued c.wake_both.ensures.back c.in_ok-left.ensures.back)

@@ -10,9 +10,9 @@ use Rattle.nr_machine.proofs.ChangeKindLemmas.{evict_is}
 use Rattle.nr_machine.proofs.world.World.evict.Goals as goal
 
 pub returns : goal.returns
-returns c =
+returns g c =
     let m : WorldParts = c.args.self.now in
     let d = c.args.descriptor in
     let idles : idle c.args.goroutine (meant m) ≡ Ok tt = search rules in
-    subst (λ (due : Outcome). Makes due (asked_at d Evict m) m c.change.result c.change.new.self)
+    subst (λ (due : Outcome). Makes g.K.Keeper.holds c.change.new.way due (asked_at d Evict m) m c.change.result c.change.new.self)
     (sym (evict_is c.args.goroutine d (meant m) (row_of c.in_ok-desc.desc (timers_of m.core.timers.entries d)) idles c.in_ok-desc.ensures)) c.change.ensures

@@ -10,9 +10,9 @@ use Rattle.nr_machine.proofs.ChangeKindLemmas.{fire_is}
 use Rattle.nr_machine.proofs.world.World.fire.Goals as goal
 
 pub returns : goal.returns
-returns c =
+returns g c =
     let m : WorldParts = c.args.self.now in
     let d = c.in-Some.entry.descriptor in
     let there : slice_get (meant m).firings c.args.place ≡ Some c.in-Some.entry = search rules in
-    subst (λ (due : Outcome). Makes due (TakeFiring c.args.place ∷ []) m c.change_by_firing.result c.change_by_firing.new.self)
+    subst (λ (due : Outcome). Makes g.K.Keeper.holds c.change_by_firing.new.way due (TakeFiring c.args.place ∷ []) m c.change_by_firing.result c.change_by_firing.new.self)
     (sym (fire_is c.args.place (meant m) c.in-Some.entry (row_of c.in_ok-desc.desc (timers_of m.core.timers.entries d)) there c.in_ok-desc.ensures)) c.change_by_firing.ensures

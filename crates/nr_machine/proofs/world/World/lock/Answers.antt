@@ -2,6 +2,7 @@ use Rattle.std.proofs.Common.{◌≡◌, Ok, sym, ap, subst}
 use Rattle.std.proofs.lemmas.Result.{err_from_is_err_and}
 use Rattle.nr_rev.specs.declared.status.Status.{Status}
 use Rattle.nr_rev.specs.Step.{status_of}
+use Rattle.nr_machine.specs.declared.delta.WorldUndo.TheVariants.{Locked}
 use Rattle.nr_machine.specs.Changing.{MovesOn}
 use Rattle.nr_machine.specs.Fits.{IsWorld}
 use Rattle.nr_machine.specs.World.{WorldParts, meant}
@@ -9,7 +10,7 @@ use Rattle.nr_machine.proofs.LockingLemmas.{lock_moves, locking_made, locking_re
 use Rattle.nr_machine.proofs.world.World.lock.Goals as goal
 
 pub returns-in_err-left : goal.returns-in_err-left
-returns-in_err-left c =
+returns-in_err-left g c =
     let m : WorldParts = record { core = c.self.inside.core; socks = c.self.inside.socks.items } in
     let p = err_from_is_err_and c.from_residual.result c.from_residual.ensures.1 in
     rw (← c.self.view_is) (rw (p.1, p.2) (
@@ -18,7 +19,7 @@ returns-in_err-left c =
     ))
 
 pub move_on-moved-requires : goal.move_on-moved-requires
-move_on-moved-requires c =
+move_on-moved-requires g c =
     let m : WorldParts = record { core = c.self.inside.core; socks = c.self.inside.socks.items } in
     let some = c.in_ok-left.ensures.ok in
     rw (c.status_left-to.ensures some.1)
@@ -27,11 +28,11 @@ move_on-moved-requires c =
     (subst (λ (k : WorldParts). status_of c.args.goroutine (meant k) ≡ Ok c.args.from) (sym c.self.view_is) c.requires.there) c.requires.movable some.2)
 
 pub returns : goal.returns
-returns c =
+returns g c =
     let m : WorldParts = record { core = c.self.inside.core; socks = c.self.inside.socks.items } in
     let some = c.in_ok-left.ensures.ok in
     let world : IsWorld m = subst IsWorld (sym c.self.view_is) c.requires.world in
     rw (← c.self.view_is)
-    (locking_made m c.args.goroutine c.args.socket c.args.op c.in_ok-left.left c.in_ok-left.lock c.move_on-moved.result c.lock.new.self c.move_on-moved.new.self
+    (Locked c.in_ok-left.lock c.move_on-moved.result, c.put.ensures, locking_made m c.args.goroutine c.args.socket c.args.op c.in_ok-left.left c.in_ok-left.lock c.move_on-moved.result c.lock.new.self c.move_on-moved.new.self
     some.0 some.1 world.parts some.2
     (subst (λ (to : Status). MovesOn c.lock.new.self c.args.goroutine to c.move_on-moved.result c.move_on-moved.new.self) (c.status_left-to.ensures some.1) c.move_on-moved.ensures))

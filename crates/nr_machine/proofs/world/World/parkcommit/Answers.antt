@@ -9,11 +9,11 @@ use Rattle.nr_machine.proofs.WaitingLemmas.{parkcommit_is}
 use Rattle.nr_machine.proofs.world.World.parkcommit.Goals as goal
 
 pub returns : goal.returns
-returns c =
+returns g c =
     let d = c.in-Parking.descriptor in
     let side = c.in-Parking.side in
     let there : status_of c.args.goroutine (meant c.args.self.now) ≡ Ok (Parking d side) = search rules in
-    let wait = subst (λ (n : ℕ). Makes (waiting c.args.goroutine d (Commit side n) (meant c.args.self.now)) [] c.args.self.now c.wait.result c.wait.new.self)
+    let wait = subst (λ (n : ℕ). Makes g.K.Keeper.holds c.wait.new.way (waiting c.args.goroutine d (Commit side n) (meant c.args.self.now)) [] c.args.self.now c.wait.result c.wait.new.self)
     c.of_number.ensures c.wait.ensures in
-    subst (λ (due : Outcome). Makes due [] c.args.self.now c.wait.result c.wait.new.self)
+    subst (λ (due : Outcome). Makes g.K.Keeper.holds c.wait.new.way due [] c.args.self.now c.wait.result c.wait.new.self)
     (sym (parkcommit_is (meant c.args.self.now) c.args.goroutine d side there)) wait

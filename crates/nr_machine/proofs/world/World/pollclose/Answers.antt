@@ -1,5 +1,6 @@
 use Rattle.std.proofs.Common.{◌<◌, length, rules, ap, sym, subst}
 use Rattle.std.proofs.lemmas.Result.{err_from_is_err_and}
+use Rattle.nr_machine.specs.declared.delta.WorldUndo.TheVariants.{Closed}
 use Rattle.nr_machine.specs.declared.world_core.Core.{Core}
 use Rattle.nr_machine.specs.Fits.{IsWorld}
 use Rattle.nr_machine.specs.World.{WorldParts}
@@ -7,7 +8,7 @@ use Rattle.nr_machine.proofs.ClosingLemmas.{Closable, close_has_room, close_made
 use Rattle.nr_machine.proofs.world.World.pollclose.Goals as goal
 
 pub returns-in_err-desc : goal.returns-in_err-desc
-returns-in_err-desc c =
+returns-in_err-desc g c =
     let m : WorldParts = record { core = c.self.inside.core; socks = c.self.inside.socks.items } in
     let world : IsWorld m = subst IsWorld (sym c.self.view_is) c.requires in
     let tested : Closable c.args.self.now c.args.goroutine c.args.descriptor c.in_ok-open_desc_of.field-0 = search rules in
@@ -19,7 +20,7 @@ returns-in_err-desc c =
     ))
 
 pub insert-requires-clause-room : goal.insert-requires-clause-room
-insert-requires-clause-room c =
+insert-requires-clause-room g c =
     let m : WorldParts = record { core = c.self.inside.core; socks = c.self.inside.socks.items } in
     let world : IsWorld m = subst IsWorld (sym c.self.view_is) c.requires in
     let tested : Closable c.args.self.now c.args.goroutine c.args.descriptor c.in_ok-open_desc_of.field-0 = search rules in
@@ -29,12 +30,12 @@ insert-requires-clause-room c =
     (close_has_room m c.args.goroutine c.args.descriptor c.in_ok-open_desc_of.field-0 world can)
 
 pub returns : goal.returns
-returns c =
+returns g c =
     let m : WorldParts = record { core = c.self.inside.core; socks = c.self.inside.socks.items } in
     let world : IsWorld m = subst IsWorld (sym c.self.view_is) c.requires in
     let tested : Closable c.args.self.now c.args.goroutine c.args.descriptor c.in_ok-open_desc_of.field-0 = search rules in
     let can = subst (λ (k : WorldParts). Closable k c.args.goroutine c.args.descriptor c.in_ok-open_desc_of.field-0) (sym c.self.view_is) tested in
     let some = c.in_ok-desc.ensures.ok in
     rw (← c.self.view_is, c.insert.ensures)
-    (close_made m c.args.goroutine c.args.descriptor c.in_ok-open_desc_of.field-0 world can
+    (Closed c.in_ok-desc.desc, c.put.ensures, close_made m c.args.goroutine c.args.descriptor c.in_ok-open_desc_of.field-0 world can
     some.0 some.1 c.in_ok-desc.field-0-0 c.in_ok-desc.desc c.describe.new.self some.2)

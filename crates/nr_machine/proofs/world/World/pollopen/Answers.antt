@@ -7,25 +7,25 @@ use Rattle.nr_machine.proofs.OpeningLemmas.{none_free, opening_is, opening_nowhe
 use Rattle.nr_machine.proofs.world.World.pollopen.Goals as goal
 
 pub returns-then-socket-len : goal.returns-then-socket-len
-returns-then-socket-len c =
+returns-then-socket-len g c =
     let now = c.args.self.now in
     let is_idle : idle c.args.goroutine (meant now) ≡ Ok tt = search rules in
     let past : length now.core.locks.items ≤ c.args.socket = rw (← c.self.view_is) (omega arith) in
     (opening_nowhere now c.args.goroutine c.args.socket is_idle past, refl)
 
 pub returns-in-None : goal.returns-in-None
-returns-in-None c =
+returns-in-None g c =
     let now = c.args.self.now in
     let is_idle : idle c.args.goroutine (meant now) ≡ Ok tt = search rules in
     let within : c.args.socket < length now.core.locks.items = rw (← c.self.view_is) (omega arith) in
     let none : now.core.free.items ≡ [] = rw (← c.self.view_is) (none_free c.self.inside.core.free.items (sym c.get.ensures ∙ c.in-None.is)) in
     let is = opening_is now c.args.goroutine c.args.socket is_idle within ∙ ap (λ (free : List ℕ). opening_of c.args.socket free (meant now)) none in
-    subst (λ (due : Outcome). Makes due [] now c.open_new.result c.open_new.new.self) (sym is) c.open_new.ensures
+    subst (λ (due : Outcome). Makes g.K.Keeper.holds c.open_new.new.way due [] now c.open_new.result c.open_new.new.self) (sym is) c.open_new.ensures
 
 pub returns-in-Some : goal.returns-in-Some
-returns-in-Some c =
+returns-in-Some g c =
     let now = c.args.self.now in
     let is_idle : idle c.args.goroutine (meant now) ≡ Ok tt = search rules in
     let within : c.args.socket < length now.core.locks.items = rw (← c.self.view_is) (omega arith) in
-    subst (λ (due : Outcome). Makes due [] now c.reopen.result c.reopen.new.self)
+    subst (λ (due : Outcome). Makes g.K.Keeper.holds c.reopen.new.way due [] now c.reopen.result c.reopen.new.self)
     (sym (opening_is now c.args.goroutine c.args.socket is_idle within)) c.reopen.ensures

@@ -1,6 +1,7 @@
 use Rattle.std.proofs.Common.{◌≡◌, Ok, Some, sym, subst}
 use Rattle.std.specs.Prelude.{slice_get}
 use Rattle.nr_rev.specs.Step.{row_of}
+use Rattle.nr_machine.specs.declared.delta.WorldUndo.TheVariants.{Reopened}
 use Rattle.nr_machine.specs.Fits.{IsWorld}
 use Rattle.nr_machine.specs.World.{WorldParts, meant}
 use Rattle.nr_machine.proofs.OpeningLemmas.{reopening_made}
@@ -8,7 +9,7 @@ use Rattle.nr_machine.proofs.RowsLemmas.{row_with}
 use Rattle.nr_machine.proofs.world.World.reopen.Goals as goal
 
 pub returns : goal.returns
-returns c =
+returns g c =
     let m : WorldParts = record { core = c.self.inside.core; socks = c.self.inside.socks.items } in
     let d = c.args.descriptor in
     let x = c.in_ok-desc.desc in
@@ -18,5 +19,5 @@ returns c =
     let first : slice_get m.core.free.items 0 ≡ Some d =
     subst (λ (k : WorldParts). slice_get k.core.free.items 0 ≡ Some d) (sym c.self.view_is) c.requires.first in
     rw (← c.self.view_is, c.set_descriptor.ensures, c.take_first.ensures.rest)
-    (reopening_made m c.args.socket d x c.apply.new.self c.in_ok-before.field-0-0 c.in_ok-before.before world first c.take_first.ensures.within found
+    (Reopened (record { descriptor = d; before = c.in_ok-before.before }), c.put.ensures, reopening_made m c.args.socket d x c.apply.new.self c.in_ok-before.field-0-0 c.in_ok-before.before world first c.take_first.ensures.within found
     c.in_ok-before.ensures.step c.in_ok-before.ensures.well_formed c.in_ok-before.ensures.back)

@@ -12,15 +12,15 @@ use Rattle.nr_machine.proofs.ChangeKindLemmas.{setdeadline_is}
 use Rattle.nr_machine.proofs.world.World.setdeadline.Goals as goal
 
 pub returns : goal.returns
-returns c =
+returns g c =
     let m : WorldParts = c.args.self.now in
     let d = c.args.descriptor in
     let idles : idle c.args.goroutine (meant m) ≡ Ok tt = search rules in
     let read : to_z w64 (of_z w64 c.self.inside.core.clock) ≡ c.self.inside.core.clock = search rules in
     let clock : to_z w64 (of_z w64 c.self.inside.core.clock) ≡ m.core.clock = read ∙ ap (λ (k : WorldParts). k.core.clock) c.self.view_is in
     let time : to_z w64 (of_z w64 c.args.time) ≡ c.args.time = to_z-of_z w64 c.args.time c.ranges.time in
-    subst (λ (due : Outcome). Makes due (asked_at d (SetDeadline m.core.clock c.args.mode c.args.time) m) m c.change.result c.change.new.self)
+    subst (λ (due : Outcome). Makes g.K.Keeper.holds c.change.new.way due (asked_at d (SetDeadline m.core.clock c.args.mode c.args.time) m) m c.change.result c.change.new.self)
     (sym (setdeadline_is c.args.goroutine d (meant m) (row_of c.in_ok-desc.desc (timers_of m.core.timers.entries d)) idles c.in_ok-desc.ensures c.args.mode c.args.time))
-    (subst (λ (t : ℤ). Makes (changing d (SetDeadline m.core.clock c.args.mode t) (meant m)) (asked_at d (SetDeadline m.core.clock c.args.mode t) m) m c.change.result c.change.new.self) time
-    (subst (λ (now : ℤ). Makes (changing d (SetDeadline now c.args.mode (to_z w64 (of_z w64 c.args.time))) (meant m))
+    (subst (λ (t : ℤ). Makes g.K.Keeper.holds c.change.new.way (changing d (SetDeadline m.core.clock c.args.mode t) (meant m)) (asked_at d (SetDeadline m.core.clock c.args.mode t) m) m c.change.result c.change.new.self) time
+    (subst (λ (now : ℤ). Makes g.K.Keeper.holds c.change.new.way (changing d (SetDeadline now c.args.mode (to_z w64 (of_z w64 c.args.time))) (meant m))
     (asked_at d (SetDeadline now c.args.mode (to_z w64 (of_z w64 c.args.time))) m) m c.change.result c.change.new.self) clock c.change.ensures))

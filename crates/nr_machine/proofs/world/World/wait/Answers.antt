@@ -2,6 +2,7 @@ use Rattle.std.proofs.Common.{◌≡◌, Ok, sym, ap, subst}
 use Rattle.std.proofs.lemmas.Result.{err_from_is_err_and}
 use Rattle.nr_rev.specs.declared.status.Status.{Status}
 use Rattle.nr_rev.specs.Step.{status_of}
+use Rattle.nr_machine.specs.declared.delta.WorldUndo.TheVariants.{Waited}
 use Rattle.nr_machine.specs.Changing.{Moves}
 use Rattle.nr_machine.specs.Fits.{IsWorld}
 use Rattle.nr_machine.specs.World.{WorldParts, meant}
@@ -9,7 +10,7 @@ use Rattle.nr_machine.proofs.WaitingLemmas.{one_more_waits, wait_moves, waiting_
 use Rattle.nr_machine.proofs.world.World.wait.Goals as goal
 
 pub returns-in_err-left : goal.returns-in_err-left
-returns-in_err-left c =
+returns-in_err-left g c =
     let m : WorldParts = record { core = c.self.inside.core; socks = c.self.inside.socks.items } in
     let p = err_from_is_err_and c.from_residual.result c.from_residual.ensures.1 in
     rw (← c.self.view_is) (rw (p.1, p.2) (
@@ -18,7 +19,7 @@ returns-in_err-left c =
     ))
 
 pub move_to-moved-requires : goal.move_to-moved-requires
-move_to-moved-requires c =
+move_to-moved-requires g c =
     let m : WorldParts = record { core = c.self.inside.core; socks = c.self.inside.socks.items } in
     let some = c.in_ok-left.ensures.ok in
     rw (c.status_after-to.ensures)
@@ -27,20 +28,20 @@ move_to-moved-requires c =
     (subst (λ (k : WorldParts). status_of c.args.goroutine (meant k) ≡ Ok c.args.from) (sym c.self.view_is) c.requires.there) c.requires.movable some.2)
 
 pub park-requires : goal.park-requires
-park-requires c =
+park-requires g c =
     let m : WorldParts = record { core = c.self.inside.core; socks = c.self.inside.socks.items } in
     let some = c.in_ok-left.ensures.ok in
     rw (c.move_to-moved.ensures.rest, some.2.rest) (one_more_waits m (subst IsWorld (sym c.self.view_is) c.requires.world))
 
 pub returns : goal.returns
-returns c =
+returns g c =
     let m : WorldParts = record { core = c.self.inside.core; socks = c.self.inside.socks.items } in
     let some = c.in_ok-left.ensures.ok in
     let world : IsWorld m = subst IsWorld (sym c.self.view_is) c.requires.world in
-    rw (← c.self.view_is, c.parks-parked.ensures)
-    (waiting_made m c.args.goroutine c.args.descriptor c.args.op.now c.in_ok-left.left c.in_ok-left.desc c.move_to-moved.result
+    rw (← c.self.view_is)
+    (Waited c.in_ok-left.desc c.move_to-moved.result c.parks-parked.result, c.put.ensures, rw (c.parks-parked.ensures) (waiting_made m c.args.goroutine c.args.descriptor c.args.op.now c.in_ok-left.left c.in_ok-left.desc c.move_to-moved.result
     c.describe.new.self c.move_to-moved.new.self c.park.new.self
     some.0 some.1 world.parts some.2
     (subst (λ (to : Status). Moves c.describe.new.self c.args.goroutine to c.move_to-moved.result c.move_to-moved.new.self) c.status_after-to.ensures c.move_to-moved.ensures)
     (rw c.parks-parked.ensures at c.park.ensures.parked)
-    (rw c.parks-parked.ensures at c.park.ensures.back))
+    (rw c.parks-parked.ensures at c.park.ensures.back)))
