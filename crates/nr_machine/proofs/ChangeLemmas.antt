@@ -209,23 +209,27 @@ module _ (m : WorldParts) (d : ℕ) (o : DescOp) (x after : Descriptor) (answer 
       described_back timed written d after delta.before timed_there written_is in
       let light = times.light in
       let woken_words = woken_light answer.woken in
-      record {
-        leads = due_is ∙ changing_leads m d o x after answer there step t times.leads
-            ∙ ap (λ (w : World). Ok (answer.answer, w))
-            (sym (ap (λ (c : Core). meant (record m { core = c })) end ∙ both_mean m d answer.woken core can
-            ∙ ap (after_wakes (listed answer.woken)) (written_means m d o x after answer there step t times.others)));
-        parts = subst (λ (c : Core). PartsFit (record m { core = c })) (sym moves)
-            (retied m (moved shape.0 shape.1 core) h.parts
-            (moved_fits shape.0 shape.1 core
-            (descriptor_fits plain d x after (timed_fits m.core t parts times.fits times.room) there fits)
-            (subst (λ (c : Core). IsQueuedUp c.goroutines) moves queued))
-            (tied_then m.core core (moved shape.0 shape.1 core)
-            (tied_then m.core plain core (timed_tied m.core t d within times.others) (descriptor_tied plain d after))
-            (moved_tied shape.0 shape.1 core)));
-        timers = subst (TimersMade asked m.core.timers) (ap (λ (c : Core). c.timers) (sym moves)) times.made;
-        back = ((written, woken_back, (timed, desc_back, times.back)), refl);
-        light = omega (arith, light, woken_words);
-      }
+      (
+        record {
+          leads = due_is ∙ changing_leads m d o x after answer there step t times.leads
+              ∙ ap (λ (w : World). Ok (answer.answer, w))
+              (sym (ap (λ (c : Core). meant (record m { core = c })) end ∙ both_mean m d answer.woken core can
+              ∙ ap (after_wakes (listed answer.woken)) (written_means m d o x after answer there step t times.others)));
+          parts = subst (λ (c : Core). PartsFit (record m { core = c })) (sym moves)
+              (retied m (moved shape.0 shape.1 core) h.parts
+              (moved_fits shape.0 shape.1 core
+              (descriptor_fits plain d x after (timed_fits m.core t parts times.fits times.room) there fits)
+              (subst (λ (c : Core). IsQueuedUp c.goroutines) moves queued))
+              (tied_then m.core core (moved shape.0 shape.1 core)
+              (tied_then m.core plain core (timed_tied m.core t d within times.others) (descriptor_tied plain d after))
+              (moved_tied shape.0 shape.1 core)));
+          timers = subst (TimersMade asked m.core.timers) (ap (λ (c : Core). c.timers) (sym moves)) times.made;
+        },
+        (
+          ((written, woken_back, (timed, desc_back, times.back)), refl),
+          omega (arith, light, woken_words),
+        ),
+      )
 
   -- what it asks of the timers
   pub asked_is : asked_at d o m ≡ map (timers_op d) answer.orders

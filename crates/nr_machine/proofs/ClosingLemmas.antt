@@ -82,14 +82,18 @@ module _ (m : WorldParts) (g d : ℕ) (x : Descriptor) (world : IsWorld m) (can 
       let means : meant (record m { core = given d mid }) ≡ record (with_descriptor d (row_with m d x) after (meant m)) { free = d ∷ m.core.free.items } =
       ap (λ (c : Core). meant (record m { core = given d c })) describes.rest
       ∙ ap (λ (w : World). record w { free = d ∷ m.core.free.items }) (described_means m d x after) in
-      record {
-        leads = pollclose_is
-            ∙ ap (λ (r : Result Descriptor Refusal). ◌>>=◌ r (λ y. Ok (Done, record (with_descriptor d (row_with m d x) y (meant m)) { free = d ∷ m.core.free.items }))) done
-            ∙ ap (λ (w : World). Ok (Done, w)) (sym means);
-        parts = subst (λ (c : Core). PartsFit (record m { core = given d c })) (sym describes.rest)
-            (retied m (given d core) world.parts (free_fits core (d ∷ m.core.free.items) (descriptor_fits m.core d before after world.parts.core describes.there describes.fits))
-            (tied_then m.core core (given d core) (descriptor_tied m.core d after) (free_tied core (d ∷ m.core.free.items))));
-        timers = ap (λ (c : Core). c.timers) describes.rest;
-        back = ((mid, refl, describes.back), refl);
-        light = lit≤ tt;
-      }
+      (
+        record {
+          leads = pollclose_is
+              ∙ ap (λ (r : Result Descriptor Refusal). ◌>>=◌ r (λ y. Ok (Done, record (with_descriptor d (row_with m d x) y (meant m)) { free = d ∷ m.core.free.items }))) done
+              ∙ ap (λ (w : World). Ok (Done, w)) (sym means);
+          parts = subst (λ (c : Core). PartsFit (record m { core = given d c })) (sym describes.rest)
+              (retied m (given d core) world.parts (free_fits core (d ∷ m.core.free.items) (descriptor_fits m.core d before after world.parts.core describes.there describes.fits))
+              (tied_then m.core core (given d core) (descriptor_tied m.core d after) (free_tied core (d ∷ m.core.free.items))));
+          timers = ap (λ (c : Core). c.timers) describes.rest;
+        },
+        (
+          ((mid, refl, describes.back), refl),
+          lit≤ tt,
+        ),
+      )

@@ -320,24 +320,28 @@ goroutine_made m o answer delta t h is step queued back light =
     let tied = (table_ends m o h is).value (answer, t) step in
     let core = h.parts.core in
     let most : weight_allowed o ≤ 7 = weight_is_within o in
-    record {
-      leads = goroutine_is m o h is ∙ ap (lifted m) step;
-      parts = retied m (record m.core { goroutines = t }) h.parts
-          (record {
-            in_range = core.in_range;
-            queued = queued;
-            goroutines = tied.limit ∙ core.goroutines;
-            semaphores = tied.many ∙ core.semaphores;
-            locks = core.locks;
-            locks_room = core.locks_room;
-            descriptors = core.descriptors;
-            descriptors_room = core.descriptors_room;
-            free_room = core.free_room;
-            timers = core.timers;
-            timers_room = core.timers_room;
-          })
-          (record { limits = refl; locks = refl; semaphores = λ s both past at. tied.unopened s both past at; unarmed = λ all d past. all d past });
-      timers = refl;
-      back = ((back, refl), refl);
-      light = omega (arith, light, most);
-    }
+    (
+      record {
+        leads = goroutine_is m o h is ∙ ap (lifted m) step;
+        parts = retied m (record m.core { goroutines = t }) h.parts
+            (record {
+              in_range = core.in_range;
+              queued = queued;
+              goroutines = tied.limit ∙ core.goroutines;
+              semaphores = tied.many ∙ core.semaphores;
+              locks = core.locks;
+              locks_room = core.locks_room;
+              descriptors = core.descriptors;
+              descriptors_room = core.descriptors_room;
+              free_room = core.free_room;
+              timers = core.timers;
+              timers_room = core.timers_room;
+            })
+            (record { limits = refl; locks = refl; semaphores = λ s both past at. tied.unopened s both past at; unarmed = λ all d past. all d past });
+        timers = refl;
+      },
+      (
+        ((back, refl), refl),
+        omega (arith, light, most),
+      ),
+    )

@@ -132,15 +132,19 @@ module _ (old : WorldParts) (g s : ℕ) (op : LockOp) (answer : LockAnswer) (und
       let is : new ≡ core = moves.rest ∙ ap (changing.with_status g to) locks.rest in
       let queued : IsQueuedUp core.goroutines = subst (λ (c : Core). IsQueuedUp c.goroutines) is moves.queued in
       let light = moves.light in
-      record {
-        leads = locking_leads old g s op before after answer locks.there locks.step
-            ∙ ap (λ (w : World). Ok (answer.answer, w))
-            (sym (ap (λ (c : Core). meant (record old { core = c })) is ∙ locked_means old g s to before after));
-        parts = subst (λ (c : Core). PartsFit (record old { core = c })) (sym is)
-            (retied old core parts
-            (status_fits (with_lock s after old.core) g to (lock_fits old.core s before after parts.core locks.there locks.fits) queued)
-            (tied_then old.core (with_lock s after old.core) core (lock_tied old.core s after) (status_tied (with_lock s after old.core) g to)));
-        timers = ap (λ (c : Core). c.timers) is;
-        back = ((mid, moves.back, locks.back), refl);
-        light = omega (arith, light);
-      }
+      (
+        record {
+          leads = locking_leads old g s op before after answer locks.there locks.step
+              ∙ ap (λ (w : World). Ok (answer.answer, w))
+              (sym (ap (λ (c : Core). meant (record old { core = c })) is ∙ locked_means old g s to before after));
+          parts = subst (λ (c : Core). PartsFit (record old { core = c })) (sym is)
+              (retied old core parts
+              (status_fits (with_lock s after old.core) g to (lock_fits old.core s before after parts.core locks.there locks.fits) queued)
+              (tied_then old.core (with_lock s after old.core) core (lock_tied old.core s after) (status_tied (with_lock s after old.core) g to)));
+          timers = ap (λ (c : Core). c.timers) is;
+        },
+        (
+          ((mid, moves.back, locks.back), refl),
+          omega (arith, light),
+        ),
+      )

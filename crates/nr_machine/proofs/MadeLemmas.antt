@@ -19,15 +19,15 @@ pub made_step : {Place : Type 0} (keeps : Bool) (holds : Place → WorldUndo →
     → holds place undo → Made (outcome (meant old) step) (asked_of old step) (MOST_WORDS + (bytes_left step answer + 7) / 8) old answer undo new
     → MakesStep keeps holds place step old (Ok answer) new
 made_step {Place} keeps holds place step old answer undo new held made =
-    (record { leads = made.leads; parts = made.parts; timers = made.timers }, λ _. (undo, held, (made.back, made.light)))
+    (made.0, λ _. (undo, held, made.1))
 
 -- a kind that takes no memory
 pub makes_step : {Place : Type 0} (keeps : Bool) (holds : Place → WorldUndo → Type 0) (place : Place) (step : Step) (old new : WorldParts) (r : Result Answer Refusal)
     → Makes holds place (outcome (meant old) step) (asked_of old step) old r new → MakesStep keeps holds place step old r new
 makes_step {Place} keeps holds place step old new (Ok answer) some =
     let made = some.2 in
-    let light = made.light in
-    (record { leads = made.leads; parts = made.parts; timers = made.timers }, λ _. (some.0, some.1, (made.back, omega (arith, light))))
+    let light = made.1.1 in
+    (made.0, λ _. (some.0, some.1, (made.1.0, omega (arith, light))))
 makes_step {Place} keeps holds place step old new (Err e) made = (inl (ap refusal_of made.0), made.1)
 
 -- what a step makes is a packed world again

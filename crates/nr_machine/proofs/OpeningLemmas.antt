@@ -128,13 +128,17 @@ pub opening_made : (m : WorldParts) (s : ℕ) (after : Descriptor) (answer : Des
     → desc_op.StepTo never_opened (op.Open s) answer after → DescFits after
     → Made (opening_of s [] (meant m)) [] MOST_WORDS m (Number (length m.core.descriptors.items)) undo.Made (record m { core = with_last after m.core })
 opening_made m s after answer world fewer step fits =
-    record {
-      leads = opening_leads m s after world.parts fewer (quiet_leaves (opened_for s never_opened) answer after step.defined);
-      parts = retied m (with_last after m.core) world.parts (last_fits m.core after world.parts.core fits) (last_tied m.core after);
-      timers = refl;
-      back = (ap (λ (xs : List Descriptor). record m.core { descriptors = record m.core.descriptors { items = xs } }) (last_back m.core.descriptors.items after), refl);
-      light = lit≤ tt;
-    }
+    (
+      record {
+        leads = opening_leads m s after world.parts fewer (quiet_leaves (opened_for s never_opened) answer after step.defined);
+        parts = retied m (with_last after m.core) world.parts (last_fits m.core after world.parts.core fits) (last_tied m.core after);
+        timers = refl;
+      },
+      (
+        (ap (λ (xs : List Descriptor). record m.core { descriptors = record m.core.descriptors { items = xs } }) (last_back m.core.descriptors.items after), refl),
+        lit≤ tt,
+      ),
+    )
 
 -- ---- a free one
 
@@ -159,15 +163,19 @@ reopening_made m s d x after answer before world first most found step fits was 
     let opens : opened_for s x ≡ Ok after = quiet_leaves (opened_for s x) answer after step.defined in
     let leads : opening_of s (d ∷ drop 1 m.core.free.items) (meant m) ≡ Ok (Number d, with_descriptor d (row_with m d x) after (meant (record m { core = mid }))) =
     rw (found, opens) refl in
-    record {
-      leads = ap (λ (free : List ℕ). opening_of s free (meant m)) (first_free m.core.free.items d first) ∙ leads
-          ∙ ap (λ (w : World). Ok (Number d, w)) (sym (described_means (record m { core = mid }) d x after));
-      parts = retied m (changing.with_descriptor d after mid) world.parts (descriptor_fits mid d x after (free_fits m.core (drop 1 m.core.free.items) world.parts.core) there fits)
-          (tied_then m.core mid (changing.with_descriptor d after mid) (free_tied m.core (drop 1 m.core.free.items)) (descriptor_tied mid d after));
-      timers = refl;
-      back = (
-        (mid, described_back mid (changing.with_descriptor d after mid) d after before.before (there ∙ ap (λ (y : Descriptor). Some y) was) refl, first_back m.core d first most),
-        refl,
-      );
-      light = lit≤ tt;
-    }
+    (
+      record {
+        leads = ap (λ (free : List ℕ). opening_of s free (meant m)) (first_free m.core.free.items d first) ∙ leads
+            ∙ ap (λ (w : World). Ok (Number d, w)) (sym (described_means (record m { core = mid }) d x after));
+        parts = retied m (changing.with_descriptor d after mid) world.parts (descriptor_fits mid d x after (free_fits m.core (drop 1 m.core.free.items) world.parts.core) there fits)
+            (tied_then m.core mid (changing.with_descriptor d after mid) (free_tied m.core (drop 1 m.core.free.items)) (descriptor_tied mid d after));
+        timers = refl;
+      },
+      (
+        (
+          (mid, described_back mid (changing.with_descriptor d after mid) d after before.before (there ∙ ap (λ (y : Descriptor). Some y) was) refl, first_back m.core d first most),
+          refl,
+        ),
+        lit≤ tt,
+      ),
+    )

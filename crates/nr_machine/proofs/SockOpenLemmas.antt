@@ -232,15 +232,19 @@ module _ (m : WorldParts) (h : IsWorld m) where
       made_so rc wc answer delta after leads back light =
           let is : after ≡ with_opened (new_opened rc wc) before = opened_so rc wc answer after leads in
           let opened : is_opened after.opened ≡ true = ap (λ (t : SockParts). is_opened t.opened) is in
-          record {
-            leads = at_buffers rc wc ∙ ap (lifted_opening (meant m)) leads
-                ∙ ap (λ (w : World). Ok (Number (length (meant m).sockets), w)) (sym (opening_means after opened))
-                ∙ ap (λ (k : ℕ). Ok (Number k, meant (with_opening after m))) many;
-            parts = opening_fits after opened (ap (λ (t : SockParts). t.limit) is);
-            timers = refl;
-            back = opening_back after opened delta back;
-            light = omega (arith, light);
-          }
+          (
+            record {
+              leads = at_buffers rc wc ∙ ap (lifted_opening (meant m)) leads
+                  ∙ ap (λ (w : World). Ok (Number (length (meant m).sockets), w)) (sym (opening_means after opened))
+                  ∙ ap (λ (k : ℕ). Ok (Number k, meant (with_opening after m))) many;
+              parts = opening_fits after opened (ap (λ (t : SockParts). t.limit) is);
+              timers = refl;
+            },
+            (
+              opening_back after opened delta back,
+              omega (arith, light),
+            ),
+          )
 
       -- what the buffers make is made
       pub opening_made : (step : Step) (answer : Answer) (delta : SockDelta) (after : SockParts) (k : ℕ) (core : Core) → IsOpening step → sock.StepTo before step answer after

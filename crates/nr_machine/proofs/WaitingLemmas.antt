@@ -154,14 +154,18 @@ moved_made old g to answer delta new parts moves =
     let core : Core = changing.with_status g to old.core in
     let queued : IsQueuedUp core.goroutines = subst (λ (c : Core). IsQueuedUp c.goroutines) moves.rest moves.queued in
     let light = moves.light in
-    record {
-      leads = ap (λ (c : Core). Ok (answer, meant (record old { core = c }))) (sym moves.rest);
-      parts = subst (λ (c : Core). PartsFit (record old { core = c })) (sym moves.rest)
-          (retied old core parts (status_fits old.core g to parts.core queued) (status_tied old.core g to));
-      timers = ap (λ (c : Core). c.timers) moves.rest;
-      back = (moves.back, refl);
-      light = omega (arith, light);
-    }
+    (
+      record {
+        leads = ap (λ (c : Core). Ok (answer, meant (record old { core = c }))) (sym moves.rest);
+        parts = subst (λ (c : Core). PartsFit (record old { core = c })) (sym moves.rest)
+            (retied old core parts (status_fits old.core g to parts.core queued) (status_tied old.core g to));
+        timers = ap (λ (c : Core). c.timers) moves.rest;
+      },
+      (
+        (moves.back, refl),
+        omega (arith, light),
+      ),
+    )
 
 -- one waiter more, or none
 park_means : (m : WorldParts) (core : Core) (parked : Bool) → meant (record m { core = core_parked parked core }) ≡ with_parked parked (meant (record m { core = core }))
@@ -214,20 +218,24 @@ module _ (old : WorldParts) (g d : ℕ) (o : DescOp) (answer : DescAnswer) (undo
       let is : new ≡ core_parked parked core = parks_is ∙ ap (core_parked parked) moved_is in
       let queued : IsQueuedUp core.goroutines = subst (λ (c : Core). IsQueuedUp c.goroutines) moved_is moves.queued in
       let light = moves.light in
-      record {
-        leads = waiting_leads old g d o before after answer describes.there describes.step
-            ∙ ap (λ (w : World). Ok (answer.answer, w))
-            (sym (ap (λ (c : Core). meant (record old { core = c })) is ∙ park_means old core parked
-            ∙ ap (with_parked parked) (described_means old g d to before after)));
-        parts = subst (λ (c : Core). PartsFit (record old { core = c })) (sym is)
-            (retied old (core_parked parked core) parts
-            (park_fits core parked (status_fits described g to (descriptor_fits old.core d before after parts.core describes.there describes.fits) queued))
-            (tied_then old.core core (core_parked parked core) (tied_then old.core described core (descriptor_tied old.core d after) (status_tied described g to))
-            (park_tied core parked)));
-        timers = ap (λ (c : Core). c.timers) is ∙ parked_timers parked core;
-        back = ((moved, park_back, (mid, moves.back, describes.back)), refl);
-        light = omega (arith, light);
-      }
+      (
+        record {
+          leads = waiting_leads old g d o before after answer describes.there describes.step
+              ∙ ap (λ (w : World). Ok (answer.answer, w))
+              (sym (ap (λ (c : Core). meant (record old { core = c })) is ∙ park_means old core parked
+              ∙ ap (with_parked parked) (described_means old g d to before after)));
+          parts = subst (λ (c : Core). PartsFit (record old { core = c })) (sym is)
+              (retied old (core_parked parked core) parts
+              (park_fits core parked (status_fits described g to (descriptor_fits old.core d before after parts.core describes.there describes.fits) queued))
+              (tied_then old.core core (core_parked parked core) (tied_then old.core described core (descriptor_tied old.core d after) (status_tied described g to))
+              (park_tied core parked)));
+          timers = ap (λ (c : Core). c.timers) is ∙ parked_timers parked core;
+        },
+        (
+          ((moved, park_back, (mid, moves.back, describes.back)), refl),
+          omega (arith, light),
+        ),
+      )
 
 -- ---- how many may wait
 

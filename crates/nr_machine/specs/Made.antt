@@ -22,14 +22,14 @@ pub record Advanced (due : Outcome) (asked : List TimersOp) (old : WorldParts) (
   pub parts : PartsFit new
   pub timers : TimersMade asked old.core.timers new.core.timers
 
--- so does this undo, which leads back and holds at most so many words
-pub record Made (due : Outcome) (asked : List TimersOp) (most : ℕ) (old : WorldParts)
-    (answer : Answer) (undo : WorldUndo) (new : WorldParts) : Type 0 where
-  pub leads : due ≡ Ok (answer, meant new)
-  pub parts : PartsFit new
-  pub timers : TimersMade asked old.core.timers new.core.timers
-  pub back : UndoBack undo new old
-  pub light : undo_weight undo ≤ most
+-- an undo leads back from the new parts to the old ones, and holds at most so many words
+abbrev pub Undoes : ℕ → WorldParts → WorldParts → WorldUndo → Type 0
+Undoes most new old undo = UndoBack undo new old × (undo_weight undo ≤ most)
+
+-- the new parts are the definition's, and the undo leads back
+abbrev pub Made : Outcome → List TimersOp → ℕ → WorldParts → Answer → WorldUndo → WorldParts → Type 0
+Made due asked most old answer undo new =
+    Advanced due asked old answer new × Undoes most new old undo
 
 -- what a step comes to is made, with an undo that the place holds if it keeps any; or the step has
 -- the machine's reason and changes nothing
@@ -46,10 +46,6 @@ parts_reason m step = refusal_of (outcome (meant m) step)
 -- a step takes memory where bytes leave a buffer
 abbrev pub TakesMemory : WorldParts → Step → Type 0
 TakesMemory m step = LosesBytes (meant m) step
-
--- an undo leads back, and holds at most so many words
-abbrev pub Undoes : ℕ → WorldParts → WorldParts → WorldUndo → Type 0
-Undoes most new old undo = UndoBack undo new old × (undo_weight undo ≤ most)
 
 -- A whole step is made, and the place holds an undo of it where it keeps one. Or the step has its
 -- reason; or it is out of memory, where bytes are to be kept.
