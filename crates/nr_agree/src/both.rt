@@ -24,17 +24,11 @@ impl Both {
     pub fn fresh(alloc: Global, limits: Limits) -> Result<Both, Stop>
         requires { AreInRange limits }
     {
-        let Ok(plain) = Walked::fresh(alloc, limits) else {
-            return Err(Stop::Memory);
-        };
-        let Ok(packed) = Walked::fresh(alloc, limits) else {
-            return Err(Stop::Memory);
-        };
         Ok(Both {
             alloc,
             limits,
-            plain,
-            packed,
+            plain: Walked::fresh(alloc, limits)?,
+            packed: Walked::fresh(alloc, limits)?,
         })
     }
 
@@ -103,9 +97,7 @@ where
     W: Worlds + Drop,
     W::Delta: Drop,
 {
-    let Ok(mut copy) = walked.copy(pair.alloc) else {
-        return Err(Stop::Memory);
-    };
+    let mut copy = walked.copy(pair.alloc)?;
     apply_beside(pair, walked, &mut copy, step, tally)
 }
 

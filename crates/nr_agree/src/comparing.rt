@@ -164,12 +164,8 @@ impl Pair<'_> {
         W: Worlds + Drop,
         W::Delta: Drop,
     {
-        let Ok(left_bytes) = left.bytes(socket, side) else {
-            return Err(Stop::Memory);
-        };
-        let Ok(right_bytes) = right.bytes(socket, side) else {
-            return Err(Stop::Memory);
-        };
+        let left_bytes = left.bytes(socket, side)?;
+        let right_bytes = right.bytes(socket, side)?;
         self.compare_bytes(socket, side, &left_bytes, &right_bytes)?;
         self.compare_queues_of(left, right, socket, side)
     }
@@ -187,12 +183,8 @@ impl Pair<'_> {
         W: Worlds + Drop,
         W::Delta: Drop,
     {
-        let Ok(left_queue) = left.queue(socket, side) else {
-            return Err(Stop::Memory);
-        };
-        let Ok(right_queue) = right.queue(socket, side) else {
-            return Err(Stop::Memory);
-        };
+        let left_queue = left.queue(socket, side)?;
+        let right_queue = right.queue(socket, side)?;
         self.compare_queues(socket, side, &left_queue, &right_queue)
     }
 

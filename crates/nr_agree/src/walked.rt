@@ -3,7 +3,7 @@
 ghost use Rattle.std.specs.Prelude.{◌≡◌, OnErr};
 ghost use Rattle.nr_rev.specs.Limits.{AreInRange};
 
-use nr_rev::{Answer, Bytes, Cell, CellValue, Limits, Queue, Refusal, Side, Step, Worlds};
+use nr_rev::{Answer, Bytes, Cell, CellValue, Limits, Memory, Queue, Refusal, Side, Step, Worlds};
 use std::alloc::Global;
 use std::marker::Model;
 
@@ -37,7 +37,7 @@ where
 {
     /// The world before the first step.
     #[tactic(auto, using(crate::proofs::Ways::none_leads))]
-    pub fn fresh(alloc: Global, limits: Limits) -> Result<Self, Refusal>
+    pub fn fresh(alloc: Global, limits: Limits) -> Result<Self, Memory>
         requires { AreInRange limits }
     {
         let world = W::fresh(alloc, limits)?;
@@ -49,7 +49,7 @@ where
 
     /// An equal world, with no way back.
     #[tactic(auto, using(crate::proofs::Ways::none_leads))]
-    pub fn copy(&self, alloc: Global) -> Result<Self, Refusal> {
+    pub fn copy(&self, alloc: Global) -> Result<Self, Memory> {
         let world = self.world.try_copy()?;
         Ok(Walked {
             world,
@@ -99,12 +99,12 @@ where
     }
 
     /// What a socket's buffer holds.
-    pub fn bytes(&self, socket: u32, side: Side) -> Result<Option<Bytes>, Refusal> {
+    pub fn bytes(&self, socket: u32, side: Side) -> Result<Option<Bytes>, Memory> {
         self.world.bytes(socket, side)
     }
 
     /// Who is queued at a socket's semaphore.
-    pub fn queue(&self, socket: u32, side: Side) -> Result<Option<Queue>, Refusal> {
+    pub fn queue(&self, socket: u32, side: Side) -> Result<Option<Queue>, Memory> {
         self.world.queue(socket, side)
     }
 }

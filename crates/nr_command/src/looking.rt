@@ -38,7 +38,7 @@ impl Debugger {
                 Ok(Reply::Printed { cell, value })
             }
             Query::DumpBytes { side, socket } => {
-                let bytes = world.bytes(socket, side).map_err(|_| Memory)?;
+                let bytes = world.bytes(socket, side)?;
                 Ok(Reply::Bytes {
                     side,
                     socket,
@@ -46,7 +46,7 @@ impl Debugger {
                 })
             }
             Query::DumpQueue { side, socket } => {
-                let queue = world.queue(socket, side).map_err(|_| Memory)?;
+                let queue = world.queue(socket, side)?;
                 Ok(Reply::Queue {
                     side,
                     socket,

@@ -114,13 +114,13 @@ impl Worlds for World {
 
     ghost kept = { λ snapshot. snapshot };
 
-    fn fresh(alloc: Global, limits: Limits) -> Result<Self, Refusal> {
+    fn fresh(alloc: Global, limits: Limits) -> Result<Self, Memory> {
         let core = Core::with_room(alloc, limits)?;
         let socks = closed_socks(alloc, limits.sockets, limits.buffer)?;
         Ok(World { alloc, core, socks })
     }
 
-    fn try_copy(&self) -> Result<Self, Refusal> {
+    fn try_copy(&self) -> Result<Self, Memory> {
         Ok(World {
             alloc: self.alloc,
             core: self.core.try_copy(self.alloc)?,
@@ -128,7 +128,7 @@ impl Worlds for World {
         })
     }
 
-    fn snapshot(&self) -> Result<WorldSnapshot, Refusal> {
+    fn snapshot(&self) -> Result<WorldSnapshot, Memory> {
         let core = self.core.try_copy(self.alloc)?;
         let count = count_opened(&self.socks, self.core.limits.buffer);
         Ok(WorldSnapshot {
@@ -139,7 +139,7 @@ impl Worlds for World {
         })
     }
 
-    fn restored(snapshot: &WorldSnapshot) -> Result<Self, Refusal> {
+    fn restored(snapshot: &WorldSnapshot) -> Result<Self, Memory> {
         let WorldSnapshot {
             alloc,
             core,
@@ -197,7 +197,7 @@ impl Worlds for World {
         }
     }
 
-    fn bytes(&self, socket: u32, side: Side) -> Result<Option<Bytes>, Refusal> {
+    fn bytes(&self, socket: u32, side: Side) -> Result<Option<Bytes>, Memory> {
         if socket as usize >= self.core.locks.len() {
             return Ok(None);
         }
@@ -210,7 +210,7 @@ impl Worlds for World {
         }
     }
 
-    fn queue(&self, socket: u32, side: Side) -> Result<Option<Queue>, Refusal> {
+    fn queue(&self, socket: u32, side: Side) -> Result<Option<Queue>, Memory> {
         if socket as usize >= self.core.locks.len() {
             return Ok(None);
         }

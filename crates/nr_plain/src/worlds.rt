@@ -34,7 +34,7 @@ impl Worlds for PlainWorld {
     ghost kept = { λ snapshot. snapshot };
 
     #[tactic(auto, using(crate::proofs::FreshLemmas::fresh_fits))]
-    fn fresh(alloc: Global, limits: Limits) -> Result<Self, Refusal> {
+    fn fresh(alloc: Global, limits: Limits) -> Result<Self, Memory> {
         let descriptors = limits.descriptors as usize;
         let mut goroutines = RoomedList::with_room(alloc, limits.goroutines as usize)?;
         goroutines.push(Status::Idle);
@@ -57,7 +57,7 @@ impl Worlds for PlainWorld {
         })
     }
 
-    fn try_copy(&self) -> Result<Self, Refusal> {
+    fn try_copy(&self) -> Result<Self, Memory> {
         Ok(PlainWorld {
             alloc: self.alloc,
             limits: self.limits,
@@ -72,11 +72,11 @@ impl Worlds for PlainWorld {
         })
     }
 
-    fn snapshot(&self) -> Result<PlainWorld, Refusal> {
+    fn snapshot(&self) -> Result<PlainWorld, Memory> {
         self.try_copy()
     }
 
-    fn restored(snapshot: &PlainWorld) -> Result<Self, Refusal> {
+    fn restored(snapshot: &PlainWorld) -> Result<Self, Memory> {
         snapshot.try_copy()
     }
 
@@ -131,7 +131,7 @@ impl Worlds for PlainWorld {
         }
     }
 
-    fn bytes(&self, socket: u32, side: Side) -> Result<Option<Bytes>, Refusal> {
+    fn bytes(&self, socket: u32, side: Side) -> Result<Option<Bytes>, Memory> {
         let Some(row) = self.sockets.get(socket) else {
             return Ok(None);
         };
@@ -139,7 +139,7 @@ impl Worlds for PlainWorld {
         Ok(Some(Bytes::new(bytes)))
     }
 
-    fn queue(&self, socket: u32, side: Side) -> Result<Option<Queue>, Refusal> {
+    fn queue(&self, socket: u32, side: Side) -> Result<Option<Queue>, Memory> {
         let Some(row) = self.sockets.get(socket) else {
             return Ok(None);
         };

@@ -6,7 +6,7 @@ use crate::films::is_at;
 use crate::texts::TEXT;
 use crate::twice::{Came, Twice, grant, refuse};
 use nr_recording::{Recording, read};
-use nr_rev::{Cell, CellValue, Limits, Refusal, Side, Status, Worlds};
+use nr_rev::{Cell, CellValue, Limits, Memory, Side, Status, Worlds};
 use std::alloc::Global;
 
 const LIMITS: Limits = Limits {
@@ -46,8 +46,7 @@ fn is_empty<W: Worlds>(world: &W) -> bool
 fn make<W: Worlds + Drop>(alloc: Global) -> Came {
     match W::fresh(alloc, LIMITS) {
         Ok(world) => Came::of(is_empty(&world)),
-        Err(Refusal::Memory) => Came::Refused,
-        Err(_) => Came::Wrong,
+        Err(Memory) => Came::Refused,
     }
 }
 
@@ -108,11 +107,10 @@ fn copy<W: Worlds + Drop>(rt: &HostRuntime, world: &W) -> Came
             grant(rt);
             Came::of(are_alike(world, &copy))
         }
-        Err(Refusal::Memory) => {
+        Err(Memory) => {
             grant(rt);
             Came::Refused.leaving(is_at(world, ARRIVED))
         }
-        Err(_) => Came::Wrong,
     }
 }
 
@@ -123,7 +121,7 @@ fn keeps<W: Worlds + Drop>(world: &W, snapshot: &W::Snapshot) -> bool
 {
     match W::restored(snapshot) {
         Ok(restored) => are_alike(world, &restored),
-        Err(_) => false,
+        Err(Memory) => false,
     }
 }
 
@@ -138,11 +136,10 @@ where
             grant(rt);
             Came::of(keeps(world, &snapshot))
         }
-        Err(Refusal::Memory) => {
+        Err(Memory) => {
             grant(rt);
             Came::Refused.leaving(is_at(world, ARRIVED))
         }
-        Err(_) => Came::Wrong,
     }
 }
 
@@ -156,11 +153,10 @@ fn restore<W: Worlds + Drop>(rt: &HostRuntime, world: &W, snapshot: &W::Snapshot
             grant(rt);
             Came::of(are_alike(world, &restored))
         }
-        Err(Refusal::Memory) => {
+        Err(Memory) => {
             grant(rt);
             Came::Refused.leaving(keeps(world, snapshot))
         }
-        Err(_) => Came::Wrong,
     }
 }
 

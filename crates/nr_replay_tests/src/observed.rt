@@ -4,7 +4,7 @@ ghost use Rattle.std.specs.Prelude.{◌≡◌};
 
 use nr_plain::PlainWorld;
 use nr_rev::{
-    Answer, Bytes, Cell, CellValue, Limits, Queue, Refusal, Reversible, Side, Step, Worlds,
+    Answer, Bytes, Cell, CellValue, Limits, Memory, Queue, Refusal, Reversible, Side, Step, Worlds,
 };
 use std::alloc::Global;
 use std::marker::Model;
@@ -125,24 +125,24 @@ impl Worlds for Observed {
 
     ghost kept = { λ snapshot. snapshot };
 
-    fn fresh(alloc: Global, limits: Limits) -> Result<Self, Refusal> {
+    fn fresh(alloc: Global, limits: Limits) -> Result<Self, Memory> {
         Ok(Observed::around(PlainWorld::fresh(alloc, limits)?))
     }
 
-    fn try_copy(&self) -> Result<Self, Refusal> {
+    fn try_copy(&self) -> Result<Self, Memory> {
         let refusals = self.refusals.load(Ordering::SeqCst);
         self.refusals.store(refusals / 2, Ordering::SeqCst);
         if refusals % 2 == 1 {
-            return Err(Refusal::Memory);
+            return Err(Memory);
         }
         Ok(Observed::around(self.world.try_copy()?))
     }
 
-    fn snapshot(&self) -> Result<Self::Snapshot, Refusal> {
+    fn snapshot(&self) -> Result<Self::Snapshot, Memory> {
         self.world.snapshot()
     }
 
-    fn restored(snapshot: &Self::Snapshot) -> Result<Self, Refusal> {
+    fn restored(snapshot: &Self::Snapshot) -> Result<Self, Memory> {
         Ok(Observed::around(PlainWorld::restored(snapshot)?))
     }
 
@@ -154,11 +154,11 @@ impl Worlds for Observed {
         self.world.cell(what)
     }
 
-    fn bytes(&self, socket: u32, side: Side) -> Result<Option<Bytes>, Refusal> {
+    fn bytes(&self, socket: u32, side: Side) -> Result<Option<Bytes>, Memory> {
         self.world.bytes(socket, side)
     }
 
-    fn queue(&self, socket: u32, side: Side) -> Result<Option<Queue>, Refusal> {
+    fn queue(&self, socket: u32, side: Side) -> Result<Option<Queue>, Memory> {
         self.world.queue(socket, side)
     }
 

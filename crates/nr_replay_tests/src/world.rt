@@ -10,8 +10,8 @@ use crate::films::OPEN;
 use arrayvec::ArrayVec;
 use nr_machine::World;
 use nr_rev::{
-    Answer, Bytes, Cell, CellValue, Limits, Refusal, Reversible, Side, Step, Worlds, transact,
-    undo_all,
+    Answer, Bytes, Cell, CellValue, Limits, Memory, Refusal, Reversible, Side, Step, Worlds,
+    transact, undo_all,
 };
 use std::alloc::{AllocError, Global};
 use std::process::Abort;
@@ -37,7 +37,7 @@ const DECREF: Step = Step::Decref {
 };
 
 /// A world before its first step, with room for little.
-fn little_world(alloc: Global) -> Result<World, Refusal>
+fn little_world(alloc: Global) -> Result<World, Memory>
     ensures { IfOk result IsWorld }
 {
     World::fresh(alloc, LIMITS)

@@ -9,9 +9,9 @@ ghost use Rattle.nr_rev.specs.World.{World, empty_world};
 ghost use Rattle.nr_rev.specs.Limits.{AreInRange};
 ghost use Rattle.nr_rev.specs.Worlds.{HasItems, LosesBytes, bytes_left, refusal_of};
 ghost use Rattle.nr_rev.specs.declared.answer.Answer.{Answer};
-ghost use Rattle.nr_rev.specs.declared.refusal.Refusal.TheVariants.{Memory};
 ghost use Rattle.nr_rev.specs.declared.step.Step.{Step};
 
+use crate::Memory;
 use crate::answer::Answer;
 use crate::bytes::Bytes;
 use crate::cell::Cell;
@@ -37,26 +37,22 @@ pub trait Worlds: Reversible<Op = Step, Answer = Answer> + Sized {
 
     /// The world before the first step: goroutine 0 is idle, and there is nothing else. All the room that
     /// its limits allow is made here, so that only a dump and a step which keeps bytes take memory later.
-    fn fresh(alloc: Global, limits: Limits) -> Result<Self, Refusal>
+    fn fresh(alloc: Global, limits: Limits) -> Result<Self, Memory>
         requires { AreInRange limits }
         ensures well_formed { IfOk result (λ w. Self.is_well_formed w) }
-        ensures world { IfOk result (λ w. world w ≡ empty_world limits) }
-        ensures err { IfErr result (λ e. e ≡ Memory) };
+        ensures world { IfOk result (λ w. world w ≡ empty_world limits) };
 
     /// An equal one, with room of its own.
-    fn try_copy(&self) -> Result<Self, Refusal>
-        ensures ok { IfOk result (λ w. w ≡ self.now) }
-        ensures err { IfErr result (λ e. e ≡ Memory) };
+    fn try_copy(&self) -> Result<Self, Memory>
+        ensures { IfOk result (λ w. w ≡ self.now) };
 
     /// The world at rest. It takes memory for what is there, and none for the room that the limits allow beside it.
-    fn snapshot(&self) -> Result<Self::Snapshot, Refusal>
-        ensures ok { IfOk result (λ snapshot. kept snapshot ≡ self.now) }
-        ensures err { IfErr result (λ e. e ≡ Memory) };
+    fn snapshot(&self) -> Result<Self::Snapshot, Memory>
+        ensures { IfOk result (λ snapshot. kept snapshot ≡ self.now) };
 
     /// The world that the snapshot keeps, with all the room that its limits allow.
-    fn restored(snapshot: &Self::Snapshot) -> Result<Self, Refusal>
-        ensures ok { IfOk result (λ w. w ≡ kept snapshot.now) }
-        ensures err { IfErr result (λ e. e ≡ Memory) };
+    fn restored(snapshot: &Self::Snapshot) -> Result<Self, Memory>
+        ensures { IfOk result (λ w. w ≡ kept snapshot.now) };
 
     /// A delta that puts nothing back, whose place `apply_to` may be given.
     fn no_delta() -> Self::Delta;
@@ -87,16 +83,14 @@ pub trait Worlds: Reversible<Op = Step, Answer = Answer> + Sized {
 
     /// The bytes that a socket's buffer holds, reading the input; `None` where there is no such socket. Takes memory
     /// for these bytes alone, so where there are none it isn't refused.
-    fn bytes(&self, socket: u32, side: Side) -> Result<Option<Bytes>, Refusal>
+    fn bytes(&self, socket: u32, side: Side) -> Result<Option<Bytes>, Memory>
         ensures ok { IfOk result (λ bytes. bytes ≡ bytes_of (world self.now) socket side) }
-        ensures err { IfErr result (λ e. e ≡ Memory) }
         ensures some { OnErr result (HasItems (bytes_of (world self.now) socket side)) };
 
     /// The goroutines queued at a socket's semaphore, front first; `None` where there is no such socket. Takes memory
     /// for their numbers alone, so where none is queued it isn't refused.
-    fn queue(&self, socket: u32, side: Side) -> Result<Option<Queue>, Refusal>
+    fn queue(&self, socket: u32, side: Side) -> Result<Option<Queue>, Memory>
         ensures ok { IfOk result (λ queue. queue ≡ queue_of (world self.now) socket side) }
-        ensures err { IfErr result (λ e. e ≡ Memory) }
         ensures some { OnErr result (HasItems (queue_of (world self.now) socket side)) };
 
     /// The steps that the type takes are those of the machine.

@@ -17,9 +17,7 @@ where
     pub fn with_answers(&self) -> Result<Recording, Memory>
         ensures { IfOk result (λ recorded. recorded ≡ answered self.now.recording) }
     {
-        let Ok(mut world) = self.start.try_copy() else {
-            return Err(Memory);
-        };
+        let mut world = self.start.try_copy()?;
         let mut steps = Vec::with_capacity(self.alloc, self.recording.len())?;
         for n in 0..self.recording.len() {
             let Some(step) = self.recording.step(n) else {

@@ -43,9 +43,7 @@ impl Snaps {
         ensures answers { OnOk result (AnswersAgree recording) }
         ensures fault { IfErr result (IsLoadFault recording) }
     {
-        let Ok(start) = W::fresh(alloc, recording.limits()) else {
-            return Err(LoadFault::Memory);
-        };
+        let start = W::fresh(alloc, recording.limits())?;
         let later = replay(alloc, &start, &recording, every)?;
         Ok(Film {
             alloc,
@@ -76,35 +74,15 @@ where
     ensures answers { OnOk result (AnswersAgree recording.now) }
     ensures fault { IfErr result (IsLoadFault recording.now) }
 {
-    let mut world = copy_of(start)?;
+    let mut world = start.try_copy()?;
     let count = recording.len() / every;
     let mut later = Vec::with_capacity(alloc, count)?;
     for i in 0..count {
         play(&mut world, recording, i * every, (i + 1) * every)?;
-        later.push_reserved(snapshot_of(&world)?);
+        later.push_reserved(world.snapshot()?);
     }
     play(&mut world, recording, count * every, recording.len())?;
     Ok(later)
-}
-
-fn copy_of<W: Worlds>(world: &W) -> Result<W, LoadFault>
-    ensures copy { IfOk result (λ copy. copy ≡ world.now) }
-    ensures memory { IfErr result (λ fault. fault ≡ faults.Memory) }
-{
-    let Ok(copy) = world.try_copy() else {
-        return Err(LoadFault::Memory);
-    };
-    Ok(copy)
-}
-
-fn snapshot_of<W: Worlds>(world: &W) -> Result<W::Snapshot, LoadFault>
-    ensures kept { IfOk result (λ snapshot. W.kept snapshot ≡ world.now) }
-    ensures memory { IfErr result (λ fault. fault ≡ faults.Memory) }
-{
-    let Ok(snapshot) = world.snapshot() else {
-        return Err(LoadFault::Memory);
-    };
-    Ok(snapshot)
 }
 
 // Leads the world from one position to another. It takes no memory: the fault is a step's.

@@ -19,13 +19,9 @@ impl<W: Worlds> Snap<'_, W, W::Snapshot> {
     pub fn to_world(&self) -> Result<W, Memory>
         ensures { IfOk result (λ world. world ≡ snap_world W.kept self.now) }
     {
-        let made = match self {
+        match self {
             Snap::Start(world) => world.try_copy(),
             Snap::AtRest(snapshot) => W::restored(snapshot),
-        };
-        match made {
-            Ok(world) => Ok(world),
-            Err(_) => Err(Memory),
         }
     }
 }

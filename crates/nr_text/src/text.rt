@@ -18,26 +18,32 @@ pub trait Text {
         ensures { Writes w.old w.new (text self.now) result };
 }
 
-/// A byte is two hexadecimal digits, in lower case.
-impl Text for u8 {
-    ghost text = { hex_pair };
+/// A byte as two hexadecimal digits, in lower case.
+#[derive(Clone, Copy)]
+pub(crate) struct HexPair(pub(crate) u8);
+
+impl Text for HexPair {
+    ghost text = { λ pair. hex_pair pair.0 };
 
     fn send<W: Write>(&self, w: &mut Buffered<W>) -> Result<(), WriteFailed> {
         let mut digits = [0u8; 2];
-        let Ok(()) = hex::encode_to_slice(&[*self], &mut digits) else {
+        let Ok(()) = hex::encode_to_slice(&[self.0], &mut digits) else {
             unreachable!()
         };
         w.send(&digits)
     }
 }
 
-/// A number in a row of numbers has a space before it.
-impl Text for u32 {
-    ghost text = { spaced_number };
+/// A number behind a space.
+#[derive(Clone, Copy)]
+pub(crate) struct Spaced(pub(crate) u32);
+
+impl Text for Spaced {
+    ghost text = { λ spaced. spaced_number spaced.0 };
 
     fn send<W: Write>(&self, w: &mut Buffered<W>) -> Result<(), WriteFailed> {
         let mut digits = Buffer::new();
-        let digits = digits.format(*self).as_bytes();
+        let digits = digits.format(self.0).as_bytes();
         send_all(&[b" ".as_slice(), digits], w)
     }
 }

@@ -1,9 +1,11 @@
 //! The parts that texts are made of.
 
-ghost use Rattle.nr_text.specs.Text.{token_text};
+ghost use Rattle.std.specs.Prelude.{flat_map};
+ghost use Rattle.nr_text.specs.Buffered.{Writes};
+ghost use Rattle.nr_text.specs.Text.{hex_pair, spaced_number, token_text};
 
 use crate::buffered::{Buffered, WriteFailed};
-use crate::text::{Text, send_all};
+use crate::text::{HexPair, Spaced, Text};
 use itoa::Buffer;
 use std::io::Write;
 
@@ -31,8 +33,28 @@ impl Text for Token<'_> {
             Token::Text(text) => w.send(text),
             Token::Number(number) => w.send(digits.format(*number).as_bytes()),
             Token::Time(time) => w.send(digits.format(*time).as_bytes()),
-            Token::Hex(bytes) => send_all(bytes, w),
-            Token::Numbers(numbers) => send_all(numbers, w),
+            Token::Hex(bytes) => send_hex(bytes, w),
+            Token::Numbers(numbers) => send_numbers(numbers, w),
         }
     }
+}
+
+/// Sends each byte as two digits.
+fn send_hex<W: Write>(bytes: &[u8], w: &mut Buffered<W>) -> Result<(), WriteFailed>
+    ensures { Writes w.old w.new (flat_map hex_pair bytes.now) result }
+{
+    for byte in bytes {
+        HexPair(*byte).send(w)?;
+    }
+    Ok(())
+}
+
+/// Sends each number behind a space.
+fn send_numbers<W: Write>(numbers: &[u32], w: &mut Buffered<W>) -> Result<(), WriteFailed>
+    ensures { Writes w.old w.new (flat_map spaced_number numbers.now) result }
+{
+    for number in numbers {
+        Spaced(*number).send(w)?;
+    }
+    Ok(())
 }

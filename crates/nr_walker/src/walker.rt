@@ -68,9 +68,7 @@ where
         ensures { IfOk result (λ walker. walker
             ≡ record { film = film.now; position = 0; kept = 0; depth = depth }) }
     {
-        let Ok(world) = film.start().try_copy() else {
-            return Err(Memory);
-        };
+        let world = film.start().try_copy()?;
         Ok(Walker {
             film,
             world,

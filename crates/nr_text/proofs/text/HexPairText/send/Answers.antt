@@ -3,7 +3,7 @@ use Rattle.std.specs.Prelude.{ℕ, [], ◌∷◌}
 use Rattle.hex.specs.Hex.{encode_lower, encode_with}
 use Rattle.nr_text.specs.Buffered.{Writes}
 use Rattle.nr_text.specs.Text.{hex_pair}
-use Rattle.nr_text.proofs.text.U8Text.send.Goals as goal
+use Rattle.nr_text.proofs.text.HexPairText.send.Goals as goal
 
 -- the library's text of one byte is its pair of digits
 pair_is : (b : ℕ) → encode_lower (b ∷ []) ≡ hex_pair b
@@ -12,5 +12,5 @@ pair_is b = refl
 
 pub returns : goal.returns
 returns g c =
-    let written : c.encode_to_slice.new.output ≡ encode_lower (c.args.self.now ∷ []) = search rules in
-    subst (λ digits. Writes c.args.w.now c.send.new.self digits c.send.result) (written ∙ pair_is c.args.self.now) c.send.ensures
+    let written : c.encode_to_slice.new.output ≡ encode_lower (c.args.self.now.0 ∷ []) = search rules in
+    subst (λ digits. Writes c.args.w.now c.send.new.self digits c.send.result) (written ∙ pair_is c.args.self.now.0) c.send.ensures
