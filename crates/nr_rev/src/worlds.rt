@@ -47,8 +47,9 @@ pub trait Worlds: Reversible<Op = Step, Answer = Answer> + Sized {
         ensures ok { IfOk result (λ w. w ≡ self.now) }
         ensures err { IfErr result (λ e. e ≡ Memory) };
 
-    /// The world at rest. It takes memory for what is there, and none for the room that the limits allow beside it.
-    fn snapshot(&self) -> Result<Self::Snapshot, Refusal>
+    /// The world at rest, whatever `last` is; it may share with `last` what is the same. It takes memory for what is
+    /// there, and none for the room that the limits allow beside it.
+    fn snapshot(&self, last: Option<&Self::Snapshot>) -> Result<Self::Snapshot, Refusal>
         ensures ok { IfOk result (λ snapshot. kept snapshot ≡ self.now) }
         ensures err { IfErr result (λ e. e ≡ Memory) };
 
