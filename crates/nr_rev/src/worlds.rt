@@ -46,8 +46,9 @@ pub trait Worlds: Reversible<Op = Step, Answer = Answer> + Sized {
     fn try_copy(&self) -> Result<Self, Memory>
         ensures { IfOk result (λ w. w ≡ self.now) };
 
-    /// The world at rest. It takes memory for what is there, and none for the room that the limits allow beside it.
-    fn snapshot(&self) -> Result<Self::Snapshot, Memory>
+    /// The world at rest, whatever `last` is; it may share with `last` what is the same. It takes memory for what is there, and
+    /// none for the room that the limits allow beside it.
+    fn snapshot(&self, last: Option<&Self::Snapshot>) -> Result<Self::Snapshot, Memory>
         ensures { IfOk result (λ snapshot. kept snapshot ≡ self.now) };
 
     /// The world that the snapshot keeps, with all the room that its limits allow.

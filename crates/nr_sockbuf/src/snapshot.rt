@@ -9,7 +9,7 @@ use std::alloc::Global;
 use std::marker::Model;
 
 /// The buffers of a socket at rest, seen in contracts as the buffers are: the marks, and the bytes in just the room that
-/// they need.
+/// they need, which snapshots of the same socket may share.
 #[derive(Drop)]
 pub struct SockSnapshot {
     limit: u32,
@@ -32,12 +32,17 @@ impl Model for SockSnapshot {
 }
 
 impl Sock {
-    /// The buffers at rest. They take memory for their bytes alone.
-    pub fn snapshot(&self) -> Result<SockSnapshot, Memory>
+    /// The buffers at rest, whatever `last` is. A side shares its bytes with `last` where they are the same there, and
+    /// takes memory for them otherwise.
+    pub fn snapshot(&self, last: Option<&SockSnapshot>) -> Result<SockSnapshot, Memory>
         ensures { IfOk result (λ s. s ≡ self.now) }
     {
-        let input = self.input.snapshot(self.alloc)?;
-        let output = self.output.snapshot(self.alloc)?;
+        let (last_input, last_output) = match last {
+            Some(last) => (Some(&last.input), Some(&last.output)),
+            None => (None, None),
+        };
+        let input = self.input.snapshot(self.alloc, last_input)?;
+        let output = self.output.snapshot(self.alloc, last_output)?;
         Ok(SockSnapshot {
             limit: self.limit,
             made: self.made,

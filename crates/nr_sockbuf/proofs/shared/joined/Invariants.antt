@@ -1,5 +1,5 @@
 use Rattle.std.proofs.Common.{◌≡◌, ◌+◌, ◌++◌, length, take, vec_len, vec_capacity}
-use Rattle.nr_sockbuf.proofs.pipe.joined.Given as goal
+use Rattle.nr_sockbuf.proofs.shared.joined.Given as goal
 
 abbrev pub invariant-loop-first : goal.invariant-loop-first
 invariant-loop-first l =
