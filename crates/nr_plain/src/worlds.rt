@@ -3,6 +3,7 @@
 ghost use Rattle.std.specs.Prelude.{◌≡◌, ◌<◌, length, IfOk, OnErr};
 
 use crate::cells::armed_in;
+use crate::delta::PlainDelta;
 use crate::descriptor::summary;
 use crate::sockets::Sockets;
 use crate::world::PlainWorld;
@@ -72,12 +73,22 @@ impl Worlds for PlainWorld {
         })
     }
 
-    fn snapshot(&self) -> Result<PlainWorld, Memory> {
+    fn snapshot(&self, _last: Option<&PlainWorld>) -> Result<PlainWorld, Memory> {
         self.try_copy()
     }
 
     fn restored(snapshot: &PlainWorld) -> Result<Self, Memory> {
         snapshot.try_copy()
+    }
+
+    fn no_delta() -> PlainDelta {
+        PlainDelta::default()
+    }
+
+    fn apply_to(&mut self, step: &Step, delta: &mut PlainDelta) -> Result<Answer, Refusal> {
+        let (answer, made) = self.apply(step)?;
+        *delta = made;
+        Ok(answer)
     }
 
     #[tactic(auto, using(crate::proofs::PlanLemmas::advances_keeps))]

@@ -111,22 +111,22 @@ where
         self.snap_below(n).to_world()
     }
 
-    /// Leads a world from position n to the next one, and returns the way back. Only a step that
-    /// takes bytes out of a buffer can run out of memory; then the world stays.
+    /// Leads a world from position n to the next one, and puts the way back in the place of a delta. Only a step that takes bytes
+    /// out of a buffer can run out of memory; then the world stays, and that place may hold any delta.
     #[inline(always)]
-    pub fn apply(&self, world: &mut W, n: usize) -> Result<W::Delta, Memory>
+    pub fn apply(&self, world: &mut W, n: usize, delta: &mut W::Delta) -> Result<(), Memory>
         requires frame { IsFrame W.is_well_formed W.world W.steps self.now n world.old }
         requires below { n < length self.now.recording.steps }
         ensures frame { OnOk result (IsFrame W.is_well_formed W.world W.steps self.now (n + 1) world.new) }
-        ensures back { IfOk result (λ delta. W.back delta world.new world.old) }
+        ensures back { OnOk result (W.back delta.new world.new world.old) }
         ensures refused { OnErr result (LosesBytesAt self.now.recording n) }
         ensures unchanged { OnErr result (world.new ≡ world.old) }
     {
         let Some(step) = self.recording.step(n) else {
             unreachable!()
         };
-        match world.apply(step) {
-            Ok((_, delta)) => Ok(delta),
+        match world.apply_to(step, delta) {
+            Ok(_) => Ok(()),
             Err(Refusal::Memory) => Err(Memory),
             Err(_) => unreachable!(),
         }

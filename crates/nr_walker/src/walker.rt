@@ -230,14 +230,11 @@ where
         ensures unchanged { OnErr result (self.new ≡ self.old) }
         ensures refused { OnErr result (LosesBytesAt self.old.film.recording self.old.position) }
     {
-        match self.film.apply(&mut self.world, self.position) {
-            Ok(delta) => {
-                let _ = self.deltas.push_back(delta);
-                self.position += 1;
-                Ok(())
-            }
-            Err(error) => Err(error),
-        }
+        let mut delta = W::no_delta();
+        self.film.apply(&mut self.world, self.position, &mut delta)?;
+        let _ = self.deltas.push_back(delta);
+        self.position += 1;
+        Ok(())
     }
 
     // One step back. It takes no memory.
