@@ -72,7 +72,7 @@ impl Worlds for PlainWorld {
         })
     }
 
-    fn snapshot(&self) -> Result<PlainWorld, Refusal> {
+    fn snapshot(&self, _last: Option<&PlainWorld>) -> Result<PlainWorld, Refusal> {
         self.try_copy()
     }
 
