@@ -47,13 +47,18 @@ pub(crate) fn count_opened(socks: &[Sock], buffer: u32) -> usize
     count
 }
 
-/// The buffers of these sockets at rest.
-pub(crate) fn snapshots(alloc: Global, socks: &[Sock]) -> Result<Vec<SockSnapshot>, Memory>
+/// The buffers of these sockets at rest, whatever `last` holds. Where it holds the same bytes of a socket's side, they are
+/// shared.
+pub(crate) fn snapshots(
+    alloc: Global,
+    socks: &[Sock],
+    last: &[SockSnapshot],
+) -> Result<Vec<SockSnapshot>, Memory>
     ensures { IfOk result (λ snapshots. snapshots.items ≡ socks.now) }
 {
     let mut snapshots = Vec::with_capacity(alloc, socks.len())?;
     for sock in socks {
-        snapshots.push(sock.snapshot()?)?;
+        snapshots.push(sock.snapshot(last.get(snapshots.len()))?)?;
     }
     Ok(snapshots)
 }

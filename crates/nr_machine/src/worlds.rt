@@ -21,7 +21,7 @@ use nr_rev::{
     Answer, Bytes, Cell, CellValue, Limits, Memory, NoWayBack, Queue, Refusal, Reversible, RoomedList, Side,
     Step, Worlds,
 };
-use nr_sockbuf::Sock;
+use nr_sockbuf::{Sock, SockSnapshot};
 use nr_timers::Timers;
 use std::alloc::Global;
 
@@ -128,14 +128,18 @@ impl Worlds for World {
         })
     }
 
-    fn snapshot(&self) -> Result<WorldSnapshot, Memory> {
+    fn snapshot(&self, last: Option<&WorldSnapshot>) -> Result<WorldSnapshot, Memory> {
         let core = self.core.try_copy(self.alloc)?;
         let count = count_opened(&self.socks, self.core.limits.buffer);
+        let last_opened: &[SockSnapshot] = match last {
+            Some(last) => &last.opened,
+            None => &[],
+        };
         Ok(WorldSnapshot {
             alloc: self.alloc,
             core,
             sockets: self.socks.len(),
-            opened: snapshots(self.alloc, &self.socks[..count])?,
+            opened: snapshots(self.alloc, &self.socks[..count], last_opened)?,
         })
     }
 

@@ -138,8 +138,8 @@ impl Worlds for Observed {
         Ok(Observed::around(self.world.try_copy()?))
     }
 
-    fn snapshot(&self) -> Result<Self::Snapshot, Memory> {
-        self.world.snapshot()
+    fn snapshot(&self, last: Option<&Self::Snapshot>) -> Result<Self::Snapshot, Memory> {
+        self.world.snapshot(last)
     }
 
     fn restored(snapshot: &Self::Snapshot) -> Result<Self, Memory> {
