@@ -146,6 +146,15 @@ impl Worlds for Observed {
         Ok(Observed::around(PlainWorld::restored(snapshot)?))
     }
 
+    fn no_delta() -> Self::Delta {
+        PlainWorld::no_delta()
+    }
+
+    fn apply_to(&mut self, step: &Step, delta: &mut Self::Delta) -> Result<Answer, Refusal> {
+        self.applies = self.applies.wrapping_add(1);
+        self.world.apply_to(step, delta)
+    }
+
     fn advance(&mut self, step: &Step) -> Result<Answer, Refusal> {
         self.world.advance(step)
     }

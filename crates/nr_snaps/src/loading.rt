@@ -79,7 +79,8 @@ where
     let mut later = Vec::with_capacity(alloc, count)?;
     for i in 0..count {
         play(&mut world, recording, i * every, (i + 1) * every)?;
-        later.push_reserved(world.snapshot()?);
+        let snapshot = world.snapshot(later.last())?;
+        later.push_reserved(snapshot);
     }
     play(&mut world, recording, count * every, recording.len())?;
     Ok(later)
