@@ -208,8 +208,7 @@ module _ (m : WorldParts) (d : ℕ) (o : DescOp) (x after : Descriptor) (answer 
       let desc_back : timed ≡ with_descriptor d delta.before written =
       described_back timed written d after delta.before timed_there written_is in
       let light = times.light in
-      let woken_words = woken_light answer.woken in
-      (
+      let woken_words = woken_light answer.woken in (
         record {
           leads = due_is ∙ changing_leads m d o x after answer there step t times.leads
               ∙ ap (λ (w : World). Ok (answer.answer, w))

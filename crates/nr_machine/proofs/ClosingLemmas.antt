@@ -81,8 +81,7 @@ module _ (m : WorldParts) (g d : ℕ) (x : Descriptor) (world : IsWorld m) (can 
       let core : Core = changing.with_descriptor d after m.core in
       let means : meant (record m { core = given d mid }) ≡ record (with_descriptor d (row_with m d x) after (meant m)) { free = d ∷ m.core.free.items } =
       ap (λ (c : Core). meant (record m { core = given d c })) describes.rest
-      ∙ ap (λ (w : World). record w { free = d ∷ m.core.free.items }) (described_means m d x after) in
-      (
+      ∙ ap (λ (w : World). record w { free = d ∷ m.core.free.items }) (described_means m d x after) in (
         record {
           leads = pollclose_is
               ∙ ap (λ (r : Result Descriptor Refusal). ◌>>=◌ r (λ y. Ok (Done, record (with_descriptor d (row_with m d x) y (meant m)) { free = d ∷ m.core.free.items }))) done

@@ -106,20 +106,19 @@ described_means m d before after =
 pub described_made : (m : WorldParts) (d : ℕ) (o : DescOp) (before after : Descriptor) (left : DescAnswer) (answer : Answer) (undo : DescUndo) (new : Core) → PartsFit m
     → Describes m.core d o before after left undo new
     → Made (Ok (answer, with_descriptor d (row_with m d before) after (meant m))) [] MOST_WORDS m answer (Described undo) (record m { core = new })
-described_made m d o before after left answer undo new parts describes =
-    (
-      record {
-        leads = ap (λ (w : World). Ok (answer, w)) (sym (ap (λ (core : Core). meant (record m { core = core })) describes.rest ∙ described_means m d before after));
-        parts = subst (λ (core : Core). PartsFit (record m { core = core })) (sym describes.rest)
-            (retied m (changing.with_descriptor d after m.core) parts (descriptor_fits m.core d before after parts.core describes.there describes.fits)
-            (descriptor_tied m.core d after));
-        timers = ap (λ (core : Core). core.timers) describes.rest;
-      },
-      (
-        (describes.back, refl),
-        lit≤ tt,
-      ),
-    )
+described_made m d o before after left answer undo new parts describes = (
+  record {
+    leads = ap (λ (w : World). Ok (answer, w)) (sym (ap (λ (core : Core). meant (record m { core = core })) describes.rest ∙ described_means m d before after));
+    parts = subst (λ (core : Core). PartsFit (record m { core = core })) (sym describes.rest)
+        (retied m (changing.with_descriptor d after m.core) parts (descriptor_fits m.core d before after parts.core describes.there describes.fits)
+        (descriptor_tied m.core d after));
+    timers = ap (λ (core : Core). core.timers) describes.rest;
+  },
+  (
+    (describes.back, refl),
+    lit≤ tt,
+  ),
+)
 
 -- ---- what an operation leaves
 

@@ -319,8 +319,7 @@ pub goroutine_made : (m : WorldParts) (o : GOperation) (answer : Answer) (delta 
 goroutine_made m o answer delta t h is step queued back light =
     let tied = (table_ends m o h is).value (answer, t) step in
     let core = h.parts.core in
-    let most : weight_allowed o ≤ 7 = weight_is_within o in
-    (
+    let most : weight_allowed o ≤ 7 = weight_is_within o in (
       record {
         leads = goroutine_is m o h is ∙ ap (lifted m) step;
         parts = retied m (record m.core { goroutines = t }) h.parts

@@ -131,8 +131,7 @@ module _ (old : WorldParts) (g s : ℕ) (op : LockOp) (answer : LockAnswer) (und
       let core : Core = changing.with_status g to (with_lock s after old.core) in
       let is : new ≡ core = moves.rest ∙ ap (changing.with_status g to) locks.rest in
       let queued : IsQueuedUp core.goroutines = subst (λ (c : Core). IsQueuedUp c.goroutines) is moves.queued in
-      let light = moves.light in
-      (
+      let light = moves.light in (
         record {
           leads = locking_leads old g s op before after answer locks.there locks.step
               ∙ ap (λ (w : World). Ok (answer.answer, w))

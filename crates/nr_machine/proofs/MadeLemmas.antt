@@ -1,5 +1,5 @@
 -- What is made of a step as its kind says is made of the step.
-use Rattle.std.proofs.Common.{ℕ, ◌+◌, ◌/◌, Bool, inl, Ok, Err, Result, ap, subst, sym, arith}
+use Rattle.std.proofs.Common.{◌+◌, ◌/◌, Bool, inl, Ok, Err, Result, ap, subst, sym, arith}
 use Rattle.nr_rev.specs.declared.answer.Answer.{Answer}
 use Rattle.nr_rev.specs.declared.refusal.Refusal.{Refusal}
 use Rattle.nr_rev.specs.declared.step.Step.{Step}

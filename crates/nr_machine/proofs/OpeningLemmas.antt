@@ -127,18 +127,17 @@ opening_leads m s after parts fewer opens =
 pub opening_made : (m : WorldParts) (s : ℕ) (after : Descriptor) (answer : DescAnswer) → IsWorld m → length m.core.descriptors.items < m.core.limits.descriptors
     → desc_op.StepTo never_opened (op.Open s) answer after → DescFits after
     → Made (opening_of s [] (meant m)) [] MOST_WORDS m (Number (length m.core.descriptors.items)) undo.Made (record m { core = with_last after m.core })
-opening_made m s after answer world fewer step fits =
-    (
-      record {
-        leads = opening_leads m s after world.parts fewer (quiet_leaves (opened_for s never_opened) answer after step.defined);
-        parts = retied m (with_last after m.core) world.parts (last_fits m.core after world.parts.core fits) (last_tied m.core after);
-        timers = refl;
-      },
-      (
-        (ap (λ (xs : List Descriptor). record m.core { descriptors = record m.core.descriptors { items = xs } }) (last_back m.core.descriptors.items after), refl),
-        lit≤ tt,
-      ),
-    )
+opening_made m s after answer world fewer step fits = (
+  record {
+    leads = opening_leads m s after world.parts fewer (quiet_leaves (opened_for s never_opened) answer after step.defined);
+    parts = retied m (with_last after m.core) world.parts (last_fits m.core after world.parts.core fits) (last_tied m.core after);
+    timers = refl;
+  },
+  (
+    (ap (λ (xs : List Descriptor). record m.core { descriptors = record m.core.descriptors { items = xs } }) (last_back m.core.descriptors.items after), refl),
+    lit≤ tt,
+  ),
+)
 
 -- ---- a free one
 
@@ -162,8 +161,7 @@ reopening_made m s d x after answer before world first most found step fits was 
     let there : slice_get m.core.descriptors.items d ≡ Some x = found_there m d x found in
     let opens : opened_for s x ≡ Ok after = quiet_leaves (opened_for s x) answer after step.defined in
     let leads : opening_of s (d ∷ drop 1 m.core.free.items) (meant m) ≡ Ok (Number d, with_descriptor d (row_with m d x) after (meant (record m { core = mid }))) =
-    rw (found, opens) refl in
-    (
+    rw (found, opens) refl in (
       record {
         leads = ap (λ (free : List ℕ). opening_of s free (meant m)) (first_free m.core.free.items d first) ∙ leads
             ∙ ap (λ (w : World). Ok (Number d, w)) (sym (described_means (record m { core = mid }) d x after));

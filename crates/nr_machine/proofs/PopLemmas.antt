@@ -169,8 +169,7 @@ pop_made law m t delta h step fits back light = by m.core.timers.entries refl
         let full = pops.room in
         let room : length m.core.timers.firings < 2 * m.core.limits.descriptors = omega (arith, limit, full) in
         let made = head_made m.core.descriptors.items x xs
-        (subst (λ (es : List Entry). (d : ℕ) → length m.core.descriptors.items ≤ d → timers_of es d ≡ twice None) is h.parts.unarmed) in
-        (
+        (subst (λ (es : List Entry). (d : ℕ) → length m.core.descriptors.items ≤ d → timers_of es d ≡ twice None) is h.parts.unarmed) in (
           record {
             leads = pop_is law m h.parts ∙ ap (λ (es : List Entry). pop_first (slice_get es 0) (meant m)) is ∙ pop_leads m t x made.0 made.1 sets due room rest;
             parts = retied m core h.parts (timed_fits m.core t h.parts.core fits (ap (λ (s : State). s.descriptors) rest))

@@ -36,7 +36,7 @@ use Rattle.nr_machine.specs.declared.world_core.Core.{Core}
 use Rattle.nr_machine.specs.Asked.{asked_of}
 use Rattle.nr_machine.specs.Delta.{OpenedBack, SockBack}
 use Rattle.nr_machine.specs.Fits.{CoreFits, IsWorld, PartsFit, SockFits}
-use Rattle.nr_machine.specs.Made.{Made, TakesMemory, parts_reason}
+use Rattle.nr_machine.specs.Made.{Made, parts_reason}
 use Rattle.nr_machine.specs.Sockets.{SocketRest, rest_at, socket_of}
 use Rattle.nr_machine.specs.Transfers.{IsOpening}
 use Rattle.nr_machine.specs.World.{WorldParts, meant}
@@ -231,8 +231,7 @@ module _ (m : WorldParts) (h : IsWorld m) where
           → Made (outcome (meant m) (SockOpen rc wc)) [] (MOST_WORDS + (0 + 7) / 8) m (Number n) (Opened delta) (with_opening after m)
       made_so rc wc answer delta after leads back light =
           let is : after ≡ with_opened (new_opened rc wc) before = opened_so rc wc answer after leads in
-          let opened : is_opened after.opened ≡ true = ap (λ (t : SockParts). is_opened t.opened) is in
-          (
+          let opened : is_opened after.opened ≡ true = ap (λ (t : SockParts). is_opened t.opened) is in (
             record {
               leads = at_buffers rc wc ∙ ap (lifted_opening (meant m)) leads
                   ∙ ap (λ (w : World). Ok (Number (length (meant m).sockets), w)) (sym (opening_means after opened))

@@ -14,8 +14,7 @@ use Rattle.nr_machine.proofs.FitsLemmas.{retied}
 pub tick_made : (m : WorldParts) (t : ℤ) → IsWorld m → int_lt t m.core.clock ≡ false
     → Made (tick t (meant m)) [] MOST_WORDS m Done (Clock m.core.clock) (record m { core = record m.core { clock = t } })
 tick_made m t h later =
-    let core = h.parts.core in
-    (
+    let core = h.parts.core in (
       record {
         leads = rw later refl;
         parts = retied m (record m.core { clock = t }) h.parts

@@ -153,8 +153,7 @@ pub moved_made : (old : WorldParts) (g : ℕ) (to : Status) (answer : Answer) (d
 moved_made old g to answer delta new parts moves =
     let core : Core = changing.with_status g to old.core in
     let queued : IsQueuedUp core.goroutines = subst (λ (c : Core). IsQueuedUp c.goroutines) moves.rest moves.queued in
-    let light = moves.light in
-    (
+    let light = moves.light in (
       record {
         leads = ap (λ (c : Core). Ok (answer, meant (record old { core = c }))) (sym moves.rest);
         parts = subst (λ (c : Core). PartsFit (record old { core = c })) (sym moves.rest)
@@ -217,8 +216,7 @@ module _ (old : WorldParts) (g d : ℕ) (o : DescOp) (answer : DescAnswer) (undo
       let moved_is : moved ≡ core = moves.rest ∙ ap (changing.with_status g to) describes.rest in
       let is : new ≡ core_parked parked core = parks_is ∙ ap (core_parked parked) moved_is in
       let queued : IsQueuedUp core.goroutines = subst (λ (c : Core). IsQueuedUp c.goroutines) moved_is moves.queued in
-      let light = moves.light in
-      (
+      let light = moves.light in (
         record {
           leads = waiting_leads old g d o before after answer describes.there describes.step
               ∙ ap (λ (w : World). Ok (answer.answer, w))

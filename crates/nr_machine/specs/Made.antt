@@ -54,6 +54,6 @@ abbrev pub MakesStep : {Place : Type 0} → Bool → (Place → WorldUndo → Ty
 MakesStep {Place} keeps holds place step old (Ok answer) new =
     Advanced (outcome (meant old) step) (asked_of old step) old answer new
     × IfKept keeps holds place
-        (Undoes (MOST_WORDS + (bytes_left step answer + 7) / 8) new old)
+    (Undoes (MOST_WORDS + (bytes_left step answer + 7) / 8) new old)
 MakesStep {Place} keeps holds place step old (Err e) new =
     Refuses parts_reason (λ m op. (keeps ≡ true) × TakesMemory m op) old step e × (new ≡ old)

@@ -12,7 +12,11 @@ impl World {
     /// Makes a step of changes of the parts, or changes nothing and says why it does not apply.
     #[inline(always)]
     #[tactic(auto, using(crate::proofs::MadeLemmas::makes_step))]
-    pub(crate) fn make<K: Keeper<WorldUndo>>(&mut self, step: &Step, way: &mut K) -> Result<Answer, Refusal>
+    pub(crate) fn make<K: Keeper<WorldUndo>>(
+        &mut self,
+        step: &Step,
+        way: &mut K,
+    ) -> Result<Answer, Refusal>
         requires { IsWorld self.old }
         ensures made { MakesStep K.KEEPS K.holds way.new step.now self.old result self.new }
         ensures timely { IsTimely step.now }

@@ -31,6 +31,11 @@ impl World {
         self.idle(goroutine)?;
         let desc = self.open_desc_of(descriptor)?;
         let clock = self.core.clock;
-        self.change(descriptor, desc, &DescOp::SetDeadline { clock, mode, time }, way)
+        self.change(
+            descriptor,
+            desc,
+            &DescOp::SetDeadline { clock, mode, time },
+            way,
+        )
     }
 }

@@ -15,7 +15,11 @@ use nr_rev::{Answer, Keeper, Refusal, Reversible};
 impl World {
     /// What goroutines and semaphores alone do.
     #[inline(always)]
-    pub(crate) fn goroutine<K: Keeper<WorldUndo>>(&mut self, op: GOperation, way: &mut K) -> Result<Answer, Refusal>
+    pub(crate) fn goroutine<K: Keeper<WorldUndo>>(
+        &mut self,
+        op: GOperation,
+        way: &mut K,
+    ) -> Result<Answer, Refusal>
         requires world { IsWorld self.old }
         requires step { IsStep op }
         ensures { Makes K.holds way.new (goroutine_outcome op (meant self.old)) [] self.old result self.new }
@@ -36,7 +40,11 @@ impl World {
 
     /// `exit`.
     #[inline(always)]
-    pub(crate) fn exit<K: Keeper<WorldUndo>>(&mut self, goroutine: u32, way: &mut K) -> Result<Answer, Refusal>
+    pub(crate) fn exit<K: Keeper<WorldUndo>>(
+        &mut self,
+        goroutine: u32,
+        way: &mut K,
+    ) -> Result<Answer, Refusal>
         requires { IsWorld self.old }
         ensures { Makes K.holds way.new (step.exit goroutine (meant self.old)) [] self.old result self.new }
     {

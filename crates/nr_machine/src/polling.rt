@@ -39,7 +39,12 @@ impl World {
 
     /// The descriptor whose number is the first of the free ones is opened again.
     #[inline(always)]
-    fn reopen<K: Keeper<WorldUndo>>(&mut self, descriptor: u32, socket: u32, way: &mut K) -> Result<Answer, Refusal>
+    fn reopen<K: Keeper<WorldUndo>>(
+        &mut self,
+        descriptor: u32,
+        socket: u32,
+        way: &mut K,
+    ) -> Result<Answer, Refusal>
         requires world { IsWorld self.old }
         requires first { slice_get self.old.core.free.items 0 ≡ Some descriptor }
         ensures { Makes K.holds way.new (opening_of socket self.old.core.free.items (meant self.old)) [] self.old result self.new }
@@ -54,7 +59,11 @@ impl World {
 
     /// A descriptor that was never opened before is opened.
     #[inline(always)]
-    fn open_new<K: Keeper<WorldUndo>>(&mut self, socket: u32, way: &mut K) -> Result<Answer, Refusal>
+    fn open_new<K: Keeper<WorldUndo>>(
+        &mut self,
+        socket: u32,
+        way: &mut K,
+    ) -> Result<Answer, Refusal>
         requires { IsWorld self.old }
         ensures { Makes K.holds way.new (opening_of socket [] (meant self.old)) [] self.old result self.new }
     {

@@ -14,7 +14,11 @@ use nr_rev::{Answer, Keeper, Refusal};
 impl World {
     /// `acquire`.
     #[inline(always)]
-    pub(crate) fn acquire<K: Keeper<WorldUndo>>(&mut self, goroutine: u32, way: &mut K) -> Result<Answer, Refusal>
+    pub(crate) fn acquire<K: Keeper<WorldUndo>>(
+        &mut self,
+        goroutine: u32,
+        way: &mut K,
+    ) -> Result<Answer, Refusal>
         requires { IsWorld self.old }
         ensures { Makes K.holds way.new (step.acquire goroutine (meant self.old)) [] self.old result self.new }
     {
@@ -23,7 +27,11 @@ impl World {
 
     /// `release`.
     #[inline(always)]
-    pub(crate) fn release<K: Keeper<WorldUndo>>(&mut self, goroutine: u32, way: &mut K) -> Result<Answer, Refusal>
+    pub(crate) fn release<K: Keeper<WorldUndo>>(
+        &mut self,
+        goroutine: u32,
+        way: &mut K,
+    ) -> Result<Answer, Refusal>
         requires { IsWorld self.old }
         ensures { Makes K.holds way.new (step.release goroutine (meant self.old)) [] self.old result self.new }
     {

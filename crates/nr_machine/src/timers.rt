@@ -17,7 +17,11 @@ use nr_timers::laws::entries_are_the_descriptors;
 impl World {
     /// `tick`.
     #[inline(always)]
-    pub(crate) fn tick<K: Keeper<WorldUndo>>(&mut self, time: i64, way: &mut K) -> Result<Answer, Refusal>
+    pub(crate) fn tick<K: Keeper<WorldUndo>>(
+        &mut self,
+        time: i64,
+        way: &mut K,
+    ) -> Result<Answer, Refusal>
         requires { IsWorld self.old }
         ensures { Makes K.holds way.new (step.tick time (meant self.old)) [] self.old result self.new }
     {
@@ -46,7 +50,11 @@ impl World {
 
     /// `fire`.
     #[inline(always)]
-    pub(crate) fn fire<K: Keeper<WorldUndo>>(&mut self, place: u32, way: &mut K) -> Result<Answer, Refusal>
+    pub(crate) fn fire<K: Keeper<WorldUndo>>(
+        &mut self,
+        place: u32,
+        way: &mut K,
+    ) -> Result<Answer, Refusal>
         requires { IsWorld self.old }
         ensures { Makes K.holds way.new (step.fire place (meant self.old)) (timers.TakeFiring place ∷ [])
             self.old result self.new }

@@ -12,7 +12,11 @@ use nr_rev::{Answer, Keeper, Refusal, Reversible, Step};
 impl World {
     /// `sockopen`.
     #[inline(always)]
-    pub(crate) fn sockopen<K: Keeper<WorldUndo>>(&mut self, step: &Step, way: &mut K) -> Result<Answer, Refusal>
+    pub(crate) fn sockopen<K: Keeper<WorldUndo>>(
+        &mut self,
+        step: &Step,
+        way: &mut K,
+    ) -> Result<Answer, Refusal>
         requires world { IsWorld self.old }
         requires step { IsOpening step.now }
         ensures { MakesStep K.KEEPS K.holds way.new step.now self.old result self.new }

@@ -71,7 +71,11 @@ impl World {
     /// `blockarm`.
     #[inline(always)]
     #[tactic(auto, using(crate::proofs::WaitingLemmas::blockarm_is))]
-    pub(crate) fn blockarm<K: Keeper<WorldUndo>>(&mut self, goroutine: u32, way: &mut K) -> Result<Answer, Refusal>
+    pub(crate) fn blockarm<K: Keeper<WorldUndo>>(
+        &mut self,
+        goroutine: u32,
+        way: &mut K,
+    ) -> Result<Answer, Refusal>
         requires { IsWorld self.old }
         ensures { Makes K.holds way.new (step.blockarm goroutine (meant self.old)) [] self.old result self.new }
     {
@@ -84,7 +88,11 @@ impl World {
 
     /// `blockcheck`.
     #[inline(always)]
-    pub(crate) fn blockcheck<K: Keeper<WorldUndo>>(&mut self, goroutine: u32, way: &mut K) -> Result<Answer, Refusal>
+    pub(crate) fn blockcheck<K: Keeper<WorldUndo>>(
+        &mut self,
+        goroutine: u32,
+        way: &mut K,
+    ) -> Result<Answer, Refusal>
         requires { IsWorld self.old }
         ensures { Makes K.holds way.new (step.blockcheck goroutine (meant self.old)) [] self.old result self.new }
     {
@@ -104,7 +112,11 @@ impl World {
     /// `parkcommit`.
     #[inline(always)]
     #[tactic(auto, using(crate::proofs::WaitingLemmas::parkcommit_is, crate::proofs::WaitingLemmas::below_most))]
-    pub(crate) fn parkcommit<K: Keeper<WorldUndo>>(&mut self, goroutine: u32, way: &mut K) -> Result<Answer, Refusal>
+    pub(crate) fn parkcommit<K: Keeper<WorldUndo>>(
+        &mut self,
+        goroutine: u32,
+        way: &mut K,
+    ) -> Result<Answer, Refusal>
         requires { IsWorld self.old }
         ensures { Makes K.holds way.new (step.parkcommit goroutine (meant self.old)) [] self.old result self.new }
     {
@@ -119,7 +131,11 @@ impl World {
     /// `blockswap`.
     #[inline(always)]
     #[tactic(auto, using(crate::proofs::WaitingLemmas::blockswap_is))]
-    pub(crate) fn blockswap<K: Keeper<WorldUndo>>(&mut self, goroutine: u32, way: &mut K) -> Result<Answer, Refusal>
+    pub(crate) fn blockswap<K: Keeper<WorldUndo>>(
+        &mut self,
+        goroutine: u32,
+        way: &mut K,
+    ) -> Result<Answer, Refusal>
         requires { IsWorld self.old }
         ensures { Makes K.holds way.new (step.blockswap goroutine (meant self.old)) [] self.old result self.new }
     {
@@ -132,7 +148,11 @@ impl World {
 
     /// `waitcheck`.
     #[inline(always)]
-    pub(crate) fn waitcheck<K: Keeper<WorldUndo>>(&mut self, goroutine: u32, way: &mut K) -> Result<Answer, Refusal>
+    pub(crate) fn waitcheck<K: Keeper<WorldUndo>>(
+        &mut self,
+        goroutine: u32,
+        way: &mut K,
+    ) -> Result<Answer, Refusal>
         requires { IsWorld self.old }
         ensures { Makes K.holds way.new (step.waitcheck goroutine (meant self.old)) [] self.old result self.new }
     {

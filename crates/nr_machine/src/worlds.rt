@@ -18,8 +18,8 @@ use crate::world::World;
 use crate::world_core::Core;
 use nr_gsema::{GOperation, GTable};
 use nr_rev::{
-    Answer, Bytes, Cell, CellValue, Limits, Memory, NoWayBack, Queue, Refusal, Reversible, RoomedList, Side,
-    Step, Worlds,
+    Answer, Bytes, Cell, CellValue, Limits, Memory, NoWayBack, Queue, Refusal, Reversible,
+    RoomedList, Side, Step, Worlds,
 };
 use nr_sockbuf::{Sock, SockSnapshot};
 use nr_timers::Timers;

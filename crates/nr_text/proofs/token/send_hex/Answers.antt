@@ -1,4 +1,4 @@
-use Rattle.std.proofs.Common.{◌<◌, length, get_or, sym}
+use Rattle.std.proofs.Common.{get_or, sym}
 use Rattle.std.proofs.lemmas.Grind.{get_or_default_zero}
 use Rattle.nr_text.specs.Text.{hex_pair}
 use Rattle.nr_text.proofs.TextLemmas.{all_cut}

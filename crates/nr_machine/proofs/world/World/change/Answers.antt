@@ -27,8 +27,11 @@ returns g c =
     let there : slice_get m.core.descriptors.items d ≡ Some c.args.desc =
     row_there m d c.args.desc (subst (λ (k : WorldParts). find_row d (meant k) ≡ Ok (row_of c.args.desc (timers_of k.core.timers.entries d))) (sym c.self.view_is) c.requires.there) in
     let world : IsWorld m = subst IsWorld (sym c.self.view_is) c.requires.world in
-    rw (← c.self.view_is)
-    (Changed (record { descriptor = d; before = c.in_ok-left.before }) c.in_ok-timers.timers c.in_ok-left.left.woken, c.put.ensures, change_made m d c.args.op.now c.args.desc c.apply.new.self c.in_ok-left.left world there c.in_ok-left.ensures.step
-    c.sides.result c.in_ok-timers.timers c.in_ok-left.before c.obey.new.self c.set_descriptor.new.self c.wake_both.new.self c.sides.ensures
-    c.in_ok-timers.ensures.obeyed c.in_ok-timers.ensures.back c.in_ok-timers.ensures.light c.in_ok-left.ensures.well_formed
-    c.set_descriptor.ensures c.wake_both.ensures.woken c.wake_both.ensures.queued c.wake_both.ensures.back c.in_ok-left.ensures.back)
+    rw (← c.self.view_is) (
+      Changed (record { descriptor = d; before = c.in_ok-left.before }) c.in_ok-timers.timers c.in_ok-left.left.woken,
+      c.put.ensures,
+      change_made m d c.args.op.now c.args.desc c.apply.new.self c.in_ok-left.left world there c.in_ok-left.ensures.step
+          c.sides.result c.in_ok-timers.timers c.in_ok-left.before c.obey.new.self c.set_descriptor.new.self c.wake_both.new.self c.sides.ensures
+          c.in_ok-timers.ensures.obeyed c.in_ok-timers.ensures.back c.in_ok-timers.ensures.light c.in_ok-left.ensures.well_formed
+          c.set_descriptor.ensures c.wake_both.ensures.woken c.wake_both.ensures.queued c.wake_both.ensures.back c.in_ok-left.ensures.back,
+    )

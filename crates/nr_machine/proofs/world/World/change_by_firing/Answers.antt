@@ -29,7 +29,10 @@ returns g c =
     row_there m d c.args.desc (subst (λ (k : WorldParts). find_row d (meant k) ≡ Ok (row_of c.args.desc (timers_of k.core.timers.entries d))) (sym c.self.view_is) c.requires.there) in
     let world : IsWorld m = subst IsWorld (sym c.self.view_is) c.requires.world in
     let quiet : asked_at d c.args.op.now m ≡ [] = subst (λ (k : WorldParts). asked_at d c.args.op.now k ≡ []) (sym c.self.view_is) c.requires.quiet in
-    rw (← c.self.view_is)
-    (Changed (record { descriptor = d; before = c.in_ok-left.before }) (record { read = Some c.take_firing-taken.result; write = None }) c.in_ok-left.left.woken, c.put.ensures, firing_made m d c.args.op.now c.args.desc c.apply.new.self c.in_ok-left.left world there c.in_ok-left.ensures.step
-    c.args.place c.take_firing-taken.result c.in_ok-left.before c.take_firing-taken.new.self c.set_descriptor.new.self c.wake_both.new.self quiet c.take_firing-taken.ensures
-    c.in_ok-left.ensures.well_formed c.set_descriptor.ensures c.wake_both.ensures.woken c.wake_both.ensures.queued c.wake_both.ensures.back c.in_ok-left.ensures.back)
+    rw (← c.self.view_is) (
+      Changed (record { descriptor = d; before = c.in_ok-left.before }) (record { read = Some c.take_firing-taken.result; write = None }) c.in_ok-left.left.woken,
+      c.put.ensures,
+      firing_made m d c.args.op.now c.args.desc c.apply.new.self c.in_ok-left.left world there c.in_ok-left.ensures.step
+          c.args.place c.take_firing-taken.result c.in_ok-left.before c.take_firing-taken.new.self c.set_descriptor.new.self c.wake_both.new.self quiet c.take_firing-taken.ensures
+          c.in_ok-left.ensures.well_formed c.set_descriptor.ensures c.wake_both.ensures.woken c.wake_both.ensures.queued c.wake_both.ensures.back c.in_ok-left.ensures.back,
+    )

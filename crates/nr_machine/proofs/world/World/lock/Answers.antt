@@ -32,7 +32,10 @@ returns g c =
     let m : WorldParts = record { core = c.self.inside.core; socks = c.self.inside.socks.items } in
     let some = c.in_ok-left.ensures.ok in
     let world : IsWorld m = subst IsWorld (sym c.self.view_is) c.requires.world in
-    rw (← c.self.view_is)
-    (Locked c.in_ok-left.lock c.move_on-moved.result, c.put.ensures, locking_made m c.args.goroutine c.args.socket c.args.op c.in_ok-left.left c.in_ok-left.lock c.move_on-moved.result c.lock.new.self c.move_on-moved.new.self
-    some.0 some.1 world.parts some.2
-    (subst (λ (to : Status). MovesOn c.lock.new.self c.args.goroutine to c.move_on-moved.result c.move_on-moved.new.self) (c.status_left-to.ensures some.1) c.move_on-moved.ensures))
+    rw (← c.self.view_is) (
+      Locked c.in_ok-left.lock c.move_on-moved.result,
+      c.put.ensures,
+      locking_made m c.args.goroutine c.args.socket c.args.op c.in_ok-left.left c.in_ok-left.lock c.move_on-moved.result c.lock.new.self c.move_on-moved.new.self
+          some.0 some.1 world.parts some.2
+          (subst (λ (to : Status). MovesOn c.lock.new.self c.args.goroutine to c.move_on-moved.result c.move_on-moved.new.self) (c.status_left-to.ensures some.1) c.move_on-moved.ensures),
+    )

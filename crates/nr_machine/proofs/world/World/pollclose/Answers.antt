@@ -36,6 +36,9 @@ returns g c =
     let tested : Closable c.args.self.now c.args.goroutine c.args.descriptor c.in_ok-open_desc_of.field-0 = search rules in
     let can = subst (λ (k : WorldParts). Closable k c.args.goroutine c.args.descriptor c.in_ok-open_desc_of.field-0) (sym c.self.view_is) tested in
     let some = c.in_ok-desc.ensures.ok in
-    rw (← c.self.view_is, c.insert.ensures)
-    (Closed c.in_ok-desc.desc, c.put.ensures, close_made m c.args.goroutine c.args.descriptor c.in_ok-open_desc_of.field-0 world can
-    some.0 some.1 c.in_ok-desc.field-0-0 c.in_ok-desc.desc c.describe.new.self some.2)
+    rw (← c.self.view_is, c.insert.ensures) (
+      Closed c.in_ok-desc.desc,
+      c.put.ensures,
+      close_made m c.args.goroutine c.args.descriptor c.in_ok-open_desc_of.field-0 world can
+          some.0 some.1 c.in_ok-desc.field-0-0 c.in_ok-desc.desc c.describe.new.self some.2,
+    )

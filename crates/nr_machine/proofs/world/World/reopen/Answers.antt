@@ -18,6 +18,9 @@ returns g c =
     subst (λ (k : WorldParts). row_of d (meant k) ≡ Ok (row_with k d x)) (sym c.self.view_is) c.in_ok-desc.ensures in
     let first : slice_get m.core.free.items 0 ≡ Some d =
     subst (λ (k : WorldParts). slice_get k.core.free.items 0 ≡ Some d) (sym c.self.view_is) c.requires.first in
-    rw (← c.self.view_is, c.set_descriptor.ensures, c.take_first.ensures.rest)
-    (Reopened (record { descriptor = d; before = c.in_ok-before.before }), c.put.ensures, reopening_made m c.args.socket d x c.apply.new.self c.in_ok-before.field-0-0 c.in_ok-before.before world first c.take_first.ensures.within found
-    c.in_ok-before.ensures.step c.in_ok-before.ensures.well_formed c.in_ok-before.ensures.back)
+    rw (← c.self.view_is, c.set_descriptor.ensures, c.take_first.ensures.rest) (
+      Reopened (record { descriptor = d; before = c.in_ok-before.before }),
+      c.put.ensures,
+      reopening_made m c.args.socket d x c.apply.new.self c.in_ok-before.field-0-0 c.in_ok-before.before world first c.take_first.ensures.within found
+          c.in_ok-before.ensures.step c.in_ok-before.ensures.well_formed c.in_ok-before.ensures.back,
+    )

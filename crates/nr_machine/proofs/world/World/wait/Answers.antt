@@ -38,10 +38,13 @@ returns g c =
     let m : WorldParts = record { core = c.self.inside.core; socks = c.self.inside.socks.items } in
     let some = c.in_ok-left.ensures.ok in
     let world : IsWorld m = subst IsWorld (sym c.self.view_is) c.requires.world in
-    rw (← c.self.view_is)
-    (Waited c.in_ok-left.desc c.move_to-moved.result c.parks-parked.result, c.put.ensures, rw (c.parks-parked.ensures) (waiting_made m c.args.goroutine c.args.descriptor c.args.op.now c.in_ok-left.left c.in_ok-left.desc c.move_to-moved.result
-    c.describe.new.self c.move_to-moved.new.self c.park.new.self
-    some.0 some.1 world.parts some.2
-    (subst (λ (to : Status). Moves c.describe.new.self c.args.goroutine to c.move_to-moved.result c.move_to-moved.new.self) c.status_after-to.ensures c.move_to-moved.ensures)
-    (rw c.parks-parked.ensures at c.park.ensures.parked)
-    (rw c.parks-parked.ensures at c.park.ensures.back)))
+    rw (← c.self.view_is) (
+      Waited c.in_ok-left.desc c.move_to-moved.result c.parks-parked.result,
+      c.put.ensures,
+      rw (c.parks-parked.ensures) (waiting_made m c.args.goroutine c.args.descriptor c.args.op.now c.in_ok-left.left c.in_ok-left.desc c.move_to-moved.result
+          c.describe.new.self c.move_to-moved.new.self c.park.new.self
+          some.0 some.1 world.parts some.2
+          (subst (λ (to : Status). Moves c.describe.new.self c.args.goroutine to c.move_to-moved.result c.move_to-moved.new.self) c.status_after-to.ensures c.move_to-moved.ensures)
+          (rw c.parks-parked.ensures at c.park.ensures.parked)
+          (rw c.parks-parked.ensures at c.park.ensures.back)),
+    )
