@@ -27,7 +27,7 @@ use Rattle.nr_machine.specs.declared.delta.WorldUndo.{WorldUndo}
 use Rattle.nr_machine.specs.declared.delta.WorldUndo.TheVariants.{Sock}
 use Rattle.nr_machine.specs.Asked.{TimersMade, asked_of}
 use Rattle.nr_machine.specs.Fits.{IsWorld, PartsFit, SockFits}
-use Rattle.nr_machine.specs.Made.{Advanced, MakesStep, TakesMemory, Undoes, parts_reason}
+use Rattle.nr_machine.specs.Made.{Advanced, MakesStep, TakesMemory, LeadsBackWithin, parts_reason}
 use Rattle.nr_machine.specs.Sockets.{SocketRest, buffers_in, rest_at, socket_of}
 use Rattle.nr_machine.specs.Transfers.{IsTransfer, transferring}
 use Rattle.nr_machine.specs.World.{WorldParts, meant}
@@ -268,7 +268,7 @@ module _ (m : WorldParts) (s : ℕ) (step : Step) (h : IsWorld m) (is : IsTransf
 
       -- and the delta of the buffers leads back
       pub transfer_undoes : (delta : SockDelta) → sock_delta.LeadsBack delta after before → sock_delta.delta_weight delta ≤ 3 + (bytes_left step answer + 7) / 8
-          → Undoes (MOST_WORDS + (bytes_left step answer + 7) / 8) (with_sock s after m) m (Sock s delta)
+          → LeadsBackWithin (MOST_WORDS + (bytes_left step answer + 7) / 8) (with_sock s after m) m (Sock s delta)
       transfer_undoes delta back light = (
         record {
           before = before;

@@ -23,13 +23,14 @@ pub record Advanced (due : Outcome) (asked : List TimersOp) (old : WorldParts) (
   pub timers : TimersMade asked old.core.timers new.core.timers
 
 -- an undo leads back from the new parts to the old ones, and holds at most so many words
-abbrev pub Undoes : ℕ → WorldParts → WorldParts → WorldUndo → Type 0
-Undoes most new old undo = UndoBack undo new old × (undo_weight undo ≤ most)
+abbrev pub LeadsBackWithin : ℕ → WorldParts → WorldParts → WorldUndo → Type 0
+LeadsBackWithin most new old undo = UndoBack undo new old × (undo_weight undo ≤ most)
 
 -- the new parts are the definition's, and the undo leads back
-abbrev pub Made : Outcome → List TimersOp → ℕ → WorldParts → Answer → WorldUndo → WorldParts → Type 0
+abbrev pub Made : Outcome → List TimersOp → ℕ → WorldParts → Answer → WorldUndo → WorldParts
+    → Type 0
 Made due asked most old answer undo new =
-    Advanced due asked old answer new × Undoes most new old undo
+    Advanced due asked old answer new × LeadsBackWithin most new old undo
 
 -- what a step comes to is made, with an undo that the place holds if it keeps any; or the step has
 -- the machine's reason and changes nothing
@@ -54,6 +55,6 @@ abbrev pub MakesStep : {Place : Type 0} → Bool → (Place → WorldUndo → Ty
 MakesStep {Place} keeps holds place step old (Ok answer) new =
     Advanced (outcome (meant old) step) (asked_of old step) old answer new
     × IfKept keeps holds place
-    (Undoes (MOST_WORDS + (bytes_left step answer + 7) / 8) new old)
+    (LeadsBackWithin (MOST_WORDS + (bytes_left step answer + 7) / 8) new old)
 MakesStep {Place} keeps holds place step old (Err e) new =
     Refuses parts_reason (λ m op. (keeps ≡ true) × TakesMemory m op) old step e × (new ≡ old)

@@ -59,49 +59,38 @@ module _ (r : Recording) (c : Conversation) (s : SessionState) (d d' : FrontStat
   lines : (failed : Bool) → c.input.failed ≡ failed → lines_of (not failed) read ≡ lines_of (not c.input.failed) c.input.received
   lines failed is = ap (λ (bytes : List ℕ). lines_of (not failed) bytes) (sym received) ∙ ap (λ (f : Bool). lines_of (not f) c.input.received) (sym is)
 
+  -- what was replied goes on, where what was sent begins the replies, and is all of them if no write failed
+  goes_with : (failed : Bool) (says : List Met → Type 0) → c.input.failed ≡ failed → ((met : List Met) → says met → StartsWith (replies r s (not failed) read met) out)
+      → ((met : List Met) → says met → c.output.failed ≡ false → out ≡ replies r s (not failed) read met) → Replied r s d d' (lines_of (not failed) read) out says → Goes r c s d d'
+  goes_with failed says is begins whole all = record {
+    answered = record {
+      met = all.met;
+      may = subst (λ (l : List (List ℕ)). AllMayMeet r (size_of d) s l all.met) (lines failed is) all.may;
+      begins = subst (λ (t : List ℕ). StartsWith t c.output.sent) (replies_are failed all.met is)
+          (subst (StartsWith (replies r s (not failed) read all.met)) (sym sent) (begins all.met all.says_it));
+      whole = λ calm. sent ∙ whole all.met all.says_it calm ∙ replies_are failed all.met is;
+      ran = all.ran;
+      first = subst (λ (l : List (List ℕ)). StartsList l all.ran) (lines failed is) all.first;
+      nothing_else = subst (StartsWith (concat (texts r s all.ran all.met))) (sym sent) all.nothing_else;
+      others = all.theirs;
+    };
+    after = all.after;
+    there = all.there;
+    seen = all.seen;
+    tag = all.tag;
+    table = all.table;
+    company = all.company;
+  }
+
   -- no write failed
   whole_of : (failed : Bool) → c.input.failed ≡ failed → Replied r s d d' (lines_of (not failed) read) out (λ met. out ≡ replies r s (not failed) read met) → Goes r c s d d'
   whole_of failed is all =
-      let says : c.output.sent ≡ replies r s (not c.input.failed) c.input.received all.met = sent ∙ all.says_it ∙ replies_are failed all.met is in
-      record {
-        answered = record {
-          met = all.met;
-          may = subst (λ (l : List (List ℕ)). AllMayMeet r (size_of d) s l all.met) (lines failed is) all.may;
-          begins = all_of (replies r s (not c.input.failed) c.input.received all.met) c.output.sent says;
-          whole = λ _. says;
-          ran = all.ran;
-          first = subst (λ (l : List (List ℕ)). StartsList l all.ran) (lines failed is) all.first;
-          nothing_else = subst (StartsWith (concat (texts r s all.ran all.met))) (sym sent) all.nothing_else;
-          others = all.theirs;
-        };
-        after = all.after;
-        there = all.there;
-        seen = all.seen;
-        tag = all.tag;
-        table = all.table;
-        company = all.company;
-      }
+      goes_with failed (λ met. out ≡ replies r s (not failed) read met) is (λ met says. all_of (replies r s (not failed) read met) out says) (λ met says calm. says) all
 
   -- one failed
   cut_of : c.input.failed ≡ false → c.output.failed ≡ true → Replied r s d d' (lines_of true read) out (λ met. StartsWith (replies r s true read met) out) → Goes r c s d d'
-  cut_of is failed part = record {
-    answered = record {
-      met = part.met;
-      may = subst (λ (l : List (List ℕ)). AllMayMeet r (size_of d) s l part.met) (lines false is) part.may;
-      begins = subst (λ (t : List ℕ). StartsWith t c.output.sent) (replies_are false part.met is) (subst (StartsWith (replies r s true read part.met)) (sym sent) part.says_it);
-      whole = λ calm. absurd (true_is_false (sym failed ∙ calm));
-      ran = part.ran;
-      first = subst (λ (l : List (List ℕ)). StartsList l part.ran) (lines false is) part.first;
-      nothing_else = subst (StartsWith (concat (texts r s part.ran part.met))) (sym sent) part.nothing_else;
-      others = part.theirs;
-    };
-    after = part.after;
-    there = part.there;
-    seen = part.seen;
-    tag = part.tag;
-    table = part.table;
-    company = part.company;
-  }
+  cut_of is failed part =
+      goes_with false (λ met. StartsWith (replies r s true read met) out) is (λ met says. says) (λ met says calm. absurd (true_is_false (sym failed ∙ calm))) part
 
   -- by how it ended
   goes_by : (ending : Result End LineEnd) (ended : Bool) → IsInState r s d → c.input.failed ≡ is_read_failure ending → c.output.failed ≡ is_write_failure ending → Ends ending ended d (lines_of ended read) out d'

@@ -3,4 +3,3 @@ pub mod ReadAwayLemmas
 pub mod ServingLemmas
 pub mod SessionLemmas
 pub mod TagLemmas
-pub mod NoFieldsWalks

@@ -13,8 +13,8 @@ use Rattle.nr_front.specs.Replica.{at_start}
 use Rattle.nr_serving.specs.Fronts.{Course, ServesCallers, has_failed}
 use Rattle.nr_serving.specs.declared.fronts.Done.{Done}
 
--- A front of this journal, for so many, and of this recording that has seen no word. Its walker
--- hasn't walked, and keeps so many deltas at most; and so many workers search.
+-- A front of this recording, and of this journal, which is for so many fronts. It has seen no
+-- word. Its walker hasn't walked, and keeps so many deltas at most; and so many workers search.
 abbrev pub IsFresh : TableId → Recording → ℕ → ℕ → ℕ → FrontState → Type 0
 IsFresh table r fronts depth workers front_state =
     (tag : ℕ) × (every : ℕ)

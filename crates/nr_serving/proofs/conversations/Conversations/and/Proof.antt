@@ -1,7 +1,7 @@
 -- `and` makes a struct of no fields, and picks what passed, that its clauses name.
 use Rattle.std.proofs.Common.{[], ◌∷◌, ◌++◌, refl}
 use Rattle.std.proofs.raw_atomic.Walks.{proved}
-use Rattle.nr_serving.proofs.NoFieldsWalks.{nothing_made, of_no_fields}
+use Rattle.nr_text.proofs.CallWalks.{nothing_made, of_no_fields}
 use contract.Running.{tables}
 use mir.Syntax.{Args, a_type, dcons, dnil}
 use denote.Param.{bounded, param}

@@ -1,7 +1,7 @@
 -- `new` makes a struct of no fields, and picks that nothing passed.
 use Rattle.std.proofs.Common.{[], ◌∷◌, refl}
 use Rattle.std.proofs.raw_atomic.Walks.{proved}
-use Rattle.nr_serving.proofs.NoFieldsWalks.{nothing_made, of_no_fields}
+use Rattle.nr_text.proofs.CallWalks.{nothing_made, of_no_fields}
 use contract.Running.{tables}
 use types.Kit.{raw, ◌$◌, ◌∵◌, !, qed, drop, fjoin, suffices, done}
 use types.Part.{agg}
