@@ -7,7 +7,7 @@ use crate::comparing::Stop;
 use crate::generating::{View, random_limits, random_step};
 use crate::random::Random;
 use crate::tally::{Place, Tally};
-use nr_recording::{RecordedStep, Recording};
+use nr_recording::Recording;
 use nr_rev::{Limits, Step};
 use std::alloc::Global;
 
@@ -17,10 +17,10 @@ pub fn play_recording(alloc: Global, recording: &Recording, tally: &mut Tally) -
     play_steps(&mut both, recording.steps(), tally)
 }
 
-fn play_steps(both: &mut Both, steps: &[RecordedStep], tally: &mut Tally) -> Result<(), Stop> {
+fn play_steps(both: &mut Both, steps: &[Step], tally: &mut Tally) -> Result<(), Stop> {
     start(both, tally)?;
-    for recorded in steps {
-        forward(both, &recorded.step, tally)?;
+    for step in steps {
+        forward(both, step, tally)?;
     }
     back(both, tally)?;
     there_and_back(both, steps, tally)
@@ -50,7 +50,7 @@ fn play_random_steps(
         };
         let step = random_step(random, view)?;
         forward(both, &step, tally)?;
-        steps.push(RecordedStep { step, answer: None })?;
+        steps.push(step)?;
     }
     back(both, tally)?;
     there_and_back(both, steps.as_slice(), tally)
@@ -88,10 +88,10 @@ fn back(both: &mut Both, tally: &mut Tally) -> Result<(), Stop> {
 }
 
 // Takes the steps once more, and undoes them.
-fn there_and_back(both: &mut Both, steps: &[RecordedStep], tally: &mut Tally) -> Result<(), Stop> {
-    for (number, recorded) in steps.iter().enumerate() {
+fn there_and_back(both: &mut Both, steps: &[Step], tally: &mut Tally) -> Result<(), Stop> {
+    for (number, step) in steps.iter().enumerate() {
         tally.place = Place::Step((number as u64).wrapping_add(1));
-        let _answer = both.apply(&recorded.step, tally)?;
+        let _answer = both.apply(step, tally)?;
         tally.compared();
     }
     back(both, tally)

@@ -7,6 +7,7 @@ pub mod Loop
 pub mod Binds
 pub mod TextLaws
 pub mod Ranges
+pub mod RecordedLemmas
 pub mod Texts
 pub mod PlainTextLemmas
 pub mod ReadBack

@@ -1,8 +1,8 @@
 -- What was read keeps the ranges of a recording.
-use Rattle.std.proofs.Common.{◌≡◌, ◌<◌, ◌≤◌, ℕ, zero, suc, ℤ, pos, negsuc, Bool, true, false, ◌&&◌, if◌then◌else◌, ltb, leb, List, [], ◌∷◌, ◌++◌, ◌∙◌, length, map, Option, Some, None, Result, Ok, Err, refl, subst, arith}
-use Rattle.std.specs.Prelude.{option_map, option_and_then, codes, ◌==◌, IfSome, slice_get}
+use Rattle.std.proofs.Common.{◌≡◌, ◌<◌, ◌≤◌, ℕ, ℤ, pos, negsuc, Bool, true, false, if◌then◌else◌, ltb, leb, List, [], ◌∷◌, ◌++◌, ◌∙◌, length, Option, Some, None, Result, Ok, Err, refl, subst, arith}
+use Rattle.std.specs.Prelude.{option_map, option_and_then, codes, ◌==◌}
 use Rattle.std.specs.Result.{result_ok}
-use Rattle.std.proofs.lemmas.Bool.{ltb-true, ltb-false, leb-true, le-leb, le-ltb, and_parts}
+use Rattle.std.proofs.lemmas.Bool.{ltb-true, ltb-false, leb-true, le-leb, and_parts}
 use Rattle.std.proofs.lemmas.List.Folds.{list_all-append}
 use Rattle.std.proofs.lemmas.Option.{same_Some}
 use Rattle.hex.specs.Hex.{decode_of}
@@ -16,14 +16,14 @@ use Rattle.nr_rev.specs.declared.limits.Limits.{Limits}
 use Rattle.nr_rev.specs.declared.step.Step.{Step}
 use Rattle.nr_rev.specs.declared.step.Step.TheVariants.{Tick}
 use Rattle.nr_rev.specs.declared.limits.TheConstants.{MOST_GOROUTINES, MOST_SOCKETS, MOST_DESCRIPTORS, MOST_BUFFER}
-use Rattle.nr_recording.specs.declared.recording.TheConstants.{MOST_STEPS, MOST_BYTES}
+use Rattle.nr_recording.specs.declared.recording.TheConstants.{MOST_BYTES}
 use Rattle.nr_recording.specs.declared.fault.Fault.{Fault}
 use Rattle.nr_recording.specs.declared.fault.Fault.TheVariants as fault
 use Rattle.nr_recording.specs.Faults.{or_fault}
-use Rattle.nr_rev.specs.Limits.{is_limit, are_in_range, AreInRange}
+use Rattle.nr_rev.specs.Limits.{is_limit, AreInRange}
 use Rattle.nr_recording.specs.Reading.{AreOfHeader}
 use Rattle.nr_recording.specs.declared.reading.Header.{Header}
-use Rattle.nr_recording.specs.Recording.{fits, is_writable, are_writable, recording_of}
+use Rattle.nr_recording.specs.Recording.{fits, is_writable}
 use Rattle.nr_recording.specs.declared.recording.RecordedStep.{RecordedStep}
 use Rattle.nr_recording.specs.declared.version.Version.{Version}
 use Rattle.nr_recording.specs.declared.version.Version.TheVariants.{One, Two}
@@ -193,32 +193,6 @@ step_writable version d step e =
     let has = kind_had version name.0 kind.0 (found_ok fault.UnknownStep (kind_in version name.0) kind.0 kind.1) in
     let may = answer_had version found.0.1 answered.0 answered.1 in
     subst (λ (s : RecordedStep). is_writable version s ≡ true) (same_ok {E = Fault} read step ended.1) (rw (made.kinded, has, made.fitting, may) refl)
-
--- ---- what is made
-
-pub recording_made : (version : Version) (l : Limits) (steps : List RecordedStep) → are_in_range l ≡ true → l.buffer ≤ most_buffer version → length steps ≤ MOST_STEPS → are_writable version steps ≡ true
-    → recording_of version l steps ≡ Ok (record { version = version; limits = l; steps = steps })
-recording_made version l steps limits most few writable =
-    let low : ltb (most_buffer version) l.buffer ≡ false = le-ltb _ _ most in
-    let short : ltb MOST_STEPS (length steps) ≡ false = le-ltb _ _ few in
-    rw (limits, low, short, writable) refl
-
--- ---- a step of a recording
-
--- the step of a run
-pub step_there : (steps : List RecordedStep) (n : ℕ) → option_map (λ s. s.step) (slice_get steps n) ≡ slice_get (map (λ s. s.step) steps) n
-step_there [] n = refl
-step_there (s ∷ steps) zero = refl
-step_there (s ∷ steps) (suc n) = step_there steps n
-
--- has room in a line
-pub step_fits : (version : Version) (steps : List RecordedStep) (n : ℕ) → are_writable version steps ≡ true → IfSome (slice_get steps n) (λ s. fits s.step ≡ true)
-step_fits version [] n h = tt
-step_fits version (s ∷ steps) zero h =
-    let writable = and_parts (is_writable version s) (are_writable version steps) h in
-    let parts = and_parts (has_kind version (kind_of s.step) && fits s.step) (may_have version s.answer) writable.0 in
-    (and_parts (has_kind version (kind_of s.step)) (fits s.step) parts.0).1
-step_fits version (s ∷ steps) (suc n) h = step_fits version steps n (and_parts (is_writable version s) (are_writable version steps) h).1
 
 -- ---- what was seen so far
 

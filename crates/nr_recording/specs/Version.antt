@@ -35,6 +35,11 @@ kept_kind version kind = if has_kind version kind then Some kind else None
 unfoldable pub kind_in : Version → List ℕ → Option Kind
 kind_in version name = option_and_then (kept_kind version) (kind_named name)
 
+-- how many answers go with so many steps: in version 2 one each, in version 1 none
+abbrev pub answer_count : Version → ℕ → ℕ
+answer_count One steps = 0
+answer_count Two steps = steps
+
 -- a step has its answer in version 2, and none in version 1
 abbrev pub may_have : Version → Option Answer → Bool
 may_have One None = true

@@ -9,7 +9,6 @@ use hex::FromHexError;
 use nr_rev::Memory;
 use nr_text::{Buffered, Part, Text, Token, WriteFailed, send_all};
 use serde_json::Category;
-use std::alloc::AllocFailed;
 use std::fmt::{Display, Formatter, Write};
 use std::{fmt, io};
 use thiserror::Error;
@@ -101,7 +100,7 @@ impl Text for ReadFault {
     }
 }
 
-/// Why limits and steps make no recording.
+/// Why limits, steps and answers make no recording.
 #[derive(Clone, Copy, Debug, PartialEq, Eq, Error)]
 pub enum MakeFault {
     /// A limit is out of its range.
@@ -110,8 +109,8 @@ pub enum MakeFault {
     /// There are more than 1,000,000 steps.
     #[error("more than 1,000,000 steps")]
     TooManySteps,
-    /// A step carries more than 65,536 bytes, sets the clock below 0, or is not of the version: version 1 has no step
-    /// that shuts a write side, and no answers; in version 2 each step has its answer.
+    /// A step carries more than 65,536 bytes, sets the clock below 0, or shuts a write side in version 1. Or there are
+    /// too many answers or too few: version 1 has none, version 2 one for each step.
     #[error("a step carries too many bytes, sets the clock below 0 or is not of the version")]
     Step,
 }
@@ -155,10 +154,10 @@ impl From<serde_json::Error> for LineError {
     }
 }
 
-impl<T: Drop> From<AllocFailed<T>> for LineError {
+impl From<Memory> for LineError {
     ghost from_gives = { λ _ e. e ≡ LineMemory };
 
-    fn from(_e: AllocFailed<T>) -> LineError {
+    fn from(_e: Memory) -> LineError {
         LineError::Memory
     }
 }

@@ -1,10 +1,11 @@
 //! Reading a recording, line after line.
 
-ghost use Rattle.std.specs.Prelude.{◌≡◌, true, IfOk, Some};
+ghost use Rattle.std.specs.Prelude.{◌≡◌, ◌<◌, ◌≤◌, [], ◌∷◌, ◌++◌, length, true, IfOk, OnErr, OnOk, Some, option_to_list};
 ghost use Rattle.serde_json.specs.Data.{array};
 ghost use Rattle.serde_json.specs.View.{view};
 ghost use Rattle.nr_recording.specs.Part.{rest_of};
-ghost use Rattle.nr_recording.specs.Recording.{Recorded};
+ghost use Rattle.nr_recording.specs.Recording.{Recorded, is_writable};
+ghost use Rattle.nr_recording.specs.declared.recording.TheConstants.{MOST_STEPS};
 ghost use Rattle.nr_recording.specs.Faults.{ReadsBy};
 ghost use Rattle.nr_recording.specs.Reading.{value_of, is_space, is_blank, nothing, with_value, value_takes_memory, with_line, line_takes_memory, recording_at_end, reading, IsUnlessMemory, text_takes_memory};
 ghost use Rattle.nr_recording.specs.Text.{IsTextOf};
@@ -17,7 +18,7 @@ use crate::recording::{MOST_STEPS, RecordedStep, Recording};
 use crate::steps::step;
 use crate::version::Version;
 use arrayvec::ArrayVec;
-use nr_rev::Limits;
+use nr_rev::{Answer, Limits, Memory, Step};
 use serde_json::Value;
 use std::alloc::Global;
 use std::marker::Model;
@@ -54,17 +55,40 @@ struct Header {
 #[derive(Drop)]
 struct RecordingReader {
     header: Option<Header>,
-    steps: Vec<RecordedStep>,
+    steps: Vec<Step>,
+    // those of the steps, where the version has any
+    answers: Vec<Answer>,
 }
 
 impl Model for RecordingReader {
+    ghost use Rattle.std.specs.Prelude.{◌≤◌, length};
     ghost use Rattle.nr_recording.specs.Reading.{Seen, IsSeen};
+    ghost use Rattle.nr_recording.specs.Recording.{recorded};
 
     ghost Value = { Seen };
 
-    ghost view = { λ r. record { header = r.header; steps = r.steps.items } };
+    ghost view = { λ r. record { header = r.header; steps = recorded r.steps.items r.answers.items } };
 
-    ghost invariant = { λ r. IsSeen (record { header = r.header; steps = r.steps.items }) };
+    ghost invariant = { λ r. IsSeen (record {
+      header = r.header;
+      steps = recorded r.steps.items r.answers.items;
+    }) × (length r.answers.items ≤ length r.steps.items) };
+}
+
+/// Puts a step and its answer at the end of the two lists.
+fn put(steps: &mut Vec<Step>, answers: &mut Vec<Answer>, last: RecordedStep) -> Result<(), Memory>
+    ensures ok { OnOk result (steps.new.items ≡ steps.old.items ++ last.step ∷ []) }
+    ensures answer { OnOk result
+        (answers.new.items ≡ answers.old.items ++ option_to_list last.answer) }
+    ensures steps_stay { OnErr result (steps.new.items ≡ steps.old.items) }
+    ensures answers_stay { OnErr result (answers.new.items ≡ answers.old.items) }
+{
+    steps.try_reserve(1)?;
+    if let Some(answer) = last.answer {
+        answers.push(answer)?;
+    }
+    steps.push_reserved(last.step);
+    Ok(())
 }
 
 impl RecordingReader {
@@ -74,7 +98,28 @@ impl RecordingReader {
         RecordingReader {
             header: None,
             steps: Vec::new(alloc),
+            answers: Vec::new(alloc),
         }
+    }
+
+    // How many steps there were.
+    fn len(&self) -> usize
+        ensures value { result ≡ length self.now.steps }
+        ensures few { result ≤ MOST_STEPS }
+    {
+        self.steps.len()
+    }
+
+    // Keeps one more step of the header's version.
+    fn keep(&mut self, begun: Header, last: RecordedStep) -> Result<(), Memory>
+        requires begun { self.old.header ≡ Some begun }
+        requires room { length self.old.steps < MOST_STEPS }
+        requires writable { is_writable begun.version last ≡ true }
+        ensures { OnOk result
+            (self.new ≡ record self.old { steps = self.old.steps ++ last ∷ [] }) }
+    {
+        put(&mut self.steps, &mut self.answers, last)?;
+        Ok(())
     }
 
     // One more step, which the parts of its line are.
@@ -85,11 +130,11 @@ impl RecordingReader {
         ensures memory { result ≡ Err LineError.Memory
             → value_takes_memory self.old self.old.header (array (rest_of parts.entry)) ≡ true }
     {
-        if self.steps.len() == MOST_STEPS {
+        if self.len() == MOST_STEPS {
             return Err(LineError::Fault(Fault::TooManySteps));
         }
         let step = step(begun.version, alloc, parts)?;
-        self.steps.push(step)?;
+        self.keep(begun, step)?;
         Ok(())
     }
 
@@ -137,7 +182,12 @@ impl RecordingReader {
                 line: last,
                 fault: Fault::Header,
             }),
-            Some(header) => Ok(Recording::checked(header.version, header.limits, self.steps)),
+            Some(header) => Ok(Recording::checked(
+                header.version,
+                header.limits,
+                self.steps,
+                self.answers,
+            )),
         }
     }
 }

@@ -1,7 +1,7 @@
 //! A recording: its version, limits and steps.
 
 ghost use Rattle.std.specs.Prelude.{◌≡◌};
-ghost use Rattle.nr_recording.specs.Recording.{fits, is_writable, are_writable};
+ghost use Rattle.nr_recording.specs.Recording.{fits, has_line, have_lines, make_lines};
 
 use crate::fault::MakeFault;
 use crate::version::Version;
@@ -21,17 +21,29 @@ pub struct RecordedStep {
 pub struct Recording {
     version: Version,
     limits: Limits,
-    steps: Vec<RecordedStep>,
+    steps: Vec<Step>,
+    // one for each step, or none in version 1, where they take no memory
+    answers: Vec<Answer>,
 }
 
 impl Model for Recording {
-    ghost use Rattle.nr_recording.specs.Recording.{Recorded, IsRecording};
+    ghost use Rattle.std.specs.Prelude.{◌≡◌, length};
+    ghost use Rattle.nr_recording.specs.Recording.{Recorded, IsRecording, recorded};
+    ghost use Rattle.nr_recording.specs.Version.{answer_count};
 
     ghost Value = { Recorded };
 
-    ghost view = { λ r. record { version = r.version; limits = r.limits; steps = r.steps.items } };
+    ghost view = { λ r. record {
+      version = r.version;
+      limits = r.limits;
+      steps = recorded r.steps.items r.answers.items;
+    } };
 
-    ghost invariant = { λ r. IsRecording (record { version = r.version; limits = r.limits; steps = r.steps.items }) };
+    ghost invariant = { λ r. IsRecording (record {
+      version = r.version;
+      limits = r.limits;
+      steps = recorded r.steps.items r.answers.items;
+    }) × (length r.answers.items ≡ answer_count r.version (length r.steps.items)) };
 }
 
 /// The most steps that a recording may have.
@@ -50,16 +62,22 @@ fn fits(step: &Step) -> bool
     }
 }
 
-fn is_writable(version: Version, recorded: &RecordedStep) -> bool
-    ensures { result ≡ is_writable version recorded.now }
+fn has_line(version: Version, step: &Step) -> bool
+    ensures { result ≡ has_line version step.now }
 {
-    version.has(recorded.step.kind()) && fits(&recorded.step) && version.may_have(recorded.answer)
+    version.has(step.kind()) && fits(step)
 }
 
-fn are_all_writable(version: Version, steps: &[RecordedStep]) -> bool
-    ensures { result ≡ are_writable version steps.now }
+fn have_lines(version: Version, steps: &[Step]) -> bool
+    ensures { result ≡ have_lines version steps.now }
 {
-    steps.iter().all(|recorded| is_writable(version, recorded))
+    steps.iter().all(|step| has_line(version, step))
+}
+
+fn make_lines(version: Version, steps: &[Step], answers: &[Answer]) -> bool
+    ensures { result ≡ make_lines version steps.now answers.now }
+{
+    have_lines(version, steps) && answers.len() == version.answer_count(steps.len())
 }
 
 impl Recording {
@@ -67,20 +85,21 @@ impl Recording {
     ghost use Rattle.std.specs.Option.{option_copied};
     ghost use Rattle.nr_rev.specs.Limits.{AreInRange};
     ghost use Rattle.nr_recording.specs.declared.recording.TheConstants.{MOST_STEPS};
-    ghost use Rattle.nr_recording.specs.Recording.{IsRecording, recording_of, run_of, recorded_at};
+    ghost use Rattle.nr_recording.specs.Recording.{IsRecording, are_writable, recorded, recording_of, run_of, recorded_at};
     ghost use Rattle.nr_recording.specs.Version.{most_buffer};
 
-    /// The recording of these limits and steps. Fails for the first that holds: a limit is out of
-    /// its range; there are more than 1,000,000 steps; a step carries more than 65,536 bytes, sets the
-    /// clock below 0, or is not of the version: in version 1 no step shuts a write side and none has an answer, in
-    /// version 2 each has one. The steps are then gone. The ranges: goroutines 1 to 4,096, sockets and
-    /// descriptors 1 to 256, buffer 1 to 65,536 bytes in version 1 and to 1,048,576 in version 2.
+    /// The recording of these limits and steps, and of their answers: in version 2 one for each step, in version 1
+    /// none. Fails for the first that holds: a limit is out of its range; there are more than 1,000,000 steps; a step
+    /// carries more than 65,536 bytes, sets the clock below 0, or shuts a write side in version 1, or there are more or
+    /// fewer answers. The steps are then gone. The ranges: goroutines 1 to 4,096, sockets and descriptors 1 to 256,
+    /// buffer 1 to 65,536 bytes in version 1 and to 1,048,576 in version 2.
     pub fn new(
         version: Version,
         limits: Limits,
-        steps: Vec<RecordedStep>,
+        steps: Vec<Step>,
+        answers: Vec<Answer>,
     ) -> Result<Self, MakeFault>
-        ensures { result ≡ recording_of version limits steps.items }
+        ensures { result ≡ recording_of version limits steps.items answers.items }
     {
         if !limits.are_in_range() {
             return Err(MakeFault::Limit);
@@ -91,31 +110,48 @@ impl Recording {
         if steps.len() > MOST_STEPS {
             return Err(MakeFault::TooManySteps);
         }
-        if !are_all_writable(version, &steps) {
+        if !make_lines(version, &steps, &answers) {
             return Err(MakeFault::Step);
         }
         Ok(Recording {
             version,
             limits,
             steps,
+            answers,
         })
     }
 
-    /// The recording of a version, limits and steps that are known to make one.
-    pub(crate) fn checked(version: Version, limits: Limits, steps: Vec<RecordedStep>) -> Self
-        requires { IsRecording (record { version = version; limits = limits; steps = steps.items }) }
-        ensures { result ≡ record { version = version; limits = limits; steps = steps.items } }
+    /// The recording of a version, limits, steps and answers that are known to make one.
+    pub(crate) fn checked(
+        version: Version,
+        limits: Limits,
+        steps: Vec<Step>,
+        answers: Vec<Answer>,
+    ) -> Self
+        requires is { IsRecording (record {
+          version = version;
+          limits = limits;
+          steps = recorded steps.items answers.items;
+        }) }
+        requires answers { length answers.items ≤ length steps.items }
+        ensures { result ≡ record {
+          version = version;
+          limits = limits;
+          steps = recorded steps.items answers.items;
+        } }
     {
         Recording {
             version,
             limits,
             steps,
+            answers,
         }
     }
 
-    /// The version of the format.
+    /// The version of the format. The steps are all of it.
     pub fn version(&self) -> Version
-        ensures { result ≡ self.now.version }
+        ensures value { result ≡ self.now.version }
+        ensures writable { are_writable result self.now.steps ≡ true }
     {
         self.version
     }
@@ -145,26 +181,23 @@ impl Recording {
     }
 
     /// Step n, counted from 0. It carries at most 65,536 bytes, and does not set the clock below 0.
-    #[tactic(auto, using(crate::proofs::Ranges::step_there, crate::proofs::Ranges::step_fits))]
     pub fn step(&self, n: usize) -> Option<&Step>
         ensures value { option_copied result ≡ slice_get (run_of self.now).steps n }
         ensures fits { IfSome result (λ step. fits step.now ≡ true) }
     {
-        self.steps.get(n).map(|recorded| &recorded.step)
+        self.steps.get(n)
     }
 
     /// The answer that is recorded of step n, counted from 0: in version 1 none is.
     pub fn answer(&self, n: usize) -> Option<Answer>
         ensures { result ≡ recorded_at self.now n }
     {
-        self.steps.get(n)?.answer
+        self.answers.get(n).copied()
     }
 
-    /// The steps in their order, with their answers.
-    pub fn steps(&self) -> &[RecordedStep]
-        ensures value { result.now ≡ self.now.steps }
-        ensures writable { are_writable self.now.version result.now ≡ true }
-        ensures few { length result.now ≤ MOST_STEPS }
+    /// The steps in their order.
+    pub fn steps(&self) -> &[Step]
+        ensures { result.now ≡ (run_of self.now).steps }
     {
         self.steps.as_slice()
     }

@@ -257,11 +257,16 @@ fn with_answer(alloc: Global, line: Value, answer: Answer) -> Result<Value, Memo
 }
 
 /// The value of a line: the name of the step's kind, its arguments, and the answer where one is recorded.
-pub(crate) fn line_value(alloc: Global, recorded: &RecordedStep) -> Result<Value, Memory>
-    ensures { IfOk result (λ v. IsSpelling (view v) (spelling_of recorded.now)) }
+pub(crate) fn line_value(
+    alloc: Global,
+    step: &Step,
+    answer: Option<Answer>,
+) -> Result<Value, Memory>
+    ensures { IfOk result (λ v.
+        IsSpelling (view v) (spelling_of (record { step = step.now; answer = answer }))) }
 {
-    let line = step_value(alloc, &recorded.step)?;
-    match recorded.answer {
+    let line = step_value(alloc, step)?;
+    match answer {
         None => Ok(line),
         Some(answer) => with_answer(alloc, line, answer),
     }

@@ -2,7 +2,7 @@
 
 ghost use Rattle.std.specs.Prelude.{◌≡◌};
 
-use nr_rev::{Answer, Kind, MOST_BUFFER};
+use nr_rev::{Kind, MOST_BUFFER};
 
 /// The greatest `buf` of version 1.
 pub(crate) const MOST_BUFFER_IN_ONE: u32 = 65_536;
@@ -17,7 +17,7 @@ pub enum Version {
 }
 
 impl Version {
-    ghost use Rattle.nr_recording.specs.Version.{version_number, version_numbered, most_buffer, has_kind, kind_in, may_have};
+    ghost use Rattle.nr_recording.specs.Version.{version_number, version_numbered, most_buffer, has_kind, kind_in, answer_count};
 
     /// The version that a header of this number is of.
     pub(crate) fn numbered(number: u64) -> Option<Self>
@@ -69,13 +69,13 @@ impl Version {
         if self.has(kind) { Some(kind) } else { None }
     }
 
-    /// Whether a step may have this answer, or none.
-    pub(crate) fn may_have(self, answer: Option<Answer>) -> bool
-        ensures { result ≡ may_have self answer }
+    /// How many answers go with so many steps.
+    pub(crate) fn answer_count(self, steps: usize) -> usize
+        ensures { result ≡ answer_count self steps }
     {
         match self {
-            Version::One => answer.is_none(),
-            Version::Two => answer.is_some(),
+            Version::One => 0,
+            Version::Two => steps,
         }
     }
 }

@@ -83,8 +83,11 @@ pub fn write<W: Write>(
 {
     let header = header_value(alloc, recording.version(), recording.limits())?;
     write_line(alloc, &header, out)?;
-    for recorded in recording.steps() {
-        write_line(alloc, &line_value(alloc, recorded)?, out)?;
+    for n in 0..recording.len() {
+        let Some(step) = recording.step(n) else {
+            unreachable!()
+        };
+        write_line(alloc, &line_value(alloc, step, recording.answer(n))?, out)?;
     }
     Ok(())
 }

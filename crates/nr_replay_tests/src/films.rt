@@ -1,6 +1,6 @@
 //! Films for the tests.
 
-use nr_recording::{RecordedStep, Recording, Version};
+use nr_recording::{Recording, Version};
 use nr_rev::{Limits, Step, Worlds};
 use nr_snaps::{Film, Snaps};
 use std::alloc::{AllocError, Global};
@@ -20,12 +20,7 @@ pub const OPEN: Step = Step::SockOpen {
 
 /// These steps as a recording of version 1.
 pub(crate) fn recording_of(alloc: Global, steps: Vec<Step>) -> Option<Recording> {
-    let steps: Vec<RecordedStep> = steps
-        .into_iter()
-        .map(|step| RecordedStep { step, answer: None })
-        .collect(alloc)
-        .ok()?;
-    Recording::new(Version::One, LIMITS, steps).ok()
+    Recording::new(Version::One, LIMITS, steps, Vec::new(alloc)).ok()
 }
 
 /// The film of these steps, with a copy each 64 of them, where they all apply.

@@ -2,7 +2,7 @@
 
 use crate::streams::{AtBrim, Cup, Stutter};
 use crate::texts::{HEADER, WAITS};
-use nr_recording::{RecordedStep, Recording, Version, WriteFault, read, write};
+use nr_recording::{Recording, Version, WriteFault, read, write};
 use nr_rev::{Answer, Limits, Step};
 use nr_text::Sink;
 use std::alloc::Global;
@@ -166,11 +166,6 @@ fn reports_a_failed_write(rt: HostRuntime) -> Result<(), Fail> {
     Ok(())
 }
 
-/// A step and what is recorded of it.
-fn recorded(step: Step, answer: Option<Answer>) -> RecordedStep {
-    RecordedStep { step, answer }
-}
-
 #[test]
 fn makes_recordings(rt: HostRuntime) -> Result<(), Fail> {
     let limits = Limits {
@@ -179,11 +174,8 @@ fn makes_recordings(rt: HostRuntime) -> Result<(), Fail> {
         descriptors: 256,
         buffer: 65_536,
     };
-    let steps = vec![in rt.alloc();
-        recorded(Step::Pop, None),
-        recorded(Step::Tick { time: 0 }, None),
-    ]?;
-    let recording = Recording::new(Version::One, limits, steps)?;
+    let steps = vec![in rt.alloc(); Step::Pop, Step::Tick { time: 0 }]?;
+    let recording = Recording::new(Version::One, limits, steps, Vec::new(rt.alloc()))?;
     let answer = recording.answer(1);
     let whole = (
         recording.version(),

@@ -2,7 +2,7 @@
 
 use crate::films::{LIMITS, OPEN, add_ticks, recording_of, ticking};
 use nr_machine::World;
-use nr_recording::{RecordedStep, Recording, Version};
+use nr_recording::{Recording, Version};
 use nr_rev::{Answer, Cell, CellValue, Refusal, Step, Worlds};
 use nr_snaps::{Film, LoadFault, Snap, Snaps};
 use std::alloc::Global;
@@ -67,17 +67,9 @@ fn a_refused_step_is_reported_with_its_reason(rt: HostRuntime) {
 
 /// The fault of a recording of two steps in version 2: a socket is opened, and then this step.
 fn fault_of_second(alloc: Global, opened: Answer, step: Step, answer: Answer) -> Option<LoadFault> {
-    let mut steps = Vec::new(alloc);
-    let opened = Some(opened);
-    steps
-        .push(RecordedStep {
-            step: OPEN,
-            answer: opened,
-        })
-        .ok()?;
-    let answer = Some(answer);
-    steps.push(RecordedStep { step, answer }).ok()?;
-    let recording = Recording::new(Version::Two, LIMITS, steps).ok()?;
+    let steps = vec![in alloc; OPEN, step].ok()?;
+    let answers = vec![in alloc; opened, answer].ok()?;
+    let recording = Recording::new(Version::Two, LIMITS, steps, answers).ok()?;
     Snaps::load::<World>(alloc, recording, 64).err()
 }
 

@@ -4,6 +4,7 @@ use Rattle.serde_json.specs.Data.{array}
 use Rattle.serde_json.specs.View.{view, items_view}
 use Rattle.nr_recording.specs.Faults.{ReadsBy}
 use Rattle.nr_recording.specs.Part.{elements}
+use Rattle.nr_recording.specs.Recording.{recorded}
 use Rattle.nr_recording.specs.Reading.{with_value, value_takes_memory}
 use Rattle.nr_recording.proofs.Elements.{seen_by_elements, memory_by_elements}
 use Rattle.nr_recording.proofs.Ranges.{header_fits, none_before}
@@ -11,14 +12,16 @@ use Rattle.nr_recording.proofs.reading.RecordingReader.value.Goals as goal
 
 pub invariant_of-self : goal.invariant_of-self
 invariant_of-self c =
-    let seen = c.self.invariant in
-    let none = none_before c.self.inside.header c.self.inside.steps.items seen.writable c.in_default.not-Some in
-    record {
-      limits = (header_fits _ _ _ (sym c.header.ensures ∙ c.in_ok-limits.was)).0;
-      buffer = (header_fits _ _ _ (sym c.header.ensures ∙ c.in_ok-limits.was)).1;
-      few = seen.few;
-      writable = rw none refl;
-    }
+    let seen = c.self.invariant.0 in
+    let none = none_before c.self.inside.header (recorded c.self.inside.steps.items c.self.inside.answers.items) seen.writable c.in_default.not-Some in (
+      record {
+        limits = (header_fits _ _ _ (sym c.header.ensures ∙ c.in_ok-limits.was)).0;
+        buffer = (header_fits _ _ _ (sym c.header.ensures ∙ c.in_ok-limits.was)).1;
+        few = seen.few;
+        writable = rw none refl;
+      },
+      c.self.invariant.1,
+    )
 
 pub returns-clause-seen : goal.returns-clause-seen
 returns-clause-seen c =
