@@ -81,7 +81,8 @@ where
     let mut later = Vec::with_capacity(alloc, count)?;
     for i in 0..count {
         play(&mut world, recording, i * every, (i + 1) * every)?;
-        later.push_reserved(snapshot_of(&world)?);
+        let snapshot = snapshot_of(&world, later.last())?;
+        later.push_reserved(snapshot);
     }
     play(&mut world, recording, count * every, recording.len())?;
     Ok(later)
@@ -97,11 +98,11 @@ fn copy_of<W: Worlds>(world: &W) -> Result<W, LoadFault>
     Ok(copy)
 }
 
-fn snapshot_of<W: Worlds>(world: &W) -> Result<W::Snapshot, LoadFault>
+fn snapshot_of<W: Worlds>(world: &W, last: Option<&W::Snapshot>) -> Result<W::Snapshot, LoadFault>
     ensures kept { IfOk result (λ snapshot. W.kept snapshot ≡ world.now) }
     ensures memory { IfErr result (λ fault. fault ≡ faults.Memory) }
 {
-    let Ok(snapshot) = world.snapshot() else {
+    let Ok(snapshot) = world.snapshot(last) else {
         return Err(LoadFault::Memory);
     };
     Ok(snapshot)

@@ -18,7 +18,7 @@ loop-i-preserved g c =
     let world = g.W.Worlds.world in
     let steps = g.W.Reversible.steps in
     let items = c.loop-i.later.items in
-    let copy = c.in_ok-snapshot_of.field-0 in
+    let copy = c.in_ok-snapshot.snapshot in
     let kept = g.W.Worlds.kept in
     let frame = c.in_ok-play.ensures.frame in
     let pushed = c.push_reserved.ensures.items in
@@ -29,7 +29,7 @@ loop-i-preserved g c =
       count = ap length pushed ∙ length_push items copy ∙ ap (λ n. n + 1) c.loop-i.invariant.count;
       each = λ i s read. each-push (λ j t. IsFrame wf world steps g.film ((j + 1) * c.args.every) (kept t)) items copy c.loop-i.invariant.each
           (subst (λ j. IsFrame wf world steps g.film ((j + 1) * c.args.every) (kept copy)) (sym c.loop-i.invariant.count)
-          (subst (λ t. IsFrame wf world steps g.film ((c.loop-i.i + 1) * c.args.every) t) (sym c.in_ok-snapshot_of.ensures.kept) frame))
+          (subst (λ t. IsFrame wf world steps g.film ((c.loop-i.i + 1) * c.args.every) t) (sym c.in_ok-snapshot.ensures.kept) frame))
           i s (subst (λ xs. slice_get xs i ≡ Some s) pushed read);
     }
 
