@@ -68,7 +68,7 @@ pub fn an_accepted_recording_is_a_run()
 {}
 
 /// What may be asked for: ports up to 65,535, 64 fronts, 16 workers, a journal of 1,000,000 words. What the programs choose: a
-/// journal of 65,536 words for `run`, 4,096 deltas, and a copy each 1,024 steps.
+/// journal of 65,536 words for `run`, 4,096 deltas, and a copy each 1,024 steps for `run` and `serve`.
 pub fn the_numbers()
     ensures port { MOST_PORT ≡ 65535 }
     ensures fronts { MOST_FRONTS ≡ 64 }

@@ -1,7 +1,8 @@
 //! Opening a recording: its text is read, and its steps are replayed once.
 
-ghost use Rattle.std.specs.Prelude.{◌≡◌, IfOk, IfErr};
+ghost use Rattle.std.specs.Prelude.{◌≡◌, ◌≤◌, IfOk, IfErr};
 ghost use Rattle.nr_programs.specs.Opening.{IsGoodText, IsFirstFault, fault_line};
+ghost use Rattle.nr_snaps.specs.declared.film.TheConstants.{LEAST_EVERY, MOST_EVERY};
 ghost use Rattle.nr_programs.specs.declared.opening.OpenFault.TheVariants as faults;
 
 use nr_recording::{ReadFault, read};
@@ -50,19 +51,26 @@ impl Text for OpenFault {
     }
 }
 
-/// How many steps lie between two copies of the world.
-const COPY_EVERY: usize = 1_024;
+/// How many steps lie between two copies of the world in a session. `check` and `upgrade`, which never go back, keep the
+/// fewest copies that a film may have.
+pub(crate) const COPY_EVERY: usize = 1_024;
 
-/// Reads the recording that the bytes are a text of, and replays it once. Else returns the first
-/// fault: of the lines, or, where they are all right, of the steps; or that there was no memory.
-pub(crate) fn open<W: Worlds + Drop>(alloc: Global, bytes: &[u8]) -> Result<Film<W>, OpenFault>
+/// Reads the recording that the bytes are a text of, and replays it once, with a copy of the world each `every` steps.
+/// Else returns the first fault: of the lines, or, where they are all right, of the steps; or that there was no memory.
+pub(crate) fn open<W: Worlds + Drop>(
+    alloc: Global,
+    bytes: &[u8],
+    every: usize,
+) -> Result<Film<W>, OpenFault>
 where
     W::Snapshot: Drop,
+    requires least { LEAST_EVERY ≤ every }
+    requires most { every ≤ MOST_EVERY }
     ensures film { IfOk result (λ film. IsGoodText bytes.now film.recording) }
-    ensures every { IfOk result (λ film. film.every ≡ 1024) }
+    ensures every { IfOk result (λ film. film.every ≡ every) }
     ensures fault { IfErr result (IsFirstFault bytes.now) }
 {
     let recording = read(alloc, bytes)?;
-    let film = Snaps::load(alloc, recording, COPY_EVERY)?;
+    let film = Snaps::load(alloc, recording, every)?;
     Ok(film)
 }

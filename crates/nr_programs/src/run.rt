@@ -9,14 +9,14 @@ ghost use Rattle.nr_programs.specs.Run.{Runs, Walks, PrintsFault, Checks, EndsPr
 ghost use Rattle.nr_programs.specs.Transcript.{RunsTranscript};
 ghost use Rattle.nr_programs.specs.declared.run.ExitStatus.TheVariants as statuses;
 
-use crate::opening::open;
+use crate::opening::{COPY_EVERY, open};
 use nr_front::Front;
 use nr_journal::Journal;
 use nr_lines::serve;
 use nr_recording::OutOfMemory;
 use nr_rev::Worlds;
 use nr_search::OneWorker;
-use nr_snaps::Film;
+use nr_snaps::{Film, MOST_EVERY};
 use nr_text::{Parts, Sink, Source, Text, Token};
 use std::alloc::Global;
 use std::io::{Read, Write};
@@ -101,7 +101,7 @@ where
     // What is written is the transcript of the recording and of what is read.
     ensures transcript { RunsTranscript bytes.now input.old input.new output.old output.new result }
 {
-    match open::<W>(alloc, bytes) {
+    match open::<W>(alloc, bytes, COPY_EVERY) {
         Ok(film) => walk(rt, alloc, &film, input, output),
         Err(fault) => refuse(&fault, output),
     }
@@ -182,7 +182,7 @@ where
         ⊎ EndsPrinting memory_line statuses.Refused
         output.old output.new result }
 {
-    match open::<W>(alloc, bytes) {
+    match open::<W>(alloc, bytes, MOST_EVERY) {
         Ok(film) => accept(&film, output),
         Err(fault) => refuse(&fault, output),
     }

@@ -10,7 +10,7 @@ ghost use Rattle.nr_programs.specs.Sharing.{is_in_range};
 ghost use Rattle.nr_programs.specs.declared.run.TheConstants.{DELTAS_KEPT};
 ghost use Rattle.nr_programs.specs.declared.run.ExitStatus.TheVariants as statuses;
 
-use crate::opening::open;
+use crate::opening::{COPY_EVERY, open};
 use crate::run::{DELTAS_KEPT, ExitStatus, print, refuse};
 use crate::sharing::Sharing;
 use nr_recording::OutOfMemory;
@@ -54,7 +54,7 @@ where
     ensures good { (r : Recording) → IsGoodText bytes.now r
         → Shares r sharing output.old output.new result }
 {
-    match open::<W>(alloc, bytes) {
+    match open::<W>(alloc, bytes, COPY_EVERY) {
         Ok(film) => share_film(rt, alloc, &film, sharing, ports, output),
         Err(fault) => refuse(&fault, output),
     }

@@ -12,7 +12,7 @@ use crate::opening::open;
 use crate::run::{ExitStatus, refuse};
 use nr_recording::{OutOfMemory, WriteFault, write};
 use nr_rev::Worlds;
-use nr_snaps::Film;
+use nr_snaps::{Film, MOST_EVERY};
 use nr_text::Sink;
 use std::alloc::Global;
 use std::io::Write;
@@ -37,7 +37,7 @@ where
         → WritesAnswered r output.old output.new result
         ⊎ EndsPrinting memory_line statuses.Refused output.old output.new result }
 {
-    match open::<W>(alloc, bytes) {
+    match open::<W>(alloc, bytes, MOST_EVERY) {
         Ok(film) => write_answered(alloc, &film, output),
         Err(fault) => refuse(&fault, output),
     }

@@ -134,18 +134,19 @@ fn came_of_rest(made: Result<SockSnapshot, AllocError>, alloc: Global) -> Came {
 /// Puts a socket's buffers to rest twice.
 pub(crate) fn rest_sock_twice(rt: &HostRuntime) -> Option<Twice> {
     let sock = sock_of_two(rt.alloc())?;
+    let last = sock.snapshot(None).ok()?;
     refuse(rt);
-    let first = sock.snapshot();
+    let first = sock.snapshot(None);
     grant(rt);
     Some(Twice {
         first: came_of_rest(first, rt.alloc()).leaving(has_bytes(&sock, b"hi")),
-        again: came_of_rest(sock.snapshot(), rt.alloc()),
+        again: came_of_rest(sock.snapshot(Some(&last)), rt.alloc()),
     })
 }
 
 /// Restores a socket's buffers twice.
 pub(crate) fn restore_sock_twice(rt: &HostRuntime) -> Option<Twice> {
-    let snapshot = sock_of_two(rt.alloc())?.snapshot().ok()?;
+    let snapshot = sock_of_two(rt.alloc())?.snapshot(None).ok()?;
     refuse(rt);
     let first = snapshot.restored(rt.alloc());
     grant(rt);

@@ -125,13 +125,13 @@ fn keeps<W: Worlds + Drop>(world: &W, snapshot: &W::Snapshot) -> bool
     }
 }
 
-// Puts a world to rest. From then on there is memory.
-fn rest<W: Worlds + Drop>(rt: &HostRuntime, world: &W) -> Came
+// Puts a world to rest, which may share with its last snapshot. From then on there is memory.
+fn rest<W: Worlds + Drop>(rt: &HostRuntime, world: &W, last: &W::Snapshot) -> Came
 where
     W::Snapshot: Drop,
     requires { W.is_well_formed world.now }
 {
-    match world.snapshot() {
+    match world.snapshot(Some(last)) {
         Ok(snapshot) => {
             grant(rt);
             Came::of(keeps(world, &snapshot))
@@ -182,7 +182,7 @@ where
 {
     match made {
         Made::Copy => copy(rt, world),
-        Made::Snapshot => rest(rt, world),
+        Made::Snapshot => rest(rt, world, snapshot),
         Made::Restored => restore(rt, world, snapshot),
     }
 }
@@ -192,7 +192,7 @@ where
     W::Snapshot: Drop,
     requires { W.is_well_formed world.now }
 {
-    let snapshot = world.snapshot().ok()?;
+    let snapshot = world.snapshot(None).ok()?;
     refuse(rt);
     let first = make_of(rt, world, &snapshot, made);
     Some(Twice {

@@ -262,15 +262,19 @@ def greatest_memory(path: Path, steps: int) -> int:
 
 
 def play_copies(folder: Path) -> None:
-    """What docs/RECORDING.md says that a recording takes: the bytes held, once a copy, and some for each step. (The program
-    itself and what lists grow by are in the rest.)"""
+    """What docs/RECORDING.md says that a recording takes: the bytes held, once and not once a copy where they stay the same, and
+    some for each step. (The program itself, the rings and what lists grow by are in the rest.)"""
     steps = 100 * EACH_COPY
-    for pieces in (0, BUFFER // PIECE):
+    turn = ['["sysread",0,0,1,["got",1]]', '["arrive",0,"ab","done"]']
+    for pieces, turns in ((0, False), (BUFFER // PIECE, False), (BUFFER // PIECE, True)):
         held = pieces * PIECE
         lines = [f'["sockopen",{BUFFER},1,["number",0]]', *[f'["arrive",0,"{"ab" * PIECE}","done"]'] * pieces]
-        lines += [f'["tick",{time},"done"]' for time in range(1, steps + 1 - len(lines))]
-        path = written(folder / f"held{pieces}.jsonl", HEADER % (2, 1, 1, 1, BUFFER), lines)
-        most = held * steps // EACH_COPY * 13 // 10 + 300 * steps + 16 * BUFFER
+        while len(lines) < steps:
+            lines += turn if turns else []
+            lines += [f'["tick",{len(lines) + more},"done"]' for more in range(EACH_COPY // 2)]
+        path = written(folder / f"held{pieces}{turns}.jsonl", HEADER % (2, 1, 1, 1, BUFFER), lines[:steps])
+        copies = steps // EACH_COPY if turns else 1
+        most = held * copies * 13 // 10 + 300 * steps + 16 * BUFFER
         took = greatest_memory(path, steps)
         if took > most:
             raise Wrong(f"with {held} bytes held over {steps} steps netrev takes {took} bytes, and {most} are the most")
@@ -283,7 +287,7 @@ CASES: dict[str, Case] = {
     "search over 1,000,000 steps, both ways": play_search,
     "upgrade of 1,000,000 steps": play_upgrade,
     "buffers of 1,048,576 bytes: dumped, read, drained, and back": play_buffer,
-    "memory: what the buffers hold, once a copy": play_copies,
+    "memory: what the buffers hold, once a copy where it changes": play_copies,
     "crowd of all goroutines, sockets, descriptors and timers, with copies on the way": play_crowd,
     "crowd upgraded": play_upgraded_crowd,
     "workers: 16 over 1,000,000 steps, both ways": play_workers,
