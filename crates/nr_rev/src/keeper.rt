@@ -2,6 +2,8 @@
 
 ghost use Rattle.std.specs.Prelude.{Bool};
 
+use std::mem;
+
 /// Where an operation puts what leads back over it: a place that keeps it, or none, for an operation that nobody undoes. So
 /// a machine's operation is written once, and the compiler makes two of it.
 pub trait Keeper<Undo> {
@@ -18,7 +20,8 @@ pub trait Keeper<Undo> {
         ensures { holds self.new undo };
 }
 
-/// Keeps nothing.
+/// Keeps nothing. It frees nothing of what it is given either: where nothing is kept no memory is taken for it. So the compiler
+/// need not make what is put.
 #[derive(Clone, Copy, Debug, Default, PartialEq, Eq)]
 pub struct NoWayBack;
 
@@ -33,6 +36,6 @@ impl<Undo: Drop> Keeper<Undo> for NoWayBack {
 
     #[inline(always)]
     fn put(&mut self, undo: Undo) {
-        let _ = undo;
+        mem::forget(undo);
     }
 }
