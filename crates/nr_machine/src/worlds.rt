@@ -1,11 +1,10 @@
 //! Packed worlds made, copied and read.
 
-ghost use Rattle.std.specs.Prelude.{◌≡◌, ◌<◌, [], IfErr, IfOk, OnErr, length, replicate};
+ghost use Rattle.std.specs.Prelude.{◌≡◌, ◌<◌, IfOk, OnErr, length, replicate};
 ghost use Rattle.nr_rev.specs.Cell.{bytes_of, queue_of};
 ghost use Rattle.nr_rev.specs.Limits.{AreInRange};
 ghost use Rattle.nr_rev.specs.World.{empty_world};
 ghost use Rattle.nr_rev.specs.Worlds.{HasItems};
-ghost use Rattle.nr_rev.specs.declared.refusal.Refusal.TheVariants as refusals;
 ghost use Rattle.nr_gsema.specs.Table.{queue_at};
 ghost use Rattle.nr_sockbuf.specs.Sock.{never_opened};
 ghost use Rattle.nr_machine.specs.Fits.{CoreFits, IsWorld};

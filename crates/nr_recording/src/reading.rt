@@ -12,7 +12,7 @@ ghost use Rattle.nr_recording.specs.Text.{IsTextOf};
 
 use crate::fault::{Fault, LineError, ReadFault};
 use crate::header::{header, version};
-use crate::part::{Parts, elements};
+use crate::part::{PartList, Parts, elements};
 use crate::plain::gather_plain;
 use crate::recording::{MOST_STEPS, RecordedStep, Recording};
 use crate::steps::step;
@@ -76,6 +76,7 @@ impl Model for RecordingReader {
 }
 
 /// Puts a step and its answer at the end of the two lists.
+#[inline(always)]
 fn put(steps: &mut Vec<Step>, answers: &mut Vec<Answer>, last: RecordedStep) -> Result<(), Memory>
     ensures ok { OnOk result (steps.new.items ≡ steps.old.items ++ last.step ∷ []) }
     ensures answer { OnOk result
@@ -103,6 +104,7 @@ impl RecordingReader {
     }
 
     // How many steps there were.
+    #[inline(always)]
     fn len(&self) -> usize
         ensures value { result ≡ length self.now.steps }
         ensures few { result ≤ MOST_STEPS }
@@ -111,6 +113,7 @@ impl RecordingReader {
     }
 
     // Keeps one more step of the header's version.
+    #[inline(always)]
     fn keep(&mut self, begun: Header, last: RecordedStep) -> Result<(), Memory>
         requires begun { self.old.header ≡ Some begun }
         requires room { length self.old.steps < MOST_STEPS }
@@ -153,8 +156,14 @@ impl RecordingReader {
         self.step(begun, alloc, Parts::Values(elements(value).iter()))
     }
 
+    // One more line. The list of parts is for its own use.
     #[tactic(auto, unfolding(crate::specs::Reading::with_line))]
-    fn line(&mut self, alloc: Global, line: &[u8]) -> Result<(), LineError>
+    fn line<'a>(
+        &mut self,
+        alloc: Global,
+        line: &'a [u8],
+        parts: &mut PartList<'a>,
+    ) -> Result<(), LineError>
         ensures seen { ReadsBy (λ _. self.new) result (with_line self.old line.now) }
         ensures memory { result ≡ Err LineError.Memory → line_takes_memory line.now ≡ true }
     {
@@ -165,8 +174,8 @@ impl RecordingReader {
             return Ok(());
         }
         if let Some(begun) = self.header {
-            let mut parts = ArrayVec::new();
-            if gather_plain(line, &mut parts).is_some() {
+            parts.clear();
+            if gather_plain(line, parts).is_some() {
                 return self.step(begun, alloc, Parts::Plain(parts.as_slice().iter()));
             }
         }
@@ -197,10 +206,11 @@ fn read_lines(alloc: Global, bytes: &[u8]) -> Result<Recording, ReadFault>
     ensures memory { result ≡ Err ReadFault.Memory → text_takes_memory bytes.now ≡ true }
 {
     let mut reader = RecordingReader::new(alloc);
+    let mut parts = ArrayVec::new();
     let mut number = 0;
     for line in bytes.split(|byte| *byte == b'\n') {
         number += 1;
-        if let Err(e) = reader.line(alloc, line) {
+        if let Err(e) = reader.line(alloc, line, &mut parts) {
             return Err(e.at(number));
         }
     }

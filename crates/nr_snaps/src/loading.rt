@@ -9,7 +9,6 @@ ghost use Rattle.nr_snaps.specs.Fault.{IsLoadFault, IsStepFault};
 ghost use Rattle.nr_snaps.specs.Film.{HasCopies, IsFrame, Reel};
 ghost use Rattle.nr_snaps.specs.Replay.{LeadsOn};
 ghost use Rattle.nr_snaps.specs.declared.film.TheConstants.{LEAST_EVERY, MOST_EVERY};
-ghost use Rattle.nr_snaps.specs.declared.fault.LoadFault.TheVariants as faults;
 
 use crate::fault::LoadFault;
 use crate::film::Film;

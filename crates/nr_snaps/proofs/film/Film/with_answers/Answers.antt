@@ -1,15 +1,13 @@
-use Rattle.std.proofs.Common.{◌≡◌, ◌+◌, [], ◌∷◌, ◌++◌, true, List, length, take, refl, sym, ap, subst, ◌∙◌, arith}
+use Rattle.std.proofs.Common.{◌≡◌, ◌+◌, [], ◌∷◌, ◌++◌, true, List, length, refl, sym, ap, subst, ◌∙◌, arith}
 use Rattle.std.specs.List.{slice_get, list_all}
 use Rattle.std.specs.Prelude.{Some}
 use Rattle.std.proofs.lemmas.List.{length_push}
 use Rattle.std.proofs.lemmas.List.Folds.{list_all-append}
-use Rattle.nr_recording.specs.Recording.{run_of, has_line, recorded}
+use Rattle.nr_recording.specs.Recording.{run_of, has_line}
 use Rattle.nr_recording.specs.declared.recording.RecordedStep.{RecordedStep}
 use Rattle.nr_recording.specs.declared.version.Version.TheVariants.{Two}
 use Rattle.nr_recording.proofs.RecordedLemmas.{one_more_answered}
 use Rattle.nr_rev.specs.Run.{Recording}
-use Rattle.nr_rev.specs.World.{empty_world}
-use Rattle.nr_snaps.specs.Answers.{answered_steps}
 use Rattle.nr_snaps.proofs.AnswerLemmas.{answered_steps-next}
 use Rattle.nr_snaps.proofs.film.Film.with_answers.Goals as goal
 
