@@ -23,8 +23,9 @@ where
             let Some(step) = self.recording.step(n) else {
                 unreachable!()
             };
+            let answer = self.advance(&mut world, n);
             steps.push_reserved(step_copy(self.alloc, step)?);
-            answers.push_reserved(self.advance(&mut world, n));
+            answers.push_reserved(answer);
         }
         let limits = self.recording.limits();
         let Ok(recorded) = Recording::new(Version::Two, limits, steps, answers) else {
