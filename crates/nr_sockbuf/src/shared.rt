@@ -67,10 +67,10 @@ impl SharedBytes {
     {
         match &self.block {
             None => Some(SharedBytes { block: None }),
-            Some(block) => match Arc::try_clone(block) {
-                Ok(block) => Some(SharedBytes { block: Some(block) }),
-                Err(_) => None,
-            },
+            Some(block) => {
+                let block = Arc::try_clone(block).ok()?;
+                Some(SharedBytes { block: Some(block) })
+            }
         }
     }
 
