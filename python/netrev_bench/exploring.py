@@ -1,8 +1,8 @@
-"""How many schedules are played a second:  python3 python netrev_bench.exploring [--schedules 3000] [--processors 1,4] [RECORDING ..]
+"""How many schedules are played a second:  python3 python netrev_bench.exploring [--schedules N] [--processors 1,4] [RECORDING ..]
 
-Without recordings: the longest hunt of examples/hunts, and random traffic of 2,000 steps without a bug. One that is named needs answers, as
-those of netrev-go have. Its lines are rows of a table of Markdown. Neither Go nor netrev is needed. Seconds are those of a clock
-on the wall, from the script of the recording to the last finding, as for `explore`."""
+Without recordings: the longest hunt of examples/hunts, and random traffic of 2,000 steps without a bug. Its lines are rows of a
+table of Markdown. Neither Go nor netrev is needed. On one processor seconds are those of its time, on more of the clock; both are
+from the script of the recording to the last finding, as for `explore`."""
 
 import argparse
 import gc
@@ -55,11 +55,12 @@ def recordings(paths: list[Path]) -> Iterator[tuple[str, Recording]]:
 
 def pace(recording: Recording, most: int, processors: int) -> tuple[int, int, float]:
     """How many schedules were played, how many findings there are, and in how many seconds."""
-    begun = time.perf_counter()
+    now = time.process_time if processors == 1 else time.perf_counter
+    begun = now()
     script = script_of(recording)
     exploring = Exploring(script, recording.lines.words)
     play_all(exploring, Share(script, recording.lines, most, 0, processors), lambda: None)
-    return exploring.played, len(exploring.found), time.perf_counter() - begun
+    return exploring.played, len(exploring.found), now() - begun
 
 
 def main() -> int:
