@@ -61,6 +61,7 @@ def main() -> int:
     parser.add_argument("--out", type=Path, default=ROOT / "out/races", help="where the recordings are left")
     parser.add_argument("--only", default="")
     options = parser.parse_args()
+    options.out = options.out.resolve()  # (Go builds in the races' own folder)
     options.out.mkdir(parents=True, exist_ok=True)
     gc.disable()
     try:

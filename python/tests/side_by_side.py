@@ -13,6 +13,7 @@ there are; it is 1 where there was nothing to run."""
 import argparse
 import os
 import shlex
+import signal
 import subprocess
 import sys
 import time
@@ -86,6 +87,8 @@ def run_all(beside: Sequence[Test], alone: Sequence[Test], jobs: int) -> Iterato
 
 
 def main(words: Optional[Sequence[str]] = None) -> int:
+    # A gate begun in the background of a shell inherits an ignored SIGINT, and hands it on; then the tests of Ctrl-C fail.
+    signal.signal(signal.SIGINT, signal.default_int_handler)
     arguments = argparse.ArgumentParser(description=(__doc__ or "").split("\n", 1)[0])
     arguments.add_argument("beside", nargs="*", metavar="WHAT")
     arguments.add_argument("--alone", nargs="+", default=[], metavar="WHAT", help="those that have nothing beside them")

@@ -197,7 +197,7 @@ class Delays(unittest.TestCase):
                 if played := exploring.ends_of((delay,)):
                     self.assertEqual([made.step for made in played.steps], [made.step for made in player.steps])
                 else:
-                    self.assertEqual(player.world.goroutines, exploring.recorded.world.goroutines)
+                    self.assertEqual(player.board.world().goroutines, exploring.recorded.world.goroutines)
 
     def test_a_step_that_cannot_be_is_no_schedule(self) -> None:
         script = script_of(recording_of(GOOD))

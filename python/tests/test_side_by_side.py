@@ -1,6 +1,7 @@
 """Tests that run side by side: each that fails is named and counted, and what it said is printed."""
 
 import io
+import signal
 import tempfile
 import unittest
 from contextlib import redirect_stderr, redirect_stdout
@@ -40,6 +41,10 @@ class SideBySide(unittest.TestCase):
     def test_what_has_no_tests_fails(self) -> None:
         self.assertEqual(played("netrev_bench"), (1, [], "there are no tests in netrev_bench\n"))
         self.assertEqual(played(SAYS % ("Ran 0 tests in 0.000s", 0))[0], 1)
+
+    def test_sigint_is_not_ignored_in_what_it_runs_though_it_was_itself(self) -> None:
+        self.addCleanup(signal.signal, signal.SIGINT, signal.signal(signal.SIGINT, signal.SIG_IGN))
+        self.assertEqual(played("sh -c 'kill -INT $$; echo goes on'")[0], 1)
 
     def test_a_program_of_the_tests_is_run_by_its_name(self) -> None:
         status, lines, _ = played("tests.program.hostile --list")

@@ -98,6 +98,11 @@ class Streaming(Served):
         wait_until(lambda: self.streams.listening() == 0)
         self.assertEqual(self.streams.name_of("1"), "somebody")
 
+    def test_a_listener_that_is_sent_pulses_alone_does_not_wait_for_ever(self) -> None:
+        with mock.patch("nrdb.web.serving.PULSE", 0.01), Listener(self.address) as listener:
+            with mock.patch("tests.web_client.PATIENCE", 0.1), self.assertRaises(TimeoutError):
+                listener.named("never")
+
     def test_no_more_is_kept_than_there_is_room_for(self) -> None:
         with mock.patch("nrdb.web.streams.MOST_KEPT", 3):
             for number in range(10):

@@ -109,12 +109,15 @@ class Listener:
         self._connection.close()
 
     def next(self) -> Event:
-        """The next event; EOFError where none comes any more."""
+        """The next event; EOFError where none comes any more, and TimeoutError where nothing but pulses does."""
+        limit = time.monotonic() + PATIENCE
         while line := self._lines.readline():
             if line.startswith(b"data: "):
                 event: Event = json.loads(line[len(b"data: ") :])
                 self.events.append(event)
                 return event
+            if time.monotonic() > limit:
+                raise TimeoutError(f"no event came after {self.events[-5:]}")
         raise EOFError
 
     def until(self, is_it: Callable[[Event], bool]) -> Event:

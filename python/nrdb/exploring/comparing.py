@@ -1,38 +1,70 @@
 """Whether a schedule has come back to where the recorded run was, so that both go on alike: the same but for the numbers of
 sockets and descriptors, and what nobody can look at any more."""
 
-from typing import Any, NamedTuple
+from typing import NamedTuple
 
-from netrev_model.machine import INSIDE, SIDES, Desc, Socket, Status, Timer, World
+from netrev_model.machine import INSIDE, SIDES, Desc, Socket, Status, Timer
 
+from .board import Board
 from .control import Numbers
 
-Alike = tuple[Any, ...]
+
+class Numbered(NamedTuple):
+    """A state, and the numbers in it."""
+
+    board: Board
+    numbers: Numbers
+
+    def are_the_same(self, other: "Numbered") -> bool:
+        """Whether all has the same numbers."""
+        mine, its = self.numbers, other.numbers
+        return mine.sockets == its.sockets and mine.descriptors == its.descriptors
+
+    def status(self, status: Status) -> Status:
+        """A status with a socket of the recording, or a use of a descriptor, in place of its number."""
+        if len(status) < 2:
+            return status
+        of_socket, of_descriptor = self.numbers.named()
+        which = of_descriptor if status[0] in INSIDE else of_socket
+        return status[0], which.get(status[1], -1), *status[2:]
+
+    def timer(self, timer: Timer) -> tuple[int, int, str, str, bool]:
+        """A timer, and whether it is of its descriptor's last setting."""
+        own = self.board.descs[timer.desc].sequences[SIDES.index(timer.side)]
+        use = self.numbers.named()[1].get(timer.desc, -1)
+        return timer.when, use, timer.side, timer.function, timer.sequence == own
 
 
-class Named(NamedTuple):
-    """Which socket of the recording, and which use of a descriptor, each number is."""
-
-    sockets: dict[int, int]
-    uses: dict[int, int]
-
-
-def alike(world: World, numbers: Numbers) -> Alike:
-    """What two states have in common that go on alike."""
-    named = Named(
-        {number: socket for socket, number in numbers.sockets.items()},
-        {numbers.descriptors[use]: use for use in numbers.use_of.values()},
-    )
+def are_alike(one: Numbered, other: Numbered) -> bool:
+    """Whether two states go on alike."""
+    board, its = one.board, other.board
+    if board.clock != its.clock or len(board.goroutines) != len(its.goroutines):
+        return False
+    if one.numbers.use_of != other.numbers.use_of or one.numbers.sockets.keys() != other.numbers.sockets.keys():
+        return False
+    are_same = one.are_the_same(other)
     return (
-        world.clock,
-        tuple(_status(status, named) for status in world.goroutines),
-        {named.sockets.get(s, -1): one for s, one in enumerate(world.sockets) if not _is_dead(one)},
-        {use: _desc(world.descs[d]) for d, use in named.uses.items()},
-        [_timer(timer, world, named) for timer in world.timers],
-        [_timer(timer, world, named) for timer in world.firings],
-        numbers.sockets.keys(),
-        numbers.use_of,
+        ((are_same and board.goroutines == its.goroutines) or _have_alike_statuses(one, other, are_same))
+        and ((are_same and board.sockets == its.sockets) or _have_alike_sockets(one, other))
+        and ((are_same and board.descs == its.descs) or _have_alike_descriptors(one, other))
+        and [one.timer(timer) for timer in board.timers] == [other.timer(timer) for timer in its.timers]
+        and [one.timer(timer) for timer in board.firings] == [other.timer(timer) for timer in its.firings]
     )
+
+
+def _have_alike_statuses(one: Numbered, other: Numbered, are_same: bool) -> bool:
+    pairs = zip(one.board.goroutines, other.board.goroutines)
+    return all(one.status(status) == other.status(its) for status, its in pairs if status is not its or not are_same)
+
+
+def _have_alike_sockets(one: Numbered, other: Numbered) -> bool:
+    """Whether all sockets are alike, but for those that are dead in both."""
+    sockets, its_sockets = one.board.sockets, other.board.sockets
+    for which, number in one.numbers.sockets.items():
+        socket, its = sockets[number], its_sockets[other.numbers.sockets[which]]
+        if socket is not its and socket != its and not (_is_dead(socket) and _is_dead(its)):
+            return False
+    return True
 
 
 def _is_dead(socket: Socket) -> bool:
@@ -40,18 +72,15 @@ def _is_dead(socket: Socket) -> bool:
     return socket.lock.closed and not socket.lock.references and not any(socket.queues)
 
 
-def _status(status: Status, named: Named) -> Status:
-    if len(status) < 2:
-        return status
-    which = named.uses if status[0] in INSIDE else named.sockets
-    return status[0], which.get(status[1], -1), *status[2:]
+def _have_alike_descriptors(one: Numbered, other: Numbered) -> bool:
+    descs, its_descs = one.board.descs, other.board.descs
+    for use in one.numbers.use_of.values():
+        desc, its = descs[one.numbers.descriptors[use]], its_descs[other.numbers.descriptors[use]]
+        if desc is not its and _desc(desc) != _desc(its):
+            return False
+    return True
 
 
 def _desc(desc: Desc) -> Desc:
     """All but what it has from earlier uses."""
     return desc._replace(sequences=(), fdseq=0, socket=0)
-
-
-def _timer(timer: Timer, world: World, named: Named) -> Alike:
-    own = world.descs[timer.desc].sequences[SIDES.index(timer.side)]
-    return timer.when, named.uses.get(timer.desc, -1), timer.side, timer.function, timer.sequence == own

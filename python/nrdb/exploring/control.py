@@ -2,10 +2,11 @@
 machine's answer."""
 
 from bisect import bisect_right
-from typing import Any, NamedTuple, Optional
+from typing import NamedTuple, Optional
 
-from netrev_model.machine import Answer, World
+from netrev_model.machine import Answer, Status, Step
 
+from .board import Board
 from .scripts import Operation, Sort
 
 BY_STATUS = {
@@ -33,8 +34,11 @@ BY_SORT = {
     Sort.MAKE: "sockopen",
 }
 NEVER = float("inf")
-Step = tuple[Any, ...]
+GOROUTINE, CLOCK, MADE, NETWORK = range(4)  # who acts
 OF_SOCKETS = frozenset((Sort.LOCK, Sort.UNLOCK, Sort.REFER, Sort.GIVE_UP, Sort.CLOSE, Sort.SHUT, Sort.OPEN))
+
+
+About = tuple[bool, int]  # whether it is a socket, and which; else which use of a descriptor
 
 
 class Place(NamedTuple):
@@ -95,23 +99,55 @@ class Numbers:
         self.descriptors: dict[int, int] = {}
         self.fdseqs: dict[int, int] = {}
         self.use_of: dict[int, int] = {}  # of a socket that is open
+        self._named: Optional[tuple[dict[int, int], dict[int, int]]] = None
 
     def copy(self) -> "Numbers":
         made = Numbers()
         made.sockets, made.descriptors = dict(self.sockets), dict(self.descriptors)
         made.fdseqs, made.use_of = dict(self.fdseqs), dict(self.use_of)
+        made._named = self._named
         return made
 
-    def see(self, step: Step, answer: Answer, operation: Operation, world: World) -> None:
+    def named(self) -> tuple[dict[int, int], dict[int, int]]:
+        """Which socket of the recording, and which use of a descriptor, each number is."""
+        if self._named is None:
+            of_socket = {number: socket for socket, number in self.sockets.items()}
+            self._named = of_socket, {self.descriptors[use]: use for use in self.use_of.values()}
+        return self._named
+
+    def has_socket(self, socket: int, number: int) -> None:
+        """A socket of the recording is made, under this number."""
+        self.sockets[socket] = number
+        self._named = None
+
+    def see(self, step: Step, answer: Answer, operation: Operation, board: Board) -> None:
         """What a goroutine has made or freed by a step."""
         if step[0] == "sockopen":
-            self.sockets[operation.socket] = answer[1]
+            self.has_socket(operation.socket, answer[1])
         elif step[0] == "pollopen":
             self.descriptors[operation.use] = answer[1]
-            self.fdseqs[operation.use] = world.descs[answer[1]].fdseq
+            self.fdseqs[operation.use] = board.descs[answer[1]].fdseq
             self.use_of[operation.socket] = operation.use
+            self._named = None
         elif step[0] == "pollclose":
             self.use_of.pop(operation.socket, None)
+            self._named = None
+
+    def is_as(self, other: "Numbers") -> bool:
+        """Whether both are the same."""
+        return (
+            self.sockets == other.sockets
+            and self.descriptors == other.descriptors
+            and self.fdseqs == other.fdseqs
+            and self.use_of == other.use_of
+        )
+
+    def of(self, about: Optional[About]) -> int:
+        """The number of a socket or of a use's descriptor; -1 where there is none."""
+        if about is None:
+            return -1
+        is_socket, which = about
+        return (self.sockets if is_socket else self.descriptors).get(which, -1)
 
 
 class NotMade(Exception):
@@ -119,10 +155,10 @@ class NotMade(Exception):
 
 
 def next_step(
-    world: World, numbers: Numbers, g: int, place: Place, operation: Operation, stream: Optional[Stream]
+    board: Board, numbers: Numbers, g: int, place: Place, operation: Operation, stream: Optional[Stream]
 ) -> Step:
     """The step that a goroutine makes next; NotMade where it waits for another to make what it is about."""
-    status = world.goroutines[g]
+    status = board.goroutines[g]
     if kind := BY_STATUS.get(status[0]):
         return kind, g
     if status[0] == "relock":
@@ -147,6 +183,16 @@ def next_step(
         return kind, g
     side = (operation.side,) if operation.side else ()
     return kind, g, _of(numbers.descriptors, operation.use), *side, *operation.values
+
+
+def is_about(status: Status, place: Place, operation: Operation) -> Optional[About]:
+    """What the next step names of which it needs the number; None where its goroutine's status has that, or nothing is named."""
+    sort = operation.sort
+    if status[0] in BY_STATUS or status[0] == "relock" or sort in (Sort.MAKE, Sort.EXIT):
+        return None
+    if not place.is_waiting and (sort in OF_SOCKETS or sort in (Sort.READ, Sort.WRITE)):
+        return True, operation.socket
+    return False, operation.use
 
 
 def _of(numbers: dict[int, int], which: int) -> int:

@@ -1,17 +1,18 @@
 """Plays schedules, and keeps of those that end with a suspect, or with a call that hangs, one for each rule and place."""
 
+from bisect import bisect_left, bisect_right
 from collections import Counter
 from dataclasses import replace
 from typing import Any, Callable, Iterator, NamedTuple, Optional
 
-from netrev_model.machine import Answer, Limits, Status, World
+from netrev_model.machine import Answer, Limits, Status, Step, World
 
 from ..recording import Recording
 from ..suspects import suspects_of
 from ..suspects.found import Rule, Suspect
 from ..suspects.ranking import WOKEN_WRONGLY
 from .arrivals import with_events
-from .control import Place, Step
+from .control import Place
 from .hanging import hangs, waits_for_ever
 from .playing import Player
 from .runs import Delay, Impossible, Made
@@ -75,7 +76,8 @@ class Exploring:
         self.times: Counter[Key] = Counter()  # how many schedules end with each
         self.played = self.left = 0  # schedules in all, and those in which a step doesn't apply
         self._most = LONGER * script.length + 200
-        self._copies: list[tuple[float, Player]] = []
+        self._copies: list[Player] = []
+        self._times: list[int] = []  # of the copies
         self.delays = single_delays(self.script)
         self.seed = 0  # the last that drew a schedule
         self.recorded = self._play_recorded()
@@ -89,14 +91,15 @@ class Exploring:
         every = max(length // MOST_COPIES, min(length // COPIES, APART), 1)
         for time in range(0, length + 1, every):
             player.run(time, self._most)
-            self._copies.append((time, player.copy(())))
+            self._copies.append(player.copy(()))
+            self._times.append(time)
         player.end(self._most)
         self._steps = player.steps
         return self._all_of(player)
 
     def _all_of(self, player: Player) -> Played:
         steps = self._steps[: player.before] + player.steps
-        return Played(steps, player.world, player.places, player.numbers.sockets, player.has_news)
+        return Played(steps, player.board.world(), player.places, player.numbers.sockets, player.has_news)
 
     def run(self, most: int, tell: Callable[[], None]) -> None:
         """Plays so many schedules; `tell` is called behind each."""
@@ -146,16 +149,24 @@ class Exploring:
 
     def ends_of(self, delays: tuple[Delay, ...]) -> Optional[Played]:
         """Plays a schedule from the last copy before its first delay; None where it comes back to the recorded run."""
-        first = min(delay.before for delay in delays)
-        at = max(at for at, (time, _) in enumerate(self._copies) if time < first or at == 0)
-        player = self._copies[at][1].copy(delays)
-        last = max(delay.until for delay in delays)
-        for time, copy in self._copies[at + 1 :]:
-            player.run(time, self._most)
-            if time > last and not player.has_news and player.is_as(copy):
-                return None
+        first, last = min(delay.before for delay in delays), max(delay.until for delay in delays)
+        player = self._copies[max(bisect_left(self._times, first) - 1, 0)].copy(delays)
+        for at in range(bisect_right(self._times, last), len(self._times)):
+            player.run(self._times[at], self._most)
+            copy = self._copies[at]
+            if not player.has_news:
+                if player.is_as(copy):
+                    return None
+            elif player.made() <= copy.made() + self.script.length and player.is_the_same_as(copy):
+                return self._with_the_rest(player, copy)
         player.end(self._most)
         return self._all_of(player)
+
+    def _with_the_rest(self, player: Player, copy: Player) -> Played:
+        """What comes of a schedule that is where the recorded run was, to the last number: the rest is the recorded one."""
+        steps = self._steps[: player.before] + player.steps + self._steps[copy.before :]
+        recorded = self.recorded
+        return Played(steps, recorded.world, recorded.places, recorded.sockets, player.has_news)
 
     # ---- what it ends with
 

@@ -3,10 +3,11 @@ network may answer. Both are kept by operations: one begins where another's is o
 
 from typing import NamedTuple, Optional, Sequence
 
-from .control import Place
+from .control import GOROUTINE, NETWORK, NEVER, Place
 from .scripts import Cause, Operation, Order
 
 Pairs = Sequence[tuple[int, int]]
+Key = tuple[float, int]  # when something is due, and which of those at that time it is
 
 
 class Where(NamedTuple):
@@ -39,6 +40,63 @@ def orders_of(goroutines: list[list[Operation]], pairs: Optional[Pairs]) -> Opti
     return [sorted(row) for row in orders]
 
 
+class Waiting:
+    """Who waits for a goroutine. When that goes on, each looks again: goroutines at once, and the network for its sockets when it
+    is due. Where all would wait again, none does so: they are only put in the order that comes of it."""
+
+    def __init__(self) -> None:
+        self.first: list[int] = []  # goroutines
+        self.network: list[int] = []  # sockets, behind those
+        self.later: list[tuple[int, int]] = []  # behind both, by actor and number
+        self.until = NEVER  # the first of its operations behind which one of the goroutines goes on
+        self.again: Optional[Key] = None  # when the network would look again
+
+    def copy(self) -> "Waiting":
+        made = Waiting()
+        made.__dict__.update(self.__dict__)
+        made.first, made.network, made.later = list(self.first), list(self.network), list(self.later)
+        return made
+
+    def add(self, actor: int, which: int) -> None:
+        """One more waits."""
+        is_behind = self.later or (self.network if actor == GOROUTINE and self.again is None else ())
+        if is_behind or (actor != GOROUTINE and self.again is not None):
+            self.later.append((actor, which))
+        elif actor == GOROUTINE:
+            self.first.append(which)
+        else:
+            self.network.append(which)
+
+    def settle(self, now: Key) -> None:
+        """The network has looked again before that."""
+        if self.again is not None and self.again < now:
+            self.again = None
+            if self.later:
+                self.later += [(NETWORK, s) for s in self.network]
+                self.network = []
+
+    def look_again(self, due: Key) -> int:
+        """All look again, in vain; how many of the network's do so when they are due, from then on."""
+        for actor, which in self.later:
+            (self.first if actor == GOROUTINE else self.network).append(which)
+        self.later = []
+        if self.again is not None or not self.network:
+            return 0
+        self.again = due
+        return len(self.network)
+
+    def is_empty(self) -> bool:
+        return not (self.first or self.network or self.later)
+
+    def has_network(self) -> bool:
+        return bool(self.network) or any(actor != GOROUTINE for actor, _ in self.later)
+
+    def row(self) -> list[tuple[int, int]]:
+        """All but those that look again when they are due."""
+        network = self.network if self.again is None else []
+        return [*((GOROUTINE, g) for g in self.first), *((NETWORK, s) for s in network), *self.later]
+
+
 class Passing:
     """How far a player is in what comes first, and who waits for it."""
 
@@ -46,13 +104,18 @@ class Passing:
         self.orders, self.causes, self.places = orders, causes, places
         self.passed = [0] * len(places)  # of each goroutine how many of its orders it has behind it
         self.caused = 0  # how many causes are over
-        self.waiting: dict[int, list[tuple[int, int]]] = {}  # for whom: who waits, by actor and number
+        self.waiting: dict[int, Waiting] = {}
 
     def copy(self, places: list[Place]) -> "Passing":
         made = Passing(self.orders, self.causes, places)
         made.passed, made.caused = list(self.passed), self.caused
-        made.waiting = {g: list(row) for g, row in self.waiting.items()}
+        made.waiting = {g: waiting.copy() for g, waiting in self.waiting.items()}
         return made
+
+    def is_as(self, other: "Passing") -> bool:
+        """Whether the same wait for the same."""
+        rows, its_rows = ({g: one.row() for g, one in each.waiting.items()} for each in (self, other))
+        return rows == its_rows
 
     def has_still_to_go_on(self, g: int) -> Optional[int]:
         """Who has to go on before a goroutine makes its next step, by what the program orders; None where nobody has."""
@@ -77,9 +140,41 @@ class Passing:
             self.caused += 1
         return None
 
-    def wait(self, g: int, actor: int, which: int) -> None:
+    def wait(self, g: int, actor: int, which: int, now: Key) -> None:
         """One waits for a goroutine to go on."""
-        self.waiting.setdefault(g, []).append((actor, which))
+        waiting = self.waiting.get(g)
+        if waiting is None:
+            waiting = self.waiting[g] = Waiting()
+        waiting.settle(now)
+        waiting.add(actor, which)
+        if actor == GOROUTINE:
+            waiting.until = min(waiting.until, self.waits_until(which))
+
+    def is_still_awaited(self, g: int, waiting: Waiting) -> bool:
+        """Whether all who wait for a goroutine have still to, though it has gone on."""
+        place = self.places[g]
+        if place.operation > waiting.until:
+            return False
+        if not waiting.has_network():
+            return True
+        return not (waiting.again is not None and waiting.later) and self.holds_network_back(g)
+
+    def holds_network_back(self, g: int) -> bool:
+        """Whether what the network waits for is a goroutine's to make, still."""
+        if self.caused >= len(self.causes):
+            return False
+        cause, place = self.causes[self.caused], self.places[g]
+        return cause.goroutine == g and (place.operation, place.made) <= (cause.operation, cause.at)
+
+    def waits_until(self, g: int) -> int:
+        """The operation, of the goroutine that it waits for, behind which one goes on."""
+        assert self.orders is not None
+        return self.orders[g][self.passed[g]].until
+
+    def settle(self) -> None:
+        """All that was due has looked again."""
+        for waiting in self.waiting.values():
+            waiting.settle((NEVER, 0))
 
 
 def causes_of(goroutines: list[list[Operation]], kinds: Sequence[str]) -> list[Cause]:

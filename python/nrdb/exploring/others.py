@@ -4,12 +4,12 @@ order."""
 from collections import defaultdict
 from typing import Iterator, Optional
 
-from netrev_model.machine import World
+from netrev_model.machine import Step
 
-from .control import NotMade, Numbers, Step
+from .board import Board
+from .control import CLOCK, MADE, NETWORK, NotMade, Numbers
 from .scripts import Item, Script
 
-CLOCK, MADE, NETWORK = 1, 2, 3
 MOST_TRIES = 200
 
 
@@ -36,6 +36,11 @@ class Others:
         """Whether both are as far."""
         return self._untold() == other._untold() and self.places == other.places
 
+    def is_the_same_as(self, other: "Others") -> bool:
+        """Whether both go on in the very same way."""
+        mine = self.places, self.told, self.fresh, self.closed, self.tries
+        return mine == (other.places, other.told, other.fresh, other.closed, other.tries)
+
     def _untold(self) -> set[tuple[int, str]]:
         return {which for which, is_fresh in self.fresh.items() if is_fresh and which[0] not in self.closed}
 
@@ -55,14 +60,13 @@ class Others:
         row, at = self._row(actor, which), self.places[actor, which]
         return row[at] if at < len(row) else None
 
-    def done(self, actor: int, which: int) -> None:
+    def done(self, actor: int, which: int, item: Item) -> None:
         """It has done that."""
-        item = self.next(actor, which)
-        if item and item.event.kind == "pollevent":
+        if item.event.kind == "pollevent":
             self.told.add(item.event.number)
         self.places[actor, which] += 1
 
-    def see(self, step: Step, world: World) -> None:
+    def see(self, step: Step, board: Board) -> None:
         """Behind each step: what came that no event has told of yet."""
         kind = step[0]
         if kind in ("arrive", "peerclose"):
@@ -71,44 +75,44 @@ class Others:
             self.fresh[step[1], "w"] = True
         elif kind == "increfclose":
             self.closed.add(step[2])
-        elif kind == "pollevent" and world.is_open(step[1]):
-            desc = world.descs[step[1]]
+        elif kind == "pollevent" and board.is_open(step[1]):
+            desc = board.descs[step[1]]
             if step[2] == desc.fdseq:
                 for side in step[3]:
                     self.fresh[desc.socket, side] = False
 
     # ---- steps
 
-    def steps_of(self, item: Item, world: World, numbers: Numbers) -> Optional[list[Step]]:
+    def steps_of(self, item: Item, board: Board, numbers: Numbers) -> Optional[list[Step]]:
         """The steps of what is due: none where it has no place in this schedule; None where it has to wait, and NotMade where what
         it is about isn't made yet."""
         kind, arguments = item.event.kind, item.event.arguments
         if kind in ("spawn", "sockopen"):
             return [(kind, *arguments)]
         if kind == "tick":
-            return [(kind, arguments[0])] if arguments[0] >= world.clock else []
+            return [(kind, arguments[0])] if arguments[0] >= board.clock else []
         if kind == "pop":
-            return self._pops(item, world, numbers)
+            return self._pops(item, board, numbers)
         if kind == "fire":
-            return self._fires(item, world, numbers)
+            return self._fires(item, board, numbers)
         if kind == "pollevent":
             return self._event(item, numbers)
         if arguments[0] not in numbers.sockets:
             raise NotMade
-        return self._moves(item, world, numbers.sockets[arguments[0]])
+        return self._moves(item, board, numbers.sockets[arguments[0]])
 
-    def _pops(self, item: Item, world: World, numbers: Numbers) -> list[Step]:
+    def _pops(self, item: Item, board: Board, numbers: Numbers) -> list[Step]:
         """The timers that go off up to this one."""
         assert item.timer
         wanted = numbers.descriptors.get(item.timer[0]), item.timer[1]
-        due = [timer for timer in world.timers if timer.when <= world.clock]
+        due = [timer for timer in board.timers if timer.when <= board.clock]
         at = next((at for at, timer in enumerate(due) if (timer.desc, timer.side) == wanted), None)
         return [] if at is None else [("pop",)] * (at + 1)
 
-    def _fires(self, item: Item, world: World, numbers: Numbers) -> list[Step]:
+    def _fires(self, item: Item, board: Board, numbers: Numbers) -> list[Step]:
         assert item.timer
         wanted = numbers.descriptors.get(item.timer[0]), item.timer[1]
-        places = [at for at, firing in enumerate(world.firings) if (firing.desc, firing.side) == wanted]
+        places = [at for at, firing in enumerate(board.firings) if (firing.desc, firing.side) == wanted]
         return [("fire", places[0])] if places else []
 
     def _event(self, item: Item, numbers: Numbers) -> list[Step]:
@@ -118,10 +122,10 @@ class Others:
         offset = tag - (self.script.ordinals[use] + 1)
         return [("pollevent", numbers.descriptors[use], max(numbers.fdseqs[use] + offset, 0), mode, error)]
 
-    def _moves(self, item: Item, world: World, s: int) -> Optional[list[Step]]:
+    def _moves(self, item: Item, board: Board, s: int) -> Optional[list[Step]]:
         """Bytes that come or go, or the peer's close."""
         kind, value = item.event.kind, item.event.arguments[1:]
-        socket = world.sockets[s]
+        socket = board.sockets[s]
         if kind != "drain" and socket.peer_closed:
             return []
         if kind == "arrive" and len(socket.buffers[0]) + len(value[0]) > socket.capacities[0]:
@@ -137,20 +141,20 @@ class Others:
         return None if self.tries[number] < MOST_TRIES else []
 
     @staticmethod
-    def passed(world: World, step: Step) -> list[Step]:
+    def passed(board: Board, step: Step) -> list[Step]:
         """What comes before the deadline of a step's descriptor has passed: the clock goes on, and timers go off."""
         if step[0] != "pollreset":
             return []
-        due = max((timer.when for timer in world.timers if (timer.desc, timer.side) == step[2:4]), default=0)
-        going = sum(timer.when <= due for timer in world.timers)
-        return [("tick", max(due, world.clock)), *[("pop",)] * going, *[("fire", 0)] * going] if going else []
+        due = max((timer.when for timer in board.timers if (timer.desc, timer.side) == step[2:4]), default=0)
+        going = sum(timer.when <= due for timer in board.timers)
+        return [("tick", max(due, board.clock)), *[("pop",)] * going, *[("fire", 0)] * going] if going else []
 
-    def left(self, world: World, numbers: Numbers) -> Iterator[Step]:
+    def left(self, board: Board, numbers: Numbers) -> Iterator[Step]:
         """What is left to them where nobody else goes on: timers that are due, and events of what came."""
-        if world.firings:
+        if board.firings:
             yield "fire", 0
-        if world.timers and world.timers[0].when <= world.clock:
+        if board.timers and board.timers[0].when <= board.clock:
             yield ("pop",)
-        for status in world.goroutines:
-            if status[0] == "parked" and self.fresh.get((world.descs[status[1]].socket, status[2])):
-                yield "pollevent", status[1], world.descs[status[1]].fdseq, status[2], 0
+        for status in board.goroutines:
+            if status[0] == "parked" and self.fresh.get((board.descs[status[1]].socket, status[2])):
+                yield "pollevent", status[1], board.descs[status[1]].fdseq, status[2], 0

@@ -2,144 +2,58 @@
 doesn't have at once; who is held is due later. What isn't due waits, and what can't be yet: who sleeps, and who needs what another
 has still to make."""
 
-from heapq import heapify, heappop, heappush
+from heapq import heappop, heappush
 from typing import Optional
 
-from netrev_model.machine import Answer, Refused, World
-from netrev_model.steps import apply
+from netrev_model.machine import Answer, Refused, Status, Step
 
 from ..reducing.events import Event
-from .comparing import Alike, alike
-from .control import NEVER, NotMade, Numbers, Place, Step, Stream, behind, next_number, next_step, number_of
-from .orders import Passing
-from .others import Others
-from .runs import Delay, Impossible, Made
+from .control import GOROUTINE, MADE, NETWORK, NEVER, NotMade, Place, behind, is_about, next_number, number_of
+from .orders import Waiting
+from .runs import Delay, Impossible
 from .scripts import Script, Sort
+from .standing import Standing, Turn
 
 ASLEEP = ("parked", "queued")
 WAKING = frozenset(("pollevent", "setdeadline", "evict", "fire", "release"))
 NEWS = (("code", 2), ("pipe",))  # a time ran out, a pipe is broken
 MAKING = frozenset(("spawn", "sockopen", "pollopen"))
-GOROUTINE, CLOCK, MADE, NETWORK = range(4)  # who acts
-Due = tuple[float, int, int, int]  # when, which of those at that time, who acts, and its number
+UNLIKE = MAKING | {"pollclose"}  # kinds of steps by which numbers come and go
+SEEN = frozenset(("arrive", "peerclose", "drain", "increfclose", "pollevent"))  # (what the others look at)
 
 
-class Player:
+class Player(Standing):
     """A script that is played under delays."""
 
     def __init__(self, script: Script, delays: tuple[Delay, ...] = ()) -> None:
-        self.script = script
-        self.until = {delay.before: delay.until + 0.5 for delay in delays}
-        self.world = World(script.limits)
-        self.numbers = Numbers()
-        self.before = 0  # steps of the player that it is a copy of
-        self.steps: list[Made] = []  # those behind them
-        self.places = [Place() for _ in script.goroutines]
-        self.passing = Passing(script.orders, script.causes, self.places)
-        self.following: dict[int, Step] = {}  # of a goroutine that is put where it is due, its step
-        self.off: set[int] = set()  # who has made steps that the recording doesn't have
-        self.has_news = False  # where there was none in the recording
-        self.held: dict[int, float] = {}  # who pauses, until when
-        self.asleep: set[int] = set()
-        self.lacking: list[tuple[int, int]] = []  # who waits for what isn't made
-        self.others = Others(script)
-        self.now = 0.0
-        self._heap: list[Due] = []
-        self._count = 0
-        self._alike: Optional[Alike] = None
-        self._streams: dict[tuple[int, int], Stream] = {}
+        super().__init__(script, delays)
         self._push_goroutine(0)
         for actor, which, due in self.others.beginnings():
             self._push(due, actor, which)
-
-    def copy(self, delays: tuple[Delay, ...]) -> "Player":
-        """It as it is, to go on from here under other delays."""
-        made = object.__new__(Player)
-        made.__dict__.update(self.__dict__)
-        made.until = {delay.before: delay.until + 0.5 for delay in delays}
-        made.numbers, made.others = self.numbers.copy(), self.others.copy()
-        made.before, made.steps, made.places = self.before + len(self.steps), [], list(self.places)
-        made.held, made.asleep, made.lacking = dict(self.held), set(self.asleep), list(self.lacking)
-        made.off, made.following = set(self.off), dict(self.following)
-        made.passing = self.passing.copy(made.places)
-        made._heap = [made._held(one) if one[2] == GOROUTINE else one for one in self._heap]
-        heapify(made._heap)
-        return made
-
-    def _held(self, one: Due) -> Due:
-        """What is due of a goroutine: later where it pauses before that."""
-        due, count, actor, g = one
-        place = self.places[g]
-        number = number_of(self.script.goroutines[g][place.operation], place, self.following[g][0])
-        if number not in self.until:
-            return one
-        self.held[g] = max(due, self.until[number])
-        return self.held[g], count, actor, g
-
-    def is_as(self, other: "Player") -> bool:
-        """Whether it is where the other is, so that both go on alike."""
-        return (
-            self.places == other.places
-            and self.off == other.off
-            and not self.held
-            and self.others.is_as(other.others)
-            and sorted(one[::2] + one[3:] for one in self._heap) == sorted(one[::2] + one[3:] for one in other._heap)
-            and self.alike() == other.alike()
-        )
-
-    def alike(self) -> Alike:
-        """What it has in common with those that go on alike."""
-        if self._alike is None:
-            self._alike = alike(self.world, self.numbers)
-        return self._alike
-
-    # ---- what is due
-
-    def _push(self, due: float, actor: int, which: int) -> None:
-        self._count += 1
-        heappush(self._heap, (due if due > self.now else self.now, self._count, actor, which))
 
     def run(self, until: float, most: int) -> None:
         """Plays all that is due before a time, and stops behind so many steps."""
         heap = self._heap
         most -= self.before
-        self._alike = None
+        self._in_order = None
         while heap and heap[0][0] < until and len(self.steps) < most:
-            self.now, _, actor, which = heappop(heap)
+            self.now, self._at, actor, which = heappop(heap)
             if actor == GOROUTINE:
                 self._turn(which)
             else:
                 self._other(actor, which)
+        self.passing.settle()
 
     def end(self, most: int) -> None:
         """Plays all there is, and then timers that are due and what the poller has still to tell, as long as anybody goes on."""
         while True:
             self.run(NEVER, most)
-            step = next(self.others.left(self.world, self.numbers), None)
-            if step is None or self.before + len(self.steps) >= most:
+            step = next(self.others.left(self.board, self.numbers), None)
+            if step is None or self.made() >= most:
                 return
             self._apply(step, 0)
 
     # ---- goroutines
-
-    def _stream(self, g: int, at: int) -> Optional[Stream]:
-        operation = self.script.goroutines[g][at]
-        if operation.sort is not Sort.WRITE:
-            return None
-        if (g, at) not in self._streams:
-            self._streams[g, at] = Stream(operation)
-        return self._streams[g, at]
-
-    def _next(self, g: int) -> Optional[Step]:
-        """The step that a goroutine makes next; None where it has no more, sleeps or isn't there."""
-        world = self.world
-        if g >= len(world.goroutines) or g in self.asleep:
-            return None
-        operations, place = self.script.goroutines[g], self.places[g]
-        if place.operation >= len(operations):
-            return None
-        stream = self._stream(g, place.operation)
-        return next_step(world, self.numbers, g, place, operations[place.operation], stream)
 
     def _needs_no_wait(self, g: int) -> bool:
         """Whether what a goroutine is about to wait for has come already, so that its call goes on without a wait. It does then."""
@@ -149,7 +63,7 @@ class Player:
             return False
         if operation.is_brief:
             d = self.numbers.descriptors.get(operation.use)
-            if d is not None and self.world.descs[d].words["rw".index(operation.side)] == "ready":
+            if d is not None and self.board.descs[d].words["rw".index(operation.side)] == "ready":
                 return False
         elif operation.cause is None or operation.cause not in self.others.told:
             return False
@@ -161,7 +75,7 @@ class Player:
     def _push_goroutine(self, g: int) -> None:
         """Puts a goroutine's next step where it is due."""
         if (other := self.passing.has_still_to_go_on(g)) is not None:
-            self.passing.wait(other, GOROUTINE, g)
+            self.passing.wait(other, GOROUTINE, g, (self.now, self._at))
             return
         try:
             step = self._next(g)
@@ -170,9 +84,9 @@ class Player:
             return
         if step is None:
             return
-        self.following[g] = step
         operations, place = self.script.goroutines[g], self.places[g]
         number = number_of(operations[place.operation], place, step[0])
+        self.following[g], self.coming[g] = step, number
         due = float(number)
         if not number and g not in self.off and next_number(operations, place) == NEVER:
             due = self.script.length + 1.0  # what it did then isn't recorded, since the recording ended
@@ -188,10 +102,29 @@ class Player:
         step = self.following.pop(g)
         if step[0] == "waitbegin" and self._needs_no_wait(g):
             return
-        place = self.places[g]
-        operation = self.script.goroutines[g][place.operation]
-        number = number_of(operation, place, step[0])
+        place, number = self.places[g], self.coming[g]
         answer = self._apply(step, number)
+        turn, status = self.turns.get(number), self.board.goroutines[g]
+        if turn is None or turn.place != place or turn.answer != answer or turn.status != status:
+            self._takes_turn(g, step, answer)
+            if self.board.is_recorded and number:
+                self._note(g, place, answer, status)
+            return
+        self.places[g] = turn.behind
+        if turn.is_off:
+            self.off.add(g)
+        else:
+            self.off.discard(g)
+        self._passes(g)
+        if status[0] in ASLEEP:
+            self.asleep.add(g)
+        elif status[0] != "gone":
+            self._follows(g, turn)
+
+    def _takes_turn(self, g: int, step: Step, answer: Answer) -> None:
+        """A goroutine has made its step: where it is behind it, and what it makes next."""
+        place, number = self.places[g], self.coming[g]
+        operation = self.script.goroutines[g][place.operation]
         if number:
             place = Place(place[0], place[1] + 1, *place[2:])
             self.off.discard(g)
@@ -199,11 +132,11 @@ class Player:
             self.off.add(g)
         if answer == ("last",) and operation.socket in self.numbers.use_of:
             place = place._replace(destroys=self.numbers.use_of[operation.socket])
-        status = self.world.goroutines[g][0]
+        status = self.board.goroutines[g][0]
         self.places[g] = behind(place, operation, step[0], answer, status, self._stream(g, place.operation))
         if self.places[g].operation != place.operation and place.made < len(operation.steps):
             self.off.add(g)
-        self.numbers.see(step, answer, operation, self.world)
+        self.numbers.see(step, answer, operation, self.board)
         if step[0] in MAKING:
             self._look_again()
         self._passes(g)
@@ -212,18 +145,79 @@ class Player:
         elif status != "gone":
             self._push_goroutine(g)
 
+    def _note(self, g: int, place: Place, answer: Answer, status: Status) -> None:
+        """Keeps a goroutine's turn in the recorded run, if it is one that others may take again."""
+        number, step, behind_it = self.steps[-1].number, self.steps[-1].step, self.places[g]
+        if step[0] in UNLIKE or answer == ("last",) or place.destroys >= 0 or behind_it.destroys >= 0:
+            return
+        turn = Turn(place, answer, status, behind_it, g in self.off)
+        operations = self.script.goroutines[g]
+        if g in self.following and self.coming[g]:
+            about = is_about(status, behind_it, operations[behind_it.operation])
+            named = self.numbers.of(about)
+            turn = turn._replace(following=self.following[g], coming=self.coming[g], about=about, named=named)
+        self.turns[number] = turn
+
+    def _follows(self, g: int, turn: Turn) -> None:
+        """Puts a goroutine's next step where it is due: as in the recorded run, if it names the same there."""
+        following, number = turn.following, turn.coming
+        if following is None or self.numbers.of(turn.about) != turn.named:
+            return self._push_goroutine(g)
+        if (other := self.passing.has_still_to_go_on(g)) is not None:
+            return self.passing.wait(other, GOROUTINE, g, (self.now, self._at))
+        self.following[g], self.coming[g] = following, number
+        due = float(number)
+        if number in self.until:
+            due = self.held[g] = max(due, self.until[number])
+        self._push(due, GOROUTINE, g)
+
     def _let_its_deadline_pass(self, g: int) -> None:
         """The clock goes on to the deadline of what a goroutine is about to do, if it has one, and timers go off."""
-        for step in self.others.passed(self.world, self.following[g]):
+        for step in self.others.passed(self.board, self.following[g]):
             self._apply(step, 0)
 
     def _passes(self, g: int) -> None:
         """A goroutine has gone on: who waited for that may go on too."""
-        for actor, which in self.passing.waiting.pop(g, ()):
+        waiting = self.passing.waiting.get(g)
+        if waiting is None:
+            return
+        waiting.settle((self.now, self._at))
+        if self.passing.is_still_awaited(g, waiting):
+            self._count += waiting.look_again((self.now, self._count + 1))
+            return
+        rest = self.passing.waiting[g] = Waiting()
+        for which in waiting.first:
+            self._looks(g, which, rest)
+        self._network_looks(waiting, rest, self.passing.holds_network_back(g))
+        for actor, which in waiting.later:
             if actor == GOROUTINE:
-                self._push_goroutine(which)
+                self._looks(g, which, rest)
             else:
                 self._push(self.now, actor, which)
+        if rest.is_empty():
+            del self.passing.waiting[g]
+
+    def _looks(self, g: int, which: int, rest: Waiting) -> None:
+        """One who waits for a goroutine looks whether that has gone on far enough."""
+        until = self.passing.waits_until(which)
+        if self.places[g].operation > until:
+            self._push_goroutine(which)
+        else:
+            rest.add(GOROUTINE, which)
+            rest.until = min(rest.until, until)
+
+    def _network_looks(self, waiting: Waiting, rest: Waiting, in_vain: bool) -> None:
+        """The network looks again, when it is due."""
+        if in_vain and waiting.network:
+            rest.network, rest.again = waiting.network, waiting.again
+            self._count += rest.look_again((self.now, self._count + 1))
+        elif waiting.again is not None:
+            due, count = waiting.again
+            for at, s in enumerate(waiting.network):
+                heappush(self._heap, (due, count + at, NETWORK, s))
+        else:
+            for s in waiting.network:
+                self._push(self.now, NETWORK, s)
 
     def _look_again(self) -> None:
         """Something was made: who lacked it may go on."""
@@ -239,15 +233,17 @@ class Player:
     def _apply(self, step: Step, number: int) -> Answer:
         """Makes a step, and wakes who is woken by it."""
         try:
-            self.world, answer = apply(self.world, step)
+            made = self.board.make(step, number)
         except Refused as refused:
             raise Impossible(f"{step}: reason {refused.reason}") from None
-        self.steps.append(Made(step, answer, number))
+        self.steps.append(made)
+        kind, answer = step[0], made.answer
         if answer in NEWS and (not number or self.script.answers[number - 1] != answer):
             self.has_news = True
-        self.others.see(step, self.world)
-        if step[0] in WAKING and self.asleep:
-            statuses = self.world.goroutines
+        if kind in SEEN:
+            self.others.see(step, self.board)
+        if kind in WAKING and self.asleep:
+            statuses = self.board.goroutines
             for g in sorted(g for g in self.asleep if statuses[g][0] not in ASLEEP):
                 self.asleep.discard(g)
                 self._push_goroutine(g)
@@ -261,19 +257,19 @@ class Player:
         if self._is_held_back(actor, which, item.event):
             return
         try:
-            steps = self.others.steps_of(item, self.world, self.numbers)
+            steps = self.others.steps_of(item, self.board, self.numbers)
         except NotMade:
             self.lacking.append((actor, which))
             return
         if steps is None:
             self._push(self.now + 5, actor, which)
             return
-        self.others.done(actor, which)
+        self.others.done(actor, which, item)
         for step in steps:
             number = item.event.number if step[0] == item.event.kind else 0
             answer = self._apply(step, number)
             if step[0] == "sockopen":
-                self.numbers.sockets[item.event.answer[1]] = answer[1]
+                self.numbers.has_socket(item.event.answer[1], answer[1])
             if step[0] == "spawn":
                 self._push_goroutine(answer[1])
             if step[0] in MAKING:
@@ -286,7 +282,7 @@ class Player:
         whom, for those who pause."""
         if actor == NETWORK:
             if (cause := self.passing.has_still_to_cause(event.number)) is not None:
-                self.passing.wait(cause, actor, which)
+                self.passing.wait(cause, actor, which, (self.now, self._at))
                 return True
         elif actor == MADE and (event.kind != "spawn" or self.script.orders is None):
             pausing = [(next_number(self.script.goroutines[g], self.places[g]), due) for g, due in self.held.items()]

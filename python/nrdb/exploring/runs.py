@@ -2,9 +2,7 @@
 
 from typing import NamedTuple
 
-from netrev_model.machine import Answer
-
-from .control import Step
+from netrev_model.machine import Answer, Step
 
 
 class Delay(NamedTuple):

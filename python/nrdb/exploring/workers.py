@@ -66,8 +66,10 @@ def play_all(exploring: Exploring, share: Share, tell: Callable[[], None]) -> No
     with ExitStack() as stack:
         stack.callback(_keep, exploring, best)  # (also where Ctrl-C ends it)
         selector = stack.enter_context(DefaultSelector())
-        for which in range(share.of):
-            selector.register(stack.enter_context(Working(share._replace(which=which))), EVENT_READ)
+        workings = [stack.enter_context(Working()) for _ in range(share.of)]
+        for which, working in enumerate(workings):
+            working.give(share._replace(which=which))
+            selector.register(working.told, EVENT_READ)
         while selector.get_map():
             for key, _ in selector.select(SECONDS):
                 if not _hear(key.fileobj, exploring, best):
@@ -84,25 +86,28 @@ def _keep(exploring: Exploring, best: dict[Key, Best]) -> None:
 class Working:
     """A process that plays a share, until it is left."""
 
-    def __init__(self, share: Share) -> None:
+    def __init__(self) -> None:
         code = f"import sys; sys.path[:0] = {sys.path!r}; from nrdb.exploring.workers import work; work()"
         words = [sys.executable, "-c", code]
         self.process = subprocess.Popen(words, stdin=subprocess.PIPE, stdout=subprocess.PIPE, start_new_session=True)
-        assert self.process.stdin
+        assert self.process.stdin and self.process.stdout
+        self.given, self.told = self.process.stdin, self.process.stdout
+
+    def give(self, share: Share) -> None:
+        """Gives it its share, when all have been started."""
         try:
-            with self.process.stdin as to:
+            with self.given as to:
                 to.write(pickle.dumps(share))
         except BrokenPipeError:
             pass
 
-    def __enter__(self) -> IO[bytes]:
-        assert self.process.stdout
-        return self.process.stdout
+    def __enter__(self) -> "Working":
+        return self
 
     def __exit__(self, *_: object) -> None:
-        assert self.process.stdout
         self.process.kill()
-        self.process.stdout.close()
+        self.told.close()
+        self.given.close()
         self.process.wait()
 
 

@@ -1,0 +1,85 @@
+"""How many schedules are played a second:  python3 python netrev_bench.exploring [--schedules N] [--processors 1,4] [RECORDING ..]
+
+Without recordings: the longest hunt of examples/hunts, and random traffic of 2,000 steps without a bug. Its lines are rows of a
+table of Markdown. Neither Go nor netrev is needed. On one processor seconds are those of its time, on more of the clock; both are
+from the script of the recording to the last finding, as for `explore`."""
+
+import argparse
+import gc
+import json
+import sys
+import time
+from pathlib import Path
+from typing import Iterator
+
+from netrev_fuzz.injections import Traffic
+from netrev_model.machine import Limits, World
+from netrev_model.steps import apply
+from netrev_model.vocabulary import KINDS
+from netrev_model.writing import line_of
+from nrdb.exploring.finding import Exploring
+from nrdb.exploring.making import script_of
+from nrdb.exploring.workers import Share, play_all
+from nrdb.recording import Recording
+
+from .explored import read
+
+ROOT = Path(__file__).resolve().parents[2]
+HUNT = ROOT / "examples/hunts/blocked-control.jsonl"
+SEEDS, LENGTH = (720, 721, 722), 2_000
+
+
+def answered(recording: Recording) -> Recording:
+    """A recording with the model's answers."""
+    if recording.has_answers:
+        return recording
+    world = World(Limits(*(recording.limits[key] for key in Limits._fields)))
+    lines = [json.dumps({**recording.limits, "netrev": 2})]
+    for kind, *rest in recording.arrays():
+        forms = KINDS[kind].arguments
+        step = (kind, *(bytes.fromhex(one) if form == "bytes" else one for form, one in zip(forms, rest)))
+        world, answer = apply(world, step)
+        lines.append(line_of(step, answer))
+    made = Recording("".join(f"{line}\n" for line in lines).encode())
+    made.lines = recording.lines
+    return made
+
+
+def recordings(paths: list[Path]) -> Iterator[tuple[str, Recording]]:
+    """What is explored, by names."""
+    for path in paths or [HUNT]:
+        yield path.stem, answered(read(path))
+    for seed in () if paths else SEEDS:
+        yield f"traffic, seed {seed}", answered(Recording(Traffic(seed, None, LENGTH).run().text()))
+
+
+def pace(recording: Recording, most: int, processors: int) -> tuple[int, int, float]:
+    """How many schedules were played, how many findings there are, and in how many seconds."""
+    now = time.process_time if processors == 1 else time.perf_counter
+    begun = now()
+    script = script_of(recording)
+    exploring = Exploring(script, recording.lines.words)
+    play_all(exploring, Share(script, recording.lines, most, 0, processors), lambda: None)
+    return exploring.played, len(exploring.found), now() - begun
+
+
+def main() -> int:
+    parser = argparse.ArgumentParser(description=__doc__, formatter_class=argparse.RawDescriptionHelpFormatter)
+    parser.add_argument("--schedules", type=int, default=3_000)
+    parser.add_argument("--processors", default="1,4")
+    parser.add_argument("recordings", nargs="*", type=Path, metavar="RECORDING")
+    options = parser.parse_args()
+    counts = [int(count) for count in options.processors.split(",")]
+    gc.disable()
+    print(f"| Recording | steps | schedules | findings | {' | '.join(f'a second on {count}' for count in counts)} |")
+    print(f"|---|{'--:|' * (3 + len(counts))}")
+    for name, recording in recordings(options.recordings):
+        row = [pace(recording, options.schedules, count) for count in counts]
+        played, found, _ = row[0]
+        cells = " | ".join(f"{count / max(seconds, 0.001):,.0f}" for count, _, seconds in row)
+        print(f"| {name} | {recording.length:,} | {played:,} | {found} | {cells} |", flush=True)
+    return 0
+
+
+if __name__ == "__main__":
+    sys.exit(main())

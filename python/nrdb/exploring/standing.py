@@ -1,0 +1,143 @@
+"""Where a script that is played stands: the machine's state, where each goroutine is in its calls, and what is due when. It can be
+copied, and compared with where another stands."""
+
+from heapq import heapify, heappush
+from typing import NamedTuple, Optional, TypeVar
+
+from netrev_model.machine import Answer, Status, Step, World
+
+from .board import Board
+from .comparing import Numbered, are_alike
+from .control import GOROUTINE, Numbers, Place, Stream, next_step
+from .orders import Passing
+from .others import Others
+from .runs import Delay, Made
+from .scripts import Script, Sort
+
+Due = tuple[float, int, int, int]  # when, which of those at that time, who acts, and its number
+Itself = TypeVar("Itself", bound="Standing")
+
+
+class Turn(NamedTuple):
+    """A goroutine's turn in the recorded run: where it was, what it was answered, and its status and place behind it. Behind
+    those its next step, if that was put where it is due at once; with the number that this names, and of what that is.
+    """
+
+    place: Place
+    answer: Answer
+    status: Status
+    behind: Place
+    is_off: bool
+    following: Optional[Step] = None
+    coming: int = 0
+    about: Optional[tuple[bool, int]] = None
+    named: int = -1
+
+
+class Standing:
+    """Where a script stands that is played under delays."""
+
+    def __init__(self, script: Script, delays: tuple[Delay, ...] = ()) -> None:
+        self.script = script
+        self.until = {delay.before: delay.until + 0.5 for delay in delays}
+        self.board = Board(World(script.limits), not delays)
+        self.turns: dict[int, Turn] = {}  # of the recorded run, by the numbers of their steps
+        self.numbers = Numbers()
+        self.before = 0  # steps of the player that it is a copy of
+        self.steps: list[Made] = []  # those behind them
+        self.places = [Place() for _ in script.goroutines]
+        self.passing = Passing(script.orders, script.causes, self.places)
+        self.following: dict[int, Step] = {}  # of a goroutine that is put where it is due, its step
+        self.coming = [0] * len(script.goroutines)  # the number of that in the recording, or 0
+        self.off: set[int] = set()  # who has made steps that the recording doesn't have
+        self.has_news = False  # where there was none in the recording
+        self.held: dict[int, float] = {}  # who pauses, until when
+        self.asleep: set[int] = set()
+        self.lacking: list[tuple[int, int]] = []  # who waits for what isn't made
+        self.others = Others(script)
+        self.now = 0.0
+        self._heap: list[Due] = []
+        self._count = self._at = 0
+        self._in_order: Optional[list[tuple[float, int, int]]] = None
+        self._streams: dict[tuple[int, int], Stream] = {}
+
+    def copy(self: Itself, delays: tuple[Delay, ...]) -> Itself:
+        """It as it is, to go on from here under other delays."""
+        made = object.__new__(type(self))
+        made.__dict__.update(self.__dict__)
+        made.until = {delay.before: delay.until + 0.5 for delay in delays}
+        made.board, made.numbers, made.others = self.board.copy(), self.numbers.copy(), self.others.copy()
+        made.before, made.steps, made.places = self.made(), [], list(self.places)
+        made.held, made.asleep, made.lacking = dict(self.held), set(self.asleep), list(self.lacking)
+        made.off, made.following, made.coming = set(self.off), dict(self.following), list(self.coming)
+        made.passing = self.passing.copy(made.places)
+        made._heap = list(self._heap)
+        made._hold()
+        return made
+
+    def _hold(self) -> None:
+        """Who pauses before what it is due to do is due later."""
+        for at, (due, count, actor, g) in enumerate(self._heap):
+            if actor == GOROUTINE and (until := self.until.get(self.coming[g])):
+                self.held[g] = max(due, until)
+                self._heap[at] = (self.held[g], count, actor, g)
+        heapify(self._heap)
+
+    def is_as(self, other: "Standing") -> bool:
+        """Whether it is where the other is, so that both go on alike."""
+        return (
+            self.places == other.places
+            and self.off == other.off
+            and not self.held
+            and are_alike(Numbered(self.board, self.numbers), Numbered(other.board, other.numbers))
+            and self.others.is_as(other.others)
+            and self._all_due() == other._all_due()
+        )
+
+    def is_the_same_as(self, other: "Standing") -> bool:
+        """Whether all that it goes on by is the other's, to the last number: so both make the very same steps from here on."""
+        return (
+            self.places == other.places
+            and self.board.is_as(other.board)
+            and self.is_as(other)
+            and self.numbers.is_as(other.numbers)
+            and self.others.is_the_same_as(other.others)
+            and (self.asleep, self.lacking) == (other.asleep, other.lacking)
+            and self.passing.is_as(other.passing)
+            and [one[2:] for one in sorted(self._heap)] == [one[2:] for one in sorted(other._heap)]
+            and self.following == other.following
+            and all(self.coming[g] == other.coming[g] for g in self.following)
+        )
+
+    def made(self) -> int:
+        """How many steps were made."""
+        return self.before + len(self.steps)
+
+    def _all_due(self) -> list[tuple[float, int, int]]:
+        """What is due, in its order."""
+        if self._in_order is None:
+            self._in_order = sorted((due, actor, which) for due, _, actor, which in self._heap)
+        return self._in_order
+
+    def _push(self, due: float, actor: int, which: int) -> None:
+        self._count += 1
+        heappush(self._heap, (due if due > self.now else self.now, self._count, actor, which))
+
+    def _stream(self, g: int, at: int) -> Optional[Stream]:
+        operation = self.script.goroutines[g][at]
+        if operation.sort is not Sort.WRITE:
+            return None
+        if (g, at) not in self._streams:
+            self._streams[g, at] = Stream(operation)
+        return self._streams[g, at]
+
+    def _next(self, g: int) -> Optional[Step]:
+        """The step that a goroutine makes next; None where it has no more, sleeps or isn't there."""
+        board = self.board
+        if g >= len(board.goroutines) or g in self.asleep:
+            return None
+        operations, place = self.script.goroutines[g], self.places[g]
+        if place.operation >= len(operations):
+            return None
+        stream = self._stream(g, place.operation)
+        return next_step(board, self.numbers, g, place, operations[place.operation], stream)

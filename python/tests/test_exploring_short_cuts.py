@@ -1,0 +1,125 @@
+"""The short cuts of exploring change nothing: all that is found is what comes of playing each schedule from its first step to its
+last, each step by the model, where everybody who waits looks again at each turn."""
+
+import unittest
+from pathlib import Path
+from typing import Any, Optional
+from unittest.mock import patch
+
+from netrev_fuzz.injections import Traffic
+from netrev_model.machine import Answer, Status, Step
+from netrev_model.steps import apply
+from nrdb.exploring.board import Board
+from nrdb.exploring.control import GOROUTINE, Place
+from nrdb.exploring.finding import Exploring, Played
+from nrdb.exploring.making import script_of
+from nrdb.exploring.playing import Player
+from nrdb.exploring.runs import Delay, Impossible, Made
+from nrdb.exploring.schedules import Schedule, schedules
+from nrdb.recording import Recording
+from tests.test_exploring import EXAMPLES, answered, with_answers
+
+REAL = sorted((EXAMPLES / "real").glob("*.jsonl"))
+RACES = sorted((EXAMPLES / "races").glob("*.jsonl"))
+MOST, AT_ONCE = 200, 9  # schedules, of which every so manieth is played
+TRAFFIC, LENGTH = (720, 726), 400  # seeds, and how long those are
+
+
+class PlainBoard(Board):
+    """It asks the model for each step."""
+
+    def make(self, step: Step, number: int) -> Made:
+        world, answer = apply(self.world(), step)
+        self._take(world)
+        return Made(step, answer, number)
+
+
+class PlainPlayer(Player):
+    """It keeps nothing of the recorded run, and everybody who waits looks again."""
+
+    def _note(self, g: int, place: Place, answer: Answer, status: Status) -> None:
+        pass
+
+    def _passes(self, g: int) -> None:
+        waiting = self.passing.waiting.pop(g, None)
+        for actor, which in waiting.row() if waiting else ():
+            if actor == GOROUTINE:
+                self._push_goroutine(which)
+            else:
+                self._push(self.now, actor, which)
+
+
+class PlainExploring(Exploring):
+    """It plays each schedule from the beginning to the end."""
+
+    def ends_of(self, delays: tuple[Delay, ...]) -> Optional[Played]:
+        player = PlainPlayer(self.script, delays)
+        player.end(self._most)
+        places, numbers = player.places, player.numbers
+        return Played(player.steps, player.board.world(), places, numbers.sockets, player.has_news)
+
+
+def outcome(exploring: Exploring, schedule: Schedule) -> Any:
+    """What a schedule ends with: its findings, and its run, None where that is left."""
+    keys = exploring.play(schedule)
+    try:
+        return keys, exploring.ends_of(schedule.delays)
+    except Impossible as impossible:
+        return keys, str(impossible)
+
+
+class ShortCuts(unittest.TestCase):
+    def setUp(self) -> None:
+        self.came_back = self.had_rest = 0
+
+    def assert_the_same(self, recording: Recording) -> None:
+        """Explores a recording in both ways."""
+        script = script_of(recording)
+        short = Exploring(script, recording.lines.words)
+        with patch("nrdb.exploring.finding.Player", PlainPlayer), patch("nrdb.exploring.standing.Board", PlainBoard):
+            plain = PlainExploring(script, recording.lines.words)
+            self.assertEqual(short.recorded, plain.recorded)
+            for schedule in list(schedules(short.delays, MOST))[::AT_ONCE]:
+                self.assert_ends_the_same(short, plain, schedule)
+        for name in ("found", "times", "known", "played", "left", "seed", "delays"):
+            self.assertEqual(getattr(short, name), getattr(plain, name), name)
+        self.assertEqual(list(short.found), list(plain.found))
+
+    def assert_ends_the_same(self, short: Exploring, plain: Exploring, schedule: Schedule) -> None:
+        with patch.object(short, "_with_the_rest", side_effect=short._with_the_rest) as with_the_rest:
+            keys, played = outcome(short, schedule)
+        self.had_rest += with_the_rest.called
+        plain_keys, plain_played = outcome(plain, schedule)
+        self.assertEqual(keys, plain_keys, schedule)
+        if played is not None:
+            self.assertEqual(played, plain_played, schedule)
+        else:
+            self.came_back += 1
+            self.assertLessEqual(plain_played.has_news, plain.recorded.has_news)
+            statuses, recorded = plain_played.world.goroutines, plain.recorded.world.goroutines
+            self.assertEqual([one[0] for one in statuses], [one[0] for one in recorded])
+            self.assertEqual(plain_played.places, plain.recorded.places)
+
+    def test_in_recordings_of_real_programs(self) -> None:
+        self.in_all(REAL)
+
+    def test_in_races(self) -> None:
+        self.in_all(RACES)
+        self.assertGreater(self.had_rest, 5)
+
+    def in_all(self, paths: list[Path]) -> None:
+        self.assertGreater(len(paths), 5)
+        for path in paths:
+            with self.subTest(path.stem):
+                self.assert_the_same(answered(path))
+        self.assertGreater(self.came_back, len(paths))
+
+    def test_in_random_traffic(self) -> None:
+        for seed in TRAFFIC:
+            with self.subTest(seed):
+                self.assert_the_same(with_answers(Recording(Traffic(seed, None, LENGTH).run().text())))
+        self.assertGreater(self.came_back, 5)
+
+
+if __name__ == "__main__":
+    unittest.main()
