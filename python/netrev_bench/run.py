@@ -11,7 +11,7 @@ For each shape of recording and each of the sizes (10,000, 100,000 and 1,000,000
 First it prints the instructions of each, a step of the recording or a restart, as `valgrind --tool=callgrind` counts them:
 other work on the machine doesn't change these. Under callgrind the C library clears and copies without `rep`, since each
 repetition would count. Then come the least times of three runs, or of RUNS. A time is the program's own processor time, of
-user and system. Then comes the greatest memory. At the end are the ratios to the baseline at the last size, a shape in a row, and
+user and system. Then comes the greatest memory. At the end are the ratios to the baseline at the last size, shape by shape, and
 their geometric means.
 
 NETREV_BEFORE names an older netrev: it is measured in the same run, and each table has it beside the one that is now. All
@@ -116,8 +116,8 @@ class Recording:
     def lines(self, part):
         return "".join(f"{line}\n" for line, _ in self.parts[part]).encode()
 
-    def expect(self, part, replies):
-        """Compares replies with those that are right."""
+    def expect(self, program, part, replies):
+        """Compares a program's replies with those that are right."""
         asked = self.parts[part]
         came = replies.decode().splitlines()
         for index, (line, right) in enumerate(asked):
@@ -125,11 +125,11 @@ class Recording:
             if right is None:
                 asked[index] = (line, reply)
             elif reply != right:
-                raise Wrong(f"{self.file.name}: {line}: {reply}, not {right}")
+                raise Wrong(f"{program}: {self.file.name}: {line}: {reply}, not {right}")
 
-    def expect_checked(self, printed):
+    def expect_checked(self, program, printed):
         if printed.decode() != f"ok {self.steps} steps\n":
-            raise Wrong(f"{self.file.name}: check: {printed.decode()!r}")
+            raise Wrong(f"{program}: {self.file.name}: check: {printed.decode()!r}")
 
 
 def replies_to(process, lines):
@@ -165,7 +165,7 @@ def timed(program, recording):
     began = seconds_of_children()
     checked = subprocess.run([program, "check", recording.file], stdout=subprocess.PIPE, check=True)
     figures = {"check": (seconds_of_children() - began) * MILLISECONDS}
-    recording.expect_checked(checked.stdout)
+    recording.expect_checked(program, checked.stdout)
     words = [program, "run", recording.file]
     with subprocess.Popen(words, stdin=subprocess.PIPE, stdout=subprocess.PIPE, bufsize=0) as process:
         clock = ~process.pid << 3 | 2  # the number that the system has for the clock of a process's processor time
@@ -173,7 +173,7 @@ def timed(program, recording):
             began = time.clock_gettime(clock)
             replies = replies_to(process, recording.lines(part))
             figures[part] = (time.clock_gettime(clock) - began) * MILLISECONDS
-            recording.expect(part, replies)
+            recording.expect(program, part, replies)
         figures["memory"] = greatest_memory(process) / MEBIBYTE
         replies_to(process, QUIT)
     return figures
@@ -203,12 +203,12 @@ def counted(program, recording, pool):
     check = pool.submit(instructions, [program, "check", recording.file], b"")
     sessions = [pool.submit(instructions, [program, "run", recording.file], script) for script in scripts]
     count, printed = check.result()
-    recording.expect_checked(printed)
+    recording.expect_checked(program, printed)
     figures = {"check": count / recording.steps}
     replies = sessions[-1].result()[1].splitlines(keepends=True)
     for part in parts:
         own, replies = replies[: len(recording.parts[part])], replies[len(recording.parts[part]) :]
-        recording.expect(part, b"".join(own))
+        recording.expect(program, part, b"".join(own))
     totals = [session.result()[0] for session in sessions]
     for part, before, total in zip(parts[1:], totals, totals[1:]):
         figures[part] = (total - before) / (RESTARTS if part == "restarts" else recording.steps)

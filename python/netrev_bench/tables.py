@@ -112,15 +112,13 @@ def arrow(ratios: Iterable[float]) -> str:
 
 
 def ratio_table(measured: Measurement) -> str:
-    """The ratios to the baseline at the last size, a row a shape, and their geometric means."""
+    """The ratios to the baseline at the last size: a row a shape."""
     steps, netrevs, names = measured.sizes[-1], measured.netrevs, list(measured.titles)
     rows = [
         [shape, *(arrow(measured.ratio(shape, steps, one, name) for one in netrevs) for name in names)]
         for shape in measured.shapes
     ]
-    means = [arrow(measured.mean(steps, one, name) for one in netrevs) for name in names]
-    head = [f"ratio to the baseline, {measured.sort}, {steps:,} steps", *names]
-    return table(head, [*rows, ["geometric mean", *means]])
+    return table([f"ratio to the baseline, {measured.sort}, {steps:,} steps", *names], rows)
 
 
 def mean_table(measurements: Sequence[Measurement]) -> str:
