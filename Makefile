@@ -117,8 +117,8 @@ share: ready
 	@$(NETREV) serve examples/first.jsonl --port 47200 --fronts 2
 
 # Loads, walks and searches recordings of up to 1,000,000 steps, beside plain Rust without proofs: `make bench
-# STEPS="10000 100000"` for fewer. Then records a C program with GDB, shares sessions, searches with several workers, and asks
-# nrdb.
+# STEPS="10000 100000"` for fewer. `make bench NETREV_BEFORE=FILE` has an older netrev beside it in each table. Then records a C
+# program with GDB, shares sessions, searches with several workers, and asks nrdb.
 bench: ready
 	@python3 python netrev_bench.run $(STEPS)
 	@echo

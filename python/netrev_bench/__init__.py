@@ -1,1 +1,1 @@
-"""Benchmarks of netrev: programs that report figures, and test nothing (docs/BENCHMARKS.md)."""
+"""Benchmarks of netrev: programs that report figures, and test nothing (docs/BENCHMARKS.md, docs/MEASUREMENTS.md)."""

@@ -1,6 +1,7 @@
 """What the benchmarks run: netrev, the same machine in plain Rust without proofs (`baseline`), and recordings of many shapes.
 
-NETREV names the program, NETREV_BASELINE that of `bench/baseline`, which is built where it isn't given.
+NETREV names the program, NETREV_BASELINE that of `bench/baseline`, which is built where it isn't given. NETREV_BEFORE names an
+older netrev, which is measured only where it is given.
 """
 
 import os
@@ -11,6 +12,7 @@ from typing import Optional
 
 ROOT = Path(__file__).resolve().parents[2]
 NETREV = os.environ.get("NETREV", str(ROOT / "crates/netrev/out/netrev"))
+NETREV_BEFORE = os.environ.get("NETREV_BEFORE")
 BASELINE = os.environ.get("NETREV_BASELINE")
 
 

@@ -1,6 +1,6 @@
 """Measures netrev beside the same machine in plain Rust without proofs:  python3 python netrev_bench.run [STEPS ..]
 
-For each shape of recording and each of the sizes (10,000, 100,000 and 1,000,000 steps), both programs by turns
+For each shape of recording and each of the sizes (10,000, 100,000 and 1,000,000 steps), the programs by turns
 
     check     load the recording and say that it is one, as a program of its own
     walk      go to the end and back by 100 steps at a time, with a look behind each
@@ -11,14 +11,15 @@ For each shape of recording and each of the sizes (10,000, 100,000 and 1,000,000
 First it prints the instructions of each, a step of the recording or a restart, as `valgrind --tool=callgrind` counts them:
 other work on the machine doesn't change these. Under callgrind the C library clears and copies without `rep`, since each
 repetition would count. Then come the least times of three runs, or of RUNS. A time is the program's own processor time, of
-user and system. Then comes the greatest memory. A ratio is netrev's figure divided by the baseline's.
+user and system. Then comes the greatest memory. At the end are the ratios to the baseline at the last size, shape by shape, and
+their geometric means.
 
-Both programs must give the same replies; one that isn't right ends it. Where the baseline can't be built its columns are
-empty, and without valgrind nothing is counted. NETREV and NETREV_BASELINE name the programs, SHAPES the shapes, COUNTED the
-sizes at which instructions are counted (10000). RUNS=0 leaves the times out. There are no limits.
+NETREV_BEFORE names an older netrev: it is measured in the same run, and each table has it beside the one that is now. All
+programs must give the same replies; one that isn't right ends it. Where the baseline can't be built its columns are empty, and
+without valgrind nothing is counted. NETREV and NETREV_BASELINE name the programs, SHAPES the shapes, COUNTED the sizes at which
+instructions are counted (10000). RUNS=0 leaves the times out. There are no limits.
 """
 
-import math
 import os
 import random
 import resource
@@ -31,7 +32,8 @@ import time
 from concurrent.futures import ThreadPoolExecutor
 from pathlib import Path
 
-from .programs import NETREV, built_baseline, write_recording
+from .programs import NETREV, NETREV_BEFORE, built_baseline, write_recording
+from .tables import BASELINE, BEFORE, NOW, Measurement, figure_table, mean_table, ratio_table
 
 SHAPES = os.environ.get("SHAPES", "locks queues bytes waits timers mix").split()
 RUNS = int(os.environ.get("RUNS", "3"))
@@ -47,13 +49,20 @@ WITHOUT_REP = {
 }
 MILLISECONDS = 1_000
 MEBIBYTE = 1 << 20
-TITLES = {
+TIMES = {
     "check": "`check`, ms",
     "walk": "a walk to the end and back, ms",
     "continue": "`continue` that finds nothing, ms",
     "reverse": "`reverse-continue` that finds nothing, ms",
     "restarts": "1,000 restarts, ms",
     "memory": "greatest memory, MiB",
+}
+COUNTS = {
+    "check": "`check`, instructions a step",
+    "walk": "a walk to the end and back, instructions a step",
+    "continue": "`continue` that finds nothing, instructions a step",
+    "reverse": "`reverse-continue` that finds nothing, instructions a step",
+    "restarts": "a restart, instructions",
 }
 
 
@@ -107,8 +116,8 @@ class Recording:
     def lines(self, part):
         return "".join(f"{line}\n" for line, _ in self.parts[part]).encode()
 
-    def expect(self, part, replies):
-        """Compares replies with those that are right."""
+    def expect(self, program, part, replies):
+        """Compares a program's replies with those that are right."""
         asked = self.parts[part]
         came = replies.decode().splitlines()
         for index, (line, right) in enumerate(asked):
@@ -116,11 +125,11 @@ class Recording:
             if right is None:
                 asked[index] = (line, reply)
             elif reply != right:
-                raise Wrong(f"{self.file.name}: {line}: {reply}, not {right}")
+                raise Wrong(f"{program}: {self.file.name}: {line}: {reply}, not {right}")
 
-    def expect_checked(self, printed):
+    def expect_checked(self, program, printed):
         if printed.decode() != f"ok {self.steps} steps\n":
-            raise Wrong(f"{self.file.name}: check: {printed.decode()!r}")
+            raise Wrong(f"{program}: {self.file.name}: check: {printed.decode()!r}")
 
 
 def replies_to(process, lines):
@@ -156,7 +165,7 @@ def timed(program, recording):
     began = seconds_of_children()
     checked = subprocess.run([program, "check", recording.file], stdout=subprocess.PIPE, check=True)
     figures = {"check": (seconds_of_children() - began) * MILLISECONDS}
-    recording.expect_checked(checked.stdout)
+    recording.expect_checked(program, checked.stdout)
     words = [program, "run", recording.file]
     with subprocess.Popen(words, stdin=subprocess.PIPE, stdout=subprocess.PIPE, bufsize=0) as process:
         clock = ~process.pid << 3 | 2  # the number that the system has for the clock of a process's processor time
@@ -164,7 +173,7 @@ def timed(program, recording):
             began = time.clock_gettime(clock)
             replies = replies_to(process, recording.lines(part))
             figures[part] = (time.clock_gettime(clock) - began) * MILLISECONDS
-            recording.expect(part, replies)
+            recording.expect(program, part, replies)
         figures["memory"] = greatest_memory(process) / MEBIBYTE
         replies_to(process, QUIT)
     return figures
@@ -172,8 +181,8 @@ def timed(program, recording):
 
 def least(programs, recording):
     """The least of each figure of several runs, for each program; the programs run by turns."""
-    runs = [[timed(program, recording) for program in programs] for _ in range(RUNS)]
-    return [{name: min(run[name] for run in of_one) for name in TITLES} for of_one in zip(*runs)]
+    runs = [{name: timed(program, recording) for name, program in programs.items()} for _ in range(RUNS)]
+    return {name: {figure: min(run[name][figure] for run in runs) for figure in TIMES} for name in programs}
 
 
 def instructions(words, lines):
@@ -194,42 +203,16 @@ def counted(program, recording, pool):
     check = pool.submit(instructions, [program, "check", recording.file], b"")
     sessions = [pool.submit(instructions, [program, "run", recording.file], script) for script in scripts]
     count, printed = check.result()
-    recording.expect_checked(printed)
+    recording.expect_checked(program, printed)
     figures = {"check": count / recording.steps}
     replies = sessions[-1].result()[1].splitlines(keepends=True)
     for part in parts:
         own, replies = replies[: len(recording.parts[part])], replies[len(recording.parts[part]) :]
-        recording.expect(part, b"".join(own))
+        recording.expect(program, part, b"".join(own))
     totals = [session.result()[0] for session in sessions]
     for part, before, total in zip(parts[1:], totals, totals[1:]):
         figures[part] = (total - before) / (RESTARTS if part == "restarts" else recording.steps)
     return figures
-
-
-def written(figure):
-    """Three digits, or all before the point."""
-    return f"{figure:,.{max(0, 2 - int(math.log10(max(figure, 1))))}f}"
-
-
-def cells(figures, name):
-    """A figure of netrev's, the baseline's, and their ratio."""
-    digits = [written(of_one[name]) for of_one in figures]
-    if len(figures) == 1:
-        return [*digits, "", ""]
-    return [*digits, f"{figures[0][name] / figures[1][name]:.1f}"]
-
-
-def growth(first, last, name):
-    """How many times as much the last size takes as the first, for each program."""
-    grown = [f"{after[name] / before[name]:.1f}" for before, after in zip(first, last)]
-    return [*grown, ""][:2]
-
-
-def print_table(head, rows):
-    print(f"\n| {' | '.join(head)} |\n|---|{'--:|' * (len(head) - 1)}")
-    for row in rows:
-        print(f"| {' | '.join(row)} |")
-    sys.stdout.flush()
 
 
 def tell(shape, steps):
@@ -238,24 +221,20 @@ def tell(shape, steps):
         print(f"{shape}, {steps:,} steps", file=sys.stderr)
 
 
-def print_counts(programs, steps):
-    """A row a shape, a figure's instructions in three columns."""
-    names = [name for name in TITLES if name != "memory"]
-    rows = []
+def measured_counts(programs):
+    """The instructions of each program, at the sizes at which they are counted."""
+    found = {}
     with tempfile.TemporaryDirectory() as folder, ThreadPoolExecutor(os.cpu_count()) as pool:
         for shape in SHAPES:
-            tell(shape, steps)
-            recording = Recording(folder, shape, steps)
-            figures = [counted(program, recording, pool) for program in programs]
-            rows.append([shape, *(cell for name in names for cell in cells(figures, name))])
-    titles = ["a restart" if name == "restarts" else name for name in names]
-    head = [word for title in titles for word in (title, "baseline", "ratio")]
-    print_table([f"instructions a step, {steps:,} steps", *head], rows)
+            for steps in COUNTED:
+                tell(shape, steps)
+                recording = Recording(folder, shape, steps)
+                found[shape, steps] = {name: counted(program, recording, pool) for name, program in programs.items()}
+    return Measurement("instructions", COUNTS, found)
 
 
-def print_times(programs, sizes):
-    """A table a figure: a row a shape, a size in three columns, and how the figure grows from the first size to the last,
-    where there are two."""
+def measured_times(programs, sizes):
+    """The times and the memory of each program."""
     found = {}
     with tempfile.TemporaryDirectory() as folder:
         for shape in SHAPES:
@@ -264,28 +243,35 @@ def print_times(programs, sizes):
                 recording = Recording(folder, shape, steps)
                 found[shape, steps] = least(programs, recording)
                 recording.file.unlink()
-    head = [word for steps in sizes for word in (f"{steps:,}", "baseline", "ratio")]
-    for name, title in TITLES.items():
-        rows = []
-        for shape in SHAPES:
-            row = [cell for steps in sizes for cell in cells(found[shape, steps], name)]
-            if len(sizes) > 1:
-                row += growth(found[shape, sizes[0]], found[shape, sizes[-1]], name)
-            rows.append([shape, *row])
-        grown = [f"{sizes[-1] / sizes[0]:g} times the steps", "baseline"] if len(sizes) > 1 else []
-        print_table([title, *head, *grown], rows)
+    return Measurement("times and memory", TIMES, found)
+
+
+def show(table):
+    """Prints a table behind an empty line, at once."""
+    print(f"\n{table}", end="", flush=True)
+
+
+def show_figures(measured):
+    """Prints a table for each figure, and returns the measurement."""
+    for name in measured.titles:
+        show(figure_table(measured, name))
+    return measured
 
 
 def main(sizes):
-    baseline = built_baseline()
-    programs = [NETREV, baseline] if baseline else [NETREV]
+    named = {BEFORE: NETREV_BEFORE, NOW: NETREV, BASELINE: built_baseline()}
+    programs = {name: program for name, program in named.items() if program}
+    measurements = []
     if COUNTED and not shutil.which("valgrind"):
         print("run.py: no valgrind: instructions aren't counted", file=sys.stderr)
     elif COUNTED:
-        for steps in COUNTED:
-            print_counts(programs, steps)
+        measurements.append(show_figures(measured_counts(programs)))
     if RUNS:
-        print_times(programs, sizes)
+        measurements.append(show_figures(measured_times(programs, sizes)))
+    if measurements and BASELINE in programs:
+        for measured in measurements:
+            show(ratio_table(measured))
+        show(mean_table(measurements))
 
 
 if __name__ == "__main__":
