@@ -192,7 +192,8 @@ where
     W::Snapshot: Drop,
     requires { W.is_well_formed world.now }
 {
-    let snapshot = world.snapshot(None).ok()?;
+    let none: Option<W::Snapshot> = None;
+    let snapshot = world.snapshot(none.as_ref()).ok()?;
     refuse(rt);
     let first = make_of(rt, world, &snapshot, made);
     Some(Twice {
