@@ -28,7 +28,7 @@ impl Giving<'_> {
         let Some(written) = self.waits else {
             return true;
         };
-        for _ in 0..10_000_000u32 {
+        for _ in 0..1_000_000_000u32 {
             if written.load(SeqCst) {
                 return true;
             }
