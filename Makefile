@@ -122,6 +122,8 @@ share: ready
 bench: ready
 	@python3 python netrev_bench.run $(STEPS)
 	@echo
+	@python3 python netrev_bench.copies
+	@echo
 	@python3 python netrev_bench.gdb_record
 	@echo
 	@python3 python netrev_bench.serving
