@@ -1,6 +1,7 @@
 //! The kinds of recorded steps: their names and numbers.
 
 ghost use Rattle.std.specs.Prelude.{◌≡◌, ◌<◌, ◌≤◌};
+ghost use Rattle.std.specs.Str.{bytes_eq};
 ghost use Rattle.nr_rev.specs.Kind.{kind_name, kind_named, kind_number, kind_numbered, kind_of, kinds_of_length};
 
 use crate::step::Step;
@@ -102,7 +103,22 @@ impl Kind {
         kinds_of_length(name.len())
             .iter()
             .copied()
-            .find(|kind| kind.name().as_bytes() == name)
+            .find(|kind| kind.has_name(name))
+    }
+
+    // Whether its name is this: compared from the end, where the names of one length differ most.
+    fn has_name(self, name: &[u8]) -> bool
+        ensures { result ≡ bytes_eq (kind_name self) name.now }
+    {
+        let own = self.name().as_bytes();
+        if own.len() != name.len() {
+            return false;
+        }
+        let mut rest = own.len();
+        while rest > 0 && own[rest - 1] == name[rest - 1] {
+            rest -= 1;
+        }
+        rest == 0
     }
 
     /// The kind of this number, if there is one.
