@@ -10,13 +10,14 @@ returns-then-own-name c = sym (bytes_differ (kind_name c.args.self) c.args.name.
 
 pub returns : goal.returns
 returns c =
-    elim c.loop-rest-test.branch
-    [ then-loop-rest-test+else-own-rest w ↦
-        (let on_the_way : nat_eq c.loop-rest.rest 0 ≡ false = grind arith in
-        on_the_way ∙ sym (bytes_differ (kind_name c.args.self) c.args.name.now (λ same. grind arith)))
-    | else-loop-rest-test w ↦
-        (let at_start : c.loop-rest.rest ≡ 0 = grind arith in
-        ap (λ n. nat_eq n 0) at_start
-        ∙ sym ((bytes_eq-Decides (kind_name c.args.self) c.args.name.now).1
-            (sym c.loop-rest.invariant.own
-            ∙ subst (λ n. drop n c.as_bytes-own.result.now ≡ drop n c.args.name.now) at_start c.loop-rest.invariant.same))) ]
+    elim c.loop-rest-test.branch [
+      | then-loop-rest-test+else-own-rest w ↦
+          (let on_the_way : nat_eq c.loop-rest.rest 0 ≡ false = grind arith in
+          on_the_way ∙ sym (bytes_differ (kind_name c.args.self) c.args.name.now (λ same. grind arith)))
+      | else-loop-rest-test w ↦
+          (let at_start : c.loop-rest.rest ≡ 0 = grind arith in
+          ap (λ n. nat_eq n 0) at_start
+          ∙ sym ((bytes_eq-Decides (kind_name c.args.self) c.args.name.now).1
+          (sym c.loop-rest.invariant.own
+          ∙ subst (λ n. drop n c.as_bytes-own.result.now ≡ drop n c.args.name.now) at_start c.loop-rest.invariant.same)))
+    ]
