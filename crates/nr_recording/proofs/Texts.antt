@@ -17,17 +17,22 @@ one_more_text all line i a b c lt is before one =
     rw (take_more all i line lt, concat-append, ← is) (ap (λ (x : List ℕ). concat (take i all) ++ x) (append-nil line)) in
     rw e (sends_then a b c (concat (take i all)) line before one)
 
--- the i-th step's line is behind the header's
-line_there : (w : Recorded) (e : RecordedStep) (i : ℕ) → i < length w.steps → e ≡ get_or w.steps i e → line_text (step_data e) ≡ get_or (line_texts w) (i + 1) (line_text (step_data e))
-line_there w e i lt is =
-    let f : RecordedStep → List ℕ = λ x. line_text (step_data x) in
-    ap f is ∙ sym (get_or-map f w.steps i e (f e) lt) ∙ rw (add-one) refl
+-- e is the i-th step, with its answer
+abbrev pub IsStepAt : Recorded → ℕ → RecordedStep → Type 0
+IsStepAt w i e = (i < length w.steps) × (e ≡ get_or w.steps i e)
 
-pub one_more_line : (w : Recorded) (e : RecordedStep) (i : ℕ) (a b c : Outgoing) → i < length w.steps → e ≡ get_or w.steps i e
-    → Sends a b (concat (take (i + 1) (line_texts w))) → Sends b c (line_text (step_data e)) → Sends a c (concat (take (i + 1 + 1) (line_texts w)))
-one_more_line w e i a b c lt is before one =
+-- its line is behind the header's
+line_there : (w : Recorded) (e : RecordedStep) (i : ℕ) → IsStepAt w i e → line_text (step_data e) ≡ get_or (line_texts w) (i + 1) (line_text (step_data e))
+line_there w e i at =
     let f : RecordedStep → List ℕ = λ x. line_text (step_data x) in
-    one_more_text (line_texts w) (f e) (i + 1) a b c (simp length-map (omega arith)) (line_there w e i lt is) before one
+    ap f at.1 ∙ sym (get_or-map f w.steps i e (f e) at.0) ∙ rw (add-one) refl
+
+pub one_more_line : (w : Recorded) (e : RecordedStep) (i : ℕ) (a b c : Outgoing) → IsStepAt w i e
+    → Sends a b (concat (take (i + 1) (line_texts w))) → Sends b c (line_text (step_data e)) → Sends a c (concat (take (i + 1 + 1) (line_texts w)))
+one_more_line w e i a b c at before one =
+    let f : RecordedStep → List ℕ = λ x. line_text (step_data x) in
+    let within = at.0 in
+    one_more_text (line_texts w) (f e) (i + 1) a b c (simp length-map (omega arith)) (line_there w e i at) before one
 
 -- the lines before the i-th, the i-th, and those after it
 concat_at : (all : List (List ℕ)) (line : List ℕ) (i : ℕ) → i < length all → line ≡ get_or all i line
@@ -49,8 +54,9 @@ part_of_text all line i a b c lt is before part =
     (length front + n, omega (arith, lens, short), subst (Sends a c) (sym front_of_line) (sends_then a b c front (take n line) before part.2))
 
 -- a step's line that went out in part
-pub part_of_line : (w : Recorded) (e : RecordedStep) (i : ℕ) (a b c : Outgoing) → i < length w.steps → e ≡ get_or w.steps i e
+pub part_of_line : (w : Recorded) (e : RecordedStep) (i : ℕ) (a b c : Outgoing) → IsStepAt w i e
     → Sends a b (concat (take (i + 1) (line_texts w))) → SendsPart b c (line_text (step_data e)) → SendsPart a c (text w)
-part_of_line w e i a b c lt is before part =
+part_of_line w e i a b c at before part =
     let f : RecordedStep → List ℕ = λ x. line_text (step_data x) in
-    part_of_text (line_texts w) (f e) (i + 1) a b c (simp length-map (omega arith)) (line_there w e i lt is) before part
+    let within = at.0 in
+    part_of_text (line_texts w) (f e) (i + 1) a b c (simp length-map (omega arith)) (line_there w e i at) before part

@@ -188,13 +188,15 @@ fn gather<'a>(inside: &'a [u8], parts: &mut PartList<'a>) -> Option<()>
 }
 
 /// Gathers the parts of a line that is an array of one to six texts, unsigned numbers, and pairs of both, with no space but
-/// behind commas and no escape. `None` of any other line.
+/// behind commas, no escape, and nothing but ASCII. `None` of any other line.
 pub(crate) fn gather_plain<'a>(line: &'a [u8], parts: &mut PartList<'a>) -> Option<()>
     requires { parts.old.items ≡ [] }
     ensures { OnSome result (value_of line.now ≡ Ok (array (parts_data parts.new.items))) }
 {
-    let text = str::from_utf8(line).ok()?;
-    let [b'[', inside @ ..] = text.as_bytes() else {
+    if !line.is_ascii() {
+        return None;
+    }
+    let [b'[', inside @ ..] = line else {
         return None;
     };
     gather(inside, parts)?;

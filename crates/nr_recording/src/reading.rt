@@ -104,6 +104,7 @@ impl RecordingReader {
     }
 
     // How many steps there were.
+    #[tactic(auto, using(crate::proofs::RecordedLemmas::count_is))]
     #[inline(always)]
     fn len(&self) -> usize
         ensures value { result ≡ length self.now.steps }

@@ -166,6 +166,7 @@ impl Recording {
     }
 
     /// How many steps there are.
+    #[tactic(auto, using(crate::proofs::RecordedLemmas::count_is))]
     pub fn len(&self) -> usize
         ensures value { result ≡ length self.now.steps }
         ensures few { result ≤ MOST_STEPS }

@@ -1,6 +1,6 @@
 -- The texts of parts, one after the other.
 use Rattle.std.proofs.Common.{◌≡◌, ℕ, suc, ◌<◌, ◌≤◌, List, [], ◌∷◌, ◌++◌, length, get_or, take, drop, flat_map, Result, Ok, Err, refl, sym, ap, subst, ◌∙◌, append-nil, take-append-drop, take_all, drop-cons}
-use Rattle.std.proofs.lemmas.Grind.{flat_map-append}
+use Rattle.std.proofs.lemmas.Grind.{flat_map-append, get_or_default_zero}
 use Rattle.std.specs.Result.{IsErr}
 use Rattle.nr_text.specs.Buffered.{Buffering, Writes}
 use Rattle.nr_text.specs.Text.{text_of_parts}
@@ -25,6 +25,13 @@ pub all_cut : {X : Type 0} (f : X → List ℕ) (xs : List X) (i : ℕ) (x : X) 
 all_cut f xs i x u v w e result within is fails sent cut =
     let part = writes_cut v w (f (get_or xs i x)) (flat_map f (drop (suc i) xs)) e result fails (subst (λ y. Writes v w (f y) (Err e)) is cut) in
     subst (λ t. Writes u w t result) (sym (parts_at f xs i x within)) (writes_then u v w (flat_map f (take i xs)) _ result sent part)
+
+-- the same where each part is of a number
+pub all_numbers_cut : (f : ℕ → List ℕ) (xs : List ℕ) (i : ℕ) (u v w : Buffering) (e : WriteFailed) (result : Result (Unit {0}) WriteFailed)
+    → i < length xs → IsErr result → Writes u v (flat_map f (take i xs)) (Ok tt) → Writes v w (f (get_or xs i 0)) (Err e) → Writes u w (flat_map f xs) result
+all_numbers_cut f xs i u v w e result within =
+    let x = get_or xs i 0 in
+    all_cut f xs i x u v w e result within (sym (get_or_default_zero xs i x within))
 
 -- no part is left
 pub all_sent : {X : Type 0} (f : X → List ℕ) (xs : List X) (i : ℕ) (u v : Buffering) → length xs ≤ i → Writes u v (flat_map f (take i xs)) (Ok tt) → Writes u v (flat_map f xs) (Ok tt)

@@ -1,4 +1,4 @@
-use Rattle.std.proofs.Common.{◌≡◌, ◌≤◌, ℕ, Option, Some, length, get_or, sym, ap, ◌∙◌, rules, arith}
+use Rattle.std.proofs.Common.{◌≡◌, ◌≤◌, ℕ, Option, Some, length, sym, ap, ◌∙◌, rules, arith}
 use Rattle.std.specs.Prelude.{slice_get}
 use Rattle.std.proofs.lemmas.List.{take_all}
 use Rattle.std.proofs.lemmas.List.Elements.{All-more}
@@ -9,15 +9,18 @@ use Rattle.nr_recording.specs.Recording.{IsRecording, Recorded, recorded_at, run
 use Rattle.nr_recording.specs.Writing.{HasTypedArguments}
 use Rattle.nr_recording.specs.declared.recording.RecordedStep.{RecordedStep}
 use Rattle.nr_recording.proofs.RecordedLemmas.{both_there}
-use Rattle.nr_recording.proofs.Texts.{one_more_line, part_of_line}
+use Rattle.nr_recording.proofs.Texts.{IsStepAt, one_more_line, part_of_line}
 use Rattle.nr_recording.proofs.TextLaws.{reading_again}
 use Rattle.nr_recording.proofs.Written.{text_is_text}
 use Rattle.nr_recording.proofs.writing.write.Goals as goal
 
--- a step and its answer are at their place
+-- a step that is read and its answer are at their place
 row_there : (r : Recorded) (n : ℕ) (step : Step) (answer : Option Answer) → Some step ≡ slice_get (run_of r).steps n → answer ≡ recorded_at r n
-    → slice_get r.steps n ≡ Some (record { step = step; answer = answer })
-row_there r n step answer read answered = both_there r.steps n step (sym read) ∙ ap (λ (a : Option Answer). Some (record { step = step; answer = a })) (sym answered)
+    → IsStepAt r n (record { step = step; answer = answer })
+row_there r n step answer read answered =
+    let row : RecordedStep = record { step = step; answer = answer } in
+    let there = both_there r.steps n step (sym read) ∙ ap (λ (a : Option Answer). Some (record { step = step; answer = a })) (sym answered) in
+    (slice_get_within r.steps n row there, sym (get_or_from_slice_get r.steps n row row there))
 
 pub loop-n-preserved : goal.loop-n-preserved
 loop-n-preserved g c =
@@ -25,25 +28,18 @@ loop-n-preserved g c =
     let n = c.loop-n.n in
     let row : RecordedStep = record { step = c.in-Some.step.now; answer = c.answer.result } in
     let there = row_there r n row.step row.answer c.in-Some.ensures.value c.answer.ensures in
-    let here = slice_get_within r.steps n row there in
-    let is : row ≡ get_or r.steps n row = sym (get_or_from_slice_get r.steps n row row there) in
     let line = rw c.in_ok-line_value.ensures.is at c.in_ok-write_line-2.ensures in
     record {
-      so_far = one_more_line r row n _ _ _ here is c.loop-n.invariant.so_far line.ok;
+      so_far = one_more_line r row n _ _ _ there c.loop-n.invariant.so_far line.ok;
       calm = search rules;
-      typed = All-more HasTypedArguments r.steps n row here c.loop-n.invariant.typed (rw (← is) c.in_ok-line_value.ensures.typed);
+      typed = All-more HasTypedArguments r.steps n row there.0 c.loop-n.invariant.typed (rw (← there.1) c.in_ok-line_value.ensures.typed);
     }
 
 pub returns-in_err-write_line-2-clause-device : goal.returns-in_err-write_line-2-clause-device
 returns-in_err-write_line-2-clause-device g c = λ failed.
-    let r = c.args.recording.now in
-    let n = c.loop-n.n in
-    let row : RecordedStep = record { step = c.in-Some.step.now; answer = c.answer.result } in
-    let there = row_there r n row.step row.answer c.in-Some.ensures.value c.answer.ensures in
-    let here = slice_get_within r.steps n row there in
-    let is : row ≡ get_or r.steps n row = sym (get_or_from_slice_get r.steps n row row there) in
+    let there = row_there c.args.recording.now c.loop-n.n _ _ c.in-Some.ensures.value c.answer.ensures in
     let line = rw c.in_ok-line_value.ensures.is at c.in_err-write_line-2.ensures in
-    part_of_line r row n _ _ _ here is c.loop-n.invariant.so_far (line.device (search rules))
+    part_of_line _ _ _ _ _ _ there c.loop-n.invariant.so_far (line.device (search rules))
 
 pub returns-clause-again : goal.returns-clause-again
 returns-clause-again g c =
