@@ -1,8 +1,8 @@
 //! Recordings that are walked: a script for each, and its replies.
 use crate::playing::run;
-use crate::texts::{EARLY, LOCKS, REPLIES, SCRIPT, SHUTS, SHUTS_HEADER};
+use crate::texts::{EARLY, REPLIES, SCRIPT, SHUTS, SHUTS_HEADER};
 use nr_programs::ExitStatus;
-use nr_replay_tests::{HEADER, WAITS};
+use nr_replay_tests::{CLOSES, HEADER, TAKES_TURNS, WAITS};
 use std::alloc::{AllocError, Global};
 use std::sync::Wait;
 use std::test::*;
@@ -22,17 +22,7 @@ static SESSIONS: [Session; 23] = [
     Session {
         topic: "two take one read lock in turn, and the one that was let go finds it taken",
         header: HEADER,
-        steps: r#"["spawn"]
-["sockopen",16,16]
-["rwlock",0,0,"r"]
-["rwlock",1,0,"r"]
-["acquire",1]
-["rwunlock",0,0,"r"]
-["release",0]
-["rwlock",0,0,"r"]
-["acquire",1]
-["rwlock",1,0,"r"]
-"#,
+        steps: TAKES_TURNS,
         script: "si 7\np rsem 0\np gor 1\np lock 0\nsi 3\np rsem 0\np lock 0\np gor 1\nrsi 5\ndump rq 0\ndump wq 0\nrsi\ndump rq 0\n",
         replies: "at 7\nrsem 0 = 1\ngor 1 = acquiring 0 r\nlock 0 = 0\nat 10\nrsem 0 = 0\nlock 0 = 8388618\ngor 1 = acquiring 0 r\nat 5\nrq 0 = 1\nwq 0 = -\nat 4\nrq 0 = -\n",
     },
@@ -199,7 +189,7 @@ static SESSIONS: [Session; 23] = [
     Session {
         topic: "lock words are printed both ways",
         header: HEADER,
-        steps: LOCKS,
+        steps: CLOSES,
         script: SCRIPT,
         replies: REPLIES,
     },

@@ -1,8 +1,8 @@
 //! Streams that give or take a byte a call, and stop.
 use crate::playing::{Program, record, run_on};
-use crate::texts::{LOCKS, REPLIES, SCRIPT};
+use crate::texts::{REPLIES, SCRIPT};
 use nr_programs::ExitStatus;
-use nr_replay_tests::{AtBrim, Cup, Drip, HEADER};
+use nr_replay_tests::{AtBrim, CLOSES, Cup, Drip, HEADER};
 use std::alloc::{AllocError, Global};
 use std::sync::Wait;
 use std::test::*;
@@ -66,7 +66,7 @@ fn is_so<R: Wait + Threads + Sync>(rt: &R, alloc: Global, recording: &str, cut: 
 
 #[test]
 fn one_byte_a_call_makes_no_difference(rt: HostRuntime) -> Result<(), AllocError> {
-    let recording = record(rt.alloc(), HEADER, LOCKS)?;
+    let recording = record(rt.alloc(), HEADER, CLOSES)?;
     let cut = Cut {
         left: SCRIPT.len() + 1,
         room: REPLIES.len(),
@@ -81,7 +81,7 @@ fn one_byte_a_call_makes_no_difference(rt: HostRuntime) -> Result<(), AllocError
 
 #[test]
 fn a_failed_read_leaves_whole_replies(rt: HostRuntime) -> Result<(), AllocError> {
-    let recording = record(rt.alloc(), HEADER, LOCKS)?;
+    let recording = record(rt.alloc(), HEADER, CLOSES)?;
     for (left, replies) in [
         (0, ""),
         (7, ""),
@@ -99,7 +99,7 @@ fn a_failed_read_leaves_whole_replies(rt: HostRuntime) -> Result<(), AllocError>
 
 #[test]
 fn a_failed_write_leaves_the_first_bytes(rt: HostRuntime) -> Result<(), AllocError> {
-    let recording = record(rt.alloc(), HEADER, LOCKS)?;
+    let recording = record(rt.alloc(), HEADER, CLOSES)?;
     for (recording, text) in [
         (recording.as_str(), REPLIES),
         ("", "line 1: fault 101 header\n"),
@@ -117,7 +117,7 @@ fn a_failed_write_leaves_the_first_bytes(rt: HostRuntime) -> Result<(), AllocErr
 
 #[test]
 fn a_failed_write_leaves_the_first_bytes_of_a_check(rt: HostRuntime) -> Result<(), AllocError> {
-    let recording = record(rt.alloc(), HEADER, LOCKS)?;
+    let recording = record(rt.alloc(), HEADER, CLOSES)?;
     for (recording, text) in [
         (recording.as_str(), "ok 10 steps\n"),
         ("", "line 1: fault 101 header\n"),

@@ -1,19 +1,6 @@
 //! Steps as text, and a script.
 
-/// Two goroutines read on one socket, while a third closes it.
-pub(crate) const LOCKS: &str = "[\"spawn\"]
-[\"spawn\"]
-[\"sockopen\",16,16]
-[\"incref\",0,0]
-[\"rwlock\",0,0,\"r\"]
-[\"rwlock\",1,0,\"r\"]
-[\"rwunlock\",0,0,\"r\"]
-[\"increfclose\",2,0]
-[\"decref\",2,0]
-[\"exit\",2]
-";
-
-/// Looks at locks while it goes both ways.
+/// Looks at locks while it goes both ways over `CLOSES`.
 pub(crate) const SCRIPT: &str = "stepi 6
 print lock 0
 print gor 1

@@ -25,4 +25,4 @@ mod world;
 pub use films::{OPEN, add_ticks, film_of, ticking};
 pub use observed::Observed;
 pub use streams::{AtBrim, Counted, Cup, Drip, Stutter};
-pub use texts::{HEADER, WAITS};
+pub use texts::{CLOSES, HEADER, TAKES_TURNS, WAITS};

@@ -1,7 +1,7 @@
 //! Texts that are read, refused and written.
 
 use crate::streams::{AtBrim, Cup, Stutter};
-use crate::texts::{HEADER, WAITS};
+use crate::texts::{CLOSES, HEADER, TAKES_TURNS, WAITS};
 use nr_recording::{Recording, Version, WriteFault, read, write};
 use nr_rev::{Answer, Limits, Step};
 use nr_text::Sink;
@@ -9,32 +9,6 @@ use std::alloc::Global;
 use std::test::Fail;
 
 const WRITTEN_HEADER: &str = "{\"buf\":16,\"desc\":2,\"gor\":4,\"netrev\":1,\"sock\":2}\n";
-
-/// Two goroutines take a lock in turn.
-const TAKES_TURNS: &str = r#"["spawn"]
-["sockopen",16,16]
-["rwlock",0,0,"r"]
-["rwlock",1,0,"r"]
-["acquire",1]
-["rwunlock",0,0,"r"]
-["release",0]
-["rwlock",0,0,"r"]
-["acquire",1]
-["rwlock",1,0,"r"]
-"#;
-
-/// A socket is closed while a goroutine waits for its lock.
-const CLOSES: &str = r#"["spawn"]
-["spawn"]
-["sockopen",16,16]
-["incref",0,0]
-["rwlock",0,0,"r"]
-["rwlock",1,0,"r"]
-["rwunlock",0,0,"r"]
-["increfclose",2,0]
-["decref",2,0]
-["exit",2]
-"#;
 
 /// Each kind of version 1, with the least and the greatest of its arguments.
 const ALL_KINDS: &str = r#"["spawn"]

@@ -17,3 +17,29 @@ pub const WAITS: &str = r#"["sockopen",16,16]
 ["sysread",0,0,8]
 ["rwunlock",0,0,"r"]
 "#;
+
+/// Two goroutines take a lock in turn.
+pub const TAKES_TURNS: &str = r#"["spawn"]
+["sockopen",16,16]
+["rwlock",0,0,"r"]
+["rwlock",1,0,"r"]
+["acquire",1]
+["rwunlock",0,0,"r"]
+["release",0]
+["rwlock",0,0,"r"]
+["acquire",1]
+["rwlock",1,0,"r"]
+"#;
+
+/// A socket is closed while a goroutine waits for its lock.
+pub const CLOSES: &str = r#"["spawn"]
+["spawn"]
+["sockopen",16,16]
+["incref",0,0]
+["rwlock",0,0,"r"]
+["rwlock",1,0,"r"]
+["rwunlock",0,0,"r"]
+["increfclose",2,0]
+["decref",2,0]
+["exit",2]
+"#;
