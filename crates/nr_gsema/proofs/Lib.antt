@@ -7,5 +7,6 @@ pub mod QueueLemmas
 pub mod RequeueLemmas
 pub mod UnqueuedLemmas
 pub mod TableLemmas
+pub mod WaitLemmas
 pub mod ReadLemmas
 pub mod OperationLemmas

@@ -129,16 +129,21 @@ module _ {nodes : List GoroutineNode} {semaphores : List (Sides SemaphoreHead)} 
       same_Some has.0 (semaphores_from nodes x) (sym has.1 ∙ ap (λ (u : GoroutineTable). slice_get u.semaphores s) (sym is.view) ∙ semaphores_at nodes semaphores s x there) in
       subst P (ap (of_side side) e ∙ of_side-from nodes side x) has.2
 
-  -- whoever is in a queue has a node
-  pub member_within : (s : ℕ) (side : Side) (x : Sides SemaphoreHead) → slice_get semaphores s ≡ Some x → (i g : ℕ) → slice_get (queue_from nodes (of_side side x)) i ≡ Some g → g < length nodes
-  member_within s side x there i g e =
+  -- whoever is in a queue has a node, whose status says so
+  pub member_queued : (s : ℕ) (side : Side) (x : Sides SemaphoreHead) → slice_get semaphores s ≡ Some x → (i g : ℕ) → slice_get (queue_from nodes (of_side side x)) i ≡ Some g
+      → (node : GoroutineNode) × (slice_get nodes g ≡ Some node) × (node.status ≡ Queued s side)
+  member_queued s side x there i g e =
       go (queues_from nodes semaphores s side) None (of_side side x).front (is.queues.linked s side x there) i
       (ap (λ (q : List ℕ). slice_get q i) (sym (queue_is nodes semaphores (queues_from nodes semaphores) is.queues s side x there)) ∙ e)
     where
-      go : (q : List ℕ) (previous first : Option ℕ) → IsLinked nodes (Queued s side) previous q first (of_side side x).back → (k : ℕ) → slice_get q k ≡ Some g → g < length nodes
+      go : (q : List ℕ) (previous first : Option ℕ) → IsLinked nodes (Queued s side) previous q first (of_side side x).back → (k : ℕ) → slice_get q k ≡ Some g
+          → (node : GoroutineNode) × (slice_get nodes g ≡ Some node) × (node.status ≡ Queued s side)
       go [] previous first l k f = absurd (none-some g f)
-      go (y ∷ ys) previous first l zero f = subst (λ (n : ℕ). n < length nodes) (same_Some y g f) (slice_get_within nodes y _ l.1.1)
+      go (y ∷ ys) previous first l zero f = (node_with (Queued s side) l.1.0 previous, ap (slice_get nodes) (sym (same_Some y g f)) ∙ l.1.1, refl)
       go (y ∷ ys) previous first l (suc k) f = go ys (Some y) l.1.0 l.1.2 k f
+
+  pub member_within : (s : ℕ) (side : Side) (x : Sides SemaphoreHead) → slice_get semaphores s ≡ Some x → (i g : ℕ) → slice_get (queue_from nodes (of_side side x)) i ≡ Some g → g < length nodes
+  member_within s side x there i g e = let found = member_queued s side x there i g e in slice_get_within nodes g found.0 found.1
 
   -- the ends of a queue have nodes
   pub front_within : (s : ℕ) (side : Side) (x : Sides SemaphoreHead) (q : SemaphoreHead) → slice_get semaphores s ≡ Some x → q ≡ of_side side x → (n : ℕ) → n ≡ length nodes

@@ -9,3 +9,4 @@ pub mod Links
 -- inner: what only definitions and proofs of this crate use
 pub mod SemaphoreChange
 pub mod Relinking
+pub mod Waits

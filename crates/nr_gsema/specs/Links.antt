@@ -12,6 +12,7 @@ use Rattle.nr_gsema.specs.declared.node.GoroutineNode.{GoroutineNode}
 use Rattle.nr_gsema.specs.declared.node.SemaphoreHead.{SemaphoreHead}
 use Rattle.nr_gsema.specs.declared.table.GTable.TheInside.{Inside}
 use Rattle.nr_gsema.specs.Table.{GoroutineTable}
+use Rattle.nr_gsema.specs.Waits.{AreCounts}
 
 -- the statuses of nodes
 abbrev pub statuses : List GoroutineNode → List Status
@@ -98,9 +99,11 @@ abbrev pub queues_from : List GoroutineNode → List (Sides SemaphoreHead) → �
 queues_from nodes semaphores s side =
     chain (length nodes) nodes (front_in side (slice_get semaphores s))
 
--- the queues are linked, and there is room for all goroutines that there may be
+-- the queues are linked, those who wait are counted, and there is room for all goroutines that
+-- there may be
 pub record IsTable (t : Inside) : Type 0 where
   pub queues : AreQueues t.nodes.items t.semaphores.items
       (queues_from t.nodes.items t.semaphores.items)
   pub few : vec_len t.nodes ≤ t.limit
   pub room : t.limit ≤ vec_capacity t.nodes
+  pub counted : AreCounts t.waits (statuses t.nodes.items)

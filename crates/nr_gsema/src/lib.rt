@@ -12,6 +12,7 @@ mod queues;
 mod reads;
 mod table;
 mod undoing;
+mod waits;
 
 pub use delta::{GDelta, GUndo};
 pub use laws::{delta_is_its_undo, just_equals_are_the_same, the_greatest_count, the_numbers};

@@ -46,6 +46,7 @@ impl GTable {
     {
         let node = self.nodes[goroutine as usize];
         self.nodes[goroutine as usize] = GoroutineNode { status, ..node };
+        self.waits.change(node.status, status);
     }
 
     /// The count of a semaphore becomes another.
@@ -72,6 +73,7 @@ impl GTable {
     {
         let semaphores = self.semaphores[socket as usize];
         let queue = semaphores.of(side);
+        self.waits.leave(self.nodes[goroutine as usize].status);
         self.nodes[goroutine as usize] = GoroutineNode {
             status: Status::Queued { socket, side },
             next: None,
@@ -137,6 +139,7 @@ impl GTable {
     {
         let semaphores = self.semaphores[socket as usize];
         let queue = semaphores.of(side);
+        self.waits.leave(self.nodes[goroutine as usize].status);
         self.nodes[goroutine as usize] = GoroutineNode {
             status: Status::Queued { socket, side },
             next: queue.front,

@@ -30,7 +30,18 @@ impl GTable {
     }
 
     /// Whether a goroutine is inside a wait of the descriptor and side.
+    #[inline(always)]
     pub fn is_waited(&self, descriptor: u32, side: Side) -> bool
+        ensures { result ≡ is_waited descriptor side self.now.goroutines }
+    {
+        match self.waits.count(descriptor, side) {
+            Some(count) => count > 0,
+            None => self.is_waited_by_any(descriptor, side),
+        }
+    }
+
+    /// Whether a goroutine is inside a wait of the descriptor and side, of which no count is kept.
+    fn is_waited_by_any(&self, descriptor: u32, side: Side) -> bool
         ensures { result ≡ is_waited descriptor side self.now.goroutines }
     {
         self.nodes

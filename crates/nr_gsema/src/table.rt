@@ -6,18 +6,21 @@ ghost use Rattle.nr_rev.specs.Sides.{twice};
 ghost use Rattle.nr_gsema.specs.Applying.{IsQueuedUp};
 
 use crate::node::{GoroutineNode, SemaphoreHead};
+use crate::waits::WaitCounts;
 use nr_rev::{Memory, Sides};
 use std::alloc::Global;
 use std::marker::Model;
 
 /// The goroutines made so far and the semaphores of all sockets below the limit, in room that was made at once. Contracts
 /// see the statuses, and for each semaphore its count and the list of those who queue. Who is beside whom is kept in
-/// the goroutines' nodes, so that joining a queue and leaving it at either end touch two nodes, however long it is.
+/// the goroutines' nodes, so that joining a queue and leaving it at either end touch two nodes, however long it is. Those
+/// inside a wait are counted, so that asking for one of them touches no node.
 #[derive(Drop)]
 pub struct GTable {
     pub(crate) alloc: Global,
     pub(crate) nodes: Vec<GoroutineNode>,
     pub(crate) semaphores: Vec<Sides<SemaphoreHead>>,
+    pub(crate) waits: WaitCounts,
     pub(crate) limit: u32,
 }
 
@@ -35,8 +38,26 @@ impl Model for GTable {
 
 impl GTable {
     /// No goroutine, with room for so many, and the semaphores of so many sockets, whose counts are 0 and whose queues are
-    /// empty. An error is that there is no memory for them.
+    /// empty. An error is that there is no memory for them. `is_waited` looks through all goroutines of such a table.
     pub fn with_limits(alloc: Global, goroutines: u32, sockets: u32) -> Result<GTable, Memory>
+        ensures well_formed { IfOk result (λ t. IsQueuedUp t) }
+        ensures empty { IfOk result (λ t. t ≡ record {
+          goroutines = [];
+          semaphores = replicate sockets (twice new_semaphore);
+          limit = goroutines;
+        }) }
+    {
+        GTable::with_descriptors(alloc, goroutines, sockets, 0)
+    }
+
+    /// The table of `with_limits` in which those inside a wait are counted, for each side of so many descriptors. An error is
+    /// that there is no memory for that.
+    pub fn with_descriptors(
+        alloc: Global,
+        goroutines: u32,
+        sockets: u32,
+        descriptors: u32,
+    ) -> Result<GTable, Memory>
         ensures well_formed { IfOk result (λ t. IsQueuedUp t) }
         ensures empty { IfOk result (λ t. t ≡ record {
           goroutines = [];
@@ -51,10 +72,12 @@ impl GTable {
         };
         let nodes = Vec::with_capacity(alloc, goroutines as usize)?;
         let semaphores = Vec::from_elem(alloc, Sides::twice(none), sockets as usize)?;
+        let waits = WaitCounts::with_room(alloc, descriptors)?;
         let table = GTable {
             alloc,
             nodes,
             semaphores,
+            waits,
             limit: goroutines,
         };
         table.queues_hold_the_queued();
@@ -73,6 +96,7 @@ impl GTable {
             alloc: self.alloc,
             nodes,
             semaphores: Vec::from_slice(self.alloc, &self.semaphores)?,
+            waits: self.waits.try_copy(self.alloc)?,
             limit: self.limit,
         })
     }

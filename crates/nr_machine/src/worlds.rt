@@ -31,7 +31,12 @@ impl Core {
         ensures fits { IfOk result CoreFits }
         ensures empty { IfOk result (λ core. core ≡ empty_core limits) }
     {
-        let mut goroutines = GTable::with_limits(alloc, limits.goroutines, limits.sockets)?;
+        let mut goroutines = GTable::with_descriptors(
+            alloc,
+            limits.goroutines,
+            limits.sockets,
+            limits.descriptors,
+        )?;
         let Ok(_) = goroutines.apply(&GOperation::Spawn) else {
             unreachable!()
         };

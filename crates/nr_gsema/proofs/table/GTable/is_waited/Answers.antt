@@ -1,15 +1,13 @@
-use Rattle.std.proofs.Common.{◌∙◌, ap, rules, tests}
-use Rattle.std.proofs.lemmas.Iterator.{YieldsList-from_slice}
-use Rattle.std.proofs.lemmas.Iterator.Search.{any_from_yields_List}
-use Rattle.nr_rev.specs.World.{is_wait_at, is_waited, wait_of}
+use Rattle.std.proofs.Common.{sym, ap, ◌∙◌}
+use Rattle.nr_rev.specs.World.{is_waited}
+use Rattle.nr_gsema.specs.Links.{statuses}
 use Rattle.nr_gsema.specs.Table.{GoroutineTable}
-use Rattle.nr_gsema.proofs.ReadLemmas.{any_waits}
+use Rattle.nr_gsema.proofs.WaitLemmas.{waited_by_count}
 use Rattle.nr_gsema.proofs.table.GTable.is_waited.Goals as goal
 
-pub returns : goal.returns
-returns c =
+pub returns-in-Some : goal.returns-in-Some
+returns-in-Some c =
     let d = c.args.descriptor in
     let side = c.args.side in
-    let nodes = c.self.inside.nodes.items in
-    any_from_yields_List (λ node. is_wait_at d side (wait_of node.status)) _ _ c.any.result c.any.ensures.ran (YieldsList-from_slice nodes cc) (λ x b q k. search (rules, tests))
-    ∙ any_waits d side nodes ∙ ap (λ (t : GoroutineTable). is_waited d side t.goroutines) c.self.view_is
+    waited_by_count c.self.inside.waits (statuses c.self.inside.nodes.items) d side c.in-Some.count c.self.invariant.counted (sym c.count.ensures ∙ c.in-Some.is)
+    ∙ ap (λ (t : GoroutineTable). is_waited d side t.goroutines) c.self.view_is

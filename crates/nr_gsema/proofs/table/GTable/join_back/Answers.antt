@@ -1,5 +1,6 @@
-use Rattle.std.proofs.Common.{◌≡◌, ℕ, length, set, Option, Some, None, sym, ap, ◌∙◌}
+use Rattle.std.proofs.Common.{◌≡◌, ℕ, length, set, Option, Some, None, refl, sym, ap, ◌∙◌}
 use Rattle.std.proofs.lemmas.List.{with_items_is}
+use Rattle.std.proofs.lemmas.Option.{slice_get_read, slice_get_within}
 use Rattle.std.specs.Prelude.{slice_get}
 use Rattle.std.specs.Vec.{with_item, with_items}
 use Rattle.nr_rev.specs.declared.sides.Sides.{Sides}
@@ -10,7 +11,9 @@ use Rattle.nr_gsema.specs.Links.{node_with}
 use Rattle.nr_gsema.specs.Relinking.{with_next}
 use Rattle.nr_gsema.specs.SemaphoreChange.{with_last}
 use Rattle.nr_gsema.specs.Table.{on_semaphore, with_status}
-use Rattle.nr_gsema.proofs.TableLemmas.{AreTable, back_within, head_read, joined_back}
+use Rattle.nr_gsema.proofs.QueueLemmas.{status_at}
+use Rattle.nr_gsema.proofs.TableLemmas.{AreTable, back_within, head_read, joined_back, outside_node}
+use Rattle.nr_gsema.proofs.WaitLemmas.{counts_kept, statuses_requeued}
 use Rattle.nr_gsema.proofs.table.GTable.join_back.Goals as goal
 use Rattle.nr_gsema.proofs.table.GTable.join_back.Goals.{After-of-queue, After-with}
 
@@ -46,7 +49,22 @@ left c =
     (ap (λ (y : Sides SemaphoreHead). set i.semaphores.items s y) (c.with.ensures ∙ ap (λ (e : Option ℕ). with_side side (record { count = q.count; front = e; back = Some g }) x) c.or_else.ensures))
 
 pub invariant_of-self : goal.invariant_of-self
-invariant_of-self c = record { queues = (left (goal.at.invariant_of-self c).After-with).queues; few = c.self.invariant.few; room = c.self.invariant.room }
+invariant_of-self c =
+    let p = (goal.at.invariant_of-self c).After-with in
+    let g = c.args.goroutine in
+    let before = c.index.result.now in
+    let i = c.self.inside in
+    let is : AreTable i.nodes.items i.semaphores.items i.limit c.args.self.now = record { queues = c.self.invariant.queues; view = c.self.view_is } in
+    let old = outside_node is g c.requires.outside in
+    let at = slice_get_read i.nodes.items (length i.nodes.items) g before refl (slice_get_within i.nodes.items g old.0 old.1) c.index.ensures in
+    record {
+      queues = (left p).queues;
+      few = c.self.invariant.few;
+      room = c.self.invariant.room;
+      counted =
+          counts_kept i.waits _ i.nodes.items _ g before.status (Queued c.args.socket c.args.side) c.self.invariant.counted (status_at i.nodes.items g before at)
+          (statuses_requeued _ _ _ _ _ g c.args.socket (Queued c.args.socket c.args.side) c.args.side (with_last c.args.goroutine) c.args.self.now is (left p)) c.leave.ensures;
+    }
 
 pub returns : goal.returns
 returns c = (left (goal.at.returns c).After-with).view

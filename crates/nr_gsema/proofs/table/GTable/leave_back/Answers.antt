@@ -4,7 +4,7 @@ use Rattle.std.proofs.lemmas.Option.{slice_get_read, slice_get_within}
 use Rattle.std.specs.Prelude.{slice_get}
 use Rattle.std.specs.Vec.{with_item, with_items}
 use Rattle.nr_rev.specs.declared.sides.Sides.{Sides}
-use Rattle.nr_rev.specs.declared.status.Status.TheVariants.{Acquiring}
+use Rattle.nr_rev.specs.declared.status.Status.TheVariants.{Acquiring, Queued}
 use Rattle.nr_rev.specs.Semaphore.{Semaphore}
 use Rattle.nr_rev.specs.Sides.{of_side, with_side}
 use Rattle.nr_gsema.specs.declared.node.SemaphoreHead.{SemaphoreHead}
@@ -12,7 +12,9 @@ use Rattle.nr_gsema.specs.Links.{queue_from}
 use Rattle.nr_gsema.specs.Relinking.{with_next}
 use Rattle.nr_gsema.specs.SemaphoreChange.{without_last}
 use Rattle.nr_gsema.specs.Table.{on_semaphore, with_status}
-use Rattle.nr_gsema.proofs.TableLemmas.{AreTable, has_within, head_has, head_read, left_back, member_within, previous_within}
+use Rattle.nr_gsema.proofs.QueueLemmas.{status_at}
+use Rattle.nr_gsema.proofs.TableLemmas.{AreTable, has_within, head_has, head_read, left_back, member_queued, member_within, previous_within}
+use Rattle.nr_gsema.proofs.WaitLemmas.{counts_kept, statuses_requeued}
 use Rattle.nr_gsema.proofs.table.GTable.leave_back.Goals as goal
 use Rattle.nr_gsema.proofs.table.GTable.leave_back.Goals.{After-of-queue, After-with}
 
@@ -79,7 +81,22 @@ left c =
     c.end_left.ensures))
 
 pub invariant_of-self : goal.invariant_of-self
-invariant_of-self c = record { queues = (left (goal.at.invariant_of-self c).After-with).queues; few = c.self.invariant.few; room = c.self.invariant.room }
+invariant_of-self c =
+    let p = (goal.at.invariant_of-self c).After-with in
+    let q = (goal.at.invariant_of-self c).After-of-queue in
+    let g = c.args.goroutine in
+    let s = c.args.socket in
+    let side = c.args.side in
+    let nodes = c.self.inside.nodes.items in
+    let queued = member_queued (is q) s side c.index-semaphores.result.now (there q) (length (queue_from c.self.inside.nodes.items (of_side c.args.side c.index-semaphores.result.now)) - 1) g (has q) in
+    record {
+      queues = (left p).queues;
+      few = c.self.invariant.few;
+      room = c.self.invariant.room;
+      counted =
+          counts_kept c.self.inside.waits _ nodes _ g (Queued s side) (Acquiring s side) c.self.invariant.counted (status_at nodes g queued.0 queued.1 ∙ ap Some queued.2)
+          (statuses_requeued _ _ _ _ _ g s (Acquiring s side) side without_last c.args.self.now (is q) (left p)) refl;
+    }
 
 pub returns : goal.returns
 returns c = (left (goal.at.returns c).After-with).view

@@ -18,7 +18,7 @@ recounted c =
     (ap (set c.self.inside.semaphores.items c.args.socket) both_are)
 
 pub invariant_of-self : goal.invariant_of-self
-invariant_of-self c = record { queues = (recounted (goal.at.invariant_of-self c).After-with).queues; few = c.self.invariant.few; room = c.self.invariant.room }
+invariant_of-self c = record { queues = (recounted (goal.at.invariant_of-self c).After-with).queues; few = c.self.invariant.few; room = c.self.invariant.room; counted = c.self.invariant.counted }
 
 pub returns : goal.returns
 returns c = (recounted (goal.at.returns c).After-with).view

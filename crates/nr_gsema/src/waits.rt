@@ -1,0 +1,97 @@
+//! How many goroutines are inside a wait of each side of a descriptor.
+
+ghost use Rattle.std.specs.Prelude.{◌≡◌, IfOk, replicate};
+ghost use Rattle.nr_rev.specs.Sides.{twice};
+ghost use Rattle.nr_rev.specs.World.{wait_of};
+ghost use Rattle.nr_gsema.specs.Waits.{CanJoin, waiting_of, joined, left, moved_between};
+
+use nr_rev::{Memory, Side, Sides, Status};
+use std::alloc::Global;
+use std::marker::Model;
+
+/// How many goroutines are inside a wait of each side of a descriptor below a limit, in room that was made at once.
+#[derive(Drop)]
+pub(crate) struct WaitCounts {
+    counts: Vec<Sides<u32>>,
+}
+
+impl Model for WaitCounts {
+    ghost use Rattle.std.specs.Prelude.{ℕ, List};
+    ghost use Rattle.nr_rev.specs.declared.sides.Sides.{Sides};
+
+    ghost Value = { List (Sides ℕ) };
+
+    ghost view = { λ w. w.counts.items };
+}
+
+impl WaitCounts {
+    /// Nobody waits, at so many descriptors.
+    pub(crate) fn with_room(alloc: Global, descriptors: u32) -> Result<WaitCounts, Memory>
+        ensures { IfOk result (λ waits. waits ≡ replicate descriptors (twice 0)) }
+    {
+        Ok(WaitCounts {
+            counts: Vec::from_elem(alloc, Sides::twice(0), descriptors as usize)?,
+        })
+    }
+
+    /// An equal one, in room of its own.
+    pub(crate) fn try_copy(&self, alloc: Global) -> Result<WaitCounts, Memory>
+        ensures { IfOk result (λ waits. waits ≡ self.now) }
+    {
+        Ok(WaitCounts {
+            counts: Vec::from_slice(alloc, &self.counts)?,
+        })
+    }
+
+    /// How many are inside a wait of the descriptor and side; `None` where the descriptor is not below the limit.
+    #[inline(always)]
+    pub(crate) fn count(&self, descriptor: u32, side: Side) -> Option<u32>
+        ensures { result ≡ waiting_of descriptor side self.now }
+    {
+        if descriptor as usize >= self.counts.len() {
+            return None;
+        }
+        Some(self.counts[descriptor as usize].of(side))
+    }
+
+    /// A goroutine with this status gets one outside every wait.
+    #[inline(always)]
+    pub(crate) fn leave(&mut self, status: Status)
+        ensures { self.new ≡ left (wait_of status) self.old }
+    {
+        let Some((descriptor, side)) = status.wait() else {
+            return;
+        };
+        if (descriptor as usize) < self.counts.len() {
+            let both = self.counts[descriptor as usize];
+            let fewer = both.of(side).saturating_sub(1);
+            self.counts[descriptor as usize] = both.with(side, fewer);
+        }
+    }
+
+    /// A goroutine outside every wait gets this status.
+    #[inline(always)]
+    fn join(&mut self, status: Status)
+        requires { CanJoin (wait_of status) self.old }
+        ensures { self.new ≡ joined (wait_of status) self.old }
+    {
+        let Some((descriptor, side)) = status.wait() else {
+            return;
+        };
+        if (descriptor as usize) < self.counts.len() {
+            let both = self.counts[descriptor as usize];
+            let more = both.of(side) + 1;
+            self.counts[descriptor as usize] = both.with(side, more);
+        }
+    }
+
+    /// A goroutine gets a status for another.
+    #[inline(always)]
+    pub(crate) fn change(&mut self, before: Status, after: Status)
+        requires { CanJoin (wait_of after) (left (wait_of before) self.old) }
+        ensures { self.new ≡ moved_between before after self.old }
+    {
+        self.leave(before);
+        self.join(after);
+    }
+}
