@@ -28,6 +28,7 @@ pub(crate) enum Call {
     Restored,
     RestoredPlain,
     TableWithLimits,
+    TableWithDescriptors,
     SockWithLimits,
     TimersWithLimits,
     TableCopy,
@@ -60,7 +61,7 @@ pub(crate) enum Call {
 }
 
 /// Their names.
-pub(crate) static CALLS: [(&str, Call); 42] = [
+pub(crate) static CALLS: [(&str, Call); 43] = [
     ("read", Call::Read),
     ("write", Call::Write),
     ("load", Call::Load),
@@ -74,6 +75,7 @@ pub(crate) static CALLS: [(&str, Call); 42] = [
     ("restored", Call::Restored),
     ("restored-plain", Call::RestoredPlain),
     ("goroutines-with-limits", Call::TableWithLimits),
+    ("goroutines-with-descriptors", Call::TableWithDescriptors),
     ("buffers-with-limits", Call::SockWithLimits),
     ("timers-with-limits", Call::TimersWithLimits),
     ("goroutines-copy", Call::TableCopy),
@@ -159,6 +161,7 @@ impl Call {
     fn make_part_twice<H: Threads + Sync>(self, rt: &HostRuntime, handles: &H) -> Option<Twice> {
         match self {
             Call::TableWithLimits => Some(parts::make_table_twice(rt)),
+            Call::TableWithDescriptors => Some(parts::make_counting_table_twice(rt)),
             Call::SockWithLimits => Some(parts::make_sock_twice(rt)),
             Call::TimersWithLimits => Some(parts::make_timers_twice(rt)),
             Call::TableCopy => parts::copy_table_twice(rt),

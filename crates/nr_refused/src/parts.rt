@@ -43,9 +43,20 @@ pub(crate) fn make_table_twice(rt: &HostRuntime) -> Twice {
     }
 }
 
+/// Makes one twice that counts those inside the waits of a descriptor.
+pub(crate) fn make_counting_table_twice(rt: &HostRuntime) -> Twice {
+    refuse(rt);
+    let first = GTable::with_descriptors(rt.alloc(), 4, 1, 1);
+    grant(rt);
+    Twice {
+        first: came_of_table(first, 0),
+        again: came_of_table(GTable::with_descriptors(rt.alloc(), 4, 1, 1), 0),
+    }
+}
+
 // A table with two goroutines.
 fn table_of_two(alloc: Global) -> Option<GTable> {
-    let mut table = GTable::with_limits(alloc, 4, 1).ok()?;
+    let mut table = GTable::with_descriptors(alloc, 4, 1, 1).ok()?;
     table.apply(&GOperation::Spawn).ok()?;
     table.apply(&GOperation::Spawn).ok()?;
     Some(table)
