@@ -1,34 +1,35 @@
 -- The step that opens a socket: what the parts come to is what the machine comes to.
-use Rattle.std.proofs.Common.{◌≡◌, inl, inr, ℕ, ◌+◌, ◌-◌, ◌/◌, ◌<◌, ◌≤◌, true, false, List, [], ◌∷◌, ◌++◌, length, set, take, Option, Some, None, Result, Ok, Err, refl, sym, ap, subst, ◌∙◌, arith, length-set, set-set}
+use Rattle.std.proofs.Common.{◌≡◌, inl, inr, ℕ, ◌+◌, ◌-◌, ◌/◌, ◌<◌, ◌≤◌, true, false, List, [], ◌∷◌, ◌++◌, get_or, length, set, take, Option, Some, None, Ok, Err, refl, sym, ap, subst, ◌∙◌, arith, length-set}
 use Rattle.std.proofs.Math.Seq.{take-append_seam}
 use Rattle.std.proofs.lemmas.Bool.Decides.{nat_tests}
 use Rattle.std.proofs.lemmas.List.{length-append}
-use Rattle.std.specs.Prelude.{◌&&◌, nat_le, nat_lt, slice_get}
+use Rattle.std.proofs.lemmas.Option.{same_Some, slice_get_read}
+use Rattle.std.specs.Prelude.{nat_lt, slice_get}
 use Rattle.nr_rev.specs.declared.answer.Answer.{Answer}
 use Rattle.nr_rev.specs.declared.answer.Answer.TheVariants.{Number}
 use Rattle.nr_rev.specs.declared.lock.Lock.{Lock}
 use Rattle.nr_rev.specs.declared.refusal.Refusal.{Refusal}
-use Rattle.nr_rev.specs.declared.refusal.Refusal.TheVariants.{SizeOutOfRange, TableFull}
+use Rattle.nr_rev.specs.declared.refusal.Refusal.TheVariants.{TableFull}
 use Rattle.nr_rev.specs.declared.sides.Sides.{Sides}
 use Rattle.nr_rev.specs.declared.step.Step.{Step}
 use Rattle.nr_rev.specs.declared.step.Step.TheVariants.{SockOpen}
 use Rattle.nr_rev.specs.Lock.{open_lock}
-use Rattle.nr_rev.specs.Refusing.{◌>>◌, refused_unless}
 use Rattle.nr_rev.specs.Reversible.{Refuses}
 use Rattle.nr_rev.specs.Semaphore.{Semaphore, new_semaphore}
 use Rattle.nr_rev.specs.Sides.{of_side, twice}
 use Rattle.nr_rev.specs.Socket.{Socket, new_socket}
-use Rattle.nr_rev.specs.Step.{Outcome, outcome}
+use Rattle.nr_rev.specs.Step.{outcome}
 use Rattle.nr_rev.specs.WellFormed.{IsField, LockFits}
 use Rattle.nr_rev.specs.World.{World}
 use Rattle.nr_rev.specs.Worlds.{bytes_left, refusal_of}
-use Rattle.nr_rev.proofs.ListUpdateLemmas.{slice_get-push_all, slice_get-set_cases, slice_get-set_here}
-use Rattle.nr_rev.proofs.OutcomeLemmas.{Ends, Ends-ok, Ends-refused_if, Ends-refused_unless, Ends-then}
+use Rattle.nr_rev.proofs.ListUpdateLemmas.{slice_get-push_all, slice_get-set_cases}
 use Rattle.nr_rev.proofs.SideLemmas.{each_side}
 use Rattle.nr_sockbuf.specs.Delta as sock_delta
+use Rattle.nr_sockbuf.proofs.MachineLemmas.{sockopen_agrees}
+use Rattle.nr_sockbuf.specs.Laws.{leaves_open, refused_for}
 use Rattle.nr_sockbuf.specs.Machine.{lifted_opening, put_back}
 use Rattle.nr_sockbuf.specs.Op as sock
-use Rattle.nr_sockbuf.specs.Sock.{OpenSock, SockParts, is_opened, never_opened, new_opened, with_opened}
+use Rattle.nr_sockbuf.specs.Sock.{OpenSock, SockParts, is_opened, never_opened}
 use Rattle.nr_sockbuf.specs.declared.delta.SockDelta.{SockDelta}
 use Rattle.nr_machine.specs.declared.delta.TheConstants.{MOST_WORDS}
 use Rattle.nr_machine.specs.declared.delta.WorldUndo.TheVariants.{Opened}
@@ -40,8 +41,9 @@ use Rattle.nr_machine.specs.Made.{Made, parts_reason}
 use Rattle.nr_machine.specs.Sockets.{SocketRest, rest_at, socket_of}
 use Rattle.nr_machine.specs.Transfers.{IsOpening}
 use Rattle.nr_machine.specs.World.{WorldParts, meant}
-use Rattle.nr_machine.proofs.ListLemmas.{get_within, set_same}
+use Rattle.nr_machine.proofs.ListLemmas.{get_within}
 use Rattle.nr_machine.proofs.SocketsLemmas.{length-sockets_of, semaphores_at, socket_push}
+use Rattle.nr_machine.proofs.TransferLemmas.{sock_back, with_sock}
 
 -- the core with a lock more
 abbrev pub with_lock_more : Core → Core
@@ -51,14 +53,6 @@ with_lock_more core = record core { locks = record core.locks { items = core.loc
 abbrev pub with_opening : SockParts → WorldParts → WorldParts
 with_opening after m =
     record m { core = with_lock_more m.core; socks = set m.socks (length m.core.locks.items) after }
-
--- what a socket's buffers are once it is opened
-opens : (rc wc : ℕ) (t : SockParts) → Ends (λ (left : Answer × SockParts). left.1 ≡ with_opened (new_opened rc wc) t) (sock.sockopen rc wc t)
-opens rc wc t =
-    Ends-then (Ends-refused_if (is_opened t.opened) TableFull refl) λ _.
-    Ends-then (Ends-refused_unless (nat_lt 0 rc && nat_le rc t.limit) SizeOutOfRange refl) λ _.
-    Ends-then (Ends-refused_unless (nat_lt 0 wc && nat_le wc t.limit) SizeOutOfRange refl) λ _.
-    Ends-ok refl
 
 open_fits : LockFits open_lock
 open_fits =
@@ -73,29 +67,13 @@ take_more xs x =
     let n : length (xs ++ x ∷ []) - 1 ≡ length xs = let more = length_more xs x in omega (arith, more) in
     ap (λ (k : ℕ). take k (xs ++ x ∷ [])) n ∙ take-append_seam xs (x ∷ [])
 
-then_opens : (w : World) (r : Result (Unit {0}) Refusal) (x : Outcome) (y : sock.Outcome) → x ≡ lifted_opening w y → (r >> x) ≡ lifted_opening w (r >> y)
-then_opens w (Ok a) x y same = same
-then_opens w (Err e) x y same = refl
-
--- where the machine has room for a socket more, the buffers decide
-opening_leads : (w : World) (rc wc : ℕ) → nat_lt (length w.sockets) w.limits.sockets ≡ true
-    → outcome w (SockOpen rc wc) ≡ lifted_opening w (sock.outcome (never_opened w.limits.buffer) (SockOpen rc wc))
-opening_leads w rc wc room =
-    rw (room)
-    (then_opens w (refused_unless (nat_lt 0 rc && nat_le rc w.limits.buffer) SizeOutOfRange) _ _
-    (then_opens w (refused_unless (nat_lt 0 wc && nat_le wc w.limits.buffer) SizeOutOfRange) _ _ refl))
-
 no_room : (w : World) (rc wc : ℕ) → nat_lt (length w.sockets) w.limits.sockets ≡ false → outcome w (SockOpen rc wc) ≡ Err TableFull
 no_room w rc wc full = rw (full) refl
 
-refused_for : (o : sock.Outcome) (e : Refusal) → sock.refusal_of o ≡ Some e → ◌≡◌ {A = sock.Outcome} o (Err e)
-refused_for (Ok left) e why = cc
-refused_for (Err reason) e why = cc
-
-put_means : (lock : Lock) (rest : SocketRest) (o : Option OpenSock) → is_opened o ≡ true → rest.semaphores ≡ twice new_semaphore
+put_means : (rest : SocketRest) (o : Option OpenSock) → is_opened o ≡ true → rest.semaphores ≡ twice new_semaphore
     → socket_of open_lock (record rest { sock = o }) ≡ put_back o (new_socket 0 0)
-put_means lock rest None is new = cc
-put_means lock rest (Some opened) is new =
+put_means rest None is new = cc
+put_means rest (Some opened) is new =
     ap (λ (both : Sides Semaphore). record { lock = open_lock; semaphores = both; buffers = opened.buffers; peer_closed = opened.peer_closed; shut = opened.shut }) new
 
 module _ (m : WorldParts) (h : IsWorld m) where
@@ -110,11 +88,16 @@ module _ (m : WorldParts) (h : IsWorld m) where
   opening_full (SockOpen rc wc) is full = no_room (meant m) rc wc (let same = many in grind (arith, nat_tests))
   opening_full _ is full = absurd is
 
-  module _ (room : n < m.core.limits.sockets) where
-    -- the next socket's buffers are there
-    pub next_below : n < length m.socks
-    next_below = let made = h.parts.socks_made in omega (arith, made, room)
+  next_below : n < m.core.limits.sockets → n < length m.socks
+  next_below room = let made = h.parts.socks_made in omega (arith, made, room)
 
+  -- the next socket's buffers, read at its index
+  pub next_found : (k : ℕ) (sock : SockParts) → k ≡ n → k < m.core.limits.sockets → sock ≡ get_or m.socks k sock → (n < m.core.limits.sockets) × (slice_get m.socks n ≡ Some sock)
+  next_found k sock len within read =
+      let room : n < m.core.limits.sockets = omega (arith, len, within) in
+      (room, slice_get_read m.socks (length m.socks) n sock refl (next_below room) (subst (λ (j : ℕ). sock ≡ get_or m.socks j sock) len read))
+
+  module _ (room : n < m.core.limits.sockets) where
     module _ (before : SockParts) (at : slice_get m.socks n ≡ Some before) where
       -- they were never opened
       was_closed : before ≡ never_opened m.core.limits.buffer
@@ -125,7 +108,7 @@ module _ (m : WorldParts) (h : IsWorld m) where
 
       at_buffers : (rc wc : ℕ) → outcome (meant m) (SockOpen rc wc) ≡ lifted_opening (meant m) (sock.outcome before (SockOpen rc wc))
       at_buffers rc wc =
-          opening_leads (meant m) rc wc (let same = many in grind (arith, nat_tests))
+          sockopen_agrees rc wc (meant m) (let same = many in grind (arith, nat_tests))
           ∙ ap (λ (t : SockParts). lifted_opening (meant m) (sock.outcome t (SockOpen rc wc))) (sym was_closed)
 
       takes_none : (o : Option OpenSock) (rc wc : ℕ) → 0 < sock.leaves o (SockOpen rc wc) → ⊥
@@ -150,9 +133,9 @@ module _ (m : WorldParts) (h : IsWorld m) where
             semaphores_at m.core.goroutines.semaphores m.socks n semaphores_there.0 semaphores_there.1
             ∙ h.parts.unopened n semaphores_there.0 semaphores_there.1 (omega arith) in
             ap (λ (sockets : List Socket). record (meant m) { sockets = sockets })
-            (socket_push m.core.locks.items m.core.goroutines.semaphores m.socks open_lock after next_below)
+            (socket_push m.core.locks.items m.core.goroutines.semaphores m.socks open_lock after (next_below room))
             ∙ ap (λ (socket : Socket). record (meant m) { sockets = (meant m).sockets ++ socket ∷ [] })
-            (put_means open_lock (rest_at m.core.goroutines.semaphores m.socks n) after.opened opened new)
+            (put_means (rest_at m.core.goroutines.semaphores m.socks n) after.opened opened new)
 
         core_fits : CoreFits (with_lock_more m.core)
         core_fits =
@@ -171,14 +154,11 @@ module _ (m : WorldParts) (h : IsWorld m) where
               timers_room = core.timers_room;
             }
 
-        same_sock : (x y : SockParts) → ◌≡◌ {A = Option SockParts} (Some x) (Some y) → x ≡ y
-        same_sock x y e = cc
-
         sock_fits : after.limit ≡ before.limit → (k : ℕ) (x : SockParts) → slice_get (set m.socks n after) k ≡ Some x → SockFits (with_lock_more m.core) k x
         sock_fits limit k x is =
             let more : length (m.core.locks.items ++ open_lock ∷ []) ≡ n + 1 = length_more m.core.locks.items open_lock in
             elim (slice_get-set_cases m.socks n before after k at) [
-              | inl here ↦ subst (λ (y : SockParts). SockFits (with_lock_more m.core) k y) (same_sock after x (sym here.1 ∙ is))
+              | inl here ↦ subst (λ (y : SockParts). SockFits (with_lock_more m.core) k y) (same_Some after x (sym here.1 ∙ is))
                   (record {
                     limit = limit ∙ (h.parts.socks n before at).limit;
                     opened = λ _. opened;
@@ -209,38 +189,26 @@ module _ (m : WorldParts) (h : IsWorld m) where
         opening_back : (delta : SockDelta) → sock_delta.LeadsBack delta after before → OpenedBack delta (with_opening after m) m
         opening_back delta back =
             let last : length (m.core.locks.items ++ open_lock ∷ []) - 1 ≡ n = let more = length_more m.core.locks.items open_lock in omega (arith, more) in
-            let mid : WorldParts = record m { socks = set m.socks n after } in (
+            let mid : WorldParts = with_sock n after m in (
               mid,
               (ap (λ (items : List Lock). record m.core { locks = record m.core.locks { items = items } }) (sym (take_more m.core.locks.items open_lock)), refl),
-              subst (λ (s : ℕ). SockBack s delta mid m) (sym last)
-                  (record {
-                    before = before;
-                    after = after;
-                    there = slice_get-set_here m.socks n before after at;
-                    back = back;
-                    rest = ap (λ (socks : List SockParts). record m { socks = socks }) (sym (set-set m.socks n after before ∙ set_same m.socks n before at));
-                  }),
+              subst (λ (s : ℕ). SockBack s delta mid m) (sym last) (sock_back m n delta before after at back),
             )
-
-      -- what an opening leaves
-      opened_so : (rc wc : ℕ) (answer : Answer) (after : SockParts) → sock.StepTo before (SockOpen rc wc) answer after → after ≡ with_opened (new_opened rc wc) before
-      opened_so rc wc answer after leads = (opens rc wc before).value (answer, after) leads
 
       made_so : (rc wc : ℕ) (answer : Answer) (delta : SockDelta) (after : SockParts) → sock.StepTo before (SockOpen rc wc) answer after → sock_delta.LeadsBack delta after before
           → sock_delta.delta_weight delta ≤ 3 + (0 + 7) / 8
           → Made (outcome (meant m) (SockOpen rc wc)) [] (MOST_WORDS + (0 + 7) / 8) m (Number n) (Opened delta) (with_opening after m)
       made_so rc wc answer delta after leads back light =
-          let is : after ≡ with_opened (new_opened rc wc) before = opened_so rc wc answer after leads in
-          let opened : is_opened after.opened ≡ true = ap (λ (t : SockParts). is_opened t.opened) is in (
+          let leaves = (leaves_open before (SockOpen rc wc)).value (answer, after) leads in (
             record {
               leads = at_buffers rc wc ∙ ap (lifted_opening (meant m)) leads
-                  ∙ ap (λ (w : World). Ok (Number (length (meant m).sockets), w)) (sym (opening_means after opened))
+                  ∙ ap (λ (w : World). Ok (Number (length (meant m).sockets), w)) (sym (opening_means after leaves.1))
                   ∙ ap (λ (k : ℕ). Ok (Number k, meant (with_opening after m))) many;
-              parts = opening_fits after opened (ap (λ (t : SockParts). t.limit) is);
+              parts = opening_fits after leaves.1 leaves.0;
               timers = refl;
             },
             (
-              opening_back after opened delta back,
+              opening_back after leaves.1 delta back,
               omega (arith, light),
             ),
           )

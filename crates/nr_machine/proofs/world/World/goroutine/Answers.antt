@@ -23,11 +23,10 @@ returns-in_err-answer g c =
 
 pub returns : goal.returns
 returns g c =
-    let m : WorldParts = record { core = c.self.inside.core; socks = c.self.inside.socks.items } in
-    let world : IsWorld m = subst IsWorld (sym c.self.view_is) c.requires.world in
+    let world = subst IsWorld (sym c.self.view_is) c.requires.world in
     rw (← c.self.view_is) (
       Goroutine c.in_ok-answer.delta,
       c.put.ensures,
-      goroutine_made m c.args.op c.in_ok-answer.answer c.in_ok-answer.delta c.apply.new.self world c.requires.step
+      goroutine_made _ c.args.op c.in_ok-answer.answer c.in_ok-answer.delta c.apply.new.self world c.requires.step
           c.in_ok-answer.ensures.step c.in_ok-answer.ensures.well_formed c.in_ok-answer.ensures.back c.in_ok-answer.ensures.weight,
     )

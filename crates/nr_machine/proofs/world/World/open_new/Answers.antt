@@ -16,9 +16,8 @@ returns-then-made-self g c =
 
 pub returns : goal.returns
 returns g c =
-    let m : WorldParts = record { core = c.self.inside.core; socks = c.self.inside.socks.items } in
-    let world : IsWorld m = subst IsWorld (sym c.self.view_is) c.requires in
+    let world = subst IsWorld (sym c.self.view_is) c.requires in
     let step : StepTo never_opened (Open c.args.socket) c.in_ok-apply.field-0.0 c.apply.new.self =
     subst (λ (x : Descriptor). StepTo x (Open c.args.socket) c.in_ok-apply.field-0.0 c.apply.new.self) c.never_opened-desc.ensures.descriptor c.in_ok-apply.ensures.step in
     rw (← c.self.view_is, c.len-made.ensures.len, c.push.ensures)
-    (Made, c.put.ensures, opening_made m c.args.socket c.apply.new.self c.in_ok-apply.field-0.0 world (omega arith) step c.in_ok-apply.ensures.well_formed)
+    (Made, c.put.ensures, opening_made _ c.args.socket c.apply.new.self c.in_ok-apply.field-0.0 world (omega arith) step c.in_ok-apply.ensures.well_formed)
