@@ -1,6 +1,5 @@
 -- The step that opens a socket: what the parts come to is what the machine comes to.
-use Rattle.std.proofs.Common.{◌≡◌, inl, inr, ℕ, ◌+◌, ◌-◌, ◌/◌, ◌<◌, ◌≤◌, true, false, List, [], ◌∷◌, ◌++◌, get_or, length, set, take, Option, Some, None, Ok, Err, refl, sym, ap, subst, ◌∙◌, arith, length-set}
-use Rattle.std.proofs.Math.Seq.{take-append_seam}
+use Rattle.std.proofs.Common.{◌≡◌, inl, inr, ℕ, ◌+◌, ◌-◌, ◌/◌, ◌<◌, ◌≤◌, true, false, List, [], ◌∷◌, ◌++◌, get_or, length, set, Option, Some, None, Ok, Err, refl, sym, ap, subst, ◌∙◌, arith, length-set}
 use Rattle.std.proofs.lemmas.Bool.Decides.{nat_tests}
 use Rattle.std.proofs.lemmas.List.{length-append}
 use Rattle.std.proofs.lemmas.Option.{same_Some, slice_get_read}
@@ -41,7 +40,8 @@ use Rattle.nr_machine.specs.Made.{Made, parts_reason}
 use Rattle.nr_machine.specs.Sockets.{SocketRest, rest_at, socket_of}
 use Rattle.nr_machine.specs.Transfers.{IsOpening}
 use Rattle.nr_machine.specs.World.{WorldParts, meant}
-use Rattle.nr_machine.proofs.ListLemmas.{get_within}
+use Rattle.nr_machine.proofs.FitsLemmas.{locks_fit}
+use Rattle.nr_machine.proofs.ListLemmas.{get_within, without_last}
 use Rattle.nr_machine.proofs.SocketsLemmas.{length-sockets_of, semaphores_at, socket_push}
 use Rattle.nr_machine.proofs.TransferLemmas.{sock_back, with_sock}
 
@@ -61,11 +61,6 @@ open_fits =
 
 length_more : (xs : List Lock) (x : Lock) → length (xs ++ x ∷ []) ≡ length xs + 1
 length_more xs x = length-append xs (x ∷ [])
-
-take_more : (xs : List Lock) (x : Lock) → take (length (xs ++ x ∷ []) - 1) (xs ++ x ∷ []) ≡ xs
-take_more xs x =
-    let n : length (xs ++ x ∷ []) - 1 ≡ length xs = let more = length_more xs x in omega (arith, more) in
-    ap (λ (k : ℕ). take k (xs ++ x ∷ [])) n ∙ take-append_seam xs (x ∷ [])
 
 no_room : (w : World) (rc wc : ℕ) → nat_lt (length w.sockets) w.limits.sockets ≡ false → outcome w (SockOpen rc wc) ≡ Err TableFull
 no_room w rc wc full = rw (full) refl
@@ -138,21 +133,7 @@ module _ (m : WorldParts) (h : IsWorld m) where
             (put_means (rest_at m.core.goroutines.semaphores m.socks n) after.opened opened new)
 
         core_fits : CoreFits (with_lock_more m.core)
-        core_fits =
-            let core = h.parts.core in
-            record {
-              in_range = core.in_range;
-              queued = core.queued;
-              goroutines = core.goroutines;
-              semaphores = core.semaphores;
-              locks = slice_get-push_all LockFits m.core.locks.items open_lock open_fits core.locks;
-              locks_room = core.locks_room;
-              descriptors = core.descriptors;
-              descriptors_room = core.descriptors_room;
-              free_room = core.free_room;
-              timers = core.timers;
-              timers_room = core.timers_room;
-            }
+        core_fits = locks_fit m.core (with_lock_more m.core).locks.items h.parts.core (slice_get-push_all LockFits m.core.locks.items open_lock open_fits h.parts.core.locks)
 
         sock_fits : after.limit ≡ before.limit → (k : ℕ) (x : SockParts) → slice_get (set m.socks n after) k ≡ Some x → SockFits (with_lock_more m.core) k x
         sock_fits limit k x is =
@@ -191,7 +172,7 @@ module _ (m : WorldParts) (h : IsWorld m) where
             let last : length (m.core.locks.items ++ open_lock ∷ []) - 1 ≡ n = let more = length_more m.core.locks.items open_lock in omega (arith, more) in
             let mid : WorldParts = with_sock n after m in (
               mid,
-              (ap (λ (items : List Lock). record m.core { locks = record m.core.locks { items = items } }) (sym (take_more m.core.locks.items open_lock)), refl),
+              (ap (λ (items : List Lock). record m.core { locks = record m.core.locks { items = items } }) (without_last m.core.locks.items open_lock), refl),
               subst (λ (s : ℕ). SockBack s delta mid m) (sym last) (sock_back m n delta before after at back),
             )
 

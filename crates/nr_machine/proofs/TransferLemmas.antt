@@ -34,7 +34,7 @@ use Rattle.nr_machine.specs.Sockets.{SocketRest, buffers_in, rest_at, socket_of}
 use Rattle.nr_machine.specs.Transfers.{IsTransfer}
 use Rattle.nr_machine.specs.World.{WorldParts, meant}
 use Rattle.nr_machine.proofs.ListLemmas.{get_within, set_same}
-use Rattle.nr_machine.proofs.SocketsLemmas.{length-sockets_of, sock_at, sock_set, socket_at, socket_past}
+use Rattle.nr_machine.proofs.SocketsLemmas.{length-sockets_of, sock_at, sock_set, socket_at, socket_past, socket_with}
 
 -- ---- the steps are those of the machine
 
@@ -77,13 +77,9 @@ open_again : (o : Option OpenSock) → is_opened o ≡ true → Some (buffers_in
 open_again None is = cc
 open_again (Some opened) is = refl
 
--- socket s, which has this lock
-abbrev pub socket_seen : WorldParts → ℕ → Lock → Socket
-socket_seen m s lock = socket_of lock (rest_at m.core.goroutines.semaphores m.socks s)
-
--- its buffers are those that the world has
+-- the socket's buffers are those that the world has
 sock_seen : (m : WorldParts) (s : ℕ) (lock : Lock) (before : SockParts) → PartsFit m → slice_get m.core.locks.items s ≡ Some lock → slice_get m.socks s ≡ Some before
-    → sock_of (socket_seen m s lock) (meant m) ≡ before
+    → sock_of (socket_with m s lock) (meant m) ≡ before
 sock_seen m s lock before h locked at =
     let fits : SockFits m.core s before = h.socks s before at in
     ap (λ (o : Option OpenSock). record { limit = m.core.limits.buffer; opened = Some (buffers_in o) }) (sock_at m.core.goroutines.semaphores m.socks s before at)
@@ -100,7 +96,7 @@ put_means lock rest (Some opened) is = refl
 
 -- they mean a world with these
 sock_means : (m : WorldParts) (s : ℕ) (lock : Lock) (after : SockParts) → slice_get m.core.locks.items s ≡ Some lock → s < length m.socks → is_opened after.opened ≡ true
-    → meant (with_sock s after m) ≡ with_socket s (put_back after.opened (socket_seen m s lock)) (meant m)
+    → meant (with_sock s after m) ≡ with_socket s (put_back after.opened (socket_with m s lock)) (meant m)
 sock_means m s lock after locked within is =
     ap (λ (sockets : List Socket). record (meant m) { sockets = sockets }) (sock_set m.core.locks.items m.core.goroutines.semaphores m.socks s lock after locked within)
     ∙ ap (λ (socket : Socket). with_socket s socket (meant m)) (put_means lock (rest_at m.core.goroutines.semaphores m.socks s) after.opened is)
@@ -166,7 +162,7 @@ module _ (m : WorldParts) (s : ℕ) (step : Step) (h : IsWorld m) (is : IsTransf
     lock_there = get_within m.core.locks.items s below
 
     abbrev seen : Socket
-    seen = socket_seen m s lock_there.0
+    seen = socket_with m s lock_there.0
 
     -- else the buffers decide
     at_buffers : outcome (meant m) step ≡ lifted s seen (meant m) (sock.outcome before step)
