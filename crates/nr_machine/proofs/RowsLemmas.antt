@@ -1,4 +1,4 @@
--- What becomes of the rows where a descriptor or one of its timers changes, and where one is opened for the first time.
+-- The rows of descriptors and their timers: what becomes of them where one changes, and where one is opened for the first time.
 use Rattle.std.proofs.Common.{◌≡◌, ◌≢◌, ℕ, zero, suc, ◌+◌, ◌≤◌, List, [], ◌∷◌, ◌++◌, length, map, set, Option, Some, None, refl, sym, ap, ◌∙◌, arith}
 use Rattle.std.specs.Prelude.{slice_get, slice_index_or}
 use Rattle.nr_rev.specs.declared.descriptor.Descriptor.{Descriptor}

@@ -1,7 +1,6 @@
-use Rattle.std.proofs.Common.{sym, ap, subst, ◌∙◌, arith}
+use Rattle.std.proofs.Common.{sym, ap, ◌∙◌, arith}
 use Rattle.nr_rev.specs.declared.cell_value.CellValue.TheVariants as value
 use Rattle.nr_rev.specs.Sides.{of_side}
-use Rattle.nr_machine.specs.Fits.{IsWorld}
 use Rattle.nr_machine.specs.World.{WorldParts}
 use Rattle.nr_machine.proofs.CellLemmas.{count_value_is, count_there, nothing_past}
 use Rattle.nr_machine.proofs.world.World.count_value.Goals as goal
@@ -13,7 +12,7 @@ returns-then-socket-len c =
 
 pub returns-in-None : goal.returns-in-None
 returns-in-None c =
-    let world = subst IsWorld (sym c.self.view_is) c.requires in
+    let world = rw (← c.self.view_is) at c.requires in
     absurd (count_there _ c.args.socket c.args.side world (omega arith) (sym c.in-None.is ∙ c.count.ensures))
 
 pub returns-in-Some : goal.returns-in-Some

@@ -1,4 +1,4 @@
-use Rattle.std.proofs.Common.{length, sym, ap, subst, ◌∙◌, arith}
+use Rattle.std.proofs.Common.{length, ap, ◌∙◌, arith}
 use Rattle.nr_rev.specs.declared.cell_value.CellValue.TheVariants as value
 use Rattle.nr_rev.specs.Sides.{of_side}
 use Rattle.nr_machine.specs.Fits.{IsWorld}
@@ -15,6 +15,6 @@ returns-then-socket-len c =
 pub returns : goal.returns
 returns c =
     let m : WorldParts = record { core = c.self.inside.core; socks = c.self.inside.socks.items } in
-    let world : IsWorld m = subst IsWorld (sym c.self.view_is) c.requires in
+    let world : IsWorld m = rw (← c.self.view_is) at c.requires in
     let found = sock_found m c.args.socket _ c.index.result.now world c.len.ensures.len c.if-socket-len.false c.index.ensures in
     rw (← c.self.view_is) (ap value.Number c.from.ensures ∙ length_value_is m c.args.socket c.args.side c.index.result.now c.len-2.result found.0 found.1 c.len-2.ensures.len)

@@ -1,4 +1,4 @@
-use Rattle.std.proofs.Common.{sym, ap, subst, ◌∙◌, arith}
+use Rattle.std.proofs.Common.{ap, ◌∙◌, arith}
 use Rattle.nr_rev.specs.declared.cell_value.CellValue.TheVariants as value
 use Rattle.nr_rev.specs.declared.sides.Side.TheVariants.{Read}
 use Rattle.nr_rev.specs.Lock.{bit}
@@ -16,6 +16,6 @@ returns-then-socket-len c =
 pub returns : goal.returns
 returns c =
     let m : WorldParts = record { core = c.self.inside.core; socks = c.self.inside.socks.items } in
-    let world : IsWorld m = subst IsWorld (sym c.self.view_is) c.requires in
+    let world : IsWorld m = rw (← c.self.view_is) at c.requires in
     let found = sock_found m c.args.socket _ c.index.result.now world c.len.ensures.len c.if-socket-len.false c.index.ensures in
     rw (← c.self.view_is) (ap value.Number c.from.ensures ∙ shut_value_is m c.args.socket c.index.result.now c.shut.result found.0 found.1 c.shut.ensures)

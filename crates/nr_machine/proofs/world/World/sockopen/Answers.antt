@@ -3,7 +3,6 @@ use Rattle.std.proofs.lemmas.Result.{err_from_is_err_and}
 use Rattle.std.specs.Prelude.{slice_get}
 use Rattle.nr_rev.specs.Worlds.{refusal_of}
 use Rattle.nr_machine.specs.declared.delta.WorldUndo.TheVariants.{Opened}
-use Rattle.nr_machine.specs.Fits.{IsWorld}
 use Rattle.nr_machine.proofs.MadeLemmas.{made_step}
 use Rattle.nr_machine.proofs.SockOpenLemmas.{next_found, opening_full, opening_made, opening_refused}
 use Rattle.nr_machine.proofs.TransferLemmas.{sock_same}
@@ -11,12 +10,12 @@ use Rattle.nr_machine.proofs.world.World.sockopen.Goals as goal
 
 pub returns-then-opened-self : goal.returns-then-opened-self
 returns-then-opened-self g c =
-    let world = subst IsWorld (sym c.self.view_is) c.requires.world in
+    let world = rw (← c.self.view_is) at c.requires.world in
     rw (← c.self.view_is) (inl (ap refusal_of (opening_full _ world c.args.step.now c.requires.step (omega arith))), refl)
 
 pub returns-in_err-delta : goal.returns-in_err-delta
 returns-in_err-delta g c =
-    let world = subst IsWorld (sym c.self.view_is) c.requires.world in
+    let world = rw (← c.self.view_is) at c.requires.world in
     let p = err_from_is_err_and c.from_residual.result c.from_residual.ensures.1 in
     let len = c.len-opened.ensures.len in
     let found = next_found _ world c.len-opened.result c.index_mut.result.now len c.if-opened-self.false c.index_mut.ensures.value in
@@ -29,7 +28,7 @@ returns-in_err-delta g c =
 
 pub returns : goal.returns
 returns g c =
-    let world = subst IsWorld (sym c.self.view_is) c.requires.world in
+    let world = rw (← c.self.view_is) at c.requires.world in
     let len = c.len-opened.ensures.len in
     let found = next_found _ world c.len-opened.result c.index_mut.result.now len c.if-opened-self.false c.index_mut.ensures.value in
     let r = c.in_ok-delta.ensures in

@@ -1,23 +1,20 @@
-use Rattle.std.proofs.Common.{inl, refl, sym, ap, subst, ◌∙◌, arith}
+use Rattle.std.proofs.Common.{inl, refl, sym, ap, ◌∙◌, arith}
 use Rattle.std.proofs.lemmas.Result.{err_from_is_err_and}
 use Rattle.nr_rev.specs.Worlds.{refusal_of}
 use Rattle.nr_machine.specs.declared.delta.WorldUndo.TheVariants.{Sock}
-use Rattle.nr_machine.specs.Fits.{IsWorld}
-use Rattle.nr_machine.specs.Transfers.{IsTransfer}
-use Rattle.nr_machine.specs.World.{WorldParts, meant}
 use Rattle.nr_machine.proofs.TransferLemmas.{no_socket, sock_found, sock_same, transfer_advanced, transfer_advances, transfer_refused, transfer_undoes}
 use Rattle.nr_machine.proofs.world.World.transfer.Goals as goal
 
 pub returns-then-socket-len : goal.returns-then-socket-len
 returns-then-socket-len g c =
-    let world = subst IsWorld (sym c.self.view_is) c.requires.world in
-    let is = subst (λ (k : WorldParts). IsTransfer c.args.socket (meant k) c.args.step.now) (sym c.self.view_is) c.requires.step in
+    let world = rw (← c.self.view_is) at c.requires.world in
+    let is = rw (← c.self.view_is) at c.requires.step in
     rw (← c.self.view_is) (inl (ap refusal_of (no_socket _ c.args.socket c.args.step.now world is (omega arith))), refl)
 
 pub returns-in_err-answer : goal.returns-in_err-answer
 returns-in_err-answer g c =
-    let world = subst IsWorld (sym c.self.view_is) c.requires.world in
-    let is = subst (λ (k : WorldParts). IsTransfer c.args.socket (meant k) c.args.step.now) (sym c.self.view_is) c.requires.step in
+    let world = rw (← c.self.view_is) at c.requires.world in
+    let is = rw (← c.self.view_is) at c.requires.step in
     let found = sock_found _ c.args.socket _ c.index_mut-sock.result.now world c.len.ensures.len c.if-socket-len.false c.index_mut-sock.ensures.value in
     let p = err_from_is_err_and c.from_residual.result c.from_residual.ensures.1 in
     let r = c.in_err-answer.ensures in
@@ -28,8 +25,8 @@ returns-in_err-answer g c =
 
 pub returns-then-KEEPS : goal.returns-then-KEEPS
 returns-then-KEEPS g c =
-    let world = subst IsWorld (sym c.self.view_is) c.requires.world in
-    let is = subst (λ (k : WorldParts). IsTransfer c.args.socket (meant k) c.args.step.now) (sym c.self.view_is) c.requires.step in
+    let world = rw (← c.self.view_is) at c.requires.world in
+    let is = rw (← c.self.view_is) at c.requires.step in
     let found = sock_found _ c.args.socket _ c.index_mut-sock.result.now world c.len.ensures.len c.if-socket-len.false c.index_mut-sock.ensures.value in
     let r = c.in_ok-answer.ensures in
     let light = r.weight in
@@ -45,8 +42,8 @@ returns-then-KEEPS g c =
 
 pub returns : goal.returns
 returns g c =
-    let world = subst IsWorld (sym c.self.view_is) c.requires.world in
-    let is = subst (λ (k : WorldParts). IsTransfer c.args.socket (meant k) c.args.step.now) (sym c.self.view_is) c.requires.step in
+    let world = rw (← c.self.view_is) at c.requires.world in
+    let is = rw (← c.self.view_is) at c.requires.step in
     let found = sock_found _ c.args.socket _ c.index_mut-sock.result.now world c.len.ensures.len c.if-socket-len.false c.index_mut-sock.ensures.value in
     let r = c.advance.ensures in
     rw (← c.self.view_is)
