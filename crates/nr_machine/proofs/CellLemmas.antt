@@ -1,6 +1,5 @@
 -- The values of cells: what the parts have is what the world has.
-use Rattle.std.proofs.Common.{◌≡◌, ◌⊎◌, inl, inr, ℕ, zero, suc, ◌+◌, ◌<◌, ◌≤◌, Bool, List, [], ◌∷◌, get_or, length, map, Option, Some, None, refl, sym, ap, ◌∙◌, arith}
-use Rattle.std.proofs.lemmas.Bool.{cases_lt}
+use Rattle.std.proofs.Common.{◌≡◌, ℕ, ◌<◌, ◌≤◌, Bool, List, length, Option, Some, None, refl, sym, ap, ◌∙◌, arith}
 use Rattle.std.proofs.lemmas.Option.{same_Some, slice_get_past}
 use Rattle.std.specs.Prelude.{option_map, slice_get}
 use Rattle.nr_rev.specs.declared.cell_value.CellValue.{CellValue}
@@ -10,18 +9,14 @@ use Rattle.nr_rev.specs.declared.descriptor.DescriptorRow.{DescriptorRow}
 use Rattle.nr_rev.specs.declared.lock.Lock.{Lock}
 use Rattle.nr_rev.specs.declared.sides.Side.{Side}
 use Rattle.nr_rev.specs.declared.sides.Sides.{Sides}
-use Rattle.nr_rev.specs.declared.timer.Timer.{Timer}
 use Rattle.nr_rev.specs.Cell.{descriptor_value, socket_value, value_or_absent}
 use Rattle.nr_rev.specs.Lock.{bit}
 use Rattle.nr_rev.specs.Semaphore.{Semaphore}
-use Rattle.nr_rev.specs.Sides.{of_side, twice}
+use Rattle.nr_rev.specs.Sides.{of_side}
 use Rattle.nr_rev.specs.Socket.{Socket}
 use Rattle.nr_gsema.specs.Table.{count_at}
 use Rattle.nr_sockbuf.specs.Sock.{OpenSock, SockParts, is_shut, viewed_bytes}
-use Rattle.nr_timers.specs.TimersOf.{AreTimers, timers_of}
-use Rattle.nr_machine.specs.Fits.{IsWorld, PartsFit}
-use Rattle.nr_machine.specs.Numbered.{numbered}
-use Rattle.nr_machine.specs.Rows.{row_of}
+use Rattle.nr_machine.specs.Fits.{IsWorld}
 use Rattle.nr_machine.specs.Sockets.{buffers_in, rest_at, socket_of}
 use Rattle.nr_machine.specs.World.{WorldParts, meant}
 use Rattle.nr_machine.proofs.ListLemmas.{get_within}
@@ -52,29 +47,6 @@ socket_absent m s f at = sym (ap (λ (o : Option Socket). value_or_absent f o) (
 pub socket_value_is : (m : WorldParts) (s : ℕ) (f : Socket → CellValue) (lock : Lock) → slice_get m.core.locks.items s ≡ Some lock
     → f (socket_of lock (rest_at m.core.goroutines.semaphores m.socks s)) ≡ socket_value s (meant m) f
 socket_value_is m s f lock at = sym (ap (λ (o : Option Socket). value_or_absent f o) (socket_at m.core.locks.items m.core.goroutines.semaphores m.socks s lock at))
-
--- ---- timers
-
-listed : (k i n : ℕ) (xs : List Descriptor) (beside : ℕ → Sides (Option Timer)) → n ≡ k + i → i < length xs
-    → get_or (map (λ (row : DescriptorRow). row.timers) (numbered row_of k xs beside)) i (twice None) ≡ beside n
-listed k i n [] beside is below = absurd (omega (arith, below))
-listed k zero n (x ∷ xs) beside is below = ap beside (let same = is in omega (arith, same))
-listed k (suc i) n (x ∷ xs) beside is below = listed (suc k) i n xs beside (let same = is in omega (arith, same)) (omega (arith, below))
-
-unlisted : (k i : ℕ) (xs : List Descriptor) (beside : ℕ → Sides (Option Timer)) → length xs ≤ i
-    → get_or (map (λ (row : DescriptorRow). row.timers) (numbered row_of k xs beside)) i (twice None) ≡ twice None
-unlisted k i [] beside past = refl
-unlisted k zero (x ∷ xs) beside past = absurd (omega (arith, past))
-unlisted k (suc i) (x ∷ xs) beside past = unlisted (suc k) i xs beside (omega (arith, past))
-
--- the rows have the timers of the entries, and no other descriptor has one
-pub are_timers : (m : WorldParts) → PartsFit m → AreTimers m.core.timers.entries (map (λ (row : DescriptorRow). row.timers) (meant m).descriptors)
-are_timers m h d = by (cases_lt d (length m.core.descriptors.items))
-  where
-    by : (d < length m.core.descriptors.items) ⊎ (length m.core.descriptors.items ≤ d)
-        → timers_of m.core.timers.entries d ≡ get_or (map (λ (row : DescriptorRow). row.timers) (meant m).descriptors) d (twice None)
-    by (inl below) = sym (listed 0 d d m.core.descriptors.items (timers_of m.core.timers.entries) (omega arith) below)
-    by (inr past) = h.unarmed d past ∙ sym (unlisted 0 d m.core.descriptors.items (timers_of m.core.timers.entries) past)
 
 -- ---- counts and lengths
 

@@ -1,5 +1,5 @@
 -- The kinds of steps that change a descriptor with its timers, as operations on it.
-use Rattle.std.proofs.Common.{◌≡◌, ℕ, Bool, true, false, List, Option, Some, None, ℤ, Result, Ok, Err, refl, sym, ap}
+use Rattle.std.proofs.Common.{◌≡◌, ℕ, List, Option, Some, None, ℤ, Result, Ok, Err, refl, sym, ap}
 use Rattle.std.specs.Prelude.{remove, slice_get}
 use Rattle.nr_rev.specs.declared.answer.Answer.{Answer}
 use Rattle.nr_rev.specs.declared.answer.Answer.TheVariants.{Done, Stale}
@@ -9,21 +9,18 @@ use Rattle.nr_rev.specs.declared.refusal.Refusal.TheVariants.{NoSuchDescriptor}
 use Rattle.nr_rev.specs.declared.sides.Mode.{Mode}
 use Rattle.nr_rev.specs.declared.timer.Entry.{Entry}
 use Rattle.nr_rev.specs.Descriptor.{Change, change_by_deadline, change_by_evict, change_by_firing}
-use Rattle.nr_rev.specs.Refusing.{◌>>=◌, ◌>>◌, found_or, refused_if}
+use Rattle.nr_rev.specs.Refusing.{◌>>=◌, found_or}
 use Rattle.nr_rev.specs.Step.{Outcome, after_change, evict, fire, fired_with, idle, open_row_of, row_of as find_row, setdeadline}
-use Rattle.nr_rev.specs.World.{World, is_free_number}
+use Rattle.nr_rev.specs.World.{World}
 use Rattle.nr_desc.specs.Op as desc_op
 use Rattle.nr_desc.specs.declared.op.DescOp.TheVariants as op
 use Rattle.nr_machine.specs.Continuing.{changing}
+use Rattle.nr_machine.proofs.DescriptorLemmas.{opened_row, row_found}
 use Rattle.nr_machine.proofs.ListLemmas.{set_same}
 
 -- an open descriptor's row is its row
-open_is : (b : Bool) (r : Result DescriptorRow Refusal) (row : DescriptorRow) → (refused_if b NoSuchDescriptor >> r) ≡ Ok row → r ≡ Ok row
-open_is true r row is = absurd cc
-open_is false r row is = is
-
 open_row_found : (d : ℕ) (w : World) (row : DescriptorRow) → open_row_of d w ≡ Ok row → find_row d w ≡ Ok row
-open_row_found d w row is = open_is (is_free_number d w.free) (find_row d w) row is
+open_row_found d w row is = ap (λ (o : Option DescriptorRow). found_or o NoSuchDescriptor) (opened_row w d row is).1
 
 -- the rest of a change, by its answer
 abbrev rest_of : ℕ → DescriptorRow → World → Answer × Change → Outcome
@@ -48,10 +45,6 @@ fired_is : (r : Result (Option Change) Refusal) (d : ℕ) (row : DescriptorRow) 
 fired_is (Ok (Some change)) d row w there = refl
 fired_is (Ok None) d row w there = ap (λ (rows : List DescriptorRow). Ok (Stale, record w { descriptors = rows })) (sym (set_same w.descriptors d row there))
 fired_is (Err e) d row w there = refl
-
-row_found : (o : Option DescriptorRow) (row : DescriptorRow) → found_or o NoSuchDescriptor ≡ Ok row → o ≡ Some row
-row_found None row is = absurd cc
-row_found (Some r) row is = cc
 
 pub fire_is : (place : ℕ) (w : World) (entry : Entry) (row : DescriptorRow) → slice_get w.firings place ≡ Some entry → find_row entry.descriptor w ≡ Ok row
     → fire place w ≡ changing entry.descriptor (op.Fire entry.timer.function entry.timer.sequence) (record w { firings = remove w.firings place })

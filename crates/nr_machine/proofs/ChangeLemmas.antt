@@ -11,7 +11,7 @@ use Rattle.nr_rev.specs.declared.status.Status.{Status}
 use Rattle.nr_rev.specs.declared.timer.Entry.{Entry}
 use Rattle.nr_rev.specs.declared.timer.TimerOrder.{TimerOrder}
 use Rattle.nr_rev.specs.Refusing.{◌>>=◌, found_or}
-use Rattle.nr_rev.specs.Step.{Outcome, after_wakes, row_of as find_row}
+use Rattle.nr_rev.specs.Step.{Outcome, after_wakes}
 use Rattle.nr_rev.specs.Weight.{number_weight, option_weight, sides_weight}
 use Rattle.nr_rev.specs.World.{World, with_row}
 use Rattle.nr_desc.specs.Change.{listed}
@@ -40,28 +40,10 @@ use Rattle.nr_machine.specs.Made.{Made}
 use Rattle.nr_machine.specs.Rows.{row_of}
 use Rattle.nr_machine.specs.World.{WorldParts, meant}
 use Rattle.nr_machine.proofs.ChangingLemmas.{described_back}
-use Rattle.nr_machine.proofs.FitsLemmas.{IsTiedAs, descriptor_fits, descriptor_tied, retied, tied_then, timed_fits, timed_tied}
+use Rattle.nr_machine.proofs.FitsLemmas.{IsTiedAs, counted_fits, descriptor_fits, descriptor_tied, retied, tied_then, timed_fits, timed_tied}
 use Rattle.nr_machine.proofs.ObeyLemmas.{orders_change, orders_lead, seen}
-use Rattle.nr_machine.proofs.RowsLemmas.{row_at, row_past, row_set}
+use Rattle.nr_machine.proofs.RowsLemmas.{row_at, row_set}
 use Rattle.nr_machine.proofs.WakeLemmas.{both_mean, can_wake}
-
--- ---- the descriptor of a row
-
-row_is : (m : WorldParts) (d : ℕ) (x : Descriptor) (o : Option Descriptor) → slice_get m.core.descriptors.items d ≡ o
-    → find_row d (meant m) ≡ Ok (row_of x (timers_of m.core.timers.entries d)) → o ≡ Some x
-row_is m d x None at found =
-    let past = row_past m.core.descriptors.items m.core.timers.entries d at in
-    absurd (let none = ap (λ (r : Option DescriptorRow). found_or r NoSuchDescriptor) past in cc)
-row_is m d x (Some y) at found =
-    let there = row_at m.core.descriptors.items m.core.timers.entries d y at in
-    let one = ap (λ (r : Option DescriptorRow). found_or r NoSuchDescriptor) there in
-    let same : row_of y (timers_of m.core.timers.entries d) ≡ row_of x (timers_of m.core.timers.entries d) = cc in
-    ap (λ (r : DescriptorRow). Some r.descriptor) same
-
--- a descriptor whose row is found is there
-pub row_there : (m : WorldParts) (d : ℕ) (x : Descriptor) → find_row d (meant m) ≡ Ok (row_of x (timers_of m.core.timers.entries d))
-    → slice_get m.core.descriptors.items d ≡ Some x
-row_there m d x found = row_is m d x (slice_get m.core.descriptors.items d) refl found
 
 -- ---- what the timers are
 
@@ -147,20 +129,7 @@ woken_is d None (Some g) core = (_, _, refl)
 woken_is d (Some g) (Some k) core = (_, _, refl)
 
 moved_fits : (gs : List Status) (n : ℕ) (core : Core) → CoreFits core → IsQueuedUp (moved gs n core).goroutines → CoreFits (moved gs n core)
-moved_fits gs n core h queued =
-    record {
-      in_range = h.in_range;
-      queued = queued;
-      goroutines = h.goroutines;
-      semaphores = h.semaphores;
-      locks = h.locks;
-      locks_room = h.locks_room;
-      descriptors = h.descriptors;
-      descriptors_room = h.descriptors_room;
-      free_room = h.free_room;
-      timers = h.timers;
-      timers_room = h.timers_room;
-    }
+moved_fits gs n core h queued = counted_fits core (moved gs n core).goroutines core.free core.clock n h queued refl refl refl
 
 moved_tied : (gs : List Status) (n : ℕ) (core : Core) → IsTiedAs core (moved gs n core)
 moved_tied gs n core = record { limits = refl; locks = refl; semaphores = λ s both past at. at; unarmed = λ all d past. all d past }
@@ -262,6 +231,12 @@ module _ (m : WorldParts) (d : ℕ) (o : DescOp) (x after : Descriptor) (answer 
   orders_none : asked_at d o m ≡ [] → answer.orders ≡ []
   orders_none none = none_of (timers_op d) answer.orders (sym asked_is ∙ none)
 
+  firing_timed : (place : ℕ) (taken : TimersDelta) (timed : Core) → asked_at d o m ≡ [] → TakesFiring m.core place taken timed
+      → Timed d answer.orders (TakeFiring place ∷ []) (record { read = Some taken; write = None }) m.core timed
+  firing_timed place taken timed quiet takes =
+      subst (λ (orders : List TimerOrder). Timed d orders (TakeFiring place ∷ []) (record { read = Some taken; write = None }) m.core timed) (sym (orders_none quiet))
+      (taken_timed d place taken m.core timed takes)
+
   -- after a firing left, where nothing is ordered
   pub firing_made : (place : ℕ) (taken : TimersDelta) (delta : DescDelta) (timed written new : Core) → asked_at d o m ≡ [] → TakesFiring m.core place taken timed
       → DescFits after → written ≡ with_descriptor d after timed → new ≡ woken_both d answer.woken written → IsQueuedUp new.goroutines → WokenBack answer.woken new written
@@ -269,17 +244,12 @@ module _ (m : WorldParts) (d : ℕ) (o : DescOp) (x after : Descriptor) (answer 
       → Made (changing d o (without_firing place (meant m))) (TakeFiring place ∷ []) MOST_WORDS m answer.answer
       (Changed (record { descriptor = d; before = delta }) (record { read = Some taken; write = None }) answer.woken) (record m { core = new })
   firing_made place taken delta timed written new quiet takes fits written_is is queued woken_back before =
-      let both : Sides (Option TimersDelta) = record { read = Some taken; write = None } in
-      let times : Timed d answer.orders (TakeFiring place ∷ []) both m.core timed =
-      subst (λ (os : List TimerOrder). Timed d os (TakeFiring place ∷ []) both m.core timed) (sym (orders_none quiet)) (taken_timed d place taken m.core timed takes) in
-      changed_made (changing d o (without_firing place (meant m))) (TakeFiring place ∷ []) both delta timed written new fits times written_is is queued woken_back before
+      changed_made (changing d o (without_firing place (meant m))) (TakeFiring place ∷ []) (record { read = Some taken; write = None }) delta timed written new fits
+      (firing_timed place taken timed quiet takes) written_is is queued woken_back before
       (ap (λ (t : State). changing d o (with_firings t (meant m))) (sym takes.step.1.rest))
 
   -- whoever is woken then can be
   pub firing_can : (place : ℕ) (taken : TimersDelta) (timed written : Core) → asked_at d o m ≡ [] → TakesFiring m.core place taken timed → written ≡ with_descriptor d after timed
       → CanWake d answer.woken written
   firing_can place taken timed written quiet takes written_is =
-      let both : Sides (Option TimersDelta) = record { read = Some taken; write = None } in
-      let times : Timed d answer.orders (TakeFiring place ∷ []) both m.core timed =
-      subst (λ (os : List TimerOrder). Timed d os (TakeFiring place ∷ []) both m.core timed) (sym (orders_none quiet)) (taken_timed d place taken m.core timed takes) in
-      written_can (TakeFiring place ∷ []) both timed written times written_is
+      written_can (TakeFiring place ∷ []) (record { read = Some taken; write = None }) timed written (firing_timed place taken timed quiet takes) written_is

@@ -33,7 +33,7 @@ use Rattle.nr_machine.specs.Changing as changing
 use Rattle.nr_machine.specs.Fits.{CoreFits, PartsFit}
 use Rattle.nr_machine.specs.Made.{Made}
 use Rattle.nr_machine.specs.World.{WorldParts, meant}
-use Rattle.nr_machine.proofs.FitsLemmas.{IsTiedAs, descriptor_fits, descriptor_tied, retied}
+use Rattle.nr_machine.proofs.FitsLemmas.{IsTiedAs, counted_fits, descriptor_fits, descriptor_tied, retied}
 use Rattle.nr_machine.proofs.RowsLemmas.{descriptor_set, row_at, row_past, row_with}
 
 -- ---- who a word waits for is inside
@@ -67,11 +67,15 @@ unawaited w d side row h at nobody = by (of_side side row.descriptor.words) refl
 
 -- ---- a descriptor of the parts
 
+-- a row that is found is there
+pub row_found : (o : Option DescriptorRow) (row : DescriptorRow) → found_or o NoSuchDescriptor ≡ Ok row → o ≡ Some row
+row_found None row is = absurd cc
+row_found (Some r) row is = cc
+
 opened_by : (free : Bool) (o : Option DescriptorRow) (row : DescriptorRow) → (refused_if free NoSuchDescriptor >> found_or o NoSuchDescriptor) ≡ Ok row
     → (free ≡ false) × (o ≡ Some row)
 opened_by true o row is = absurd cc
-opened_by false None row is = absurd cc
-opened_by false (Some r) row is = (refl, cc)
+opened_by false o row is = (refl, row_found o row is)
 
 -- an open descriptor is there, and isn't free
 pub opened_row : (w : World) (d : ℕ) (row : DescriptorRow) → open_row_of d w ≡ Ok row → (is_free_number d w.free ≡ false) × (slice_get w.descriptors d ≡ Some row)
@@ -84,13 +88,9 @@ module _ (m : WorldParts) (d : ℕ) (x : Descriptor) where
       let rows : row_with m d y ≡ row_with m d x = same_Some _ _ (sym (row_at m.core.descriptors.items m.core.timers.entries d y at) ∙ is) in
       ap (λ (row : DescriptorRow). Some row.descriptor) rows
 
-  found_by : (o : Option DescriptorRow) → found_or o NoSuchDescriptor ≡ Ok (row_with m d x) → o ≡ Some (row_with m d x)
-  found_by None is = absurd cc
-  found_by (Some r) is = cc
-
   -- a descriptor that is found is among those of the parts
   pub found_there : find_row d (meant m) ≡ Ok (row_with m d x) → slice_get m.core.descriptors.items d ≡ Some x
-  found_there is = there_by (slice_get m.core.descriptors.items d) refl (found_by (slice_get (meant m).descriptors d) is)
+  found_there is = there_by (slice_get m.core.descriptors.items d) refl (row_found (slice_get (meant m).descriptors d) (row_with m d x) is)
 
   -- so is one that is open
   pub opened_there : open_row_of d (meant m) ≡ Ok (row_with m d x) → slice_get m.core.descriptors.items d ≡ Some x
@@ -135,20 +135,7 @@ abbrev pub with_free : List ℕ → Core → Core
 with_free free core = record core { free = record core.free { items = free } }
 
 pub free_fits : (core : Core) (free : List ℕ) → CoreFits core → CoreFits (with_free free core)
-free_fits core free h =
-    record {
-      in_range = h.in_range;
-      queued = h.queued;
-      goroutines = h.goroutines;
-      semaphores = h.semaphores;
-      locks = h.locks;
-      locks_room = h.locks_room;
-      descriptors = h.descriptors;
-      descriptors_room = h.descriptors_room;
-      free_room = h.free_room;
-      timers = h.timers;
-      timers_room = h.timers_room;
-    }
+free_fits core free h = counted_fits core core.goroutines (with_free free core).free core.clock core.waiters h h.queued refl refl refl
 
 pub free_tied : (core : Core) (free : List ℕ) → IsTiedAs core (with_free free core)
 free_tied core free = record { limits = refl; locks = refl; semaphores = λ s both past at. at; unarmed = λ h k past. h k past }

@@ -1,16 +1,18 @@
 -- Changes of the core keep the parts tied.
-use Rattle.std.proofs.Common.{◌≡◌, ◌≢◌, ℕ, ◌<◌, ◌≤◌, length, Some, None, refl, sym, ap, subst, ◌∙◌, length-set, arith}
+use Rattle.std.proofs.Common.{◌≡◌, ◌≢◌, ℕ, ◌<◌, ◌≤◌, List, length, Some, None, ℤ, refl, sym, ap, subst, ◌∙◌, length-set, arith}
 use Rattle.std.specs.Prelude.{slice_get}
 use Rattle.nr_rev.specs.declared.descriptor.Descriptor.{Descriptor}
 use Rattle.nr_rev.specs.declared.lock.Lock.{Lock}
 use Rattle.nr_rev.specs.declared.sides.Sides.{Sides}
 use Rattle.nr_rev.specs.declared.status.Status.{Status}
+use Rattle.nr_rev.specs.RoomedList.{Roomed}
 use Rattle.nr_rev.specs.Semaphore.{Semaphore}
 use Rattle.nr_rev.specs.Sides.{twice}
 use Rattle.nr_rev.specs.WellFormed.{LockFits}
 use Rattle.nr_rev.proofs.ListUpdateLemmas.{slice_get-set_all}
 use Rattle.nr_desc.specs.Desc.{DescFits}
 use Rattle.nr_gsema.specs.Applying.{IsQueuedUp}
+use Rattle.nr_gsema.specs.Table.{GoroutineTable}
 use Rattle.nr_timers.specs.State.{IsTimers, State}
 use Rattle.nr_timers.specs.TimersOf.{timers_of}
 use Rattle.nr_machine.specs.declared.world_core.Core.{Core}
@@ -46,15 +48,35 @@ retied m core h fits tied =
       unarmed = tied.unarmed h.unarmed;
     }
 
--- a core with another status
-pub status_fits : (core : Core) (g : ℕ) (status : Status) → CoreFits core → IsQueuedUp (with_status g status core).goroutines → CoreFits (with_status g status core)
-status_fits core g status h queued =
+-- a core with another table, other free numbers, another time and other waiters fits where the table does
+pub counted_fits : (core : Core) (table : GoroutineTable) (free : Roomed ℕ) (clock : ℤ) (waiters : ℕ) → CoreFits core → IsQueuedUp table → table.limit ≡ core.goroutines.limit
+    → length table.semaphores ≡ length core.goroutines.semaphores → free.room ≡ core.free.room
+    → CoreFits (record core { goroutines = table; free = free; clock = clock; waiters = waiters })
+counted_fits core table free clock waiters h queued limit many room =
     record {
       in_range = h.in_range;
       queued = queued;
+      goroutines = limit ∙ h.goroutines;
+      semaphores = many ∙ h.semaphores;
+      locks = h.locks;
+      locks_room = h.locks_room;
+      descriptors = h.descriptors;
+      descriptors_room = h.descriptors_room;
+      free_room = room ∙ h.free_room;
+      timers = h.timers;
+      timers_room = h.timers_room;
+    }
+
+-- one with other locks fits where these do
+pub locks_fit : (core : Core) (items : List Lock) → CoreFits core → ((s : ℕ) (lock : Lock) → slice_get items s ≡ Some lock → LockFits lock)
+    → CoreFits (record core { locks = record core.locks { items = items } })
+locks_fit core items h fit =
+    record {
+      in_range = h.in_range;
+      queued = h.queued;
       goroutines = h.goroutines;
       semaphores = h.semaphores;
-      locks = h.locks;
+      locks = fit;
       locks_room = h.locks_room;
       descriptors = h.descriptors;
       descriptors_room = h.descriptors_room;
@@ -62,6 +84,28 @@ status_fits core g status h queued =
       timers = h.timers;
       timers_room = h.timers_room;
     }
+
+-- one with other descriptors fits where these do
+pub descriptors_fit : (core : Core) (items : List Descriptor) → CoreFits core → ((d : ℕ) (x : Descriptor) → slice_get items d ≡ Some x → DescFits x)
+    → CoreFits (record core { descriptors = record core.descriptors { items = items } })
+descriptors_fit core items h fit =
+    record {
+      in_range = h.in_range;
+      queued = h.queued;
+      goroutines = h.goroutines;
+      semaphores = h.semaphores;
+      locks = h.locks;
+      locks_room = h.locks_room;
+      descriptors = fit;
+      descriptors_room = h.descriptors_room;
+      free_room = h.free_room;
+      timers = h.timers;
+      timers_room = h.timers_room;
+    }
+
+-- a core with another status
+pub status_fits : (core : Core) (g : ℕ) (status : Status) → CoreFits core → IsQueuedUp (with_status g status core).goroutines → CoreFits (with_status g status core)
+status_fits core g status h queued = counted_fits core (with_status g status core).goroutines core.free core.clock core.waiters h queued refl refl refl
 
 pub status_tied : (core : Core) (g : ℕ) (status : Status) → IsTiedAs core (with_status g status core)
 status_tied core g status = record { limits = refl; locks = refl; semaphores = λ s both past at. at; unarmed = λ h d past. h d past }
@@ -69,19 +113,7 @@ status_tied core g status = record { limits = refl; locks = refl; semaphores = �
 -- a core with another lock
 pub lock_fits : (core : Core) (s : ℕ) (before after : Lock) → CoreFits core → slice_get core.locks.items s ≡ Some before → LockFits after → CoreFits (with_lock s after core)
 lock_fits core s before after h there fits =
-    record {
-      in_range = h.in_range;
-      queued = h.queued;
-      goroutines = h.goroutines;
-      semaphores = h.semaphores;
-      locks = slice_get-set_all LockFits core.locks.items s before after there fits h.locks;
-      locks_room = h.locks_room;
-      descriptors = h.descriptors;
-      descriptors_room = h.descriptors_room;
-      free_room = h.free_room;
-      timers = h.timers;
-      timers_room = h.timers_room;
-    }
+    locks_fit core (with_lock s after core).locks.items h (slice_get-set_all LockFits core.locks.items s before after there fits h.locks)
 
 pub lock_tied : (core : Core) (s : ℕ) (lock : Lock) → IsTiedAs core (with_lock s lock core)
 lock_tied core s lock =
@@ -91,19 +123,7 @@ lock_tied core s lock =
 pub descriptor_fits : (core : Core) (d : ℕ) (before after : Descriptor) → CoreFits core → slice_get core.descriptors.items d ≡ Some before → DescFits after
     → CoreFits (with_descriptor d after core)
 descriptor_fits core d before after h there fits =
-    record {
-      in_range = h.in_range;
-      queued = h.queued;
-      goroutines = h.goroutines;
-      semaphores = h.semaphores;
-      locks = h.locks;
-      locks_room = h.locks_room;
-      descriptors = slice_get-set_all DescFits core.descriptors.items d before after there fits h.descriptors;
-      descriptors_room = h.descriptors_room;
-      free_room = h.free_room;
-      timers = h.timers;
-      timers_room = h.timers_room;
-    }
+    descriptors_fit core (with_descriptor d after core).descriptors.items h (slice_get-set_all DescFits core.descriptors.items d before after there fits h.descriptors)
 
 pub descriptor_tied : (core : Core) (d : ℕ) (x : Descriptor) → IsTiedAs core (with_descriptor d x core)
 descriptor_tied core d x =

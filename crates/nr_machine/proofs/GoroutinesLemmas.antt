@@ -36,11 +36,11 @@ use Rattle.nr_machine.specs.declared.delta.WorldUndo.TheVariants.{Goroutine}
 use Rattle.nr_machine.specs.Fits.{IsWorld}
 use Rattle.nr_machine.specs.Goroutines.{IsStep, goroutine_outcome}
 use Rattle.nr_machine.specs.Made.{Made}
-use Rattle.nr_machine.specs.Sockets.{rest_at, socket_of}
+use Rattle.nr_machine.specs.Sockets.{rest_at}
 use Rattle.nr_machine.specs.World.{WorldParts, meant}
 use Rattle.nr_machine.proofs.ListLemmas.{get_within}
-use Rattle.nr_machine.proofs.FitsLemmas.{retied}
-use Rattle.nr_machine.proofs.SocketsLemmas.{length-sockets_of, semaphores_at, semaphores_set, socket_at}
+use Rattle.nr_machine.proofs.FitsLemmas.{counted_fits, retied}
+use Rattle.nr_machine.proofs.SocketsLemmas.{length-sockets_of, semaphores_at, semaphores_set, socket_at, socket_with}
 
 -- the parts with another table
 abbrev pub with_table : GoroutineTable → WorldParts → WorldParts
@@ -91,13 +91,9 @@ named_there m g s h named =
 
 module _ (m : WorldParts) (g s : ℕ) (side : Side) (lock : Lock) (both : Sides Semaphore) (locked : slice_get m.core.locks.items s ≡ Some lock)
     (there : slice_get m.core.goroutines.semaphores s ≡ Some both) where
-  -- the socket
-  abbrev found : Socket
-  found = socket_of lock (rest_at m.core.goroutines.semaphores m.socks s)
-
-  -- it has these semaphores, and where one is another, so is the socket's
+  -- the socket has these semaphores, and where one is another, so is the socket's
   semaphore_means : (semaphore : Semaphore) (t : List Status)
-      → record (with_socket s (record found { semaphores = with_side side semaphore both }) (meant m)) { goroutines = t }
+      → record (with_socket s (record (socket_with m s lock) { semaphores = with_side side semaphore both }) (meant m)) { goroutines = t }
       ≡ meant (with_table (record m.core.goroutines { goroutines = t; semaphores = set m.core.goroutines.semaphores s (with_side side semaphore both) }) m)
   semaphore_means semaphore t =
       ap (λ (sockets : List Socket). record (meant m) { goroutines = t; sockets = sockets })
@@ -107,7 +103,7 @@ module _ (m : WorldParts) (g s : ℕ) (side : Side) (lock : Lock) (both : Sides 
   -- the semaphore acquired, where the socket has these
   abbrev acquires : Sides Semaphore → Outcome
   acquires x =
-      let next : World = with_socket s (record found { semaphores = with_side side (acquired g (of_side side x)) x }) (meant m) in
+      let next : World = with_socket s (record (socket_with m s lock) { semaphores = with_side side (acquired g (of_side side x)) x }) (meant m) in
       Ok (if is_free (of_side side x) then (Yes, with_status g (Relock s side) next) else (Wait, with_status g (Queued s side) next))
 
   abbrev acquires_table : table.Outcome
@@ -163,7 +159,7 @@ module _ (m : WorldParts) (g s : ℕ) (side : Side) (lock : Lock) (both : Sides 
     (there : slice_get m.core.goroutines.semaphores s ≡ Some both) (to : Status) where
   -- whoever leaves the front of the queue tries again, and the goroutine goes on
   release_left : (left : Semaphore) (front : Option ℕ)
-      → with_status g to (tries_again s side front (with_socket s (record (found m g s side lock both locked there) { semaphores = with_side side left both }) (meant m)))
+      → with_status g to (tries_again s side front (with_socket s (record (socket_with m s lock) { semaphores = with_side side left both }) (meant m)))
       ≡ meant (with_table (of_table.with_status g to (table.tries_again s side front (of_table.with_semaphore s side both left m.core.goroutines))) m)
   release_left left None = semaphore_means m g s side lock both locked there left (set m.core.goroutines.goroutines g to)
   release_left left (Some h) =
@@ -173,7 +169,7 @@ module _ (m : WorldParts) (g s : ℕ) (side : Side) (lock : Lock) (both : Sides 
   abbrev releases : Sides Semaphore → Outcome
   releases x =
       released (of_side side x) >>= λ left.
-      Ok (Done, with_status g to (tries_again s side (front_of (of_side side x)) (with_socket s (record (found m g s side lock both locked there) { semaphores = with_side side left x }) (meant m))))
+      Ok (Done, with_status g to (tries_again s side (front_of (of_side side x)) (with_socket s (record (socket_with m s lock) { semaphores = with_side side left x }) (meant m))))
 
   abbrev releases_table : table.Outcome
   releases_table =
@@ -318,24 +314,11 @@ pub goroutine_made : (m : WorldParts) (o : GOperation) (answer : Answer) (delta 
     → Made (goroutine_outcome o (meant m)) [] MOST_WORDS m answer (Goroutine delta) (with_table t m)
 goroutine_made m o answer delta t h is step queued back light =
     let tied = (table_ends m o h is).value (answer, t) step in
-    let core = h.parts.core in
     let most : weight_allowed o ≤ 7 = weight_is_within o in (
       record {
         leads = goroutine_is m o h is ∙ ap (lifted m) step;
         parts = retied m (record m.core { goroutines = t }) h.parts
-            (record {
-              in_range = core.in_range;
-              queued = queued;
-              goroutines = tied.limit ∙ core.goroutines;
-              semaphores = tied.many ∙ core.semaphores;
-              locks = core.locks;
-              locks_room = core.locks_room;
-              descriptors = core.descriptors;
-              descriptors_room = core.descriptors_room;
-              free_room = core.free_room;
-              timers = core.timers;
-              timers_room = core.timers_room;
-            })
+            (counted_fits m.core t m.core.free m.core.clock m.core.waiters h.parts.core queued tied.limit tied.many refl)
             (record { limits = refl; locks = refl; semaphores = λ s both past at. tied.unopened s both past at; unarmed = λ all d past. all d past });
         timers = refl;
       },

@@ -1,6 +1,7 @@
--- What a list has after a write.
-use Rattle.std.proofs.Common.{◌≡◌, ℕ, zero, suc, ◌<◌, List, [], ◌∷◌, length, set, Some, None, refl, sym, ap, ◌∙◌, arith}
-use Rattle.std.proofs.lemmas.List.{set-get_or}
+-- What a list has after a write, and at its ends.
+use Rattle.std.proofs.Common.{◌≡◌, ℕ, zero, suc, ◌-◌, ◌<◌, List, [], ◌∷◌, ◌++◌, length, set, take, Some, None, refl, sym, ap, ◌∙◌, arith}
+use Rattle.std.proofs.Math.Seq.{take-append_seam}
+use Rattle.std.proofs.lemmas.List.{length-append, set-get_or}
 use Rattle.std.proofs.lemmas.Option.{get_or_from_slice_get}
 use Rattle.std.specs.Prelude.{slice_get}
 
@@ -19,3 +20,10 @@ pub get_within : {A : Type 0} (xs : List A) (i : ℕ) → i < length xs → (x :
 get_within [] i h = absurd (omega arith)
 get_within (x ∷ xs) zero h = (x, refl)
 get_within (x ∷ xs) (suc i) h = get_within xs i (omega arith)
+
+-- a list without its last item
+pub without_last : {A : Type 0} (xs : List A) (x : A) → xs ≡ take (length (xs ++ x ∷ []) - 1) (xs ++ x ∷ [])
+without_last {A} xs x =
+    let more = length-append xs (x ∷ []) in
+    let n : length (xs ++ x ∷ []) - 1 ≡ length xs = omega (arith, more) in
+    sym (ap (λ (k : ℕ). take k (xs ++ x ∷ [])) n ∙ take-append_seam xs (x ∷ []))

@@ -34,19 +34,14 @@ use Rattle.nr_machine.specs.Changing as changing
 use Rattle.nr_machine.specs.Fits.{IsWorld, PartsFit}
 use Rattle.nr_machine.specs.Locking.{locking, status_left}
 use Rattle.nr_machine.specs.Made.{Made}
-use Rattle.nr_machine.specs.Sockets.{rest_at, socket_of}
 use Rattle.nr_machine.specs.World.{WorldParts, meant}
 use Rattle.nr_machine.proofs.FitsLemmas.{lock_fits, lock_tied, retied, status_fits, status_tied, tied_then}
-use Rattle.nr_machine.proofs.SocketsLemmas.{length-sockets_of, lock_set, socket_at, socket_past}
-
--- socket s, with this lock, as the parts have it
-abbrev pub seen_with : WorldParts → ℕ → Lock → Socket
-seen_with m s lock = socket_of lock (rest_at m.core.goroutines.semaphores m.socks s)
+use Rattle.nr_machine.proofs.SocketsLemmas.{length-sockets_of, lock_set, socket_at, socket_past, socket_with}
 
 -- the parts with another lock of socket s and another status of goroutine g mean a world with these
 pub locked_means : (m : WorldParts) (g s : ℕ) (status : Status) (before after : Lock)
     → meant (record m { core = changing.with_status g status (with_lock s after m.core) })
-    ≡ with_status g status (with_socket s (record (seen_with m s before) { lock = after }) (meant m))
+    ≡ with_status g status (with_socket s (record (socket_with m s before) { lock = after }) (meant m))
 locked_means m g s status before after =
     ap (λ (sockets : List Socket). record (with_status g status (meant m)) { sockets = sockets })
     (lock_set m.core.locks.items m.core.goroutines.semaphores m.socks s after)
@@ -63,7 +58,7 @@ module _ (m : WorldParts) (g s : ℕ) (op : LockOp) where
 
   -- and one that it carries out leads there
   pub locking_leads : (before after : Lock) (answer : LockAnswer) → slice_get m.core.locks.items s ≡ Some before → lock_op.StepTo before op answer after
-      → locking g s op (meant m) ≡ Ok (lock_left g (status_left s op (lock_op.left answer after)) s (seen_with m s before) (lock_op.left answer after) (meant m))
+      → locking g s op (meant m) ≡ Ok (lock_left g (status_left s op (lock_op.left answer after)) s (socket_with m s before) (lock_op.left answer after) (meant m))
   locking_leads before after answer at leads = rw (socket_at m.core.locks.items m.core.goroutines.semaphores m.socks s before at, leads) refl
 
 -- the status after an operation on a lock is none of those that only the table gives

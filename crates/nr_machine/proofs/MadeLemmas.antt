@@ -10,8 +10,7 @@ use Rattle.nr_machine.specs.declared.delta.TheConstants.{MOST_WORDS}
 use Rattle.nr_machine.specs.declared.delta.WorldUndo.{WorldUndo}
 use Rattle.nr_machine.specs.Asked.{asked_of}
 use Rattle.nr_machine.specs.Fits.{IsWorld}
-use Rattle.nr_machine.specs.Made.{Advanced, Made, Makes, MakesStep}
-use Rattle.nr_machine.specs.Step.{StepTo}
+use Rattle.nr_machine.specs.Made.{Made, Makes, MakesStep}
 use Rattle.nr_machine.specs.World.{WorldParts, meant}
 
 -- a step that is made, with an undo that the place holds
@@ -36,7 +35,3 @@ pub made_fits : {Place : Type 0} (keeps : Bool) (holds : Place → WorldUndo →
 made_fits {Place} keeps holds place step old new (Ok answer) timely h made =
     record { meaning = step_keeps (meant old) step answer (meant new) timely h.meaning made.0.leads; parts = made.0.parts }
 made_fits {Place} keeps holds place step old new (Err e) timely h made = subst IsWorld (sym made.1) h
-
--- what is made is a step
-pub made_leads : (step : Step) (old new : WorldParts) (answer : Answer) → IsWorld old → Advanced (outcome (meant old) step) (asked_of old step) old answer new → StepTo old step answer new
-made_leads step old new answer h made = record { world = h; leads = made.leads; parts = made.parts; timers = made.timers }

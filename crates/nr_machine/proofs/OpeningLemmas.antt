@@ -1,6 +1,6 @@
 -- A descriptor is opened: that of the first free number, or a new one.
-use Rattle.std.proofs.Common.{◌≡◌, ℕ, suc, ◌-◌, ◌<◌, ◌≤◌, true, false, List, [], ◌∷◌, ◌++◌, length, take, drop, Some, None, Ok, Err, ⊎_elim, refl, sym, ap, ◌∙◌, arith, lit≤, length-append}
-use Rattle.std.proofs.Math.Seq.{set-append_seam, take-append_seam}
+use Rattle.std.proofs.Common.{◌≡◌, ℕ, suc, ◌<◌, ◌≤◌, true, false, List, [], ◌∷◌, ◌++◌, length, drop, Some, None, Ok, Err, ⊎_elim, refl, sym, ap, ◌∙◌, arith, lit≤, length-append}
+use Rattle.std.proofs.Math.Seq.{set-append_seam}
 use Rattle.std.proofs.lemmas.Bool.Decides.{nat_tests}
 use Rattle.std.proofs.lemmas.Option.{slice_get_cases, slice_get_past}
 use Rattle.std.specs.Prelude.{nat_lt, slice_get}
@@ -27,8 +27,9 @@ use Rattle.nr_machine.specs.Made.{Made}
 use Rattle.nr_machine.specs.Opening.{opening, opening_of}
 use Rattle.nr_machine.specs.World.{WorldParts, meant}
 use Rattle.nr_machine.proofs.ChangingLemmas.{described_back}
-use Rattle.nr_machine.proofs.FitsLemmas.{IsTiedAs, descriptor_fits, descriptor_tied, retied, tied_then}
+use Rattle.nr_machine.proofs.FitsLemmas.{IsTiedAs, descriptor_fits, descriptor_tied, descriptors_fit, retied, tied_then}
 use Rattle.nr_machine.proofs.DescriptorLemmas.{described_means, found_there, free_fits, free_tied, quiet_leaves, with_free}
+use Rattle.nr_machine.proofs.ListLemmas.{without_last}
 use Rattle.nr_machine.proofs.RowsLemmas.{length-rows_of, row_push, row_with}
 use Rattle.nr_machine.proofs.SocketsLemmas.{socket_at, socket_past}
 
@@ -80,20 +81,7 @@ abbrev pub with_last : Descriptor → Core → Core
 with_last x core = record core { descriptors = record core.descriptors { items = core.descriptors.items ++ x ∷ [] } }
 
 last_fits : (core : Core) (x : Descriptor) → CoreFits core → DescFits x → CoreFits (with_last x core)
-last_fits core x h fits =
-    record {
-      in_range = h.in_range;
-      queued = h.queued;
-      goroutines = h.goroutines;
-      semaphores = h.semaphores;
-      locks = h.locks;
-      locks_room = h.locks_room;
-      descriptors = slice_get-push_all DescFits core.descriptors.items x fits h.descriptors;
-      descriptors_room = h.descriptors_room;
-      free_room = h.free_room;
-      timers = h.timers;
-      timers_room = h.timers_room;
-    }
+last_fits core x h fits = descriptors_fit core (with_last x core).descriptors.items h (slice_get-push_all DescFits core.descriptors.items x fits h.descriptors)
 
 last_tied : (core : Core) (x : Descriptor) → IsTiedAs core (with_last x core)
 last_tied core x =
@@ -103,13 +91,6 @@ last_tied core x =
       semaphores = λ s both past at. at;
       unarmed = λ h d past. h d (let one_more = length-append core.descriptors.items (x ∷ []) in omega arith);
     }
-
--- what is there without the last one
-last_back : (xs : List Descriptor) (x : Descriptor) → xs ≡ take (length (xs ++ x ∷ []) - 1) (xs ++ x ∷ [])
-last_back xs x =
-    let one_more = length-append xs (x ∷ []) in
-    let n : length (xs ++ x ∷ []) - 1 ≡ length xs = omega arith in
-    sym (ap (λ (k : ℕ). take k (xs ++ x ∷ [])) n ∙ take-append_seam xs (x ∷ []))
 
 opening_leads : (m : WorldParts) (s : ℕ) (after : Descriptor) → PartsFit m → length m.core.descriptors.items < m.core.limits.descriptors → opened_for s never_opened ≡ Ok after
     → opening_of s [] (meant m) ≡ Ok (Number (length m.core.descriptors.items), meant (record m { core = with_last after m.core }))
@@ -134,7 +115,7 @@ opening_made m s after answer world fewer step fits = (
     timers = refl;
   },
   (
-    (ap (λ (xs : List Descriptor). record m.core { descriptors = record m.core.descriptors { items = xs } }) (last_back m.core.descriptors.items after), refl),
+    (ap (λ (xs : List Descriptor). record m.core { descriptors = record m.core.descriptors { items = xs } }) (without_last m.core.descriptors.items after), refl),
     lit≤ tt,
   ),
 )

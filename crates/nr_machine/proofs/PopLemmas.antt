@@ -1,8 +1,8 @@
 -- The first timer goes off: the heap's first entry is the least one of all rows, and its row is there.
-use Rattle.std.proofs.Common.{◌≡◌, ℕ, zero, suc, ◌+◌, ◌*◌, ◌<◌, ◌≤◌, Bool, true, false, List, [], ◌∷◌, ◌++◌, length, map, Option, Some, None, Result, Ok, Err, inl, inr, ⊎_elim, refl, sym, ap, subst, ◌∙◌, arith, eq-eqb}
+use Rattle.std.proofs.Common.{◌≡◌, ℕ, ◌*◌, ◌<◌, ◌≤◌, Bool, true, false, List, [], ◌∷◌, ◌++◌, length, map, Option, Some, None, Result, Ok, Err, inl, inr, ⊎_elim, refl, sym, ap, subst, ◌∙◌, arith, eq-eqb}
 use Rattle.std.proofs.lemmas.Bool.Decides.{nat_tests}
 use Rattle.std.proofs.lemmas.Option.{none-some, slice_get_cases, slice_get_within}
-use Rattle.std.specs.Prelude.{◌==◌, ◌&&◌, cond, find, if◌then◌else◌, int_le, nat_lt, option_map, slice_get, slice_index_or}
+use Rattle.std.specs.Prelude.{◌==◌, ◌&&◌, cond, find, if◌then◌else◌, int_le, nat_lt, option_map, slice_get}
 use Rattle.nr_rev.specs.declared.answer.Answer.TheVariants.{Done}
 use Rattle.nr_rev.specs.declared.descriptor.Descriptor.{Descriptor}
 use Rattle.nr_rev.specs.declared.descriptor.DescriptorRow.{DescriptorRow}
@@ -31,30 +31,18 @@ use Rattle.nr_machine.specs.declared.delta.WorldUndo.TheVariants.{Timers}
 use Rattle.nr_machine.specs.declared.world_core.Core.{Core}
 use Rattle.nr_machine.specs.Fits.{IsWorld, PartsFit}
 use Rattle.nr_machine.specs.Made.{Made}
-use Rattle.nr_machine.specs.Numbered.{numbered}
 use Rattle.nr_machine.specs.Rows.{row_of, rows_of}
 use Rattle.nr_machine.specs.World.{WorldParts, meant}
 use Rattle.nr_machine.proofs.FitsLemmas.{retied, timed_fits, timed_tied}
-use Rattle.nr_machine.proofs.RowsLemmas.{row_at, timer_set}
+use Rattle.nr_machine.proofs.RowsLemmas.{row_at, timer_set, timers_are}
 
 -- ---- the least entry
-
-row_timers : (descriptors : List Descriptor) (k : ℕ) (beside : ℕ → Sides (Option Timer)) (d n : ℕ) → n ≡ k + d
-    → (length descriptors ≤ d → beside n ≡ twice None)
-    → beside n ≡ slice_index_or (map (λ (row : DescriptorRow). row.timers) (numbered row_of k descriptors beside)) d (twice None)
-row_timers [] k beside d n is none = none (omega arith)
-row_timers (x ∷ xs) k beside zero n is none = let here : n ≡ k = omega arith in ap beside here
-row_timers (x ∷ xs) k beside (suc d) n is none = row_timers xs (suc k) beside d n (omega arith) (λ past. none (omega arith))
-
--- the rows have the timers of the heap
-timers_are : (m : WorldParts) → PartsFit m → AreTimers m.core.timers.entries (map (λ (row : DescriptorRow). row.timers) (meant m).descriptors)
-timers_are m h d = row_timers m.core.descriptors.items 0 (timers_of m.core.timers.entries) d d (omega arith) (h.unarmed d)
 
 -- where a heap has the timers of descriptors, the least of these is at place 0
 abbrev pub FirstIsLeast : Type 0
 FirstIsLeast = (t : State) (timers : List (Sides (Option Timer))) → IsTimers t → AreTimers t.entries timers → slice_get t.entries 0 ≡ least_of (entries_from 0 timers)
 
-least_is : FirstIsLeast → (m : WorldParts) → PartsFit m → least_entry (meant m) ≡ slice_get m.core.timers.entries 0
+pub least_is : FirstIsLeast → (m : WorldParts) → PartsFit m → least_entry (meant m) ≡ slice_get m.core.timers.entries 0
 least_is law m h =
     sym (law m.core.timers (map (λ (row : DescriptorRow). row.timers) (meant m).descriptors) h.core.timers (timers_are m h))
 

@@ -3,7 +3,7 @@ use Rattle.std.proofs.Common.{◌≡◌, ◌⊎◌, inl, inr, ℕ, zero, suc, �
 use Rattle.std.proofs.Math.Seq.{take-length}
 use Rattle.std.proofs.lemmas.List.{length-append}
 use Rattle.std.proofs.lemmas.Bool.{eq-eqb, eqb-true}
-use Rattle.std.proofs.lemmas.Option.{same_Some, slice_get_cases, slice_get_past, slice_get_within, unwrap_or-slice_get}
+use Rattle.std.proofs.lemmas.Option.{same_Some, slice_get_cases, slice_get_past, slice_get_read, slice_get_within, unwrap_or-slice_get}
 use Rattle.std.specs.Prelude.{◌==◌, ◌&&◌, count_by, if◌then◌else◌, option_map, slice_get}
 use Rattle.nr_rev.specs.declared.lock.Lock.{Lock}
 use Rattle.nr_rev.specs.declared.sides.Side.{Side}
@@ -22,7 +22,7 @@ use Rattle.nr_rev.proofs.BoolLemmas.{both_true}
 use Rattle.nr_rev.proofs.NumberLemmas.{count_front}
 use Rattle.nr_gsema.specs.Applying.{IsQueuedUp}
 use Rattle.nr_gsema.specs.Table.{GoroutineTable, behind, in_queue, next_in_queue, queue_at, queue_found}
-use Rattle.nr_sockbuf.specs.Sock.{OpenSock, SockParts, bytes_there, never_opened, viewed_bytes}
+use Rattle.nr_sockbuf.specs.Sock.{OpenSock, SockParts, never_opened, viewed_bytes}
 use Rattle.nr_machine.specs.Sockets.{buffers_in, rest_at}
 use Rattle.nr_machine.specs.World.{WorldParts, meant}
 use Rattle.nr_machine.proofs.ListLemmas.{get_within}
@@ -33,6 +33,10 @@ pub viewed : (side : Side) (o : Option OpenSock) → (of_side side (buffers_in o
 viewed Read None = refl
 viewed Write None = refl
 viewed side (Some opened) = refl
+
+-- the buffers that are read at an index of these
+pub sock_read : (m : WorldParts) (s : ℕ) (socks : List SockParts) (sock : SockParts) → socks ≡ m.socks → s < length socks → sock ≡ get_or socks s sock → slice_get m.socks s ≡ Some sock
+sock_read m s socks sock are within read = subst (λ xs. slice_get xs s ≡ Some sock) are (slice_get_read socks (length socks) s sock refl within read)
 
 module _ (m : WorldParts) (s : ℕ) (side : Side) where
   -- there are no bytes of no socket
@@ -62,21 +66,6 @@ module _ (m : WorldParts) (s : ℕ) (side : Side) where
     pub bytes_here : (sock : SockParts) → slice_get m.socks s ≡ Some sock → bytes_of (meant m) s side ≡ Some (viewed_bytes side sock.opened)
     bytes_here sock at =
         bytes_seen ∙ ap (λ (o : Option OpenSock). Some (viewed_bytes side o)) (sock_at m.core.goroutines.semaphores m.socks s sock at)
-
-    unopened_at : (o : Option OpenSock) → None ≡ bytes_there side o → [] ≡ viewed_bytes side o
-    unopened_at None is = refl
-    unopened_at (Some opened) is = cc
-
-    there_at : (o : Option OpenSock) (bytes : List ℕ) → Some bytes ≡ bytes_there side o → bytes ≡ viewed_bytes side o
-    there_at None bytes is = cc
-    there_at (Some opened) bytes is = cc
-
-    -- none, where they were never opened
-    pub bytes_unopened : (sock : SockParts) → slice_get m.socks s ≡ Some sock → None ≡ bytes_there side sock.opened → Some [] ≡ bytes_of (meant m) s side
-    bytes_unopened sock at is = ap (λ (bytes : List ℕ). Some bytes) (unopened_at sock.opened is) ∙ sym (bytes_here sock at)
-
-    pub bytes_open : (sock : SockParts) (bytes : List ℕ) → slice_get m.socks s ≡ Some sock → Some bytes ≡ bytes_there side sock.opened → Some bytes ≡ bytes_of (meant m) s side
-    bytes_open sock bytes at is = ap (λ (xs : List ℕ). Some xs) (there_at sock.opened bytes is) ∙ sym (bytes_here sock at)
 
     -- a buffer whose copy takes memory has bytes
     pub bytes_some : (sock : SockParts) → slice_get m.socks s ≡ Some sock → 0 < length (viewed_bytes side sock.opened) → HasItems (bytes_of (meant m) s side)

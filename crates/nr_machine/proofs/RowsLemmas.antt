@@ -1,6 +1,6 @@
--- What becomes of the rows where a descriptor or one of its timers changes, and where one is opened for the first time.
-use Rattle.std.proofs.Common.{◌≡◌, ◌≢◌, ℕ, List, [], ◌∷◌, ◌++◌, length, set, Option, Some, None, refl, sym, ap, ◌∙◌, arith}
-use Rattle.std.specs.Prelude.{slice_get}
+-- The rows of descriptors and their timers: what becomes of them where one changes, and where one is opened for the first time.
+use Rattle.std.proofs.Common.{◌≡◌, ◌≢◌, ℕ, zero, suc, ◌+◌, ◌≤◌, List, [], ◌∷◌, ◌++◌, length, map, set, Option, Some, None, refl, sym, ap, ◌∙◌, arith}
+use Rattle.std.specs.Prelude.{slice_get, slice_index_or}
 use Rattle.nr_rev.specs.declared.descriptor.Descriptor.{Descriptor}
 use Rattle.nr_rev.specs.declared.descriptor.DescriptorRow.{DescriptorRow}
 use Rattle.nr_rev.specs.declared.sides.Side.{Side}
@@ -8,10 +8,12 @@ use Rattle.nr_rev.specs.declared.sides.Sides.{Sides}
 use Rattle.nr_rev.specs.declared.timer.Entry.{Entry}
 use Rattle.nr_rev.specs.declared.timer.Timer.{Timer}
 use Rattle.nr_rev.specs.Sides.{twice, with_side}
-use Rattle.nr_timers.specs.TimersOf.{SetsTimer, timers_of}
+use Rattle.nr_timers.specs.TimersOf.{AreTimers, SetsTimer, timers_of}
+use Rattle.nr_machine.specs.Fits.{PartsFit}
+use Rattle.nr_machine.specs.Numbered.{numbered}
 use Rattle.nr_machine.specs.NumberedLaws.{numbered_at}
 use Rattle.nr_machine.specs.Rows.{row_of, rows_of}
-use Rattle.nr_machine.specs.World.{WorldParts}
+use Rattle.nr_machine.specs.World.{WorldParts, meant}
 use Rattle.nr_machine.proofs.ListLemmas.{set_same}
 use Rattle.nr_machine.proofs.NumberedLemmas.{length-numbered, numbered_past, numbered_push, numbered_set}
 
@@ -57,3 +59,14 @@ pub row_push : (descriptors : List Descriptor) (entries : List Entry) (x : Descr
 row_push descriptors entries x unarmed =
     numbered_push row_of 0 (length descriptors) descriptors x (timers_of entries) (timers_of entries) (omega arith) (λ m apart. refl)
     ∙ ap (λ (timers : Sides (Option Timer)). rows_of descriptors entries ++ row_of x timers ∷ []) unarmed
+
+row_timers : (descriptors : List Descriptor) (k : ℕ) (beside : ℕ → Sides (Option Timer)) (d n : ℕ) → n ≡ k + d
+    → (length descriptors ≤ d → beside n ≡ twice None)
+    → beside n ≡ slice_index_or (map (λ (row : DescriptorRow). row.timers) (numbered row_of k descriptors beside)) d (twice None)
+row_timers [] k beside d n is none = none (omega arith)
+row_timers (x ∷ xs) k beside zero n is none = let here : n ≡ k = omega arith in ap beside here
+row_timers (x ∷ xs) k beside (suc d) n is none = row_timers xs (suc k) beside d n (omega arith) (λ past. none (omega arith))
+
+-- the rows have the timers of the heap
+pub timers_are : (m : WorldParts) → PartsFit m → AreTimers m.core.timers.entries (map (λ (row : DescriptorRow). row.timers) (meant m).descriptors)
+timers_are m h d = row_timers m.core.descriptors.items 0 (timers_of m.core.timers.entries) d d (omega arith) (h.unarmed d)

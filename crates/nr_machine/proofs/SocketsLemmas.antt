@@ -7,12 +7,18 @@ use Rattle.nr_rev.specs.declared.lock.Lock.{Lock}
 use Rattle.nr_rev.specs.declared.sides.Sides.{Sides}
 use Rattle.nr_rev.specs.Semaphore.{Semaphore, new_semaphore}
 use Rattle.nr_rev.specs.Sides.{twice}
+use Rattle.nr_rev.specs.Socket.{Socket}
 use Rattle.nr_sockbuf.specs.Sock.{SockParts, never_opened}
 use Rattle.nr_machine.specs.Numbered.{numbered}
 use Rattle.nr_machine.specs.NumberedLaws.{numbered_at}
 use Rattle.nr_machine.specs.Sockets.{SocketRest, rest_at, socket_of, sockets_of}
+use Rattle.nr_machine.specs.World.{WorldParts}
 use Rattle.nr_machine.proofs.ListLemmas.{set_same}
 use Rattle.nr_machine.proofs.NumberedLemmas.{length-numbered, numbered_past, numbered_push, numbered_set}
+
+-- socket s, with this lock, as the parts have it
+abbrev pub socket_with : WorldParts → ℕ → Lock → Socket
+socket_with m s lock = socket_of lock (rest_at m.core.goroutines.semaphores m.socks s)
 
 -- a socket that is there
 pub socket_at : (locks : List Lock) (semaphores : List (Sides Semaphore)) (socks : List SockParts) (s : ℕ) (lock : Lock) → slice_get locks s ≡ Some lock

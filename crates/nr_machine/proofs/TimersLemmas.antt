@@ -8,34 +8,21 @@ use Rattle.nr_machine.specs.declared.delta.WorldUndo.TheVariants.{Clock}
 use Rattle.nr_machine.specs.Fits.{IsWorld}
 use Rattle.nr_machine.specs.Made.{Made}
 use Rattle.nr_machine.specs.World.{WorldParts, meant}
-use Rattle.nr_machine.proofs.FitsLemmas.{retied}
+use Rattle.nr_machine.proofs.FitsLemmas.{counted_fits, retied}
 
 -- the clock goes on
 pub tick_made : (m : WorldParts) (t : ℤ) → IsWorld m → int_lt t m.core.clock ≡ false
     → Made (tick t (meant m)) [] MOST_WORDS m Done (Clock m.core.clock) (record m { core = record m.core { clock = t } })
-tick_made m t h later =
-    let core = h.parts.core in (
-      record {
-        leads = rw later refl;
-        parts = retied m (record m.core { clock = t }) h.parts
-            (record {
-              in_range = core.in_range;
-              queued = core.queued;
-              goroutines = core.goroutines;
-              semaphores = core.semaphores;
-              locks = core.locks;
-              locks_room = core.locks_room;
-              descriptors = core.descriptors;
-              descriptors_room = core.descriptors_room;
-              free_room = core.free_room;
-              timers = core.timers;
-              timers_room = core.timers_room;
-            })
-            (record { limits = refl; locks = refl; semaphores = λ s both past at. at; unarmed = λ all d past. all d past });
-        timers = refl;
-      },
-      (
-        (refl, refl),
-        lit≤ tt,
-      ),
-    )
+tick_made m t h later = (
+  record {
+    leads = rw later refl;
+    parts = retied m (record m.core { clock = t }) h.parts
+        (counted_fits m.core m.core.goroutines m.core.free t m.core.waiters h.parts.core h.parts.core.queued refl refl refl)
+        (record { limits = refl; locks = refl; semaphores = λ s both past at. at; unarmed = λ all d past. all d past });
+    timers = refl;
+  },
+  (
+    (refl, refl),
+    lit≤ tt,
+  ),
+)

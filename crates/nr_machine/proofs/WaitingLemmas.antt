@@ -38,7 +38,8 @@ use Rattle.nr_machine.specs.Fits.{CoreFits, IsWorld, PartsFit}
 use Rattle.nr_machine.specs.Made.{Made}
 use Rattle.nr_machine.specs.Waiting.{core_parked, parks, status_after, waiting, with_parked}
 use Rattle.nr_machine.specs.World.{WorldParts, meant}
-use Rattle.nr_machine.proofs.FitsLemmas.{IsTiedAs, descriptor_fits, descriptor_tied, retied, status_fits, status_tied, tied_then}
+use Rattle.nr_machine.proofs.DescriptorLemmas.{row_found}
+use Rattle.nr_machine.proofs.FitsLemmas.{IsTiedAs, counted_fits, descriptor_fits, descriptor_tied, retied, status_fits, status_tied, tied_then}
 use Rattle.nr_machine.proofs.ListLemmas.{set_same}
 use Rattle.nr_machine.proofs.RowsLemmas.{descriptor_set, row_at, row_past, row_with}
 
@@ -78,10 +79,6 @@ module _ (w : World) (g d : ℕ) (side : Side) where
   stays_row : (row : DescriptorRow) → slice_get w.descriptors d ≡ Some row → with_descriptor d row row.descriptor w ≡ w
   stays_row row at = ap (λ (rows : List DescriptorRow). record w { descriptors = rows }) (set_same w.descriptors d row at)
 
-  found_row : (o : Option DescriptorRow) (row : DescriptorRow) → found_or o NoSuchDescriptor ≡ Ok row → o ≡ Some row
-  found_row None row is = absurd cc
-  found_row (Some r) row is = cc
-
   commit_by : (row : DescriptorRow) (was : WaitWord) → slice_get w.descriptors d ≡ Some row
       → ◌≡◌ {A = Outcome} (Ok (committed_by g d side was row w))
       (let made = desc_op.committed_by side g was row.descriptor in
@@ -94,7 +91,7 @@ module _ (w : World) (g d : ℕ) (side : Side) where
   -- parkcommit commits the goroutine to the word
   pub parkcommit_is : status_of g w ≡ Ok (Parking d side) → parkcommit g w ≡ waiting g d (op.Commit side g) w
   parkcommit_is at =
-      rw at (by_row (find_row d w) _ _ λ row found. commit_by row (of_side side row.descriptor.words) (found_row (slice_get w.descriptors d) row found))
+      rw at (by_row (find_row d w) _ _ λ row found. commit_by row (of_side side row.descriptor.words) (row_found (slice_get w.descriptors d) row found))
 
 -- ---- in the parts
 
@@ -172,20 +169,7 @@ park_means m core true = refl
 park_means m core false = refl
 
 park_fits : (core : Core) (parked : Bool) → CoreFits core → CoreFits (core_parked parked core)
-park_fits core true h =
-    record {
-      in_range = h.in_range;
-      queued = h.queued;
-      goroutines = h.goroutines;
-      semaphores = h.semaphores;
-      locks = h.locks;
-      locks_room = h.locks_room;
-      descriptors = h.descriptors;
-      descriptors_room = h.descriptors_room;
-      free_room = h.free_room;
-      timers = h.timers;
-      timers_room = h.timers_room;
-    }
+park_fits core true h = counted_fits core core.goroutines core.free core.clock (core.waiters + 1) h h.queued refl refl refl
 park_fits core false h = h
 
 park_tied : (core : Core) (parked : Bool) → IsTiedAs core (core_parked parked core)

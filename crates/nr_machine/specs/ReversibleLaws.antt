@@ -1,6 +1,6 @@
 -- What a machine owes whose steps can be undone, of a packed world: the laws that `Reversible`
 -- asks of it.
-use Rattle.std.proofs.Common.{◌≡◌, ◌≤◌, List, [], ◌∷◌, Some, None, Ok, Err, Result, sym, ap, subst, ◌∙◌, lit≤}
+use Rattle.std.proofs.Common.{◌≡◌, ◌≤◌, List, [], ◌∷◌, Some, None, Ok, Err, sym, ap, subst, ◌∙◌, lit≤}
 use Rattle.nr_rev.specs.declared.answer.Answer.{Answer}
 use Rattle.nr_rev.specs.declared.refusal.Refusal.{Refusal}
 use Rattle.nr_rev.specs.declared.refusal.Refusal.TheVariants.{Memory}
@@ -8,6 +8,7 @@ use Rattle.nr_rev.specs.declared.step.Step.{Step}
 use Rattle.nr_rev.specs.Step.{Outcome, outcome}
 use Rattle.nr_rev.specs.Worlds.{refusal_of}
 use Rattle.nr_rev.proofs.StepKeepsLemmas.{none_for_memory}
+use Rattle.nr_sockbuf.specs.Laws.{same_pairs}
 use Rattle.nr_timers.specs.ReversibleLaws as timers
 use Rattle.nr_timers.specs.State.{State}
 use Rattle.nr_timers.specs.declared.op.TimersOp.{TimersOp}
@@ -24,13 +25,6 @@ pub refused_has_no_step : (old : WorldParts) (step : Step) (e : Refusal) (answer
     (new : WorldParts) → parts_reason old step ≡ Some e → StepTo old step answer new → ⊥
 refused_has_no_step old step e answer new reason is =
     absurd (let none : Some e ≡ None = sym reason ∙ ap refusal_of is.leads in cc)
-
--- equal outcomes have equal parts
-same_pairs : {A B : Type 0} (a c : A) (b d : B)
-    → ◌≡◌ {A = Result (A × B) Refusal} (Ok (a, b)) (Ok (c, d)) → (a ≡ c) × (b ≡ d)
-same_pairs {A} {B} a c b d e =
-    let pairs : ◌≡◌ {A = A × B} (a, b) (c, d) = cc in
-    (ap (λ (p : A × B). p.0) pairs, ap (λ (p : A × B). p.1) pairs)
 
 -- operations lead to one state of the timers
 TimersMade-unique : (asked : List TimersOp) (old new other : State) → TimersMade asked old new

@@ -1,12 +1,9 @@
--- The steps at the buffers of a socket, and what they come to there.
+-- The steps at the buffers of a socket.
 use Rattle.std.specs.Prelude.{◌≡◌, ℕ, Ok}
 use Rattle.nr_rev.specs.declared.step.Step.{Step}
 use Rattle.nr_rev.specs.declared.step.Step.TheVariants.{SockOpen, Arrive, PeerClose, SysRead, SysWrite, Drain, CloseWrite}
-use Rattle.nr_rev.specs.Refusing.{◌>>=◌}
-use Rattle.nr_rev.specs.Step.{Outcome, idle, socket_of}
+use Rattle.nr_rev.specs.Step.{idle}
 use Rattle.nr_rev.specs.World.{World}
-use Rattle.nr_sockbuf.specs.Machine.{lifted, sock_of}
-use Rattle.nr_sockbuf.specs.Op as sock
 
 -- this step opens a socket
 abbrev pub IsOpening : Step → Type 0
@@ -29,9 +26,3 @@ IsTransfer s w (SysWrite g t bytes) = (t ≡ s) × (idle g w ≡ Ok tt)
 IsTransfer s w (Drain t n) = t ≡ s
 IsTransfer s w (CloseWrite g t) = (t ≡ s) × (idle g w ≡ Ok tt)
 IsTransfer s w _ = ⊥
-
--- what a step comes to at the buffers of socket s: reason 4 where there is no such socket
-abbrev pub transferring : ℕ → Step → World → Outcome
-transferring s step w = do
-  socket ← socket_of s w
-  lifted s socket w (sock.outcome (sock_of socket w) step)

@@ -40,6 +40,7 @@ impl Core {
 
     /// A goroutine goes from one status to another, or stays where the two are the same.
     #[inline(always)]
+    #[tactic(auto, using(crate::proofs::ChangingLemmas::stays))]
     pub(crate) fn move_on(&mut self, goroutine: u32, from: Status, to: Status) -> Option<GDelta>
         requires { CanMove self.old goroutine from to }
         ensures { MovesOn self.old goroutine to result self.new }
@@ -73,6 +74,7 @@ impl Core {
     /// A lock as it was. A step leaves each lock there, so the branch without one is never taken; `LockBack` sets nothing
     /// there either, which spares each caller a premise.
     #[inline(always)]
+    #[tactic(auto, using(crate::proofs::ChangingLemmas::lock_nowhere))]
     pub(crate) fn unlock(&mut self, undo: LockUndo)
         ensures { LockBack undo self.old self.new }
     {
@@ -115,6 +117,7 @@ impl Core {
     /// A descriptor as it was. A step leaves each descriptor there, so the branch without one is never taken; `DescBack` sets
     /// nothing there either, which spares each caller a premise.
     #[inline(always)]
+    #[tactic(auto, using(crate::proofs::ChangingLemmas::descriptor_nowhere))]
     pub(crate) fn undescribe(&mut self, undo: DescUndo)
         ensures { DescBack undo self.old self.new }
     {

@@ -111,7 +111,7 @@ impl World {
 
     /// `parkcommit`.
     #[inline(always)]
-    #[tactic(auto, using(crate::proofs::WaitingLemmas::parkcommit_is, crate::proofs::WaitingLemmas::below_most))]
+    #[tactic(auto, using(crate::proofs::WaitingLemmas::below_most))]
     pub(crate) fn parkcommit<K: Keeper<WorldUndo>>(
         &mut self,
         goroutine: u32,

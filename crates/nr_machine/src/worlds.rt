@@ -212,10 +212,8 @@ impl Worlds for World {
         let Some(sock) = self.socks.get(socket as usize) else {
             return Ok(Some(Bytes::new(Vec::new(self.alloc))));
         };
-        match sock.bytes(side)? {
-            None => Ok(Some(Bytes::new(Vec::new(self.alloc)))),
-            Some(bytes) => Ok(Some(bytes)),
-        }
+        let bytes = sock.bytes(side)?;
+        Ok(Some(bytes))
     }
 
     fn queue(&self, socket: u32, side: Side) -> Result<Option<Queue>, Memory> {

@@ -23,6 +23,7 @@ pub fn steps_are_of_the_machine()
 {}
 
 /// Where a step that has no reason takes memory, bytes leave a buffer.
+#[tactic(auto, using(crate::proofs::MemoryLemmas::memory_is_for_bytes))]
 pub fn memory_is_for_bytes()
     ensures { (t : SockParts) (op : Step) → TakesMemory t op → sock_reason t op ≡ None → SockLoses t op }
 {}

@@ -1,21 +1,15 @@
-use Rattle.std.proofs.Common.{◌≡◌, Some, Ok, sym, subst}
-use Rattle.std.specs.Prelude.{slice_get}
-use Rattle.nr_rev.specs.Step.{row_of as find_row}
-use Rattle.nr_timers.specs.TimersOf.{timers_of}
 use Rattle.nr_machine.specs.declared.delta.WorldUndo.TheVariants.{Changed}
-use Rattle.nr_machine.specs.Fits.{IsWorld}
-use Rattle.nr_machine.specs.Rows.{row_of}
-use Rattle.nr_machine.specs.World.{WorldParts, meant}
-use Rattle.nr_machine.proofs.ChangeLemmas.{change_can, change_made, row_there}
+use Rattle.nr_machine.specs.World.{WorldParts}
+use Rattle.nr_machine.proofs.ChangeLemmas.{change_can, change_made}
+use Rattle.nr_machine.proofs.DescriptorLemmas.{found_there}
 use Rattle.nr_machine.proofs.world.World.change.Goals as goal
 
 pub wake_both-requires : goal.wake_both-requires
 wake_both-requires g c =
     let m : WorldParts = record { core = c.self.inside.core; socks = c.self.inside.socks.items } in
     let d = c.args.descriptor in
-    let there : slice_get m.core.descriptors.items d ≡ Some c.args.desc =
-    row_there m d c.args.desc (subst (λ (k : WorldParts). find_row d (meant k) ≡ Ok (row_of c.args.desc (timers_of k.core.timers.entries d))) (sym c.self.view_is) c.requires.there) in
-    let world : IsWorld m = subst IsWorld (sym c.self.view_is) c.requires.world in
+    let there = found_there m d c.args.desc (rw (← c.self.view_is) at c.requires.there) in
+    let world = rw (← c.self.view_is) at c.requires.world in
     change_can m d c.args.op.now c.args.desc c.apply.new.self c.in_ok-left.left world there c.in_ok-left.ensures.step
     c.sides.result c.in_ok-timers.timers c.obey.new.self c.set_descriptor.new.self c.sides.ensures
     c.in_ok-timers.ensures.obeyed c.in_ok-timers.ensures.back c.in_ok-timers.ensures.light c.set_descriptor.ensures
@@ -24,9 +18,8 @@ pub returns : goal.returns
 returns g c =
     let m : WorldParts = record { core = c.self.inside.core; socks = c.self.inside.socks.items } in
     let d = c.args.descriptor in
-    let there : slice_get m.core.descriptors.items d ≡ Some c.args.desc =
-    row_there m d c.args.desc (subst (λ (k : WorldParts). find_row d (meant k) ≡ Ok (row_of c.args.desc (timers_of k.core.timers.entries d))) (sym c.self.view_is) c.requires.there) in
-    let world : IsWorld m = subst IsWorld (sym c.self.view_is) c.requires.world in
+    let there = found_there m d c.args.desc (rw (← c.self.view_is) at c.requires.there) in
+    let world = rw (← c.self.view_is) at c.requires.world in
     rw (← c.self.view_is) (
       Changed (record { descriptor = d; before = c.in_ok-left.before }) c.in_ok-timers.timers c.in_ok-left.left.woken,
       c.put.ensures,

@@ -1,23 +1,18 @@
-use Rattle.std.proofs.Common.{◌≡◌, [], Some, None, Ok, sym, subst}
-use Rattle.std.specs.Prelude.{slice_get}
-use Rattle.nr_rev.specs.Step.{row_of as find_row}
-use Rattle.nr_timers.specs.TimersOf.{timers_of}
+use Rattle.std.proofs.Common.{◌≡◌, [], Some, None}
 use Rattle.nr_machine.specs.declared.delta.WorldUndo.TheVariants.{Changed}
 use Rattle.nr_machine.specs.Asked.{asked_at}
-use Rattle.nr_machine.specs.Fits.{IsWorld}
-use Rattle.nr_machine.specs.Rows.{row_of}
-use Rattle.nr_machine.specs.World.{WorldParts, meant}
-use Rattle.nr_machine.proofs.ChangeLemmas.{firing_can, firing_made, row_there}
+use Rattle.nr_machine.specs.World.{WorldParts}
+use Rattle.nr_machine.proofs.ChangeLemmas.{firing_can, firing_made}
+use Rattle.nr_machine.proofs.DescriptorLemmas.{found_there}
 use Rattle.nr_machine.proofs.world.World.change_by_firing.Goals as goal
 
 pub wake_both-requires : goal.wake_both-requires
 wake_both-requires g c =
     let m : WorldParts = record { core = c.self.inside.core; socks = c.self.inside.socks.items } in
     let d = c.args.descriptor in
-    let there : slice_get m.core.descriptors.items d ≡ Some c.args.desc =
-    row_there m d c.args.desc (subst (λ (k : WorldParts). find_row d (meant k) ≡ Ok (row_of c.args.desc (timers_of k.core.timers.entries d))) (sym c.self.view_is) c.requires.there) in
-    let world : IsWorld m = subst IsWorld (sym c.self.view_is) c.requires.world in
-    let quiet : asked_at d c.args.op.now m ≡ [] = subst (λ (k : WorldParts). asked_at d c.args.op.now k ≡ []) (sym c.self.view_is) c.requires.quiet in
+    let there = found_there m d c.args.desc (rw (← c.self.view_is) at c.requires.there) in
+    let world = rw (← c.self.view_is) at c.requires.world in
+    let quiet : asked_at d c.args.op.now m ≡ [] = rw (← c.self.view_is) at c.requires.quiet in
     firing_can m d c.args.op.now c.args.desc c.apply.new.self c.in_ok-left.left world there c.in_ok-left.ensures.step
     c.args.place c.take_firing-taken.result c.take_firing-taken.new.self c.set_descriptor.new.self quiet c.take_firing-taken.ensures c.set_descriptor.ensures
 
@@ -25,10 +20,9 @@ pub returns : goal.returns
 returns g c =
     let m : WorldParts = record { core = c.self.inside.core; socks = c.self.inside.socks.items } in
     let d = c.args.descriptor in
-    let there : slice_get m.core.descriptors.items d ≡ Some c.args.desc =
-    row_there m d c.args.desc (subst (λ (k : WorldParts). find_row d (meant k) ≡ Ok (row_of c.args.desc (timers_of k.core.timers.entries d))) (sym c.self.view_is) c.requires.there) in
-    let world : IsWorld m = subst IsWorld (sym c.self.view_is) c.requires.world in
-    let quiet : asked_at d c.args.op.now m ≡ [] = subst (λ (k : WorldParts). asked_at d c.args.op.now k ≡ []) (sym c.self.view_is) c.requires.quiet in
+    let there = found_there m d c.args.desc (rw (← c.self.view_is) at c.requires.there) in
+    let world = rw (← c.self.view_is) at c.requires.world in
+    let quiet : asked_at d c.args.op.now m ≡ [] = rw (← c.self.view_is) at c.requires.quiet in
     rw (← c.self.view_is) (
       Changed (record { descriptor = d; before = c.in_ok-left.before }) (record { read = Some c.take_firing-taken.result; write = None }) c.in_ok-left.left.woken,
       c.put.ensures,

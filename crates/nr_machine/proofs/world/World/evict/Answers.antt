@@ -1,9 +1,6 @@
-use Rattle.std.proofs.Common.{◌≡◌, Ok, rules, sym, subst}
-use Rattle.nr_rev.specs.Step.{Outcome, idle}
-use Rattle.nr_desc.specs.declared.op.DescOp.TheVariants.{Evict}
+use Rattle.std.proofs.Common.{◌≡◌, Ok, rules}
+use Rattle.nr_rev.specs.Step.{idle}
 use Rattle.nr_timers.specs.TimersOf.{timers_of}
-use Rattle.nr_machine.specs.Asked.{asked_at}
-use Rattle.nr_machine.specs.Made.{Makes}
 use Rattle.nr_machine.specs.Rows.{row_of}
 use Rattle.nr_machine.specs.World.{WorldParts, meant}
 use Rattle.nr_machine.proofs.ChangeKindLemmas.{evict_is}
@@ -14,5 +11,4 @@ returns g c =
     let m : WorldParts = c.args.self.now in
     let d = c.args.descriptor in
     let idles : idle c.args.goroutine (meant m) ≡ Ok tt = search rules in
-    subst (λ (due : Outcome). Makes g.K.Keeper.holds c.change.new.way due (asked_at d Evict m) m c.change.result c.change.new.self)
-    (sym (evict_is c.args.goroutine d (meant m) (row_of c.in_ok-desc.desc (timers_of m.core.timers.entries d)) idles c.in_ok-desc.ensures)) c.change.ensures
+    rw (evict_is c.args.goroutine d (meant m) (row_of c.in_ok-desc.desc (timers_of m.core.timers.entries d)) idles c.in_ok-desc.ensures) c.change.ensures

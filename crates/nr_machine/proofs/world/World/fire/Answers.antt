@@ -1,9 +1,6 @@
-use Rattle.std.proofs.Common.{◌≡◌, [], ◌∷◌, Some, rules, sym, subst}
+use Rattle.std.proofs.Common.{◌≡◌, Some, rules}
 use Rattle.std.specs.Prelude.{slice_get}
-use Rattle.nr_rev.specs.Step.{Outcome}
 use Rattle.nr_timers.specs.TimersOf.{timers_of}
-use Rattle.nr_timers.specs.declared.op.TimersOp.TheVariants.{TakeFiring}
-use Rattle.nr_machine.specs.Made.{Makes}
 use Rattle.nr_machine.specs.Rows.{row_of}
 use Rattle.nr_machine.specs.World.{WorldParts, meant}
 use Rattle.nr_machine.proofs.ChangeKindLemmas.{fire_is}
@@ -14,5 +11,4 @@ returns g c =
     let m : WorldParts = c.args.self.now in
     let d = c.in-Some.entry.descriptor in
     let there : slice_get (meant m).firings c.args.place ≡ Some c.in-Some.entry = search rules in
-    subst (λ (due : Outcome). Makes g.K.Keeper.holds c.change_by_firing.new.way due (TakeFiring c.args.place ∷ []) m c.change_by_firing.result c.change_by_firing.new.self)
-    (sym (fire_is c.args.place (meant m) c.in-Some.entry (row_of c.in_ok-desc.desc (timers_of m.core.timers.entries d)) there c.in_ok-desc.ensures)) c.change_by_firing.ensures
+    rw (fire_is c.args.place (meant m) c.in-Some.entry (row_of c.in_ok-desc.desc (timers_of m.core.timers.entries d)) there c.in_ok-desc.ensures) c.change_by_firing.ensures

@@ -1,10 +1,5 @@
-use Rattle.std.proofs.Common.{arith, refl, sym, subst}
-use Rattle.nr_rev.specs.Descriptor.{never_opened}
-use Rattle.nr_rev.specs.declared.descriptor.Descriptor.{Descriptor}
-use Rattle.nr_desc.specs.Op.{StepTo}
-use Rattle.nr_desc.specs.declared.op.DescOp.TheVariants.{Open}
+use Rattle.std.proofs.Common.{arith, refl}
 use Rattle.nr_machine.specs.declared.delta.WorldUndo.TheVariants.{Made}
-use Rattle.nr_machine.specs.Fits.{IsWorld}
 use Rattle.nr_machine.specs.World.{WorldParts}
 use Rattle.nr_machine.proofs.OpeningLemmas.{opening_full, opening_made}
 use Rattle.nr_machine.proofs.world.World.open_new.Goals as goal
@@ -16,9 +11,7 @@ returns-then-made-self g c =
 
 pub returns : goal.returns
 returns g c =
-    let m : WorldParts = record { core = c.self.inside.core; socks = c.self.inside.socks.items } in
-    let world : IsWorld m = subst IsWorld (sym c.self.view_is) c.requires in
-    let step : StepTo never_opened (Open c.args.socket) c.in_ok-apply.field-0.0 c.apply.new.self =
-    subst (λ (x : Descriptor). StepTo x (Open c.args.socket) c.in_ok-apply.field-0.0 c.apply.new.self) c.never_opened-desc.ensures.descriptor c.in_ok-apply.ensures.step in
+    let world = rw (← c.self.view_is) at c.requires in
+    let step = rw c.never_opened-desc.ensures.descriptor at c.in_ok-apply.ensures.step in
     rw (← c.self.view_is, c.len-made.ensures.len, c.push.ensures)
-    (Made, c.put.ensures, opening_made m c.args.socket c.apply.new.self c.in_ok-apply.field-0.0 world (omega arith) step c.in_ok-apply.ensures.well_formed)
+    (Made, c.put.ensures, opening_made _ c.args.socket c.apply.new.self c.in_ok-apply.field-0.0 world (omega arith) step c.in_ok-apply.ensures.well_formed)

@@ -1,6 +1,6 @@
-use Rattle.std.proofs.Common.{◌≡◌, ℕ, [], Ok, rules, sym, subst}
+use Rattle.std.proofs.Common.{◌≡◌, ℕ, [], Ok, rules, subst}
 use Rattle.nr_rev.specs.declared.status.Status.TheVariants.{Parking}
-use Rattle.nr_rev.specs.Step.{Outcome, status_of}
+use Rattle.nr_rev.specs.Step.{status_of}
 use Rattle.nr_desc.specs.declared.op.DescOp.TheVariants.{Commit}
 use Rattle.nr_machine.specs.Made.{Makes}
 use Rattle.nr_machine.specs.Waiting.{waiting}
@@ -15,5 +15,4 @@ returns g c =
     let there : status_of c.args.goroutine (meant c.args.self.now) ≡ Ok (Parking d side) = search rules in
     let wait = subst (λ (n : ℕ). Makes g.K.Keeper.holds c.wait.new.way (waiting c.args.goroutine d (Commit side n) (meant c.args.self.now)) [] c.args.self.now c.wait.result c.wait.new.self)
     c.of_number.ensures c.wait.ensures in
-    subst (λ (due : Outcome). Makes g.K.Keeper.holds c.wait.new.way due [] c.args.self.now c.wait.result c.wait.new.self)
-    (sym (parkcommit_is (meant c.args.self.now) c.args.goroutine d side there)) wait
+    rw (parkcommit_is (meant c.args.self.now) c.args.goroutine d side there) wait

@@ -1,6 +1,5 @@
-use Rattle.std.proofs.Common.{◌≡◌, ℕ, ◌<◌, ◌≤◌, [], List, length, Ok, rules, arith, refl, sym, ap, subst, ◌∙◌}
-use Rattle.nr_rev.specs.Step.{Outcome, idle}
-use Rattle.nr_machine.specs.Made.{Makes}
+use Rattle.std.proofs.Common.{◌≡◌, ℕ, ◌<◌, ◌≤◌, [], List, length, Ok, rules, arith, refl, sym, ap, ◌∙◌}
+use Rattle.nr_rev.specs.Step.{idle}
 use Rattle.nr_machine.specs.Opening.{opening_of}
 use Rattle.nr_machine.specs.World.{meant}
 use Rattle.nr_machine.proofs.OpeningLemmas.{none_free, opening_is, opening_nowhere}
@@ -19,13 +18,11 @@ returns-in-None g c =
     let is_idle : idle c.args.goroutine (meant now) ≡ Ok tt = search rules in
     let within : c.args.socket < length now.core.locks.items = rw (← c.self.view_is) (omega arith) in
     let none : now.core.free.items ≡ [] = rw (← c.self.view_is) (none_free c.self.inside.core.free.items (sym c.get.ensures ∙ c.in-None.is)) in
-    let is = opening_is now c.args.goroutine c.args.socket is_idle within ∙ ap (λ (free : List ℕ). opening_of c.args.socket free (meant now)) none in
-    subst (λ (due : Outcome). Makes g.K.Keeper.holds c.open_new.new.way due [] now c.open_new.result c.open_new.new.self) (sym is) c.open_new.ensures
+    rw (opening_is now c.args.goroutine c.args.socket is_idle within ∙ ap (λ (free : List ℕ). opening_of c.args.socket free (meant now)) none) c.open_new.ensures
 
 pub returns-in-Some : goal.returns-in-Some
 returns-in-Some g c =
     let now = c.args.self.now in
     let is_idle : idle c.args.goroutine (meant now) ≡ Ok tt = search rules in
     let within : c.args.socket < length now.core.locks.items = rw (← c.self.view_is) (omega arith) in
-    subst (λ (due : Outcome). Makes g.K.Keeper.holds c.reopen.new.way due [] now c.reopen.result c.reopen.new.self)
-    (sym (opening_is now c.args.goroutine c.args.socket is_idle within)) c.reopen.ensures
+    rw (opening_is now c.args.goroutine c.args.socket is_idle within) c.reopen.ensures

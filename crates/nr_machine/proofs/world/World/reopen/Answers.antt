@@ -1,4 +1,4 @@
-use Rattle.std.proofs.Common.{◌≡◌, Ok, Some, sym, subst}
+use Rattle.std.proofs.Common.{◌≡◌, Ok, Some}
 use Rattle.std.specs.Prelude.{slice_get}
 use Rattle.nr_rev.specs.Step.{row_of}
 use Rattle.nr_machine.specs.declared.delta.WorldUndo.TheVariants.{Reopened}
@@ -13,11 +13,11 @@ returns g c =
     let m : WorldParts = record { core = c.self.inside.core; socks = c.self.inside.socks.items } in
     let d = c.args.descriptor in
     let x = c.in_ok-desc.desc in
-    let world : IsWorld m = subst IsWorld (sym c.self.view_is) c.requires.world in
+    let world : IsWorld m = rw (← c.self.view_is) at c.requires.world in
     let found : row_of d (meant m) ≡ Ok (row_with m d x) =
-    subst (λ (k : WorldParts). row_of d (meant k) ≡ Ok (row_with k d x)) (sym c.self.view_is) c.in_ok-desc.ensures in
+    rw (← c.self.view_is) at c.in_ok-desc.ensures in
     let first : slice_get m.core.free.items 0 ≡ Some d =
-    subst (λ (k : WorldParts). slice_get k.core.free.items 0 ≡ Some d) (sym c.self.view_is) c.requires.first in
+    rw (← c.self.view_is) at c.requires.first in
     rw (← c.self.view_is, c.set_descriptor.ensures, c.take_first.ensures.rest) (
       Reopened (record { descriptor = d; before = c.in_ok-before.before }),
       c.put.ensures,

@@ -1,11 +1,7 @@
-use Rattle.std.proofs.Common.{◌≡◌, ℤ, Ok, rules, sym, ap, subst, ◌∙◌, w64, to_z, of_z}
+use Rattle.std.proofs.Common.{◌≡◌, Ok, rules, ap, ◌∙◌, w64, to_z, of_z}
 use Rattle.std.proofs.lemmas.Int.{to_z-of_z}
-use Rattle.nr_rev.specs.Step.{Outcome, idle}
-use Rattle.nr_desc.specs.declared.op.DescOp.TheVariants.{SetDeadline}
+use Rattle.nr_rev.specs.Step.{idle}
 use Rattle.nr_timers.specs.TimersOf.{timers_of}
-use Rattle.nr_machine.specs.Asked.{asked_at}
-use Rattle.nr_machine.specs.Continuing.{changing}
-use Rattle.nr_machine.specs.Made.{Makes}
 use Rattle.nr_machine.specs.Rows.{row_of}
 use Rattle.nr_machine.specs.World.{WorldParts, meant}
 use Rattle.nr_machine.proofs.ChangeKindLemmas.{setdeadline_is}
@@ -19,8 +15,5 @@ returns g c =
     let read : to_z w64 (of_z w64 c.self.inside.core.clock) ≡ c.self.inside.core.clock = search rules in
     let clock : to_z w64 (of_z w64 c.self.inside.core.clock) ≡ m.core.clock = read ∙ ap (λ (k : WorldParts). k.core.clock) c.self.view_is in
     let time : to_z w64 (of_z w64 c.args.time) ≡ c.args.time = to_z-of_z w64 c.args.time c.ranges.time in
-    subst (λ (due : Outcome). Makes g.K.Keeper.holds c.change.new.way due (asked_at d (SetDeadline m.core.clock c.args.mode c.args.time) m) m c.change.result c.change.new.self)
-    (sym (setdeadline_is c.args.goroutine d (meant m) (row_of c.in_ok-desc.desc (timers_of m.core.timers.entries d)) idles c.in_ok-desc.ensures c.args.mode c.args.time))
-    (subst (λ (t : ℤ). Makes g.K.Keeper.holds c.change.new.way (changing d (SetDeadline m.core.clock c.args.mode t) (meant m)) (asked_at d (SetDeadline m.core.clock c.args.mode t) m) m c.change.result c.change.new.self) time
-    (subst (λ (now : ℤ). Makes g.K.Keeper.holds c.change.new.way (changing d (SetDeadline now c.args.mode (to_z w64 (of_z w64 c.args.time))) (meant m))
-    (asked_at d (SetDeadline now c.args.mode (to_z w64 (of_z w64 c.args.time))) m) m c.change.result c.change.new.self) clock c.change.ensures))
+    rw (setdeadline_is c.args.goroutine d (meant m) (row_of c.in_ok-desc.desc (timers_of m.core.timers.entries d)) idles c.in_ok-desc.ensures c.args.mode c.args.time)
+    (rw (clock, time) at c.change.ensures)

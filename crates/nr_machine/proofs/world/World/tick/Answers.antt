@@ -1,14 +1,10 @@
-use Rattle.std.proofs.Common.{sym, subst}
 use Rattle.std.proofs.lemmas.Int.{to_z-of_z}
-use Rattle.nr_machine.specs.Fits.{IsWorld}
-use Rattle.nr_machine.specs.World.{WorldParts}
 use Rattle.nr_machine.proofs.TimersLemmas.{tick_made}
 use Rattle.nr_machine.proofs.world.World.tick.Goals as goal
 
 pub returns : goal.returns
 returns g c =
-    let m : WorldParts = record { core = c.self.inside.core; socks = c.self.inside.socks.items } in
-    let world : IsWorld m = subst IsWorld (sym c.self.view_is) c.requires in
+    let world = rw (← c.self.view_is) at c.requires in
     let now = world.meaning.clock.time in
     let later = simp (to_z-of_z, c.ranges.time, now) at c.if-time-before.false in
-    rw (← c.self.view_is) (_, c.put.ensures, simp (to_z-of_z, c.ranges.time, now) (tick_made m c.args.time world later))
+    rw (← c.self.view_is) (_, c.put.ensures, simp (to_z-of_z, c.ranges.time, now) (tick_made _ c.args.time world later))

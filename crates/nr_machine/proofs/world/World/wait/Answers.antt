@@ -1,11 +1,6 @@
-use Rattle.std.proofs.Common.{◌≡◌, Ok, sym, ap, subst}
 use Rattle.std.proofs.lemmas.Result.{err_from_is_err_and}
-use Rattle.nr_rev.specs.declared.status.Status.{Status}
-use Rattle.nr_rev.specs.Step.{status_of}
 use Rattle.nr_machine.specs.declared.delta.WorldUndo.TheVariants.{Waited}
-use Rattle.nr_machine.specs.Changing.{Moves}
-use Rattle.nr_machine.specs.Fits.{IsWorld}
-use Rattle.nr_machine.specs.World.{WorldParts, meant}
+use Rattle.nr_machine.specs.World.{WorldParts}
 use Rattle.nr_machine.proofs.WaitingLemmas.{one_more_waits, wait_moves, waiting_made, waiting_refused}
 use Rattle.nr_machine.proofs.world.World.wait.Goals as goal
 
@@ -15,36 +10,33 @@ returns-in_err-left g c =
     let p = err_from_is_err_and c.from_residual.result c.from_residual.ensures.1 in
     rw (← c.self.view_is) (rw (p.1, p.2) (
       waiting_refused m c.args.goroutine c.args.descriptor c.args.op.now c.in_err-left.field-0.0 c.in_err-left.ensures.err,
-      ap (λ core. record m { core = core }) c.in_err-left.ensures.unchanged,
+      λ i. record m { core = c.in_err-left.ensures.unchanged i },
     ))
 
 pub move_to-moved-requires : goal.move_to-moved-requires
 move_to-moved-requires g c =
-    let m : WorldParts = record { core = c.self.inside.core; socks = c.self.inside.socks.items } in
     let some = c.in_ok-left.ensures.ok in
     rw (c.status_after-to.ensures)
-    (wait_moves m c.args.goroutine c.args.descriptor c.args.from c.args.op.now some.0 some.1 c.in_ok-left.left c.in_ok-left.desc c.describe.new.self
-    (subst IsWorld (sym c.self.view_is) c.requires.world)
-    (subst (λ (k : WorldParts). status_of c.args.goroutine (meant k) ≡ Ok c.args.from) (sym c.self.view_is) c.requires.there) c.requires.movable some.2)
+    (wait_moves _ c.args.goroutine c.args.descriptor c.args.from c.args.op.now some.0 some.1 c.in_ok-left.left c.in_ok-left.desc c.describe.new.self
+    (rw (← c.self.view_is) at c.requires.world)
+    (rw (← c.self.view_is) at c.requires.there) c.requires.movable some.2)
 
 pub park-requires : goal.park-requires
 park-requires g c =
-    let m : WorldParts = record { core = c.self.inside.core; socks = c.self.inside.socks.items } in
     let some = c.in_ok-left.ensures.ok in
-    rw (c.move_to-moved.ensures.rest, some.2.rest) (one_more_waits m (subst IsWorld (sym c.self.view_is) c.requires.world))
+    rw (c.move_to-moved.ensures.rest, some.2.rest) (one_more_waits _ (rw (← c.self.view_is) at c.requires.world))
 
 pub returns : goal.returns
 returns g c =
-    let m : WorldParts = record { core = c.self.inside.core; socks = c.self.inside.socks.items } in
     let some = c.in_ok-left.ensures.ok in
-    let world : IsWorld m = subst IsWorld (sym c.self.view_is) c.requires.world in
+    let world = rw (← c.self.view_is) at c.requires.world in
     rw (← c.self.view_is) (
       Waited c.in_ok-left.desc c.move_to-moved.result c.parks-parked.result,
       c.put.ensures,
-      rw (c.parks-parked.ensures) (waiting_made m c.args.goroutine c.args.descriptor c.args.op.now c.in_ok-left.left c.in_ok-left.desc c.move_to-moved.result
+      rw (c.parks-parked.ensures) (waiting_made _ c.args.goroutine c.args.descriptor c.args.op.now c.in_ok-left.left c.in_ok-left.desc c.move_to-moved.result
           c.describe.new.self c.move_to-moved.new.self c.park.new.self
           some.0 some.1 world.parts some.2
-          (subst (λ (to : Status). Moves c.describe.new.self c.args.goroutine to c.move_to-moved.result c.move_to-moved.new.self) c.status_after-to.ensures c.move_to-moved.ensures)
+          (rw c.status_after-to.ensures at c.move_to-moved.ensures)
           (rw c.parks-parked.ensures at c.park.ensures.parked)
           (rw c.parks-parked.ensures at c.park.ensures.back)),
     )
