@@ -2,7 +2,8 @@
 
 ghost use Rattle.std.specs.Prelude.{◌≡◌, IfOk, None};
 ghost use Rattle.nr_rev.specs.Refusing.{Gives};
-ghost use Rattle.nr_desc.specs.Change.{made_view};
+ghost use Rattle.nr_desc.specs.Change.{both_let_go, made_view};
+ghost use Rattle.nr_desc.specs.declared.op.DescOp.TheVariants as op;
 ghost use Rattle.nr_desc.specs.Op.{outcome, woken_by};
 ghost use Rattle.nr_rev.specs.Sides as sides;
 ghost use Rattle.nr_rev.specs.Descriptor as spec;
@@ -11,10 +12,10 @@ use crate::change::{DescChange, change_by_event, quiet};
 use crate::deadline::change_by_deadline;
 use crate::desc::Desc;
 use crate::firing::change_by_firing;
-use crate::op::{DescAnswer, DescOp, Orders};
+use crate::op::{DescAnswer, DescOp, Goroutine, Orders};
 use crate::opening::change_by_evict;
 use crate::waiting::Answered;
-use nr_rev::{Answer, Refusal, Reversible};
+use nr_rev::{Answer, Mode, Refusal, Reversible, Side, TimerFunction};
 
 /// The most words that a delta holds.
 pub(crate) const MOST_WORDS: u32 = 9;
@@ -53,6 +54,7 @@ fn made_quiet(answer: Answer, desc: Desc) -> Made
     }
 }
 
+// Each operation is a method of its own, since a function clears all its locals when it is entered.
 impl Desc {
     /// What an operation comes to.
     #[inline(always)]
@@ -61,66 +63,133 @@ impl Desc {
         ensures woken { IfOk result (λ made. made.change.woken ≡ woken_by op self made.change.desc) }
     {
         match op {
-            DescOp::Open { socket } => {
-                let desc = self.opened_for(socket)?;
-                Ok(made_quiet(Answer::Done, desc))
-            }
-            DescOp::Close => {
-                let desc = self.closed()?;
-                Ok(made_quiet(Answer::Done, desc))
-            }
-            DescOp::Reset(side) => {
-                let Answered { answer, desc } = self.reset(side)?;
-                Ok(made_quiet(answer, desc))
-            }
-            DescOp::Check(side) => Ok(made_quiet(Answer::Code(self.check(side)), self)),
-            DescOp::Arm(side) => {
-                let Answered { answer, desc } = self.arm(side)?;
-                Ok(made_quiet(answer, desc))
-            }
-            DescOp::Commit(side, goroutine) => {
-                let Answered { answer, desc } = self.commit(side, goroutine.number());
-                Ok(made_quiet(answer, desc))
-            }
-            DescOp::Swap(side) => {
-                let Answered { answer, desc } = self.swap(side);
-                Ok(made_quiet(answer, desc))
-            }
-            DescOp::SetDeadline { clock, mode, time } => {
-                match change_by_deadline(clock, mode, time, self) {
-                    Ok(change) => Ok(Made {
-                        answer: Answer::Done,
-                        change,
-                    }),
-                    Err(refusal) => Err(refusal),
-                }
-            }
-            DescOp::Evict => {
-                let change = change_by_evict(self)?;
-                Ok(Made {
-                    answer: Answer::Done,
-                    change,
-                })
-            }
-            DescOp::Fire { function, sequence } => {
-                match change_by_firing(function, sequence, self)? {
-                    Some(change) => Ok(Made {
-                        answer: Answer::Done,
-                        change,
-                    }),
-                    None => Ok(made_quiet(Answer::Stale, self)),
-                }
-            }
-            DescOp::Event { tag, mode, error } => {
-                if tag != self.fdseq() {
-                    return Ok(made_quiet(Answer::Stale, self));
-                }
-                Ok(Made {
-                    answer: Answer::Done,
-                    change: change_by_event(mode, error, self),
-                })
-            }
+            DescOp::Open { socket } => self.made_by_open(socket),
+            DescOp::Close => self.made_by_close(),
+            DescOp::Reset(side) => self.made_by_reset(side),
+            DescOp::Check(side) => self.made_by_check(side),
+            DescOp::Arm(side) => self.made_by_arm(side),
+            DescOp::Commit(side, goroutine) => self.made_by_commit(side, goroutine),
+            DescOp::Swap(side) => self.made_by_swap(side),
+            DescOp::SetDeadline { clock, mode, time } => self.made_by_deadline(clock, mode, time),
+            DescOp::Evict => self.made_by_evict(),
+            DescOp::Fire { function, sequence } => self.made_by_firing(function, sequence),
+            DescOp::Event { tag, mode, error } => self.made_by_event(tag, mode, error),
         }
+    }
+
+    #[inline(always)]
+    fn made_by_open(self, socket: u32) -> Result<Made, Refusal>
+        ensures viewed { Gives made_view result (outcome self (op.Open socket)) }
+        ensures woken { IfOk result (λ made. made.change.woken ≡ sides.twice None) }
+    {
+        let desc = self.opened_for(socket)?;
+        Ok(made_quiet(Answer::Done, desc))
+    }
+
+    #[inline(always)]
+    fn made_by_close(self) -> Result<Made, Refusal>
+        ensures viewed { Gives made_view result (outcome self op.Close) }
+        ensures woken { IfOk result (λ made. made.change.woken ≡ sides.twice None) }
+    {
+        let desc = self.closed()?;
+        Ok(made_quiet(Answer::Done, desc))
+    }
+
+    #[inline(always)]
+    fn made_by_reset(self, side: Side) -> Result<Made, Refusal>
+        ensures viewed { Gives made_view result (outcome self (op.Reset side)) }
+        ensures woken { IfOk result (λ made. made.change.woken ≡ sides.twice None) }
+    {
+        let Answered { answer, desc } = self.reset(side)?;
+        Ok(made_quiet(answer, desc))
+    }
+
+    #[inline(always)]
+    fn made_by_check(self, side: Side) -> Result<Made, Refusal>
+        ensures viewed { Gives made_view result (outcome self (op.Check side)) }
+        ensures woken { IfOk result (λ made. made.change.woken ≡ sides.twice None) }
+    {
+        Ok(made_quiet(Answer::Code(self.check(side)), self))
+    }
+
+    #[inline(always)]
+    fn made_by_arm(self, side: Side) -> Result<Made, Refusal>
+        ensures viewed { Gives made_view result (outcome self (op.Arm side)) }
+        ensures woken { IfOk result (λ made. made.change.woken ≡ sides.twice None) }
+    {
+        let Answered { answer, desc } = self.arm(side)?;
+        Ok(made_quiet(answer, desc))
+    }
+
+    #[inline(always)]
+    fn made_by_commit(self, side: Side, goroutine: Goroutine) -> Result<Made, Refusal>
+        ensures viewed { Gives made_view result (outcome self (op.Commit side goroutine)) }
+        ensures woken { IfOk result (λ made. made.change.woken ≡ sides.twice None) }
+    {
+        let Answered { answer, desc } = self.commit(side, goroutine.number());
+        Ok(made_quiet(answer, desc))
+    }
+
+    #[inline(always)]
+    fn made_by_swap(self, side: Side) -> Result<Made, Refusal>
+        ensures viewed { Gives made_view result (outcome self (op.Swap side)) }
+        ensures woken { IfOk result (λ made. made.change.woken ≡ sides.twice None) }
+    {
+        let Answered { answer, desc } = self.swap(side);
+        Ok(made_quiet(answer, desc))
+    }
+
+    #[inline(always)]
+    fn made_by_deadline(self, clock: i64, mode: Mode, time: i64) -> Result<Made, Refusal>
+        ensures viewed { Gives made_view result (outcome self (op.SetDeadline clock mode time)) }
+        ensures woken { IfOk result (λ made. made.change.woken ≡ both_let_go self.words made.change.desc.words) }
+    {
+        match change_by_deadline(clock, mode, time, self) {
+            Ok(change) => Ok(Made {
+                answer: Answer::Done,
+                change,
+            }),
+            Err(refusal) => Err(refusal),
+        }
+    }
+
+    #[inline(always)]
+    fn made_by_evict(self) -> Result<Made, Refusal>
+        ensures viewed { Gives made_view result (outcome self op.Evict) }
+        ensures woken { IfOk result (λ made. made.change.woken ≡ both_let_go self.words made.change.desc.words) }
+    {
+        Ok(Made {
+            answer: Answer::Done,
+            change: change_by_evict(self)?,
+        })
+    }
+
+    #[inline(always)]
+    fn made_by_firing(self, function: TimerFunction, sequence: u64) -> Result<Made, Refusal>
+        ensures viewed { Gives made_view result (outcome self (op.Fire function sequence)) }
+        ensures woken { IfOk result (λ made. made.change.woken ≡ both_let_go self.words made.change.desc.words) }
+    {
+        match change_by_firing(function, sequence, self)? {
+            Some(change) => Ok(Made {
+                answer: Answer::Done,
+                change,
+            }),
+            None => Ok(made_quiet(Answer::Stale, self)),
+        }
+    }
+
+    #[inline(always)]
+    fn made_by_event(self, tag: u64, mode: Mode, error: bool) -> Result<Made, Refusal>
+        ensures viewed { Gives made_view result (outcome self (op.Event tag mode error)) }
+        ensures woken { IfOk result (λ made. made.change.woken ≡ both_let_go self.words made.change.desc.words) }
+    {
+        if tag != self.fdseq() {
+            return Ok(made_quiet(Answer::Stale, self));
+        }
+        Ok(Made {
+            answer: Answer::Done,
+            change: change_by_event(mode, error, self),
+        })
     }
 }
 
