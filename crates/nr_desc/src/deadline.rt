@@ -196,6 +196,8 @@ pub(crate) fn change_by_deadline(
         return Ok(quiet(old));
     }
     let desc = with_deadlines_from(clock, mode, time, old);
-    let change = both_follow(old, desc)?;
-    Ok(change.unblock_expired())
+    match both_follow(old, desc) {
+        Ok(change) => Ok(change.unblock_expired()),
+        Err(refusal) => Err(refusal),
+    }
 }

@@ -230,19 +230,18 @@ impl Reversible for Desc {
     #[inline(always)]
     fn apply(&mut self, op: &DescOp) -> Result<(DescAnswer, DescDelta), Refusal> {
         let before = *self;
-        let Made { answer, change } = before.made(*op)?;
-        let DescChange {
-            desc,
-            orders,
-            woken,
-        } = change;
-        *self = desc;
-        let answer = DescAnswer {
-            answer,
-            orders: Orders::new(orders),
-            woken,
-        };
-        Ok((answer, DescDelta { before }))
+        match before.made(*op) {
+            Ok(Made { answer, change }) => {
+                *self = change.desc;
+                let answer = DescAnswer {
+                    answer,
+                    orders: Orders::new(change.orders),
+                    woken: change.woken,
+                };
+                Ok((answer, DescDelta { before }))
+            }
+            Err(refusal) => Err(refusal),
+        }
     }
 
     #[inline(always)]

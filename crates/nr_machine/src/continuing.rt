@@ -44,16 +44,20 @@ impl World {
             self.old result self.new }
     {
         let mut desc = desc;
-        let (left, before) = desc.apply(op)?;
-        let timers = self.core.obey(descriptor, left.orders.sides())?;
-        self.core.set_descriptor(descriptor, desc);
-        self.core.wake_both(descriptor, left.woken);
-        way.put(WorldUndo::Changed {
-            desc: DescUndo { descriptor, before },
-            timers,
-            woken: left.woken,
-        });
-        Ok(left.answer)
+        match desc.apply(op) {
+            Ok((left, before)) => {
+                let timers = self.core.obey(descriptor, left.orders.sides())?;
+                self.core.set_descriptor(descriptor, desc);
+                self.core.wake_both(descriptor, left.woken);
+                way.put(WorldUndo::Changed {
+                    desc: DescUndo { descriptor, before },
+                    timers,
+                    woken: left.woken,
+                });
+                Ok(left.answer)
+            }
+            Err(refusal) => Err(refusal),
+        }
     }
 
     /// An operation that a firing runs on a descriptor, which has been read. It orders nothing: the firing leaves, and those
@@ -106,9 +110,28 @@ impl Core {
         }
     }
 
-    /// The orders to both sides' timers are obeyed, reading first, or none is.
+    /// The orders to both sides' timers are obeyed, reading first, or none is. Most steps order nothing.
     #[inline(always)]
     fn obey(
+        &mut self,
+        descriptor: u32,
+        orders: Sides<Option<TimerOrder>>,
+    ) -> Result<Sides<Option<TimersDelta>>, Refusal>
+        requires timers { IsTimers self.old.timers }
+        requires below { descriptor < self.old.timers.descriptors }
+        ensures obeyed { IfOk result (λ deltas. Obeyed self.old descriptor (listed orders) self.new) }
+        ensures back { IfOk result (λ deltas. ObeyBack deltas self.new self.old) }
+        ensures light { IfOk result (λ deltas. sides_weight (option_weight delta_weight) deltas ≤ 20) }
+        ensures err { IfErr result (λ e. orders_outcome descriptor (listed orders) self.old ≡ Err e) }
+        ensures unchanged { OnErr result (self.new ≡ self.old) }
+    {
+        if orders.read.is_none() && orders.write.is_none() {
+            return Ok(Sides::twice(None));
+        }
+        self.obey_both(descriptor, orders)
+    }
+
+    fn obey_both(
         &mut self,
         descriptor: u32,
         orders: Sides<Option<TimerOrder>>,

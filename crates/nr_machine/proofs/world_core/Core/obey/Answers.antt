@@ -1,15 +1,5 @@
-use Rattle.std.proofs.Common.{sym, subst}
-use Rattle.nr_machine.specs.Changing.{IfAny, TimersBack}
-use Rattle.nr_machine.specs.declared.world_core.Core.{Core}
-use Rattle.nr_machine.proofs.ObeyLemmas.{second_refused, timers_again}
+use Rattle.std.proofs.Common.{refl}
 use Rattle.nr_machine.proofs.world_core.Core.obey.Goals as goal
 
-pub returns-in-Err-clause-err : goal.returns-in-Err-clause-err
-returns-in-Err-clause-err c =
-    second_refused c.args.descriptor c.args.orders.read c.args.orders.write c.args.self.now c.obey_one.new.self c.in-Err.refusal
-    c.in_ok-read.ensures.obeyed c.in-Err.ensures.err
-
-pub returns-in-Err-clause-unchanged : goal.returns-in-Err-clause-unchanged
-returns-in-Err-clause-unchanged c =
-    timers_again c.in_ok-read.read c.obey_one-2.new.self c.unorder.new.self c.args.self.now c.unorder.ensures
-    (subst (λ (core : Core). IfAny TimersBack c.in_ok-read.read core c.args.self.now) (sym c.in-Err.ensures.unchanged) c.in_ok-read.ensures.back)
+pub returns-then-is_none-2-clause-back : goal.returns-then-is_none-2-clause-back
+returns-then-is_none-2-clause-back c = rw c.twice.ensures (c.args.self.now, refl, refl)
