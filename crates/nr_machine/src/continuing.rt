@@ -110,7 +110,7 @@ impl Core {
         }
     }
 
-    /// The orders to both sides' timers are obeyed, reading first, or none is. Most steps order nothing.
+    /// The orders to both sides' timers are obeyed, reading first, or none is. Where nothing is ordered, the heap isn't asked.
     #[inline(always)]
     fn obey(
         &mut self,
@@ -131,6 +131,7 @@ impl Core {
         self.obey_both(descriptor, orders)
     }
 
+    /// Orders to both sides' timers are obeyed, of which at least one asks for something.
     fn obey_both(
         &mut self,
         descriptor: u32,
