@@ -8,10 +8,11 @@ PREFIX = /usr/local
 MINUTES = 5
 COUNT = 10000
 LIB = $(DESTDIR)$(PREFIX)/lib/netrev
+SHARE = $(DESTDIR)$(PREFIX)/share
 INSTALLED = $(notdir $(wildcard python/nrdb python/netrev_model python/netrev_go))
 
-.PHONY: ready help look run hunt test lint refused loopback hostile upgrades system fuzz agree companion sizes netrev examples share bench pace real \
-	install install-files package clean
+.PHONY: ready help look run hunt test lint refused loopback hostile upgrades system fuzz fuzz-around agree companion sizes netrev examples share bench pace real \
+	install install-files package deb try-deb clean
 
 # The program that NETREV names is taken as it is; else the one that is built here, once it is proved.
 ifdef NETREV
@@ -83,6 +84,7 @@ upgrades: ready
 system: ready
 	@python3 python tests.program.system
 	@python3 python tests.program.lengths
+	@python3 python tests.program.endurance
 
 # The built program at the greatest sizes that a recording and a session may have: none may say that memory ran out.
 sizes: ready
@@ -96,6 +98,11 @@ companion: ready
 # differs is kept in out/fuzz (CONTRIBUTING.md). Not in the gate.
 fuzz: ready
 	@python3 python netrev_fuzz --minutes $(MINUTES) --seed "$(SEED)"
+
+# Damaged logs, views over odd files of lines, editors' messages and browsers' lines: `make fuzz-around MINUTES=30 SEED=7`. The gate
+# plays a few of each.
+fuzz-around: ready
+	@python3 python netrev_fuzz.around --minutes $(MINUTES) --seed "$(SEED)"
 
 # Both worlds side by side, over the recordings of examples/ and over random ones: `make agree COUNT=100000 SEED=1`.
 agree:
@@ -140,16 +147,21 @@ pace:
 	@sh bench/pace/prove.sh
 	@python3 python netrev_bench.pace $(lastword $(STEPS))
 
-# Installs netrev, nrdb, netrev-go and the man page below PREFIX: `make install PREFIX=~/.local`.
-install: netrev install-files
+# Installs netrev, nrdb and netrev-go with their man pages and completions below PREFIX: `make install PREFIX=~/.local`; with
+# NETREV=FILE that program, and nothing is proved.
+install: ready install-files
 
 install-files:
-	install -d $(DESTDIR)$(PREFIX)/bin $(LIB) $(DESTDIR)$(PREFIX)/share/man/man1
-	install $(or $(PROGRAM),$(BUILT)) $(DESTDIR)$(PREFIX)/bin/netrev
+	install -d $(DESTDIR)$(PREFIX)/bin $(LIB) $(SHARE)/man/man1 $(SHARE)/bash-completion/completions $(SHARE)/zsh/vendor-completions
+	install $(or $(PROGRAM),$(GIVEN),$(BUILT)) $(DESTDIR)$(PREFIX)/bin/netrev
 	install nrdb $(DESTDIR)$(PREFIX)/bin/nrdb
 	install tools/go/netrev-go $(DESTDIR)$(PREFIX)/bin/netrev-go
 	(cd python && tar -cf - --mode=u=rwX,go=rX --exclude=__pycache__ __main__.py $(INSTALLED)) | tar -xf - --no-same-owner -C $(LIB)
-	python3 scripts/man.py > $(DESTDIR)$(PREFIX)/share/man/man1/netrev.1
+	for name in netrev nrdb netrev-go; do \
+		python3 scripts/man.py $$name > $(SHARE)/man/man1/$$name.1 && \
+		python3 scripts/completion.py bash $$name > $(SHARE)/bash-completion/completions/$$name && \
+		python3 scripts/completion.py zsh $$name > $(SHARE)/zsh/vendor-completions/_$$name || exit 1; \
+	done
 
 # Makes out/netrev-VERSION-linux-x86_64.tar.gz of the program that the gate left, or of NETREV=FILE, with nrdb and the examples,
 # for machines without the toolchain, and tries it: `make package`, or `make package VERSION=other`. The gate has to have passed with that program.
@@ -158,11 +170,20 @@ package:
 	@sh scripts/package.sh $(VERSION) $(GIVEN)
 	@sh scripts/try_package.sh out/netrev-$(VERSION)-linux-x86_64.tar.gz
 
-# Records Go's own tests, those of five other projects and the samples, and compares all answers and lock words: an hour or so. It
-# wants Go and the packages that python/netrev_go/real.py names: `make real ONLY=net/rpc` for some. Not in the gate.
+# Makes out/netrev_VERSION_amd64.deb of that archive, and looks it over with lintian where that is here; `make deb` as `make package`.
+# `make try-deb` installs it in a throw-away root (debootstrap), and records and hunts there.
+deb: package
+	@sh scripts/deb.sh $(VERSION)
+
+try-deb:
+	@sh scripts/try_deb.sh out/netrev_$(VERSION)_amd64.deb
+
+# Records Go's own tests, those of other projects and the samples, and compares all answers and lock words: `make real` with the
+# `go` on the PATH, `make real GO=1.27` or `make real GO=all` with releases of Debian's, fetched where they aren't here and not
+# installed. An hour or so a release; `make real ONLY=net/rpc` for some. Not in the gate but for a small part.
 real: ready
-	@python3 python unittest tests.go_tool
-	@python3 python netrev_go.real --only "$(ONLY)"
+	@python3 python unittest tests.go_tool tests.go_kept tests.go_planted tests.go_tests
+	@python3 python netrev_go.real --only "$(ONLY)" --go "$(GO)"
 
 # Removes all that was built and checked here. What `make test` keeps on this machine stays.
 clean:

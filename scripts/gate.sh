@@ -3,14 +3,16 @@
 #
 # First `rt ci`, whose log is kept in out/gate.log, and what it took, crate by crate, in out/minutes.tsv. What an earlier run on
 # this machine passed, and has not changed since, a kit that keeps it neither proves nor tries again, unless it is told
-# --anew, a word that no other kit knows. Where it passes, each edit that must fail has to have been refused for what it
+# --anew, a word that no other kit knows. Its verdicts are kept in out/verdicts.json, for what docs/TRUSTED.md says of them. Where it passes, each edit that must fail has to have been refused for what it
 # means: not one that can't be tried, or that the prover gave up on, or that is refused only because a proof file names what
 # the edit takes away. And the program that was built has to stand scripts/refused.sh and what python/tests/program plays,
 # play examples/shared.sh and each example, and pass the tests of nrdb, the companion, which play the hunts of
-# examples/hunts, and those of the recorder and the fuzzer. Both worlds have to agree on the recordings of examples/
+# examples/hunts, and those of the recorder and the fuzzer. Where a Go is at hand, the samples and ten tests are recorded with it
+# and compared; where none is, that is said. Both worlds have to agree on the recordings of examples/
 # (scripts/agree.sh). The pages have to say what the tree has (scripts/pages.py), and black and mypy have nothing to say of what
 # is written in Python, where they are here (scripts/lint.sh). The last line is that of `rt ci`, with
-# one more failed for each of these that fails. Where none does, the sum of the program that was played is in out/gate.sum,
+# one more failed for each of these that fails, and how many tests were skipped for want of a tool: those are named before it, and
+# none of them counts as passed. Where none does, the sum of the program that was played is in out/gate.sum,
 # for scripts/package.sh.
 set -eu
 cd "$(dirname "$0")/.."
@@ -30,6 +32,7 @@ lanes=$(nproc)
 { python3 scripts/minutes.py out/minutes.tsv rt ci "$@" 2>&1 && echo 0 > out/gate.status || echo $? > out/gate.status; } | tee "$log"
 read -r status < out/gate.status
 [ "$status" = 0 ] || exit "$status"
+python3 scripts/verdicts.py "$log"
 
 more=0
 if grep -E "BAD EDIT|only by a limit of the prover|only because a proof file names" "$log" >&2; then
@@ -39,16 +42,23 @@ fi
 # Side by side, those first that take longest; alone what measures time or memory, or is told a port that another may take.
 python3 python tests.side_by_side \
 	tests.program.hostile tests.program.each_call tests.program.refused_serving "sh scripts/refused.sh" \
-	"python3 -m unittest" "sh scripts/lint.sh --if-there" tests/program \
+	"python3 python netrev_go.real --gate" \
+	tests.naming "sh scripts/lint.sh --if-there" tests/program tests.program.endurance \
 	tests.program.loopback tests.program.upgrades tests.program.lengths "sh scripts/agree.sh" \
 	"python3 scripts/pages.py" "python3 scripts/surface.py" \
+	--left-out out/left-out.txt \
 	--alone tests.program.system tests.program.sizes "sh examples/play_all.sh" || more=$((more + $?))
 
 # what it took, crate by crate: `python3 scripts/minutes.py out/minutes.tsv`
 python3 scripts/minutes.py out/minutes.tsv | tail -n 2
 
+# what was left out here is named, and isn't among what passed
+skipped=$(wc -l < out/left-out.txt)
+[ "$skipped" = 0 ] || { echo "left out here:" && sed 's/^/    /' out/left-out.txt; }
+
 last=$(tail -n 1 "$log")
 passed=${last%% passed*} failed=${last#*passed, }
 [ "$more" != 0 ] || sha256sum < crates/netrev/out/netrev > "$sum"
-echo "$passed passed, $((${failed%% failed*} + more)) failed"
+skipped=$([ "$skipped" = 0 ] || echo ", $skipped skipped")
+echo "$passed passed, $((${failed%% failed*} + more)) failed$skipped"
 [ "$more" = 0 ]

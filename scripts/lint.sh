@@ -10,7 +10,7 @@ status=0 how=${1-}
 # Whether a tool is here; where it isn't, says so by its name.
 is_here() {
 	command -v "$1" > /dev/null && return
-	echo "lint: $1 isn't on this machine, so what it looks over was left out (Debian: apt-get install $1)" >&2
+	echo "left out: $1: it isn't on this machine (Debian: apt-get install $1)"
 	[ "$how" = --if-there ] || status=1
 	return 1
 }

@@ -1,20 +1,24 @@
 #!/usr/bin/env python3
-"""Writes the man page netrev.1 of docs/COMMANDS.md to standard output:  scripts/man.py > netrev.1
+"""Writes a man page to standard output:  scripts/man.py [netrev | nrdb | netrev-go] > netrev.1
 
-Headings become sections, and each row of a table an entry: so the page says what COMMANDS.md says, and goes stale with
-nothing."""
+That of netrev is docs/COMMANDS.md: headings become sections, and each row of a table an entry. Those of nrdb and netrev-go have the
+options that these take, and the rows of their pages' tables of statuses. So they go stale with nothing."""
 
 from __future__ import annotations
 
+import argparse
 import pathlib
 import re
 import sys
+from collections.abc import Iterator
 
 ROOT = pathlib.Path(__file__).resolve().parents[1]
 COMMANDS = ROOT / "docs/COMMANDS.md"
 sys.path.insert(0, str(ROOT / "python"))
 
+from netrev_go import options  # noqa: E402
 from netrev_model.version import VERSION  # noqa: E402
+from nrdb import cli  # noqa: E402
 
 TITLE = f'.TH NETREV 1 "" "netrev {VERSION}" "User commands"\n'
 HEAD = r""".SH NAME
@@ -97,5 +101,58 @@ def page(markdown: str) -> str:
     return TITLE + HEAD + "\n".join(line for lines in blocks for line in block(lines)) + "\n" + TAIL
 
 
+# Of each other program: its parser, what it is in a line, how it is called, and what it does and how it ends.
+OTHERS: dict[str, tuple[argparse.ArgumentParser, str, str, str]] = {
+    "nrdb": (
+        cli.parser(),
+        "the companion at netrev's prompt",
+        "[options] [FILE]",
+        "nrdb walks a recording in both directions: netrev's replies come as they are, and what nrdb adds to them begins with | and "
+        "is unproved. `help` at its prompt lists the commands. Its exit status is netrev's: 0 done, 1 the recording was "
+        "refused, 2 other words, 3 the file, the program or the connection failed; and 4 where --suspects, "
+        "--explore or --explore-failures prints some.",
+    ),
+    "netrev-go": (
+        options.parser(),
+        "record a Go program as it is",
+        "[options] run | test | build | convert | env | doctor ..",
+        "What stands behind run, test and build is Go's own. run, test and build end with Go's own status, and say their own words on "
+        "standard error. Where Go's is 0, --fail-on makes it 3 and --strict 5. 4 is for something in the way before Go ran, 2 for "
+        "other words.",
+    ),
+}
+
+
+def options_of(parser: argparse.ArgumentParser) -> Iterator[str]:
+    """An entry for each option."""
+    for action in parser._actions:
+        if action.option_strings and action.help:
+            value = f" {action.metavar}" if action.metavar else ""
+            yield from (".TP", text(", ".join(f"`{name}`{value}" for name in action.option_strings)), text(action.help))
+
+
+def other_page(name: str) -> str:
+    """The page of a program by its parser."""
+    parser, summary, called, does = OTHERS[name]
+    head = [
+        f'.TH {name.upper()} 1 "" "netrev {VERSION}" "User commands"',
+        ".SH NAME",
+        rf"{text(name)} \- {text(summary)}",
+    ]
+    head += [".SH SYNOPSIS", f".B {text(name)}", text(called), ".SH DESCRIPTION", text(does)]
+    if name == "netrev-go":
+        head += [".PP", ".nf", *map(text, options.HELP.splitlines()[:6]), ".fi"]
+    return "\n".join([*head, ".SH OPTIONS", *options_of(parser)]) + "\n" + TAIL
+
+
+def main(words: list[str]) -> int:
+    name = words[0] if words else "netrev"
+    if len(words) > 1 or name not in ("netrev", *OTHERS):
+        print(f"man.py netrev | {' | '.join(OTHERS)}", file=sys.stderr)
+        return 2
+    sys.stdout.write(page(COMMANDS.read_text()) if name == "netrev" else other_page(name))
+    return 0
+
+
 if __name__ == "__main__":
-    sys.stdout.write(page(COMMANDS.read_text()))
+    sys.exit(main(sys.argv[1:]))

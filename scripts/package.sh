@@ -1,8 +1,8 @@
 #!/bin/sh
 # Makes an archive for machines without the toolchain:  scripts/package.sh VERSION [PROGRAM]
 #
-# netrev-VERSION-linux-x86_64.tar.gz is left in out/, and its sum beside it. In it are the proved program, nrdb, the man page,
-# the examples, the licenses, the log of the gate that passed, and SHA256SUMS of all that.
+# netrev-VERSION-linux-x86_64.tar.gz is left in out/, and its sum beside it. In it are the proved program, nrdb, netrev-go, their man
+# pages and completions, the editors' files, the examples, the licenses, the log of the gate that passed, and SHA256SUMS of all that.
 #
 # PROGRAM has to be the one that the gate played, by the sum that it left (out/gate.sum). Where none is named, it is the one
 # built here, by the gate or later of the same files; only where none is built is netrev proved first.
@@ -44,6 +44,7 @@ mkdir -p "$top/share/doc/netrev" "$top/examples"
 cp LICENSE LICENSE-MIT LICENSE-APACHE "$top"
 cp "$log" "$top/gate.log"
 cp README.md docs/*.md "$top/share/doc/netrev"
+(tar -cf - editors) | tar -xf - --no-same-owner -C "$top"
 (cd examples && tar -cf - .) | tar -xf - --no-same-owner -C "$top/examples"
 (cd "$top" && find . -type f ! -name SHA256SUMS -print0 | LC_ALL=C sort -z | xargs -0 sha256sum > "$room/sums")
 mv "$room/sums" "$top/SHA256SUMS"

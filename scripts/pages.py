@@ -4,6 +4,9 @@
 The gate runs all rules. These are of pages and Python, and of what pages say of the source:
 
     quotes, texts, runs  what docs/THEOREM.md quotes, and the computed sessions, are as in their files
+    beliefs              the reading list of docs/THEOREM.md is what scripts/beliefs.py prints, and no longer than it may be
+    verdict              docs/TRUSTED.md has what the verdict on netrev takes as given, and nothing that it calls may wait
+    raw-calls            calls that get at a stream or a caller are made where docs/TRUSTED.md has them read by eye
     words                words that docs/GLOSSARY.md gives up are nowhere in pages and Python, as its table says
     promises, names      the functions, clauses and definitions that pages cite are there
     in-files             a name is in the file that a page says it is in: `Step` in `nr_rev/src/step.rt`
@@ -20,6 +23,8 @@ And these of the source itself:
     modules              the two groups of a specs/Lib.antt are what callers need, and what is inside
     comments             no comment leans on the one before it: "The same."
     lines                no line of specs/ has more than 100 columns
+    forgotten            `mem::forget`, and all that leaks memory, is in one file
+    refused              no function of the program says that memory was refused but where an error says so
 
 `--diagram` prints the diagram of the crates. RULE .. runs just these. Prints each finding with its file and line, and ends with
 status 1 where there is one.
@@ -30,13 +35,32 @@ import sys
 from collections.abc import Callable, Iterator
 from pathlib import Path
 
-from page_rules import citations, definitions, links, lists, quotes, sentences, words
+from page_rules import (
+    citations,
+    definitions,
+    links,
+    lists,
+    memory,
+    quotes,
+    raw_calls,
+    reading,
+    sentences,
+    verdict,
+    words,
+)
 from page_rules.tree import Finding, Tree
 
 Rule = Callable[[Tree], Iterator[Finding]]
 
 # what the rules of pages are about: without one of them they would find nothing
-NEEDED = ("docs/THEOREM.md", "docs/GLOSSARY.md", "docs/PROMISES.md", "docs/ARCHITECTURE.md", "crates.txt")
+NEEDED = (
+    "docs/THEOREM.md",
+    "docs/TRUSTED.md",
+    "docs/GLOSSARY.md",
+    "docs/PROMISES.md",
+    "docs/ARCHITECTURE.md",
+    "crates.txt",
+)
 
 
 def given_up(tree: Tree) -> Iterator[Finding]:
@@ -49,6 +73,9 @@ RULES: dict[str, Rule] = {
     "quotes": quotes.quotes,
     "texts": quotes.texts,
     "runs": quotes.runs,
+    "beliefs": reading.reading_list,
+    "verdict": verdict.verdict,
+    "raw-calls": raw_calls.raw_calls,
     "words": given_up,
     "promises": citations.promises,
     "names": citations.names,
@@ -64,6 +91,8 @@ RULES: dict[str, Rule] = {
     "modules": definitions.groups,
     "comments": sentences.leaning_comments,
     "lines": sentences.long_lines,
+    "forgotten": memory.forgotten,
+    "refused": memory.refused,
 }
 
 
@@ -83,7 +112,8 @@ def main(given_words: list[str] | None = None) -> int:
     names = asked.rules or list(RULES)
     faults = [f"there is no {path}" for path in NEEDED if not asked.rules and not tree.has(path)]
     faults += [f"{finding} [{name}]" for name in names for finding in sorted(RULES[name](tree))]
-    print(*faults, f"pages: {len(tree.pages)} pages, {len(names)} rules, {len(faults)} findings", sep="\n")
+    notes = [f"note: {note}" for note in tree.notes]
+    print(*faults, *notes, f"pages: {len(tree.pages)} pages, {len(names)} rules, {len(faults)} findings", sep="\n")
     return 1 if faults else 0
 
 

@@ -17,6 +17,8 @@ TABLE = ROOT / "scripts" / "surface.txt"
 # the first line of a block of methods: an impl without a trait, or a trait
 OWNER = re.compile(r"(?:impl(?:<.*?>)? (?P<type>\w+)(?:<.*>)?(?: \{)?|pub trait (?P<trait>\w+).*)$")
 CALL = re.compile(r"(?P<public>pub )?fn (?P<name>\w+)")
+# the mark of an argument that a body leaves unused, which is no matter of the call
+UNUSED = re.compile(r"(?<=[(\s])_(?=\w+:)")
 # what comes behind a signature: clauses, bounds, the body
 BEHIND = re.compile(r"\s(?:where|requires|ensures|ghost|decreases)\b|\s?\{|;")
 
@@ -35,7 +37,7 @@ def signature(text: str) -> str:
             break
     arguments, rest = text[text.index("(") : at + 1], text[at + 1 :]
     found = BEHIND.search(rest)
-    line = " ".join((arguments + rest[: found.start() if found else None]).split())
+    line = UNUSED.sub("", " ".join((arguments + rest[: found.start() if found else None]).split()))
     return line.replace("( ", "(").replace(", )", ")").replace(" )", ")")
 
 

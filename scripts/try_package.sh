@@ -22,5 +22,9 @@ alone sh examples/play_all.sh
 hunt=examples/hunts/missed-release
 alone bin/nrdb --batch -x "$hunt.nrdb" "$hunt.jsonl" > "$room/session"
 cmp "$room/session" "$hunt.session"
-[ -s share/man/man1/netrev.1 ]
+for name in netrev nrdb netrev-go; do
+	[ -s "share/man/man1/$name.1" ] && [ -s "share/bash-completion/completions/$name" ]
+done
+[ -s editors/emacs/netrev-dap.el ]
+[ "$(alone bin/netrev-go --version)" = "$(alone bin/nrdb --version | sed 's/^nrdb/netrev-go/')" ]
 echo "The package plays all examples and a hunt, without a toolchain."

@@ -10,13 +10,13 @@ from pathlib import Path
 from typing import NamedTuple, Optional
 
 from netrev_go.converting import Wish, convert
-from netrev_go.real import DEBIAN
 from netrev_go.running import LOG
+from netrev_go.suites import DEBIAN
 from netrev_go.toolchain import Go
 from nrdb.exploring.finding import HANG, Exploring
 from nrdb.exploring.making import script_of
 from nrdb.recording import Recording
-from nrdb.suspects import suspects_of
+from nrdb.suspects.ranking import suspects_of
 from nrdb.suspects.found import Rule
 from nrdb.where import Lines
 

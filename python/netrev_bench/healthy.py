@@ -1,7 +1,7 @@
 """The table of healthy programs:  python3 python netrev_bench.healthy [--schedules 3000] [--out FOLDER] [--only TEXT]
 
 Tests of Go's packages and of other projects, drawn by a seed, are recorded on four processors and explored: each finding is printed
-with its place, to be looked at. Go and Debian's packages are needed (python/netrev_go/real.py names them), and no netrev."""
+with its place, to be looked at. Go and Debian's packages are needed (python/netrev_go/suites.py names them), and no netrev."""
 
 import argparse
 import gc
@@ -10,7 +10,8 @@ import sys
 from pathlib import Path
 from typing import Iterator, NamedTuple, Optional
 
-from netrev_go.real import Suite, built, source_folder, tests_of
+from netrev_go.building import built, source_folder, tests_of
+from netrev_go.suites import Suite
 from netrev_go.toolchain import Go, Trouble, find_go
 from nrdb.recording import Recording
 
@@ -51,7 +52,7 @@ def drawn(go: Go, suite: Suite, count: int, out: Path) -> Iterator[Healthy]:
     """So many tests of a package that went well and are neither too short nor too long."""
     program = built(go, suite, out)
     folder = source_folder(go, suite)
-    tests = tests_of(program, folder, suite.tests) if program else []
+    tests = tests_of(program, folder, suite) if program else []
     random.Random(SEED).shuffle(tests)
     for test in tests:
         if count and (

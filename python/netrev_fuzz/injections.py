@@ -7,7 +7,7 @@ from typing import Any, Callable, NamedTuple, Optional
 
 from netrev_model.machine import Limits
 from nrdb.recording import Recording
-from nrdb.suspects import suspects_of
+from nrdb.suspects.ranking import suspects_of
 from nrdb.suspects.found import Rule, Suspect
 
 from .little_go import Program, Turns

@@ -15,6 +15,10 @@ AT_REST = ("idle", "gone", "absent")
 PRINTED = re.compile(r"(gor|lock) (\d+) = (.*)")
 
 
+class Late(Exception):
+    """nrdb takes too long to answer."""
+
+
 def check(netrev: str, recording: pathlib.Path) -> tuple[bool, str]:
     """Whether netrev takes the recording, and its words."""
     run = subprocess.run([netrev, "check", recording], capture_output=True, text=True, check=False)
@@ -33,16 +37,31 @@ def at_the_end(netrev: str, recording: pathlib.Path, steps: int, cells: list[str
 
 
 def suspects(netrev: str, recording: pathlib.Path) -> list[str]:
-    """What nrdb suspects at the end, line by line; nothing, where it has no such topic or doesn't answer."""
+    """What nrdb suspects at the end, line by line; nothing, where it has no such topic. Late where it takes too long."""
     words = [sys.executable, str(PACKAGES), "nrdb", "--batch", "-ex", "continue", "-ex", ASKED, str(recording)]
     try:
         run = subprocess.run(
             words, env=os.environ | {"NETREV": netrev}, capture_output=True, text=True, timeout=PATIENCE, check=False
         )
-    except (OSError, subprocess.TimeoutExpired):
+    except subprocess.TimeoutExpired:
+        raise Late(f"nrdb's suspects took more than {PATIENCE} s") from None
+    except OSError:
         return []
     told = run.stdout.partition(f"(netrev) {ASKED}\n")[2].splitlines()
     return [line.removeprefix("| ") for line in told] if told and told[0].startswith("| ") else []
+
+
+def causes(recording: pathlib.Path, program: str) -> list[str]:
+    """Why calls failed and hang, by nrdb, for a program that failed; nothing where nothing is known of that. Late where it takes too
+    long. `program` is how nrdb is called."""
+    words = [sys.executable, str(PACKAGES), "nrdb.causes", str(recording), program]
+    try:
+        run = subprocess.run(words, capture_output=True, text=True, timeout=PATIENCE, check=False)
+    except subprocess.TimeoutExpired:
+        raise Late(f"nrdb's causes took more than {PATIENCE} s") from None
+    except OSError:
+        return []
+    return run.stdout.splitlines() if run.returncode == 0 else []
 
 
 def hanging(values: dict[tuple[str, int], str]) -> dict[int, str]:

@@ -6,61 +6,31 @@ import argparse
 import gc
 import pathlib
 import shlex
-import shutil
 import subprocess
 import sys
-
-from netrev_model.plain import plain
-from netrev_model.version import VERSION
+from enum import IntEnum
 
 from .converting import Wish, convert
 from .doctor import doctor
-from .running import MOST_POINTS, Limits, Runner, log_of_process, logs_folder, logs_in
-from .sockets import MOST_SOCKETS
-from .toolchain import Go, Trouble, find_go, overlay
-
-DONE, REFUSED, USAGE, TROUBLE = 0, 1, 2, 3
-LEAST_POINTS, GREATEST_POINTS = 2**14, 2**24
-HELP = """\
-netrev-go [options] run . ARGS            records a program, as `go run` runs it
-netrev-go [options] test ./pkg -run TestX records a test
-netrev-go build -o prog .                 builds a program that records where NETREV_LOG=PATH is set: its log is PATH.PID
-netrev-go [options] convert LOG           makes a recording of a log; of a process that runs with --pid PID
-netrev-go env                             prints two variables by which any go run, go test or Makefile records
-netrev-go doctor                          says whether the installed Go fits, and what else is missing
-
-What stands behind run, test and build is Go's own. Nothing has to be changed in the program."""
+from .keeping import Making, complain, say, unwritten
+from .options import POSSIBLE, SUSPECTS, check, parser
+from .outputs import base_name, look, numbered
+from .running import Runner, as_a_shell_has_it, limits_of, log_of_process, logs_folder
+from .testing import record_tests
+from .toolchain import Go, Trouble, find_go
+from .trying import ready
 
 
-def parser() -> argparse.ArgumentParser:
-    made = argparse.ArgumentParser(
-        prog="netrev-go", usage=argparse.SUPPRESS, description=HELP, formatter_class=argparse.RawTextHelpFormatter
-    )
-    made.add_argument(
-        "--version", action="version", version=f"netrev-go {VERSION}", help="prints the version, and ends"
-    )
-    made.add_argument("-o", metavar="NAME", help="the recording is NAME.jsonl, its lines NAME.where (else: recording)")
-    made.add_argument("-n", metavar="SECONDS", type=float, help="a program that runs so long is ended by SIGQUIT")
-    made.add_argument("--procs", metavar="N", type=int, help="GOMAXPROCS")
-    made.add_argument("--points", metavar="N", type=int, default=MOST_POINTS, help="how many points the log keeps")
-    made.add_argument("--sockets", metavar="N", type=int, default=MOST_SOCKETS, help="the newest N sockets alone")
-    made.add_argument("--pid", metavar="PID", type=int, help="convert: the process whose log it is")
-    made.add_argument("--no-lines", action="store_true", help="records no lines of the source")
-    made.add_argument("--no-orders", action="store_true", help="records nothing of channels and of who made whom ready")
-    made.add_argument("--words", action="store_true", help="writes Go's lock words to NAME.words")
-    made.add_argument("--keep", action="store_true", help="keeps the logs, and says where")
-    made.add_argument("command", choices=("run", "test", "build", "convert", "env", "doctor"), metavar="COMMAND")
-    made.add_argument("words_of_go", nargs=argparse.REMAINDER, metavar="...")
-    return made
+class Status(IntEnum):
+    """How netrev-go ends where it isn't Go's own status with which it does."""
 
-
-def base_name(given: str | None, otherwise: str = "recording") -> pathlib.Path:
-    return pathlib.Path((given or otherwise).removesuffix(".jsonl"))
-
-
-def numbered(base: pathlib.Path, made: int) -> pathlib.Path:
-    """NAME.jsonl, NAME-2.jsonl, .."""
-    return base.with_name(base.name + (f"-{made}" if made > 1 else "") + ".jsonl")
+    DONE = 0
+    REFUSED = 1  # a log that is converted gives no recording
+    USAGE = 2
+    SUSPECTED = 3  # and --fail-on asks for that
+    TROUBLE = 4
+    UNRECORDED = 5  # and --strict asks for that
+    INTERRUPTED = 130
 
 
 def flags(go: Go, words: list[str]) -> list[str]:
@@ -69,103 +39,100 @@ def flags(go: Go, words: list[str]) -> list[str]:
     if any(word.lstrip("-").startswith("overlay") for word in words if word.startswith("-")) or "-overlay" in go.flags:
         raise Trouble("netrev-go uses -overlay itself: leave yours out, or put those files into place")
     own = any(word.lstrip("-").startswith("gcflags") for word in words if word.startswith("-"))
-    return ["-overlay", str(overlay(go)), *([] if own else ["-gcflags=-l"])]
+    return ["-overlay", str(ready(go)), *([] if own else ["-gcflags=-l"])]
 
 
 def record(options: argparse.Namespace, go: Go) -> int:
-    wish, words = Wish(options.sockets, options.words), options.words_of_go
-    limits = Limits(options.n, options.procs, options.points, not options.no_lines, not options.no_orders)
+    """Runs Go's command, and makes recordings of what ran. The status is Go's own, unless another one is asked for."""
+    words = options.words_of_go
     once = ["-count=1"] if options.command == "test" else []
     command = [go.program, options.command, *flags(go, words), *once, *words]
-    folder = logs_folder(options.points)
+    if options.command == "test":
+        came = record_tests(options, go, command, wish_of(options))
+        bad = (
+            came.suspected
+            and SUSPECTS in (options.fail_on or ())
+            or came.possible
+            and POSSIBLE in (options.fail_on or ())
+        )
+        return status_of(came.status, bad, options.strict and not came.all_recorded)
     base = base_name(options.o)
-    so_far = 0
-
-    def make_so_far() -> None:
-        nonlocal so_far
-        so_far += 1
-        make_all(folder, base.with_name(f"{base.name}-so-far-{so_far}"), go, wish)
-
+    look(base)
+    folder = logs_folder(options.points)
+    making = Making(folder, base, go, wish_of(options))
     try:
-        status = Runner(command, folder, limits).wait(make_so_far)
-        ok, made = make_all(folder, base, go, wish)
-        if not made:
-            why = "Go failed before it ran" if status else "no program was run, or it opened no log"
-            print(f"nothing was recorded: {why}", file=sys.stderr)
-        return DONE if ok and made else REFUSED
+        status = as_a_shell_has_it(Runner(command, folder, limits_of(options)).wait(making.so_far))
+        making.all(status != 0)
+        bad = making.suspected and SUSPECTS in (options.fail_on or ())
+        return status_of(status, bad, options.strict and (making.trouble or not making.all_taken))
     finally:
-        if options.keep:
-            print(f"the logs are in {folder}")
-        else:
-            shutil.rmtree(folder, ignore_errors=True)
+        making.leave(options.keep)
 
 
-def make_all(folder: pathlib.Path, base: pathlib.Path, go: Go, wish: Wish) -> tuple[bool, int]:
-    """A recording of each log of a folder in which sockets were opened: whether all are taken, and how many logs there are."""
-    logs = logs_in(folder)
-    made, ok, without = 0, True, 0
-    for log in logs:
-        outcome = convert(log, numbered(base, made + 1), go, wish)
-        if outcome.is_empty:
-            without += 1
-            continue
-        made += 1
-        ok = ok and outcome.taken
-        print("\n".join(outcome.lines), flush=True)
-    if without and not made:
-        print("no socket was opened: there is nothing to record", file=sys.stderr)
-        return False, len(logs)
-    if without:
-        print(f"{without} more processes opened no socket")
-    return ok, len(logs)
+def status_of(status: int, is_suspected: bool, is_unrecorded: bool) -> int:
+    """Go's own status first."""
+    if status:
+        return status
+    return Status.SUSPECTED if is_suspected else Status.UNRECORDED if is_unrecorded else Status.DONE
+
+
+def wish_of(options: argparse.Namespace) -> Wish:
+    return Wish(options.sockets, options.megabytes, options.words, options.all_bytes)
 
 
 def convert_one(options: argparse.Namespace) -> int:
+    """Makes recordings of logs. One that can't be made takes nothing from the others."""
     logs = [pathlib.Path(word) for word in options.words_of_go]
     if options.pid is not None:
         logs.append(log_of_process(options.pid))
     if not logs:
         print("convert: which log? (or --pid PID)", file=sys.stderr)
-        return USAGE
+        return Status.USAGE
+    base = base_name(options.o, (logs[0].name if len(logs) == 1 else "") or "recording")
     try:
         go: Go | None = find_go()
     except Trouble:
         go = None
-    ok = True
+    status: int = Status.DONE
     for index, log in enumerate(logs, 1):
-        name = numbered(base_name(options.o, log.name if len(logs) == 1 else "recording"), index)
-        outcome = convert(log, name, go, Wish(options.sockets, options.words))
-        print("\n".join(outcome.lines))
-        ok = ok and outcome.taken
-    return DONE if ok else REFUSED
+        try:
+            outcome = convert(log, numbered(base, index), go, wish_of(options))
+        except OSError as fault:
+            complain(unwritten(numbered(base, index), fault))
+            status = Status.TROUBLE
+            continue
+        say(outcome.lines, sys.stdout)
+        status = status or (Status.DONE if outcome.taken else Status.REFUSED)
+    return status
 
 
 def build(options: argparse.Namespace, go: Go) -> int:
     words = options.words_of_go
     run = subprocess.run([go.program, "build", *flags(go, words), *words], check=False)
     if run.returncode == 0:
-        print(
-            "It records where NETREV_LOG=PATH is set: its log is PATH.PID, and `netrev-go convert PATH.PID` makes a recording"
+        say(
+            [
+                "It records where NETREV_LOG=PATH is set: its log is PATH.PID, and `netrev-go convert PATH.PID` makes a recording"
+            ]
         )
-    return DONE if run.returncode == 0 else TROUBLE
+    return as_a_shell_has_it(run.returncode)
 
 
 def env(go: Go) -> int:
-    path = str(overlay(go))
+    path = str(ready(go))
     if any(c.isspace() for c in path):
         raise Trouble(f"{path} has a blank in it, which GOFLAGS can't have: XDG_CACHE_HOME names another folder")
     folder = pathlib.Path("/dev/shm" if pathlib.Path("/dev/shm").is_dir() else "/tmp")
     print(f"export GOFLAGS={shlex.quote(f'{go.flags} -overlay={path} -count=1'.strip())}")
     print(f"export NETREV_LOG={folder}/mine")
-    return DONE
+    return Status.DONE
 
 
 def main(arguments: list[str] | None = None) -> int:
     options = parser().parse_args(arguments)
     gc.disable()  # a log has millions of small things, and no cycle among them
     try:
-        if not LEAST_POINTS <= options.points <= GREATEST_POINTS:
-            raise Trouble(f"--points is from {LEAST_POINTS} to {GREATEST_POINTS}")
+        check(options)
         if options.command == "convert":
             return convert_one(options)
         if options.command == "doctor":
@@ -175,5 +142,8 @@ def main(arguments: list[str] | None = None) -> int:
             return build(options, go)
         return env(go) if options.command == "env" else record(options, go)
     except Trouble as trouble:
-        print("netrev-go: " + "\n".join(plain(line) for line in str(trouble).split("\n")), file=sys.stderr)
-        return TROUBLE
+        complain(str(trouble))
+        return Status.TROUBLE
+    except KeyboardInterrupt:
+        complain("interrupted")
+        return Status.INTERRUPTED

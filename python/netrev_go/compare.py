@@ -1,18 +1,26 @@
-"""Compares Go's own lock words (NAME.words) with netrev's."""
+"""Compares a recording with the machine: each answer, and Go's own lock words. netrev is asked, or the model in Python."""
 
 from __future__ import annotations
 
 import json
 import pathlib
 import subprocess
+from collections import defaultdict
+
+from netrev_model.jsontext import Doubtful
+from netrev_model.observing import Observer
+from netrev_model.reading import Fault, positions, read_text
 
 # A session has room for 65,536 commands that move, so longer recordings are asked for in several.
 AT_ONCE = 30_000
 
+DIFFERS = "a lock word differs"
+REFUSES = "the model in Python refuses the recording"
 Word = tuple[int, str, str]
 
 
 def read_words(name: pathlib.Path) -> list[Word]:
+    """Go's lock words, as they were written beside a recording."""
     words = (json.loads(line) for line in name.read_text().splitlines())
     return [(int(step), str(cell), str(value)) for step, cell, value in words]
 
@@ -30,6 +38,11 @@ def asked(netrev: str, recording: pathlib.Path, words: list[Word]) -> list[str]:
     return [reply for reply in run.stdout.splitlines() if " = " in reply]
 
 
+def sentence(step: int, cell: str, value: str, said: str) -> str:
+    """What is said of a lock word that differs."""
+    return f"step {step}: Go had {cell} = {value}, netrev says {said}"
+
+
 def differing(netrev: str, recording: pathlib.Path) -> tuple[int, list[str]]:
     """How many lock words were compared, and what is said of those that differ."""
     words = read_words(recording.with_suffix(".words"))
@@ -39,7 +52,26 @@ def differing(netrev: str, recording: pathlib.Path) -> tuple[int, list[str]]:
     if len(told) != len(words):
         return len(words), [f"netrev gave {len(told)} values of {len(words)}"]
     return len(words), [
-        f"step {step}: Go had {cell} = {value}, netrev says {reply}"
+        sentence(step, cell, value, reply)
         for (step, cell, value), reply in zip(words, told)
         if reply != f"{cell} = {value}"
     ]
+
+
+def by_the_model(recording: pathlib.Path) -> tuple[bool, str]:
+    """Whether the model takes the recording with all its answers and lock words, and what it says."""
+    words: dict[int, list[Word]] = defaultdict(list)
+    for word in read_words(recording.with_suffix(".words")):
+        words[word[0]].append(word)
+    position = 0
+    try:
+        for position, (world, _) in enumerate(positions(read_text(recording.read_bytes()), Observer())):
+            for step, cell, value in words.get(position, ()):
+                said = world.sockets[int(cell.split()[1])].lock.number
+                if str(said) != value:
+                    return False, f"{DIFFERS}: {sentence(step, cell, value, f'{cell} = {said}')}"
+    except Fault as fault:
+        return False, f"{REFUSES}: {fault}"
+    except Doubtful as doubt:
+        return False, f"{REFUSES}: it has no opinion of {doubt}"
+    return True, f"ok {position} steps"

@@ -5,16 +5,21 @@ just before the write that they make room for; and a socket's output is just so 
 
 from __future__ import annotations
 
+from collections import defaultdict
 from collections.abc import Callable
+from itertools import chain
 
+from .answering import BROKEN_PIPE, Unconvertible, can_answer, lock_answer, mode_of, parts, side_of
+from .beside import Beside
 from .deadlines import READING, SIDES, WRITING, Deadlines
+from .orders import Made
 from .points import LOCKING, Kind, Point
 from .sockets import AGAIN, BUFFER, Socket
+from .zeros import Line, line_with
 
-BROKEN_PIPE = 2
 CURRENT_READ, STALE = 1, 4
+EVENT_ERROR, EVENT_STALE = 1, 2
 GREATEST = 2**63 - 1
-MODES = {ord("r"): "r", ord("w"): "w", ord("r") + ord("w"): "rw"}
 LOCK_STEPS: dict[int, str] = {
     Kind.INCREF: "incref",
     Kind.INCREF_CLOSE: "increfclose",
@@ -22,8 +27,8 @@ LOCK_STEPS: dict[int, str] = {
     Kind.RW_LOCK: "rwlock",
     Kind.RW_UNLOCK: "rwunlock",
 }
+CHECK, WAIT_CHECK = int(Kind.CHECK), int(Kind.WAIT_CHECK)
 SIDED = {int(Kind.RW_LOCK), int(Kind.RW_UNLOCK)}
-UNLOCKING = {int(Kind.DECREF), int(Kind.RW_UNLOCK)}
 CHECKS: dict[int, str] = {
     Kind.RESET: "pollreset",
     Kind.WAIT_BEGIN: "waitbegin",
@@ -32,66 +37,25 @@ CHECKS: dict[int, str] = {
 }
 
 
-class Unconvertible(Exception):
-    """The log is of something that a recording can't tell."""
-
-
-def parts(count: int, most: int) -> list[int]:
-    """A number of bytes in parts that a step can move."""
-    return [most] * (count // most) + ([count % most] if count % most else [])
-
-
-def mode_of(point: Point) -> str:
-    """The side or the sides of a point at a descriptor."""
-    mode = MODES.get(point.a)
-    if mode is None:
-        raise Unconvertible(f"point {point.number}: {point.a} is neither reading nor writing")
-    return mode
-
-
-def side_of(point: Point) -> str:
-    mode = mode_of(point)
-    if len(mode) > 1:
-        raise Unconvertible(f"point {point.number}: one side is meant, and not both")
-    return mode
-
-
-def lock_answer(kind: int, was_closed: bool, bits: int) -> str:
-    """What Go's function returned: the log has its own expression for it, and that a closed word was found."""
-    if kind in UNLOCKING:
-        return "last" if bits & 2 else "notlast"
-    if was_closed:
-        return "no"
-    return "yes" if bits & 2 else "wait"
-
-
-def can_answer(socket: Socket, point: Point) -> bool:
-    """Whether the machine has an answer for what a read or a write came to. It has none for most errors, none for an EPIPE
-    that the other end brought about, and none for an output that was filled otherwise than by Write."""
-    if point.b > 0:
-        return True
-    if point.c == AGAIN:
-        return point.kind == Kind.READ or socket.held == socket.capacity()
-    return point.c == BROKEN_PIPE and socket.shut if point.kind == Kind.WRITE else point.c == 0
-
-
 class Converter:
     """The recording so far: its lines, the stack of each (0 where none is known), and Go's lock words."""
 
     def __init__(self, points: list[tuple[Point, Socket]], begin: int) -> None:
         self.points = points
         self.begin = begin
-        self.lines: list[str] = []
+        self.lines: list[Line] = []
         self.stacks: list[int] = []
         self.words: list[tuple[int, int, int]] = []  # after which step, which socket, and Go's word then
+        self.olds: list[int] = []  # and Go's word before
         self.goroutines: dict[int, int] = {}
         self.last_steps: list[int] = []  # of each goroutine
         self.names: list[int] = []  # Go's own, of each goroutine
-        self.made_of: dict[
-            int, list[tuple[int, int]]
-        ] = {}  # of a point's number the goroutines' steps, each with Go's name
-        self._made: list[tuple[int, int]] = []
+        self.ended: list[int] = []  # how many steps there are behind each point
+        self.made: list[Made] = []  # the goroutines' steps, by Go's names
+        self._number = 0  # of the point
         self.last_stacks: list[int] = []
+        self._lock_texts: dict[tuple[int, bool, int], tuple[str, str]] = {}
+        self._check_texts: dict[tuple[int, int, int], tuple[str, str]] = {}
         self.sockets = 0
         self.free: list[int] = []
         self.descriptors = 0
@@ -100,6 +64,7 @@ class Converter:
         self.deadlines = Deadlines()
         self.later_fires = {(socket, *self.firing(point)) for point, socket in points if point.kind == Kind.FIRE}
         self.put_off: dict[Socket, tuple[int, int]] = {}  # closewrites that a write overtook, with their stacks
+        self.beside = Beside()
 
     def convert(self) -> None:
         table: dict[int, Callable[[Point, Socket], None]] = dict.fromkeys(LOCKING, self.lock_word)
@@ -108,26 +73,34 @@ class Converter:
             Kind.INIT: self.socket_opens, Kind.READ: self.read, Kind.WRITE: self.write, Kind.CLOSE_WRITE: self.close_write,
             Kind.ACQUIRE: self.acquire, Kind.RELEASE: self.release, Kind.OPEN: self.open, Kind.CLOSE: self.close,
             Kind.ARM: self.arm, Kind.PARK: self.park, Kind.SWAP: self.swap, Kind.SET_DEADLINE: self.set_deadline,
-            Kind.EVICT: self.evict, Kind.EVENT: self.event, Kind.FIRE: self.fire,
+            Kind.EVICT: self.evict, Kind.EVENT: self.event, Kind.FIRE: self.fire, Kind.NAMED: self.named,
         }  # fmt: skip
+        lines, ended = self.lines, self.ended
         for point, socket in self.points:
-            self._made = []
-            table[point.kind](point, socket)
-            self.made_of[point.number] = self._made
+            self._number = point[0]
+            table[point[1]](point, socket)
+            ended.append(len(lines))
 
-    def step(self, text: str) -> None:
+    def made_of(self) -> dict[int, int]:
+        """How many steps were made of each socket, by its opening."""
+        counts: dict[int, int] = defaultdict(int)
+        for (_, socket), before, behind in zip(self.points, chain((0,), self.ended), self.ended):
+            counts[socket.opening] += behind - before
+        return counts
+
+    def step(self, text: Line) -> None:
         """A step of no goroutine's."""
         self.lines.append(text)
         self.stacks.append(0)
 
-    def of(self, g: int, stack: int, text: str) -> None:
+    def of(self, g: int, stack: int, text: Line) -> None:
         """A step of a goroutine's. Where its point was passed on another stack, it stands where it stood before."""
         if stack:
             self.last_stacks[g] = stack
         self.lines.append(text)
         self.stacks.append(stack or self.last_stacks[g])
         self.last_steps[g] = len(self.lines)
-        self._made.append((self.names[g], len(self.lines)))
+        self.made.append((self._number, self.names[g], len(self.lines)))
 
     def goroutine(self, identity: int) -> int:
         """A goroutine's number; one that wasn't met before is spawned."""
@@ -157,9 +130,27 @@ class Converter:
         g = self.goroutines.get(identity)
         if g is None:
             g = self.goroutine(identity)
+        said = kind, old == new, bits
+        before, behind = self._lock_texts.get(said) or self._lock_text(said)
+        if stack:  # (as `of` has it: nearly half of all points come by here)
+            self.last_stacks[g] = stack
+        else:
+            stack = self.last_stacks[g]
+        lines = self.lines
+        lines.append(f"{before}{g},{socket.number}{behind}")
+        self.stacks.append(stack)
+        step = self.last_steps[g] = len(lines)
+        self.made.append((self._number, identity, step))
+        self.words.append((step, socket.number, new))
+        self.olds.append(old)
+
+    def _lock_text(self, said: tuple[int, bool, int]) -> tuple[str, str]:
+        """What stands before and behind the numbers in the line of a lock word's step."""
+        kind, was_closed, bits = said
         side = (',"r"' if bits & 1 else ',"w"') if kind in SIDED else ""
-        self.of(g, stack, f'["{LOCK_STEPS[kind]}",{g},{socket.number}{side},"{lock_answer(kind, old == new, bits)}"]')
-        self.words.append((len(self.lines), socket.number, new))
+        text = f'["{LOCK_STEPS[kind]}",', f'{side},"{lock_answer(kind, was_closed, bits)}"]'
+        self._lock_texts[said] = text
+        return text
 
     def acquire(self, point: Point, _: Socket) -> None:
         g = self.goroutine(point.goroutine)
@@ -172,10 +163,10 @@ class Converter:
     def read(self, point: Point, socket: Socket) -> None:
         g = self.goroutine(point.goroutine)
         if not can_answer(socket, point):
-            return
+            return self.beside.failed(self.last_steps[g], point)
         text = f'["sysread",{g},{socket.number},{min(max(point.a, 1), BUFFER)}'
         for count in parts(max(point.b, 0), BUFFER):
-            self.step(f'["arrive",{socket.number},"{"0" * (2 * count)}","done"]')
+            self.step(line_with(f'["arrive",{socket.number},"', count, '","done"]'))
             self.of(g, point.stack, f'{text},["got",{count}]]')
         if point.b > 0:
             return
@@ -187,11 +178,11 @@ class Converter:
     def write(self, point: Point, socket: Socket) -> None:
         g = self.goroutine(point.goroutine)
         if not can_answer(socket, point):
-            return
+            return self.beside.failed(self.last_steps[g], point)
         text = f'["syswrite",{g},{socket.number}'
         if point.b <= 0:
             answer = "pipe" if point.c == BROKEN_PIPE else "again"
-            self.of(g, point.stack, f'{text},"{"00" * min(max(point.a, 1), BUFFER)}","{answer}"]')
+            self.of(g, point.stack, line_with(f'{text},"', min(max(point.a, 1), BUFFER), f'","{answer}"]'))
             return
         for count in parts(point.b, min(socket.capacity(), BUFFER)):
             missing = socket.held + count - socket.capacity()
@@ -199,7 +190,7 @@ class Converter:
                 self.step(f'["drain",{socket.number},{missing},"done"]')
                 socket.held -= missing
             socket.held += count
-            self.of(g, point.stack, f'{text},"{"00" * count}",["put",{count}]]')
+            self.of(g, point.stack, line_with(f'{text},"', count, f'",["put",{count}]]'))
         if socket.last_put == point.number and socket in self.put_off:
             self.shut(socket, *self.put_off.pop(socket))
 
@@ -216,10 +207,27 @@ class Converter:
         self.of(g, stack, f'["closewrite",{g},{socket.number},"done"]')
 
     def check(self, point: Point, socket: Socket) -> None:
-        g = self.goroutine(point.goroutine)
-        name = CHECKS[point.kind]
-        where = "" if point.kind in (Kind.CHECK, Kind.WAIT_CHECK) else f',{socket.descriptor},"{side_of(point)}"'
-        self.of(g, point.stack, f'["{name}",{g}{where},["code",{point.b}]]')
+        """One of the four checks of a descriptor."""
+        number, kind, identity, _, mode, code, _, _, stack = point
+        g = self.goroutines.get(identity)
+        if g is None:
+            g = self.goroutine(identity)
+        said = kind, mode, code
+        before, behind = self._check_texts.get(said) or self._check_text(point)
+        where = "" if kind == CHECK or kind == WAIT_CHECK else f",{socket.descriptor}"
+        if stack:  # (as `of` has it)
+            self.last_stacks[g] = stack
+        self.lines.append(f"{before}{g}{where}{behind}")
+        self.stacks.append(stack or self.last_stacks[g])
+        step = self.last_steps[g] = len(self.lines)
+        self.made.append((number, identity, step))
+
+    def _check_text(self, point: Point) -> tuple[str, str]:
+        """What stands before and behind the numbers in the line of a check."""
+        side = "" if point.kind in (Kind.CHECK, Kind.WAIT_CHECK) else f',"{side_of(point)}"'
+        text = f'["{CHECKS[point.kind]}",', f'{side},["code",{point.b}]]'
+        self._check_texts[point.kind, point.a, point.b] = text
+        return text
 
     def arm(self, point: Point, _: Socket) -> None:
         g = self.goroutine(point.goroutine)
@@ -235,9 +243,12 @@ class Converter:
         self.of(g, point.stack, f'["blockswap",{g},"{"yes" if point.b else "no"}"]')
 
     def event(self, point: Point, socket: Socket) -> None:
-        """One that was fetched before the descriptor was closed comes too late: Go 1.19 lets it go by at a free one."""
-        answer = "done" if socket.is_open else "stale"
-        self.step(f'["pollevent",{socket.descriptor},{socket.tag},"{mode_of(point)}",{point.b},"{answer}"]')
+        """One that was fetched before the descriptor was closed comes too late: Go says so where its events have tags, and lets
+        it go by at a free descriptor where they have none."""
+        is_stale = point.b & EVENT_STALE if point.c else not socket.is_open
+        answer = "stale" if is_stale else "done"
+        tag, error = socket.tag, point.b & EVENT_ERROR
+        self.step(f'["pollevent",{socket.descriptor},{tag},"{mode_of(point)}",{error},"{answer}"]')
 
     def open(self, point: Point, socket: Socket) -> None:
         g = self.goroutine(point.goroutine)
@@ -312,6 +323,9 @@ class Converter:
         sides = "".join(name for bit, name in enumerate(SIDES) if point.b & 1 << bit)
         self.deadlines.fire(place, sides)
         self.step(f'["fire",{place},"{"stale" if point.b & STALE else "done"}"]')
+
+    def named(self, point: Point, socket: Socket) -> None:
+        self.beside.named(socket.number, point)
 
     def header(self) -> str:
         # A recording has room for two firings a descriptor that wait to be run. Several processors may have more.

@@ -4,15 +4,22 @@ from __future__ import annotations
 
 import pathlib
 import re
+from bisect import bisect_left
 from dataclasses import dataclass
+from functools import partial
 
+from netrev_model.files import forget_where
 from netrev_model.plain import plain
 
+from .cutting import sockets_of
 from .lines import Roots, lines_of
 from .logfile import NoLog, read_log
-from .making import NoSocket, Nothing, Unconvertible, make, write, write_words
+from .making import NoSocket, Nothing, Part, Recording, Unconvertible, make, write, write_words
+from .outputs import LINES, WORDS
+from .points import Log
+from .ran import Ran, Tests, of_log
 from .report import report
-from .sockets import MOST_SOCKETS
+from .sockets import MOST_MEGABYTES, MOST_SOCKETS
 from .toolchain import Go
 from .where import write_where
 
@@ -24,7 +31,10 @@ class Wish:
     """What is to be made of a log."""
 
     sockets: int = MOST_SOCKETS
+    megabytes: int = MOST_MEGABYTES
     words: bool = False
+    all_bytes: bool = False
+    failed: bool = False  # Go's command ended with a status other than 0
 
 
 def program_of(log: pathlib.Path, key: str) -> pathlib.Path:
@@ -41,25 +51,63 @@ class Outcome:
     is_empty: bool = False
 
 
+@dataclass
+class ReadLog:
+    """A log that is read once, of whose tests recordings are made."""
+
+    path: pathlib.Path
+    log: Log
+    tests: Tests
+
+
 def convert(log: pathlib.Path, name: pathlib.Path, go: Go | None, wish: Wish) -> Outcome:
     """Makes the recording NAME of a log, and NAME.where beside it where Go is there to tell its lines."""
     try:
-        read = read_log(log)
-        recording = make(read, wish.sockets)
-    except (NoLog, Nothing, Unconvertible) as fault:
-        return Outcome(False, [f"{plain(str(log))}: {fault}"], isinstance(fault, NoSocket))
+        return converted(ReadLog(log, read_log(log), of_log(log)), name, go, wish)
+    except NoLog as fault:
+        return Outcome(False, [f"{plain(str(log))}: {fault}"])
+
+
+def converted(read: ReadLog, name: pathlib.Path, go: Go | None, wish: Wish, test: Ran | None = None) -> Outcome:
+    """Makes the recording NAME of a log that was read, or of one of its tests, where one is named."""
+    log = read.log
+    part: Part | None = None
+    if test is not None:
+        part = partial(sockets_of, test, tests=read.tests.ran)
+    try:
+        recording = make(log, wish.sockets, wish.megabytes, wish.all_bytes, part)
+    except (Nothing, Unconvertible) as fault:
+        return Outcome(False, [f"{plain(str(read.path))}: {fault}"], isinstance(fault, NoSocket))
+    lines = name.with_suffix(LINES)
+    forget_where(lines)
     write(recording, name)
     if wish.words:
-        write_words(recording, name.with_suffix(".words"))
+        write_words(recording, name.with_suffix(WORDS))
     calls = {}
     if go:
         roots = Roots(go.sources(), pathlib.Path.cwd())
-        calls = lines_of(read, set(recording.stacks), program_of(log, read.program), go.program, roots)
+        used = set(recording.stacks) | {wait.stack for wait in recording.beside.waits}
+        calls = lines_of(log, used, program_of(read.path, log.program), go.program, roots)
     has_lines = any(known.calls for known in calls.values())
-    if has_lines or recording.orders is not None:
-        write_where(name.with_suffix(".where"), recording.stacks, calls, recording.orders)
+    more = of_tests(recording, read.tests)
+    if has_lines or recording.orders is not None or more:
+        write_where(lines, recording.stacks, calls, recording.orders, recording.beside, more)
     if any(recording.stacks) and not has_lines:
         recording.notes.append(
             "no lines: Go or the program's copy isn't here, or Go reads no lines of it (-buildmode=pie)"
         )
-    return Outcome(*report(recording, name, calls))
+    return Outcome(*report(recording, name, calls, wish.failed))
+
+
+def of_tests(recording: Recording, tests: Tests) -> list[dict[str, object]]:
+    """What is said of the recording besides: as how many bytes a read or a write counts at most, and from which step to which each
+    test ran."""
+    more: list[dict[str, object]] = [] if recording.bytes is None else [{"bytes": recording.bytes}]
+    numbers = [number for number, _, _ in recording.made] if tests.ran else []
+    for test in tests.ran:
+        first = bisect_left(numbers, test.began)
+        last = bisect_left(numbers, test.ended) if test.ended is not None else len(numbers)
+        if first < last:
+            steps = [recording.made[first][2], recording.made[last - 1][2]]
+            more.append({"test": test.name, "package": test.package, "steps": steps})
+    return more

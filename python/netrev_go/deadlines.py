@@ -44,6 +44,7 @@ class Deadlines:
         self.descriptors: dict[int, Descriptor] = {}
         self.heap: list[tuple[int, int, Timer]] = []
         self.firings: list[Timer] = []
+        self._keys: list[tuple[int, int, int]] = []  # of each firing its descriptor, side and sequence
         self.armings = 0
         self.most_firings = 0
 
@@ -122,17 +123,19 @@ class Deadlines:
         if timer:
             timer.armed = False
             self.firings.append(timer)
+            self._keys.append((timer.descriptor, timer.side, timer.sequence))
             self.most_firings = max(self.most_firings, len(self.firings))
 
     def place(self, number: int, side: int, sequence: int) -> int | None:
         """Where a firing stands in the list, if it does."""
-        for place, firing in enumerate(self.firings):
-            if (firing.descriptor, firing.side, firing.sequence) == (number, side, sequence):
-                return place
-        return None
+        try:
+            return self._keys.index((number, side, sequence))
+        except ValueError:
+            return None
 
     def fire(self, place: int, sides: str) -> None:
         firing = self.firings.pop(place)
+        del self._keys[place]
         descriptor = self.descriptors[firing.descriptor]
         if descriptor.sequences[firing.side] == firing.sequence:
             for side in (READING, WRITING):

@@ -1,4 +1,4 @@
-"""`netrev-go doctor`: what is here, what is missing, and which rules fit the installed Go."""
+"""`netrev-go doctor`: what is here, what is missing, and whether the installed Go can be recorded."""
 
 from __future__ import annotations
 
@@ -6,42 +6,54 @@ import tempfile
 
 from netrev_model.built import netrev_program
 
+from .calls_of_go import unknown_calls
 from .running import MOST_POINTS, logs_folder
-from .toolchain import HOW_TO_INSTALL, TRIED, Trouble, cache, find_go, fit
-
-WITHOUT = "without the program's orders"  # so begins a line of a rule that can be done without
+from .toolchain import HOW_TO_INSTALL, WITHOUT, Go, Trouble, cache, find_go, fit, overlay, tried
+from .trying import trial
 
 
 def doctor() -> int:
     """Prints a line for each thing that is needed; the status is 1 where one is missing."""
     try:
         go = find_go()
+        print(f"Go: {go.version}, {go.system}, in {go.root} ({tried(go.version)})")
+        fits = rules_fit(go)
     except Trouble as trouble:
         print(f"Go: {trouble}")
         return 1
-    tried = "this release was tried" if go.version == TRIED else f"never tried; {TRIED} was"
-    print(f"Go: {go.version}, {go.system}, in {go.root} ({tried})")
+    room, writable = has_room(), can_write()
+    netrev = netrev_program()
+    print(f"netrev: {netrev or 'not here: recordings are made and not checked (make netrev, or NETREV)'}")
+    return 0 if fits and room and writable and tries_well(go) else 1
+
+
+def rules_fit(go: Go) -> bool:
+    """Prints how each rule fits, and which calls of Go's no rule knows."""
     fits, rules = fit(go)
     for rule in rules:
         print(f"  {rule}")
-    without = any(rule.startswith(WITHOUT) for rule in rules)
-    print(
-        f"rules: not all fit, so this Go can't record. {HOW_TO_INSTALL} (1.19.8)" if not fits
-        else "rules: all fit but those of the program's orders, which aren't recorded" if without
-        else "rules: all fit"
-    )  # fmt: skip
+    without = [rule for rule in rules if rule.startswith(WITHOUT)]
+    if not fits:
+        print(f"rules: not all fit, so this Go isn't recorded. {HOW_TO_INSTALL}")
+    elif without:
+        print(f"rules: all that can't be done without fit, and {len(without)} don't: all else is recorded without")
+    else:
+        print("rules: all fit")
+    if unknown := unknown_calls(go):
+        print(f"calls: {', '.join(unknown)}: no rule knows these, and what bytes go by them isn't recorded")
+    return fits
+
+
+def has_room() -> bool:
+    """Whether there is room for logs."""
     try:
         folder = logs_folder(MOST_POINTS)
-        print(f"room: the logs go to {folder.parent}")
-        folder.rmdir()
-        room = True
     except Trouble as trouble:
         print(f"room: {trouble}")
-        room = False
-    writable = can_write()
-    netrev = netrev_program()
-    print(f"netrev: {netrev or 'not here: recordings are made and not checked (make netrev, or NETREV)'}")
-    return 0 if fits and room and writable else 1
+        return False
+    print(f"room: the logs go to {folder.parent}")
+    folder.rmdir()
+    return True
 
 
 def can_write() -> bool:
@@ -55,3 +67,18 @@ def can_write() -> bool:
         return False
     print(f"cache: overlays are kept in {cache()}")
     return True
+
+
+def tries_well(go: Go) -> bool:
+    """Whether the changed files are compiled, and a trial program is recorded as it should be."""
+    try:
+        overlay(go)
+    except Trouble as trouble:
+        print(f"compiled: {trouble}")
+        return False
+    print("compiled: the changed files of Go's are")
+    came = trial(go)
+    print(
+        f"trial: {'all that was recorded is as it should be: ' if came.good else 'this Go is not recorded: '}{came.said}"
+    )
+    return came.good

@@ -12,6 +12,7 @@ from typing import NamedTuple
 from .points import Log, Stack
 
 OF_GO, OF_A_LIBRARY, OF_THE_PROGRAM = "go", "library", "program"
+ELF_HEADER = 64  # bytes
 LIBRARIES = ("/pkg/mod/", "/vendor/", "/usr/share/gocode/")
 
 
@@ -36,7 +37,7 @@ def shift(program: pathlib.Path, text: int) -> int | None:
     C code may come first, and a program may lie anywhere. None where the file has no such section."""
     with program.open("rb") as file:
         data = file.read()
-    if data[:4] != b"\x7fELF":
+    if data[:4] != b"\x7fELF" or len(data) < ELF_HEADER:
         return None
     sections, size, count, names = struct.unpack_from("<Q10xHHH", data, 40)
     if sections + size * count > len(data) or names >= count or size < 64:
@@ -68,7 +69,7 @@ def looked_up(program: pathlib.Path, go: str, addresses: Iterable[int], moved: i
 def replaced_file(file: str) -> str:
     """The name of a file of Go's that the overlay replaces, whose name there has _ for /."""
     name = file.rpartition("/")[2]
-    for package in ("internal_poll_", "runtime_"):
+    for package in ("internal_poll_", "runtime_", "testing_"):
         if name.startswith(package):
             return package[:-1].replace("_", "/") + "/" + name.removeprefix(package)
     return name
@@ -96,7 +97,7 @@ class Roots:
 
     @staticmethod
     def is_replaced(function: str) -> bool:
-        return function.startswith(("runtime.", "internal/poll."))
+        return function.startswith(("runtime.", "internal/poll.", "testing."))
 
 
 def outside_the_runtime(calls: list[Call]) -> tuple[Call, ...]:

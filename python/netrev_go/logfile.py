@@ -4,10 +4,13 @@ was killed or that runs on: what is whole is taken, and what isn't is said."""
 from __future__ import annotations
 
 import pathlib
+import stat
 import struct
+import sys
 from array import array
 from collections.abc import Iterable
 from itertools import compress
+from typing import BinaryIO
 from operator import xor
 
 from .points import KINDS, Log, Point, Stack
@@ -17,6 +20,8 @@ HEADER_BYTES = 4096
 STACK_WORDS = 32
 POINT_WORDS = 8
 WORD = 8
+STACK_BYTES, POINT_BYTES = STACK_WORDS * WORD, POINT_WORDS * WORD
+AT_ONCE = 2**16  # points
 MOST_POINTS = 2**24
 MOST_STACKS = 2**20
 # As many points may be under way on other processors while one is written.
@@ -48,31 +53,36 @@ class Header:
             self.passed = min(self.passed, self.ended - 1)
 
 
-def read_stacks(text: bytes) -> dict[int, Stack]:
-    """The table of stacks, each by its number. One that was being written has none of its calls."""
-    words = array("Q")
-    words.frombytes(text[: len(text) // (STACK_WORDS * WORD) * STACK_WORDS * WORD])
+def read_stacks(file: BinaryIO, count: int) -> dict[int, Stack]:
+    """The table of so many stacks, each by its number. One that was being written has none of its calls."""
     stacks = {}
-    for slot in range(len(words) // STACK_WORDS):
-        first = slot * STACK_WORDS
-        count = words[first + 1]
-        if words[first] and count <= STACK_WORDS - 4:
-            calls = tuple(words[first + 4 : first + 4 + count])
-            stacks[slot + 1] = Stack(words[first + 2], words[first + 3], calls)
+    for slot in range(count):
+        text = file.read(STACK_BYTES)
+        if len(text) < STACK_BYTES:
+            break
+        filled, calls, made, started = struct.unpack_from("<4Q", text)
+        if filled and calls <= STACK_WORDS - 4:
+            stacks[slot + 1] = Stack(made, started, struct.unpack_from(f"<{calls}Q", text, 4 * WORD))
     return stacks
 
 
-def whole_points(text: bytes, header: Header) -> list[Point]:
-    """The points that are whole, in the order of their numbers."""
-    held = len(text) // (POINT_WORDS * WORD)
+def whole_points(file: BinaryIO, header: Header) -> tuple[list[Point], int]:
+    """The points that are whole, in the order of their numbers, and how many places of the ring are there. It is read piece by
+    piece: of a file with holes most is empty."""
+    ring = file.tell()
+    held = (file.seek(0, 2) - ring) // POINT_BYTES
+    held = max(0, min(held, header.passed, header.points))
     first = max(0, header.passed - header.points)
     turn = first % header.points
     points: list[Point] = []
     for begin, end, number in ((turn, held, first), (0, min(turn, held), first + header.points - turn)):
         end = min(end, begin + max(0, header.passed - number))
-        if begin < end:
-            points += points_of(text[begin * POINT_WORDS * WORD : end * POINT_WORDS * WORD], number)
-    return points
+        for place in range(begin, end, AT_ONCE):
+            file.seek(ring + place * POINT_BYTES)
+            text = file.read(min(AT_ONCE, end - place) * POINT_BYTES)
+            if text.count(0) < len(text):
+                points += points_of(text[: len(text) // POINT_BYTES * POINT_BYTES], number + place - begin)
+    return points, held
 
 
 def points_of(text: bytes, first: int) -> list[Point]:
@@ -81,6 +91,11 @@ def points_of(text: bytes, first: int) -> list[Point]:
     words, signed = array("Q", text), array("q", text)
     heads, lasts = words[0::POINT_WORDS], words[7::POINT_WORDS]
     numbers = range(first, first + len(heads))
+    kinds, stacks = [head & 255 for head in heads], [last & LOW for last in lasts]
+    columns = [signed[column::POINT_WORDS] for column in range(1, 7)]
+    points = map(Point._make, zip(numbers, kinds, *columns, stacks))
+    if are_whole(numbers, heads, [words[column::POINT_WORDS] for column in range(1, 7)], lasts):
+        return list(points) if KINDS.issuperset(kinds) else [point for point in points if point.kind in KINDS]
     sums: Iterable[int] = numbers
     for column in range(1, 7):
         sums = map(xor, sums, words[column::POINT_WORDS])
@@ -88,9 +103,25 @@ def points_of(text: bytes, first: int) -> list[Point]:
         head >> 8 == number + 1 and head & 255 in KINDS and (total ^ total >> 32) & LOW == last >> 32
         for number, head, total, last in zip(numbers, heads, sums, lasts)
     ]
-    kinds, stacks = [head & 255 for head in heads], [last & LOW for last in lasts]
-    columns = [signed[column::POINT_WORDS] for column in range(1, 7)]
-    return list(compress(map(Point._make, zip(numbers, kinds, *columns, stacks)), whole))
+    return list(compress(points, whole))
+
+
+def are_whole(numbers: range, heads: array[int], columns: list[array[int]], lasts: array[int]) -> bool:
+    """Whether all of these points are: each column is one great number, as that is much faster than point by point."""
+    count = len(heads)
+    low = as_one(array("Q", (LOW,)) * count)
+    kinds = as_one(array("Q", (255,)) * count)
+    wanted = as_one(array("Q", numbers)) + as_one(array("Q", (1,)) * count)
+    if (as_one(heads) & ~kinds) != wanted << 8:
+        return False
+    total = as_one(array("Q", numbers))
+    for column in columns:
+        total ^= as_one(column)
+    return (total ^ total >> 32) & low == as_one(lasts) >> 32 & low
+
+
+def as_one(column: array[int]) -> int:
+    return int.from_bytes(column.tobytes(), sys.byteorder)
 
 
 def behind_the_last_gap(points: list[Point]) -> list[Point]:
@@ -101,31 +132,32 @@ def behind_the_last_gap(points: list[Point]) -> list[Point]:
     return points
 
 
-def read_parts(path: pathlib.Path) -> tuple[Header, bytes, bytes]:
-    """A log's header, its stacks, and as much of its ring as has points: what lies behind is empty."""
+def read_log(path: pathlib.Path) -> Log:
+    """A log's points and stacks, with notes on what is missing."""
     try:
+        if not stat.S_ISREG(path.stat().st_mode):
+            raise NoLog("it isn't a file")
         with path.open("rb") as file:
-            header = Header(file.read(HEADER_BYTES))
-            stacks = file.read(header.stacks * STACK_WORDS * WORD)
-            return header, stacks, file.read(min(header.passed, header.points) * POINT_WORDS * WORD)
+            return log_of(file)
     except OSError as fault:
         raise NoLog(f"it can't be read: {fault.strerror}") from None
 
 
-def read_log(path: pathlib.Path) -> Log:
-    """A log's points and stacks, with notes on what is missing."""
-    header, stacks, ring = read_parts(path)
-    read = whole_points(ring, header)
+def log_of(file: BinaryIO) -> Log:
+    """The log that an open file is."""
+    header = Header(file.read(HEADER_BYTES))
+    stacks = read_stacks(file, header.stacks)
+    read, held = whole_points(file, header)
     points = behind_the_last_gap(read)
     kept = min(header.passed, header.points)
-    log = Log(points, read_stacks(stacks), header.begin, header.process, header.text, header.program)
+    log = Log(points, stacks, header.begin, header.process, header.text, header.program)
     log.has_orders = header.has_orders
     log.from_the_start = header.passed <= header.points and len(points) == len(read)
     if header.ended:
         log.notes.append("there was no room for more of the log: it ends before the program did")
     if header.passed > header.points:
         log.notes.append(f"the log keeps the newest {header.points} points of {header.passed}")
-    if len(points) + UNDER_WAY < kept or len(ring) < kept * POINT_WORDS * WORD:
+    if len(points) + UNDER_WAY < kept or held < kept:
         log.notes.append(f"the log is cut short or damaged: {len(points)} of its {kept} points can be used")
     elif len(points) < kept:
         log.notes.append(f"{kept - len(points)} points were under way when the log ended, and are left out")

@@ -4,12 +4,19 @@ from __future__ import annotations
 
 import json
 import pathlib
+from collections.abc import Callable
 from dataclasses import dataclass, field
 
-from .converter import Converter, Unconvertible
-from .orders import orders_of
-from .points import ORDERING, Log
-from .sockets import MOST_SOCKETS, chosen, owned
+from netrev_model.files import whole
+
+from .answering import Unconvertible
+from .beside import Beside
+from .converter import Converter
+from .orders import Made, orders_of
+from .points import ORDERING, WAITING, Log, Point
+from .sockets import FEW_BYTES, MOST_MEGABYTES, MOST_SOCKETS, MOST_STEPS, Owned, Socket, chosen, owned
+from .waits import waits_of
+from .zeros import Line
 
 
 class Nothing(Exception):
@@ -25,7 +32,7 @@ class Recording:
     """A recording that isn't written yet."""
 
     header: str
-    lines: list[str]
+    lines: list[Line]
     stacks: list[int]
     words: list[tuple[int, int, int]]
     goroutines: int
@@ -33,42 +40,96 @@ class Recording:
     sockets: int
     orders: list[tuple[int, int]] | None = None  # None where the log has nothing of them
     notes: list[str] = field(default_factory=list)
+    olds: list[int] = field(default_factory=list)  # Go's lock words before those of `words`
+    beside: Beside = field(default_factory=Beside)
+    bytes: int | None = None  # as which a read or a write counts at most, where one moved more
+    made: list[Made] = field(default_factory=list)  # the goroutines' steps
 
 
-def make(log: Log, most: int = MOST_SOCKETS) -> Recording:
-    """The recording of a log's newest sockets, at most so many."""
-    found = owned([point for point in log.points if point.kind not in ORDERING])
+Part = Callable[[Log, Owned], list[Socket]]
+NO_STEPS = ORDERING | WAITING
+
+
+def make(
+    log: Log,
+    most: int = MOST_SOCKETS,
+    megabytes: int = MOST_MEGABYTES,
+    all_bytes: bool = True,
+    part: Part | None = None,
+) -> Recording:
+    """The recording of a log's newest sockets, at most so many, whose bytes are at most so many megabytes of text; of a part of them,
+    where one is named."""
+    points = [point for point in log.points if point.kind not in NO_STEPS]
+    found = owned(points, all_bytes)
     notes = list(log.notes)
     if not found.sockets:
         if log.from_the_start:
             raise NoSocket("no socket was opened")
         raise Nothing("all sockets were opened before the oldest point that the log kept: --points N keeps more")
-    kept = chosen(found.sockets, most)
-    if not kept:
-        raise Nothing(
-            "one socket alone has more steps than the 1,000,000 of a recording: record for less long, as by -n"
-        )
-    points = [(point, socket) for point, socket in found.points if socket in kept]
-    if len(kept) < len(found.sockets):
-        notes.append(f"it has {len(kept)} of {len(found.sockets)} sockets: those still open first, and the newest")
-    converter = Converter(points, log.begin)
-    converter.convert()
-    orders = orders_of(log.points, converter.made_of) if log.has_orders else None
+    wanted = found.sockets if part is None else part(log, found)
+    if not wanted:
+        raise NoSocket("no socket is of it")
+    fitted = Fitted(points, all_bytes, found, wanted)
+    converter = fitted.converted(log.begin, most, megabytes)
+    if fitted.kept < len(wanted):
+        notes.append(f"it has {fitted.kept} of {len(wanted)} sockets: those still open first, and the newest")
+    if found.cut:
+        notes.append(f"reads and writes count at most {FEW_BYTES} bytes each: --all-bytes counts all")
+    orders = orders_of(log.points, converter.made) if log.has_orders else None
+    converter.beside.waits = waits_of(log.points, converter.made, converter.goroutines)
     return Recording(
         converter.header(), converter.lines, converter.stacks, converter.words,
-        len(converter.goroutines), converter.last_steps, converter.sockets, orders, notes,
+        len(converter.goroutines), converter.last_steps, converter.sockets, orders, notes, converter.olds,
+        converter.beside, FEW_BYTES if found.cut else None, converter.made,
     )  # fmt: skip
 
 
+class Fitted:
+    """As many sockets as there is room for: it is counted how many steps they have, where that can't be reckoned."""
+
+    def __init__(self, points: list[Point], all_bytes: bool, found: Owned, wanted: list[Socket]) -> None:
+        self.points, self.all_bytes, self.found = points, all_bytes, found
+        self.wanted = {socket.opening for socket in wanted}
+        self.kept = 0
+
+    def converted(self, begin: int, most: int, megabytes: int) -> Converter:
+        """The converter that has them; Nothing where there is no room for one."""
+        room, counted = MOST_STEPS, False
+        while True:
+            converter = Converter(self.chosen(most, megabytes, room), begin)
+            converter.convert()
+            over = len(converter.lines) - MOST_STEPS
+            if over <= 0:
+                return converter
+            steps = converter.made_of()
+            self.found = owned(self.points, self.all_bytes)  # (a converter leaves its marks there)
+            for socket in self.found.sockets:
+                socket.steps = max(socket.steps, steps.get(socket.opening, 0))
+            room -= over if counted else 0
+            counted = True
+
+    def chosen(self, most: int, megabytes: int, room: int) -> list[tuple[Point, Socket]]:
+        """The points of the sockets for which there may be room."""
+        kept = chosen([socket for socket in self.found.sockets if socket.opening in self.wanted], most, megabytes, room)
+        if not kept:
+            raise Nothing(
+                "one socket alone has more than the 1,000,000 steps of a recording, more than 4,096 goroutines, or bytes for more "
+                f"than {megabytes} MB of text: record for less long, as by -n, or give --megabytes N"
+            )
+        self.kept = len(kept)
+        return [(point, socket) for point, socket in self.found.points if socket in kept]
+
+
 def write(recording: Recording, name: pathlib.Path) -> None:
-    with name.open("w", encoding="ascii") as file:
+    """Writes the recording whole; an OSError that names the file where it can't be."""
+    with whole(name) as file:
         file.write(recording.header + "\n")
-        file.writelines(line + "\n" for line in recording.lines)
+        file.writelines(f"{line}\n" for line in recording.lines)
 
 
 def write_words(recording: Recording, name: pathlib.Path) -> None:
     """Go's lock words, a line of JSON for each: after which step, the cell, and the value."""
-    with name.open("w", encoding="ascii") as file:
+    with whole(name) as file:
         for step, socket, word in recording.words:
             file.write(json.dumps([step, f"lock {socket}", str(word % 2**64)]) + "\n")
 

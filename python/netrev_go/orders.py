@@ -11,22 +11,41 @@ from .points import ORDERING, Kind, Point
 Frontier = dict[int, int]  # the last steps, by goroutine, behind which something comes
 
 
+class Queue:
+    """What the things in a queue come behind. Of the first ones that may be unknown: those are just counted, since a channel may
+    have room for any number."""
+
+    def __init__(self) -> None:
+        self._unknown = 0
+        self._known: deque[Frontier] = deque()
+
+    def __len__(self) -> int:
+        return self._unknown + len(self._known)
+
+    def fit(self, length: int) -> None:
+        """Has it this length from now on: another channel may have been at its address, or the log begins later."""
+        while len(self._known) > length:
+            self._known.popleft()
+        self._unknown = length - len(self._known)
+
+    def put(self, frontier: Frontier) -> None:
+        self._known.append(frontier)
+
+    def take(self) -> Frontier:
+        """The first one's, which leaves the queue."""
+        if not self._unknown:
+            return self._known.popleft()
+        self._unknown -= 1
+        return {}
+
+
 class Channel:
     """What the values in a channel's buffer, and its free places, come behind; and its close."""
 
     def __init__(self) -> None:
-        self.values: deque[Frontier] = deque()
-        self.places: deque[Frontier] = deque()
+        self.values = Queue()
+        self.places = Queue()
         self.closed: Frontier = {}
-
-
-def of_length(queue: deque[Frontier], length: int) -> deque[Frontier]:
-    """The queue, whose length is known: another channel may have been at its address, or the log begins later."""
-    while len(queue) > length:
-        queue.popleft()
-    while len(queue) < length:
-        queue.appendleft({})
-    return queue
 
 
 class Orders:
@@ -65,11 +84,12 @@ class Orders:
     def _buffer(self, point: Point) -> None:
         """A value goes into a channel's buffer, or out of it."""
         channel, held = self.channels[point.at], max(0, min(point.a, point.b))
-        values, places = of_length(channel.values, held), of_length(channel.places, max(0, point.b) - held)
-        taken, put = (places, values) if point.kind == Kind.SENT else (values, places)
+        channel.values.fit(held)
+        channel.places.fit(max(0, point.b) - held)
+        taken, put = (channel.places, channel.values) if point.kind == Kind.SENT else (channel.values, channel.places)
         if taken:
-            self._comes_behind(point.goroutine, taken.popleft())
-            put.append(self._frontier(point.goroutine))
+            self._comes_behind(point.goroutine, taken.take())
+            put.put(self._frontier(point.goroutine))
 
     def _frontier(self, goroutine: int) -> Frontier:
         own = {goroutine: self.own[goroutine]} if goroutine in self.own else {}
@@ -82,15 +102,23 @@ class Orders:
                 behind[other] = number
 
 
-def orders_of(points: Iterable[Point], steps: dict[int, list[tuple[int, int]]]) -> list[tuple[int, int]]:
-    """Pairs of steps of which the first comes first in each run, by the second. `steps` has, for the number of a point, the steps
-    that were made of it: the goroutine and the step's number."""
+Made = tuple[int, int, int]  # a step of a goroutine's: the number of its point, the goroutine, and the step's number
+
+
+def orders_of(points: Iterable[Point], steps: Iterable[Made]) -> list[tuple[int, int]]:
+    """Pairs of steps of which the first comes first in each run, by the second. Points and steps come in the points' order."""
     orders = Orders()
-    for point in points:
-        if point.kind in ORDERING:
+    ordering = iter([point for point in points if point.kind in ORDERING])
+    point = next(ordering, None)
+    own, behind = orders.own, orders.behind
+    for number, goroutine, step in steps:
+        while point is not None and point.number < number:
             orders.point(point)
-        for goroutine, number in steps.get(point.number, ()):
-            orders.step(goroutine, number)
+            point = next(ordering, None)
+        if goroutine in behind:
+            orders.step(goroutine, step)
+        else:
+            own[goroutine] = step
     return orders.found
 
 

@@ -41,14 +41,19 @@ class Kind(IntEnum):
     MET = 120
     CHANNEL_CLOSED = 121
     FOUND_CLOSED = 122
+    NAMED = 123
+    PARKS = 124
+    GOES_ON = 125
 
 
 KINDS = frozenset(int(kind) for kind in Kind)
 # Points at which the program itself puts goroutines in order, and which are at no socket.
-ORDERING = frozenset(kind for kind in KINDS if kind >= Kind.READY)
+ORDERING = frozenset(kind for kind in KINDS if Kind.READY <= kind <= Kind.FOUND_CLOSED)
+# Points at which a goroutine begins to wait outside of the poller, and goes on.
+WAITING = frozenset({Kind.PARKS, Kind.GOES_ON})
 LOCKING = frozenset({Kind.INCREF, Kind.INCREF_CLOSE, Kind.DECREF, Kind.RW_LOCK, Kind.RW_UNLOCK})
 # Points at a lock word's address. All others but INIT are at a descriptor's.
-AT_A_WORD = LOCKING | {Kind.READ, Kind.WRITE, Kind.ACQUIRE, Kind.RELEASE, Kind.CLOSE_WRITE}
+AT_A_WORD = LOCKING | {Kind.READ, Kind.WRITE, Kind.ACQUIRE, Kind.RELEASE, Kind.CLOSE_WRITE, Kind.NAMED}
 
 
 class Point(NamedTuple):

@@ -1,123 +1,51 @@
-"""`make real`: records Go's own tests, those of five other projects and the samples, each test in a process of its own, on one
-processor and on four, and compares every answer and every lock word with netrev's. Not in the gate.
+"""`make real`: records Go's own tests, those of other projects and the samples, each in a process of its own, on one processor
+and on four, and compares every answer and every lock word with netrev's.
 
-    python3 python netrev_go.real [--processors 1,4] [--seconds N] [--only TEXT] [--record] [--check]
+    python3 python netrev_go.real [--go 1.27 | --go all] [--processors 1,4] [--seconds N] [--only TEXT] [--small]
+                                  [--record | --check]
+    python3 python netrev_go.real --gate
 
-The recordings are left in out/real; --check asks netrev about those that are there, and makes none. A line of JSON for each
-test's process is in out/real/results.jsonl. Debian's packages that it wants are in WANTED."""
+Without --go it is the `go` on the PATH; a release that Debian has is fetched where it isn't here (netrev_go.fetching). --seconds
+are a release's. The recordings are left in out/real/RELEASE, with a line of JSON for each test's process in results.jsonl;
+--check asks netrev about those that are there, and makes none. --small leaves most tests out. --gate is --small with the releases
+of GATE, or with the `go` on the PATH where neither is here, and says so where there is none."""
 
 from __future__ import annotations
 
 import argparse
-import collections
 import gc
-import json
 import os
 import pathlib
 import shutil
 import subprocess
 import sys
 import time
-from dataclasses import asdict, dataclass
 
 from netrev_model.built import netrev_program
 
-from .asking import check
+from . import suites
+from .asking import check, suspects
+from .building import built, built_sample, environment, source_folder, tests_of
 from .compare import differing
+from .fetching import SUITES, chosen, is_here
 from .logfile import NoLog, read_log
-from .making import Nothing, Unconvertible, make, write, write_words
-from .running import LOG
-from .toolchain import Go, Trouble, find_go, overlay
+from .making import NoSocket, Nothing, Unconvertible, make, write, write_words
+from .results import Result, keep, read_results, say, summary, table
+from .running import LOG, logs_folder
+from .suites import ROOT, SAMPLES, Sample, Suite
+from .toolchain import Go, Trouble, find_go, is_tried
+from .trying import trial
 
-ROOT = pathlib.Path(__file__).resolve().parents[2]
-DEBIAN = pathlib.Path("/usr/share/gocode")
-WANTED = (
-    "golang-go golang-1.19-src golang-golang-x-net-dev golang-golang-x-crypto-dev golang-github-valyala-fasthttp-dev "
-    "golang-github-gorilla-websocket-dev golang-github-miekg-dns-dev"
-)
-SAMPLES = ROOT / "tools/go/samples"
-SMALL = ("past", "lost", "leak", "late", "writers", "busy", "half")
-LOAD, LOADS = ["64", "2000", "0"], 40
+GATE = ("1.19", "1.27")
 TEST_SECONDS = 40
-
-
-@dataclass(frozen=True)
-class Suite:
-    """A package's tests, and which of them."""
-
-    package: str
-    tests: str = "."
-
-
-OF_GO = tuple(
-    Suite(package)
-    for package in (
-        "net", "net/http", "net/http/httputil", "net/http/httptest", "net/rpc", "net/rpc/jsonrpc", "net/smtp",
-        "net/textproto", "net/http/fcgi", "net/http/cgi", "crypto/tls", "os", "os/exec", "internal/poll",
-    )
-)  # fmt: skip
-OF_OTHERS = (
-    Suite("golang.org/x/net/nettest"),
-    Suite("golang.org/x/net/netutil"),
-    Suite("golang.org/x/net/websocket"),
-    Suite("golang.org/x/net/http2", "Server|Transport|Conn|Timeout|Stream"),
-    Suite("golang.org/x/crypto/ssh"),
-    Suite("golang.org/x/crypto/ssh/test"),
-    Suite("github.com/gorilla/websocket"),
-    Suite(
-        "github.com/miekg/dns", "Serv|Client|Dial|Conn|TCP|UDP|Tls|TLS|Exchange|Timeout|Shutdown|Listen|Handler|Race"
-    ),
-    Suite("github.com/valyala/fasthttp", "Client|Server|Conn|Timeout|Pipeline|Dial|Listen|Shutdown"),
-)
-
-
-@dataclass
-class Result:
-    """What became of one log of a test."""
-
-    suite: str
-    test: str
-    processors: int
-    went: str  # how the test itself ended
-    steps: int = 0
-    words: int = 0
-    said: str = ""
-    differ: int = 0
-    recording: str = ""
-
-
-def environment(**settings: str) -> dict[str, str]:
-    return os.environ | {"GO111MODULE": "off", "GOPATH": str(DEBIAN), "GOFLAGS": ""} | settings
-
-
-def built(go: Go, suite: Suite, folder: pathlib.Path) -> pathlib.Path | None:
-    """The suite's test program, or None where it can't be built."""
-    program = folder / (suite.package.replace("/", "_") + ".test")
-    command = [go.program, "test", "-c", "-overlay", str(overlay(go)), "-o", str(program), suite.package]
-    run = subprocess.run(command, env=environment(), capture_output=True, text=True, check=False)
-    if run.returncode != 0 or not program.exists():
-        print(f"{suite.package}: not built: {run.stderr.strip()[-300:]}", flush=True)
-        return None
-    return program
-
-
-def source_folder(go: Go, suite: Suite) -> pathlib.Path:
-    own = go.sources() / suite.package
-    return own if own.exists() else DEBIAN / "src" / suite.package
-
-
-def tests_of(program: pathlib.Path, folder: pathlib.Path, wanted: str) -> list[str]:
-    run = subprocess.run(
-        [program, "-test.list", wanted], cwd=folder, env=environment(), capture_output=True, text=True, check=False
-    )
-    return [line for line in run.stdout.splitlines() if line.startswith("Test")]
+LOG_POINTS = 2**20
 
 
 def went(command: list[str], folder: pathlib.Path, settings: dict[str, str]) -> str:
     """Runs one test, and says how it ended."""
     try:
         run = subprocess.run(
-            command, cwd=folder, env=environment(**settings), capture_output=True, text=True, errors="replace",
+            command, cwd=folder, env=settings, capture_output=True, text=True, errors="replace",
             stdin=subprocess.DEVNULL, timeout=TEST_SECONDS + 20, check=False,
         )  # fmt: skip
     except subprocess.TimeoutExpired:
@@ -131,41 +59,22 @@ def recorded(log: pathlib.Path, result: Result, name: pathlib.Path) -> bool:
     """Makes the recording of a log, if sockets were opened."""
     try:
         made = make(read_log(log))
-    except Nothing as fault:
-        result.said = str(fault)
-        return "no socket was opened" not in result.said
-    except (NoLog, Unconvertible) as fault:
+    except NoSocket:
+        return False
+    except (NoLog, Nothing, Unconvertible) as fault:
         result.said = f"not made: {fault}"
-        return True
+        with log.open("rb") as file:
+            return any(file.read(8))  # else the process was killed before its log began
     write(made, name)
     write_words(made, name.with_suffix(".words"))
     result.steps, result.words = len(made.lines), len(made.words)
+    result.count(map(str, made.lines))
     result.recording = str(name)
     return True
 
 
-def record_run(
-    command: list[str], folder: pathlib.Path, suite: str, name: str, processors: int, out: pathlib.Path
-) -> list[Result]:
-    """The results of one run: one for each process that opened sockets."""
-    out = out / suite.replace("/", "_")
-    out.mkdir(parents=True, exist_ok=True)
-    place = pathlib.Path("/dev/shm") / f"netrev-real-{os.getpid()}"
-    shutil.rmtree(place, ignore_errors=True)
-    place.mkdir()
-    settings = {"NETREV_LOG": str(place / "log"), "GOMAXPROCS": str(processors), "NETREV_LINES": "0"}
-    ended = went(command, folder, settings)
-    results = []
-    for number, log in enumerate(sorted(path for path in place.iterdir() if LOG.match(path.name)), 1):
-        result = Result(suite, name, processors, ended)
-        if recorded(log, result, out / f"{name}-{processors}-{number}.jsonl"):
-            results.append(result)
-    shutil.rmtree(place, ignore_errors=True)
-    return results
-
-
 def compared(netrev: str, result: Result) -> None:
-    """What netrev says of a recording, and of Go's lock words in it."""
+    """What netrev says of a recording, and of Go's lock words in it; and whom nrdb suspects of a program that is healthy."""
     name = pathlib.Path(result.recording)
     taken, result.said = check(netrev, name)
     if taken:
@@ -173,145 +82,165 @@ def compared(netrev: str, result: Result) -> None:
         result.differ = len(differ)
         if differ:
             result.said += "; " + differ[0]
+        if result.is_healthy:
+            result.suspects = [line for line in suspects(netrev, name) if line[:1].isdigit() and ". " in line[:4]]
 
 
 class Recorder:
-    """Records all runs that are wanted, until the time is over."""
+    """Records all runs that are wanted of one Go, until the time is over."""
 
-    def __init__(self, go: Go, options: argparse.Namespace) -> None:
-        self.go, self.only = go, options.only
-        self.processors = [int(word) for word in options.processors.split(",")]
+    def __init__(self, go: Go, name: str, options: argparse.Namespace) -> None:
+        self.go, self.name, self.options = go, name, options
+        self.processors = tuple(int(word) for word in options.processors.split(","))
         self.end = time.monotonic() + options.seconds
         self.results: list[Result] = []
-        self.left_out: list[str] = []
-        self.out = options.out
+        self.left_out = 0
+        self.missing: list[str] = []
+        self.unbegun: list[str] = []
+        self.out = options.out / name
         self.programs = self.out / "programs"
         self.programs.mkdir(parents=True, exist_ok=True)
 
-    def run(self, command: list[str], folder: pathlib.Path, suite: str, name: str, processors: int) -> None:
+    def run(self, command: list[str], folder: pathlib.Path, result: Result, is_of_others: bool = False) -> None:
+        """One run, and a result for each of its processes that opened sockets."""
         if time.monotonic() > self.end:
-            self.left_out.append(f"{suite} {name} on {processors}")
+            self.left_out += 1
             return
-        self.results += record_run(command, folder, suite, name, processors, self.out)
+        out = self.out / result.suite.replace("/", "_")
+        out.mkdir(parents=True, exist_ok=True)
+        place = logs_folder(LOG_POINTS)
+        settings = {"NETREV_LOG": str(place / "log"), "GOMAXPROCS": str(result.processors), "NETREV_LINES": "0"}
+        result.went = went(command, folder, environment(is_of_others, **settings))
+        for number, log in enumerate(sorted(path for path in place.iterdir() if LOG.match(path.name)), 1):
+            one = result.again()
+            if recorded(log, one, out / f"{one.test}-{one.processors}-{number}.jsonl"):
+                self.results.append(one)
+            log.unlink()
+        for path in place.iterdir():
+            path.unlink()
+        place.rmdir()
         keep(self.results, self.out)
 
     def suite(self, suite: Suite) -> None:
-        """Each test of a package, in a process of its own."""
-        program = built(self.go, suite, self.programs)
+        """Each test of a package, in a process of its own; nothing of another project that isn't here."""
         folder = source_folder(self.go, suite)
+        if not folder.is_dir():
+            self.missing.append(suite.package)
+            return
+        if time.monotonic() > self.end:
+            self.unbegun.append(suite.package)
+            return
+        program = built(self.go, suite, self.programs)
+        tests = tests_of(program, folder, suite) if program else []
         for processors in self.processors:
-            for test in tests_of(program, folder, suite.tests) if program else []:
-                flags = ["-test.run", f"^{test}$", "-test.short", f"-test.timeout={TEST_SECONDS}s"]
-                self.run([str(program), *flags], folder, suite.package, test, processors)
+            for test in tests:
+                flags = [
+                    "-test.run",
+                    suites.PARTS.get(test, f"^{test}$"),
+                    "-test.short",
+                    f"-test.timeout={TEST_SECONDS}s",
+                ]
+                result = Result(self.name, suite.package, test, processors)
+                self.run([str(program), *flags], folder, result, suite.is_of_others)
 
-    def sample(self, name: str, source: str, runs: list[list[str]], processors: list[int]) -> None:
-        """A sample program, with the words of each run."""
-        program = self.programs / name
-        command = [
-            self.go.program,
-            "build",
-            "-overlay",
-            str(overlay(self.go)),
-            "-o",
-            str(program),
-            str(SAMPLES / source),
-        ]
-        subprocess.run(command, env=environment(), check=True)
-        for number in processors:
-            for at, words in enumerate(runs, 1):
-                label = words[0] if len(words) == 1 else f"run{at}"
-                self.run([str(program), *words], SAMPLES, f"samples/{name}", label, number)
+    def sample(self, sample: Sample) -> None:
+        """A sample program's runs."""
+        program = built_sample(self.go, sample.source, self.programs)
+        for processors in sample.processors if program else ():
+            for at, words in enumerate(sample.runs, 1):
+                result = Result(self.name, f"samples/{sample.name}", f"{words[0]}-{at}", processors)
+                result.is_healthy = sample.is_healthy
+                self.run([str(program), *words], SAMPLES, result)
 
     def all(self) -> None:
-        """What is wanted: the samples, the loads, and then the packages."""
-        if "samples" in self.only or not self.only:
-            self.sample("small", "main.go", [[name] for name in SMALL], self.processors)
-            self.sample("hijacked", "hijacked/main.go", [["once"]], self.processors)
-            self.sample("load", "load/main.go", [LOAD] * LOADS, [4])
-        for suite in OF_GO + OF_OTHERS:
-            if self.only in suite.package:
+        """What is wanted: the samples, and then the packages."""
+        only, small = self.options.only, self.options.small
+        for sample in suites.SMALL_SAMPLES if small else suites.OF_SAMPLES:
+            if only in f"samples/{sample.name}":
+                self.sample(sample)
+        for suite in suites.SMALL_TESTS if small else suites.OF_GO:
+            if only in suite.package:
                 self.suite(suite)
-                made = sum(result.suite == suite.package for result in self.results)
-                print(f"{suite.package}: {made} logs with sockets", flush=True)
-        for left in self.left_out:
-            print(f"the time was over: {left} was not run")
+        for suite in () if small else suites.OF_OTHERS:
+            if only in suite.package:
+                self.suite(suite)
+        if self.missing:
+            say(f"{self.name}: not here: {', '.join(self.missing)} (apt-get install {suites.WANTED})")
+        if self.left_out:
+            say(f"{self.name}: the time was over: {self.left_out} runs were left out")
+        if self.unbegun:
+            say(f"{self.name}: the time was over before {', '.join(self.unbegun)}")
 
 
-def keep(results: list[Result], out: pathlib.Path) -> None:
-    """Leaves the results so far."""
-    text = "".join(json.dumps(asdict(result)) + "\n" for result in results)
-    (out / "results.jsonl").write_text(text)
+def of_release(name: str, options: argparse.Namespace, netrev: str | None) -> list[Result]:
+    """The results of one Go: recorded, and compared where netrev is here."""
+    if options.check:
+        results = read_results(options.out / (name or find_go().version))
+    else:
+        go = chosen(name)
+        said = "tried before" if is_tried(go.version) else "never tried before"
+        came = trial(go)
+        say(f"{go.version} ({said}): {came.said}")
+        if not came.good:
+            raise Trouble(f"{go.version} isn't recorded")
+        recorder = Recorder(go, name or go.version, options)
+        recorder.all()
+        results = recorder.results
+    if netrev and not options.record:
+        for result in results:
+            if result.recording:
+                compared(netrev, result)
+        keep(results, options.out / (name or find_go().version))
+    return results
 
 
-def table(results: list[Result]) -> bool:
-    """Prints the table, and says whether all is well."""
-    print(
-        "| Tests of | on | recordings | accepted | refused | not made | steps accepted | answers of Go's | lock words | differ |"
-    )
-    print("|---|--:|--:|--:|--:|--:|--:|--:|--:|--:|")
-    rows: dict[tuple[str, int], list[Result]] = collections.defaultdict(list)
-    for result in results:
-        rows[result.suite, result.processors].append(result)
-    for (suite, processors), row in rows.items():
-        taken = [result for result in row if result.said.startswith("ok")]
-        refused = [result for result in row if result.recording and not result.said.startswith("ok")]
-        counts = (len(row), len(taken), len(refused), len(row) - len(taken) - len(refused))
-        steps, answers = sum(r.steps for r in taken), sum(answers_of(r) for r in taken)
-        words, differ = sum(r.words for r in taken), sum(r.differ for r in taken)
-        print("| " + " | ".join(map(str, (suite, processors, *counts, steps, answers, words, differ))) + " |")
-    bad = [result for result in results if result.differ or not result.said.startswith("ok")]
-    for result in bad:
-        print(f"{result.suite} {result.test} on {result.processors}: {result.said}")
-    return not bad
-
-
-# Steps whose answer is nothing of Go's: made up, or numbers that the converter gives.
-MADE_UP = ("arrive", "drain", "peerclose", "tick", "pop", "spawn", "sockopen", "pollopen", "pollevent", "setdeadline")
-PLAIN = ("evict", "pollclose", "release", "closewrite")
-
-
-def answers_of(result: Result) -> int:
-    """How many of a recording's answers are values of Go's."""
-    count = 0
-    with pathlib.Path(result.recording).open() as lines:
-        next(lines)
-        for line in lines:
-            count += not line.startswith(tuple(f'["{name}"' for name in MADE_UP + PLAIN))
-    return count
-
-
-def main(arguments: list[str] | None = None) -> int:
+def options_of(arguments: list[str] | None) -> argparse.Namespace:
     parser = argparse.ArgumentParser(description=__doc__, formatter_class=argparse.RawDescriptionHelpFormatter)
+    parser.add_argument("--go", default="", choices=("", "all", *SUITES), metavar="RELEASE")
     parser.add_argument("--processors", default="1,4")
     parser.add_argument("--out", type=pathlib.Path, default=ROOT / "out/real", help="where the recordings are left")
     parser.add_argument("--seconds", type=float, default=3600.0)
     parser.add_argument("--only", default="")
+    parser.add_argument("--small", action="store_true")
+    parser.add_argument("--gate", action="store_true")
     parser.add_argument("--check", action="store_true")
     parser.add_argument("--record", action="store_true", help="makes recordings, and doesn't ask netrev")
-    options = parser.parse_args(arguments)
+    return parser.parse_args(arguments)
+
+
+def names_for(options: argparse.Namespace) -> list[str]:
+    """The releases that are wanted; "" is the `go` on the PATH."""
+    if not options.gate:
+        return list(SUITES) if options.go == "all" else [options.go]
+    options.small = True
+    return [name for name in GATE if is_here(name)] or ([""] if shutil.which("go") else [])
+
+
+def main(arguments: list[str] | None = None) -> int:
+    options = options_of(arguments)
     gc.disable()  # as in cli.py
     netrev = netrev_program()
     if netrev is None and not options.record:
-        print("no netrev is here: make netrev, or NETREV", file=sys.stderr)
+        say("no netrev is here: make netrev, or NETREV")
         return 3
-    try:
-        if options.check:
-            lines = (options.out / "results.jsonl").read_text().splitlines()
-            results = [Result(**json.loads(line)) for line in lines]
-        else:
-            recorder = Recorder(find_go(), options)
-            recorder.all()
-            results = recorder.results
-    except (Trouble, OSError) as trouble:
-        print(f"{trouble}\nDebian: apt-get install {WANTED}", file=sys.stderr)
-        return 3
-    if options.record or netrev is None:
+    names = names_for(options)
+    if not names:
+        say("no Go is on this machine, so recording was left out (python3 python netrev_go.fetching 1.27)")
         return 0
-    for result in results:
-        if result.recording:
-            compared(netrev, result)
-    keep(results, options.out)
-    return 0 if table(results) else 1
+    results: list[Result] = []
+    path = os.environ["PATH"]
+    try:
+        for name in names:
+            os.environ["PATH"] = path
+            results += of_release(name, options, netrev)
+    except (Trouble, OSError) as trouble:
+        say(str(trouble))
+        return 3
+    if options.record:
+        return 0
+    good = table(results)
+    summary(results)
+    return 0 if good else 1
 
 
 if __name__ == "__main__":

@@ -10,8 +10,8 @@ import shutil
 from netrev_model.built import netrev_program
 from netrev_model.plain import plain
 
-from .asking import at_the_end, check, hanging, never_closed, suspects
-from .lines import Call, Calls
+from .asking import Late, at_the_end, causes, check, hanging, never_closed, suspects
+from .lines import OF_GO, Call, Calls
 from .making import Recording
 from .where import own_line
 
@@ -31,6 +31,11 @@ def in_words(status: str) -> str:
     return WAITS.get(side, "waits")
 
 
+def counted(number: int, name: str) -> str:
+    """So many of what has this name."""
+    return f"{number} {name}" if number == 1 else f"{number} {name}s"
+
+
 def short(call: Call) -> str:
     """A call's file and line."""
     return plain(f"{call.file}:{call.line}")
@@ -44,6 +49,13 @@ def line_of(calls: Calls | None) -> tuple[str, str]:
     if calls and calls.calls:
         return "(no line of the program)", plain(calls.calls[0].function)
     return "(no line known)", ""
+
+
+def is_of_go(calls: Calls | None) -> bool:
+    """Whether Go's own code alone waits there, in a goroutine that Go's own code started."""
+    if calls is None or not calls.calls or own_line(calls):
+        return False
+    return calls.made is not None and calls.made.of == OF_GO
 
 
 def told_of(g: int, status: str, step: int, calls: Calls | None) -> str:
@@ -63,25 +75,46 @@ def hang_lines(recording: Recording, calls: dict[int, Calls], waiting: dict[int,
         known = calls_of(g)
         return (not (known and own_line(known)), -recording.last_steps[g])
 
-    told = [told_of(g, waiting[g], recording.last_steps[g], calls_of(g)) for g in sorted(waiting, key=order)]
+    own = [g for g in sorted(waiting, key=order) if not is_of_go(calls_of(g))]
+    told = [told_of(g, waiting[g], recording.last_steps[g], calls_of(g)) for g in own]
+    if len(own) < len(waiting):
+        more = len(waiting) - len(own)
+        told.append(
+            f"  {more} more in Go's own code alone, as idle connections of net/http are: nrdb's info goroutines"
+        )
     rest = len(told) - MOST_TOLD
     return told[:MOST_TOLD] + ([f"  and {rest} more"] if rest > 0 else [])
 
 
-def next_line(name: pathlib.Path, told: list[str], is_good: bool = False) -> str:
-    """The line to type next: nrdb, with what the first suspect says to look at, or with a look at who waits. Of a run in which
-    nobody waits, other schedules."""
+def next_line(name: pathlib.Path, told: list[str], nobody_waits: bool = False, failed: bool = False) -> str:
+    """The line to type next: nrdb, with what the first suspect says to look at, or with a look at who waits. Where nobody waits, a
+    look at the calls that failed, of a program that failed; else other schedules."""
     looks = [line.strip().removeprefix("look:").split(";") for line in told if line.strip().startswith("look:")]
-    commands = [command.strip() for command in looks[0]] if looks else ["continue", "info goroutines"]
-    program = "nrdb" if shutil.which("nrdb") else "./nrdb"
-    words = [program, str(name), *(word for command in commands for word in ("-ex", command))]
-    if is_good and not looks:
-        words = [program, "--explore", str(name)]
+    topic = "errors" if failed and nobody_waits else "goroutines"
+    commands = [command.strip() for command in looks[0]] if looks else ["continue", f"info {topic}"]
+    words = [nrdb(), str(name), *(word for command in commands for word in ("-ex", command))]
+    if nobody_waits and not failed and not looks:
+        words = [nrdb(), "--explore", str(name)]
     return plain(f"next: {shlex.join(words)}")
 
 
-def report(recording: Recording, name: pathlib.Path, calls: dict[int, Calls]) -> tuple[bool, list[str]]:
-    """Whether netrev takes the recording, and the lines that say what it has."""
+def nrdb() -> str:
+    """How nrdb is called."""
+    return "nrdb" if shutil.which("nrdb") else "./nrdb"
+
+
+def why_lines(name: pathlib.Path) -> list[str]:
+    """Why a program failed that did: its failed calls and who hangs, each with its cause."""
+    try:
+        return [plain(line) for line in causes(name, nrdb())]
+    except Late as late:
+        return [plain(f"  {late}: `nrdb -ex 'info errors' {name}` waits for them")]
+
+
+def report(
+    recording: Recording, name: pathlib.Path, calls: dict[int, Calls], failed: bool = False
+) -> tuple[bool, list[str]]:
+    """Whether netrev takes the recording, and the lines that say what it has. `failed` is whether the program did."""
     counts = f"{recording.goroutines} goroutines, {recording.sockets} sockets"
     notes = [f"  ({note})" for note in recording.notes]
     netrev = netrev_program()
@@ -100,11 +133,18 @@ def report(recording: Recording, name: pathlib.Path, calls: dict[int, Calls]) ->
     cells = [f"gor {g}" for g in range(recording.goroutines)] + [f"lock {s}" for s in range(recording.sockets)]
     values = at_the_end(netrev, name, len(recording.lines), cells)
     waiting = hanging(values)
+    why = why_lines(name) if failed else []
+    lines += why
     lines += hang_lines(recording, calls, waiting)
     lines += [
         f"  socket {s} is closed, and {left} of its references are held: info holders {s}"
         for s, left in never_closed(values).items()
     ]
-    told = suspects(netrev, name)
+    try:
+        told = suspects(netrev, name)
+    except Late as late:
+        told = []
+        lines.append(plain(f"  {late}: `nrdb --suspects {name}` waits for them"))
     lines += ["  nrdb suspects:", *(f"    {plain(line)}" for line in told[:MOST_SUSPECTS])] if told else []
-    return True, [*lines, next_line(name, told, not waiting)]
+    has_next = any(line.startswith("look:") for line in why) and not any("look:" in line for line in told)
+    return True, lines if has_next else [*lines, next_line(name, told, not waiting, failed)]

@@ -2,6 +2,7 @@
 
 from __future__ import annotations
 
+import argparse
 import contextlib
 import os
 import pathlib
@@ -19,8 +20,11 @@ from .toolchain import Trouble
 MOST_POINTS = 2**20
 POINT_BYTES, STACK_BYTES, SPARE = 64, 4 * 2**20, 64 * 2**20
 LOG = re.compile(r"log\.(\d+)(?:\.\d+)?\Z")
+LOGS = "log.[0-9]*"  # the same for a shell
 GRACE = 3.0
 LOOK = 0.05
+SIGNALS = (signal.SIGINT, signal.SIGTERM, signal.SIGUSR1)
+FROM_THE_TERMINAL = 0x80  # the kernel's own si_code, SI_KERNEL
 
 
 @dataclass(frozen=True)
@@ -32,6 +36,15 @@ class Limits:
     points: int = MOST_POINTS
     lines: bool = True
     orders: bool = True
+
+
+def limits_of(options: argparse.Namespace) -> Limits:
+    return Limits(options.n, options.procs, options.points, not options.no_lines, not options.no_orders)
+
+
+def as_a_shell_has_it(status: int) -> int:
+    """The status of a command that ended with this one, or by this signal."""
+    return status if status >= 0 else 128 - status
 
 
 def logs_folder(points: int) -> pathlib.Path:
@@ -47,9 +60,12 @@ def logs_folder(points: int) -> pathlib.Path:
 
 
 def logs_in(folder: pathlib.Path) -> list[pathlib.Path]:
-    """The logs of a folder, in the order in which their processes began."""
-    logs = [path for path in folder.iterdir() if LOG.match(path.name)]
-    return sorted(logs, key=lambda path: path.stat().st_ino)
+    """The logs of a folder, in the order in which their processes began; none where the folder is gone."""
+    try:
+        logs = [path for path in folder.iterdir() if LOG.match(path.name)]
+        return sorted(logs, key=lambda path: path.stat().st_ino)
+    except FileNotFoundError:
+        return []
 
 
 def process_of(log: pathlib.Path) -> int:
@@ -57,7 +73,12 @@ def process_of(log: pathlib.Path) -> int:
     return int(found[1]) if found else 0
 
 
-def environment(folder: pathlib.Path, limits: Limits) -> dict[str, str]:
+def heed_signals() -> None:
+    signal.pthread_sigmask(signal.SIG_UNBLOCK, SIGNALS)
+
+
+def environment(folder: pathlib.Path, limits: Limits, delays: int = 0) -> dict[str, str]:
+    """The environment in which programs record. `delays` is the seed of the recorder's own, 0 for none."""
     settings = {"NETREV_LOG": str(folder / "log"), "NETREV_POINTS": str(limits.points)}
     if limits.processors:
         settings["GOMAXPROCS"] = str(limits.processors)
@@ -65,6 +86,8 @@ def environment(folder: pathlib.Path, limits: Limits) -> dict[str, str]:
         settings["NETREV_LINES"] = "0"
     if not limits.orders:
         settings["NETREV_ORDERS"] = "0"
+    if delays:
+        settings["NETREV_DELAYS"] = str(delays)
     return os.environ | settings
 
 
@@ -89,28 +112,49 @@ def send_all(folder: pathlib.Path, number: signal.Signals) -> None:
 
 
 class Runner:
-    """Go's command, and the programs that it starts."""
+    """Go's command, and the programs that it starts. Signals wait until they are looked at, which the command's aren't."""
 
-    def __init__(self, command: list[str], folder: pathlib.Path, limits: Limits) -> None:
+    def __init__(self, command: list[str], folder: pathlib.Path, limits: Limits, delays: int = 0) -> None:
         self.folder, self.limits = folder, limits
-        self.wanted = False  # that a recording is made of what is there so far
-        signal.signal(signal.SIGINT, lambda *_: None)  # a program at the terminal gets its own
-        signal.signal(signal.SIGTERM, lambda *_: send_all(folder, signal.SIGTERM))
-        signal.signal(signal.SIGUSR1, lambda *_: setattr(self, "wanted", True))
         self.began: dict[pathlib.Path, float] = {}
         self.told: set[pathlib.Path] = set()  # to quit
-        self.process = subprocess.Popen(command, env=environment(folder, limits))
+        self.cancelled = False
+        signal.pthread_sigmask(signal.SIG_BLOCK, SIGNALS)
+        self.process = subprocess.Popen(command, env=environment(folder, limits, delays), preexec_fn=heed_signals)
 
     def wait(self, so_far: Callable[[], None]) -> int:
-        """Go's exit status. `so_far` is called where a recording is asked for while the program runs."""
+        """Go's exit status. `so_far` is called where a recording is asked for while the program runs. From then on Ctrl-C and
+        SIGTERM are netrev-go's own."""
         while self.process.poll() is None:
-            time.sleep(LOOK)
-            if self.wanted:
-                self.wanted = False
-                so_far()
+            seen = signal.sigtimedwait(SIGNALS, LOOK)
+            if seen is not None:
+                self.attend(seen, so_far)
             if self.limits.seconds is not None:
                 self.end_the_old(time.monotonic(), self.limits.seconds)
+        if self.cancelled:
+            self.let_them_end()
+        signal.signal(signal.SIGUSR1, signal.SIG_IGN)
+        for number in (signal.SIGINT, signal.SIGTERM):
+            signal.signal(number, signal.default_int_handler)
+        heed_signals()
         return self.process.returncode
+
+    def attend(self, seen: signal.struct_siginfo, so_far: Callable[[], None]) -> None:
+        """Passes a signal on to the programs and to Go. At a terminal, Ctrl-C has gone to all of them already."""
+        number = signal.Signals(seen.si_signo)
+        if number == signal.SIGUSR1:
+            so_far()
+            return
+        self.cancelled = True
+        if seen.si_code != FROM_THE_TERMINAL:
+            send_all(self.folder, number)
+            self.process.send_signal(number)
+
+    def let_them_end(self) -> None:
+        """Waits a while for the programs, which Go may have left behind."""
+        end = time.monotonic() + GRACE
+        while any(writes(process_of(log), log) for log in logs_in(self.folder)) and time.monotonic() < end:
+            time.sleep(LOOK)
 
     def end_the_old(self, now: float, seconds: float) -> None:
         """Ends each process whose log is so old: first by SIGQUIT, which a program may take for something else."""

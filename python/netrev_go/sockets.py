@@ -13,7 +13,10 @@ BUFFER = 65_536
 OUTPUT = 4_096
 CLOSED = 1
 AGAIN = 1
+READ, WRITE, NAMED = int(Kind.READ), int(Kind.WRITE), int(Kind.NAMED)
 MOST_SOCKETS, MOST_GOROUTINES, MOST_STEPS = 256, 4_096, 1_000_000
+MEGABYTE, MOST_MEGABYTES = 2**20, 1_024  # of a recording's text for the bytes that are moved
+FEW_BYTES = 64  # as which a read or a write counts that moved more, unless all are wanted
 
 
 @dataclass(eq=False)
@@ -21,12 +24,15 @@ class Socket:
     """A socket from its opening on: what the log has of it, and what the converter keeps of it."""
 
     opening: int
+    opener: int = 0  # the goroutine
     goroutines: set[int] = field(default_factory=set)
-    steps: int = 1  # at most
+    steps: int = 0  # at least
+    text: int = 0  # characters for the bytes that it moves
     has_descriptor: bool = False
     failed: bool = False  # the poller wouldn't have it, as a regular file
     closed: bool = False  # the log has its end
     sequences: tuple[int, int] = (0, 0)  # Go's, of reading and of writing, when it was opened
+    go_tag: int = 0  # the tag that Go's events of it have; 0 in releases that have none
     written: int = 0
     largest: int = OUTPUT
     full_at: int = 0
@@ -59,7 +65,7 @@ class Owners:
         if kind in AT_A_WORD:
             return self.at_a_word(point)
         if kind == Kind.INIT:
-            socket = Socket(len(self.sockets))
+            socket = Socket(len(self.sockets), point.goroutine)
             self.sockets.append(socket)
             self.words[point.at] = self.opening[point.goroutine] = socket
             return socket
@@ -67,10 +73,14 @@ class Owners:
             return self.opened(point)
         if kind == Kind.FIRE:
             return self.fired(point)
+        if kind == Kind.EVENT and point.c:
+            return self.tagged(point)
         uses = self.uses.get(point.at)
         if not uses:
             return None
         if kind == Kind.CLOSE:
+            if uses[-1].closed:  # a descriptor is freed that couldn't be opened
+                return None
             uses[-1].closed = True
         elif kind == Kind.OPEN_FAILED:
             uses[-1].failed = True
@@ -92,8 +102,13 @@ class Owners:
             return None
         socket.has_descriptor = True
         socket.sequences = point.b, point.c
+        socket.go_tag = point.a >> 32
         uses.append(socket)
         return socket
+
+    def tagged(self, point: Point) -> Socket | None:
+        """The use of the descriptor that an event is of, by its tag."""
+        return next((use for use in reversed(self.uses.get(point.at, ())) if use.go_tag == point.c), None)
 
     def fired(self, point: Point) -> Socket | None:
         """The use of the descriptor that armed the timer: an earlier one, where the firing is of an old sequence."""
@@ -104,19 +119,35 @@ class Owners:
         return None
 
 
+def of_few(point: Point) -> Point:
+    """A read or a write as one of few bytes."""
+    if point.b <= FEW_BYTES and (point.a <= FEW_BYTES or point.kind == Kind.READ):
+        return point
+    asked = point.a if point.kind == Kind.READ else min(point.a, FEW_BYTES)
+    return point._replace(a=asked, b=min(point.b, FEW_BYTES))
+
+
 def count_bytes(socket: Socket, point: Point) -> None:
-    """Counts a read or a write at its socket: the steps that it may be, and how large the output is."""
+    """Counts a read or a write at its socket: the text that it is, how large the output is, and of a read the steps."""
     got = max(point.b, 0)
-    if point.kind == Kind.READ:
-        socket.steps += 2 * (got // BUFFER)
+    if point.kind == READ:
+        socket.text += 2 * got
+        socket.steps += 2 * -(-got // BUFFER) - 1
         return
+    socket.text += 2 * (got or min(max(point.a, 1), BUFFER))
     socket.written += got
     socket.largest = max(socket.largest, min(got, BUFFER))
-    socket.steps += 2 * (got // OUTPUT)
     if got:
         socket.last_put = point.number
     if point.c == AGAIN and not socket.full_at:
         socket.full_at = max(1, min(socket.written, BUFFER))
+
+
+def count_parts(points: list[tuple[Point, Socket]]) -> None:
+    """Counts the steps of writes, when it is known how large the outputs are: a write is in parts that one has room for."""
+    for point, socket in points:
+        if point[1] == WRITE:
+            socket.steps += -(-max(point.b, 0) // min(socket.capacity(), BUFFER)) - 1
 
 
 @dataclass
@@ -126,13 +157,15 @@ class Owned:
     points: list[tuple[Point, Socket]]
     sockets: list[Socket]
     unknown: int  # points of sockets whose opening isn't in the log
+    cut: int  # reads and writes that count as of fewer bytes
 
 
-def owned(points: list[Point]) -> Owned:
-    """Each point with its socket, of which the goroutines and the steps at most are counted."""
+def owned(points: list[Point], all_bytes: bool = True) -> Owned:
+    """Each point with its socket, of which the goroutines and the steps at least are counted."""
     owners = Owners()
     of, words = owners.of, owners.words
-    mine = []
+    mine: list[tuple[Point, Socket]] = []
+    cut = 0
     for point in points:
         kind, goroutine, at = point[1:4]
         socket = words.get(at) if kind in AT_A_WORD else None
@@ -140,28 +173,37 @@ def owned(points: list[Point]) -> Owned:
             socket = of(point)
             if socket is None:
                 continue
-        if kind == Kind.READ or kind == Kind.WRITE:
+        if kind == READ or kind == WRITE:
+            if not all_bytes and (counted := of_few(point)) is not point:
+                cut += counted.b != point.b
+                point = counted
             count_bytes(socket, point)
-        socket.goroutines.add(goroutine)
-        socket.steps += 2
+        if goroutine not in socket.goroutines:
+            socket.goroutines.add(goroutine)
+        socket.steps += kind != NAMED
         mine.append((point, socket))
+    count_parts(mine)
     known = [socket for socket in owners.sockets if socket.has_descriptor and not socket.failed]
     for socket in known:
         socket.goroutines.discard(0)
-    return Owned(mine, known, len(points) - len(mine))
+    return Owned(mine, known, len(points) - len(mine), cut)
 
 
-def chosen(sockets: list[Socket], most: int = MOST_SOCKETS) -> set[Socket]:
-    """The sockets that a recording has room for: the open ones first, and the newest of them and of the others."""
+def chosen(
+    sockets: list[Socket], most: int = MOST_SOCKETS, megabytes: int = MOST_MEGABYTES, room: int = MOST_STEPS
+) -> set[Socket]:
+    """The sockets that a recording of so many steps has room for: the open ones first, and the newest of them and of the others."""
     kept: set[Socket] = set()
     goroutines: set[int] = set()
-    steps = 0
+    steps, text = 0, 0
     for socket in sorted(sockets, key=lambda socket: (socket.closed, -socket.opening)):
         if len(kept) == min(most, MOST_SOCKETS):
             break
         together = goroutines | socket.goroutines
-        if len(together) <= MOST_GOROUTINES and steps + socket.steps + len(together) <= MOST_STEPS:
+        has_room = text + socket.text <= megabytes * MEGABYTE
+        if has_room and len(together) <= MOST_GOROUTINES and steps + socket.steps + len(together) - 1 <= room:
             kept.add(socket)
             goroutines = together
             steps += socket.steps
+            text += socket.text
     return kept

@@ -2,17 +2,23 @@
 
 from __future__ import annotations
 
+import fcntl
 import hashlib
 import json
 import os
 import pathlib
+import re
 import shutil
 import subprocess
 import tempfile
 from dataclasses import dataclass
 
 SOURCES = pathlib.Path(__file__).resolve().parent / "go"
-TRIED = "go1.19.8"
+OVERLAY, NEW, LEFT_OUT = "overlay.json", "new.json", "without.txt"
+CHANGED = ("runtime", "internal/poll", "testing")  # of Go's packages
+WITHOUT = "without "  # so begins a line of a rule that can be done without
+# Of each release that was tried, with which patch that was.
+TRIED = {"1.19": 8, "1.21": 13, "1.22": 12, "1.23": 5, "1.24": 4, "1.26": 10, "1.27": 3}
 HOW_TO_INSTALL = "Debian has it: apt-get install golang-go"
 
 
@@ -32,6 +38,11 @@ class Go:
 
     def sources(self) -> pathlib.Path:
         return self.root / "src"
+
+    def own_program(self) -> str:
+        """The command of this very release. `go` on the PATH may be one that looks into go.mod for which release to run."""
+        own = self.root / "bin/go"
+        return str(own) if own.exists() else self.program
 
 
 def find_go() -> Go:
@@ -62,19 +73,40 @@ def key_of(go: Go) -> str:
     """What an overlay depends on: Go's files below the two packages that are changed, and ours."""
     digest = hashlib.sha256(f"{go.version} {go.root}".encode())
     ours = sorted(SOURCES.glob("*/*.go"))
-    theirs = [path for name in ("runtime", "internal/poll") for path in sorted((go.sources() / name).glob("*.go"))]
+    theirs = [path for name in CHANGED for path in sorted((go.sources() / name).glob("*.go"))]
     for path in (*ours, *theirs):
         digest.update(path.read_bytes() if path in ours else f"{path} {path.stat().st_mtime_ns}".encode())
-    return f"{go.version}-{digest.hexdigest()[:12]}"
+    return f"{re.sub(r'[^0-9A-Za-z.+-]', '_', go.version)}-{digest.hexdigest()[:12]}"
 
 
 def quiet_go(go: Go, folder: pathlib.Path, *words: str) -> subprocess.CompletedProcess[str]:
     """Runs Go on our own program, whatever the user's flags and modules are."""
     environment = {name: value for name, value in os.environ.items() if name not in ("GOFLAGS", "NETREV_LOG")}
-    environment |= {"GO111MODULE": "off", "CGO_ENABLED": "0"}
+    environment |= {"GO111MODULE": "off", "CGO_ENABLED": "0", "GOTOOLCHAIN": "local"}
     return subprocess.run(
-        [go.program, *words], cwd=folder, env=environment, capture_output=True, text=True, check=False
+        [go.own_program(), *words], cwd=folder, env=environment, capture_output=True, text=True, check=False
     )
+
+
+def release_of(version: str) -> tuple[str, str]:
+    """The release of a version, and which patch of it that is: 1.27 and 3 of go1.27.3."""
+    found = re.match(r"go(1\.\d+)(?:\.(\d+))?(?:\s|\Z)", version)
+    return (found[1], found[2] or "0") if found else (version, "")
+
+
+def is_tried(version: str) -> bool:
+    release, patch = release_of(version)
+    return release in TRIED and patch == str(TRIED[release])
+
+
+def tried(version: str) -> str:
+    """Whether a version was tried, in words."""
+    release, _ = release_of(version)
+    if is_tried(version):
+        return "this release was tried"
+    if release in TRIED:
+        return f"never tried; {release}.{TRIED[release]} was"
+    return f"never tried; {', '.join(TRIED)} were"
 
 
 def points_program(go: Go, folder: pathlib.Path) -> pathlib.Path:
@@ -95,26 +127,41 @@ def fit(go: Go) -> tuple[bool, list[str]]:
 
 
 def overlay(go: Go) -> pathlib.Path:
-    """The overlay for this Go, made where it isn't there yet."""
+    """The overlay for this Go, made where it isn't there yet. It is there only once Go has compiled it."""
     made = cache() / key_of(go)
-    if not (made / "overlay.json").exists():
+    if not (made / OVERLAY).exists():
         try:
-            make_overlay(go, made)
+            made.mkdir(parents=True, exist_ok=True)
+            with (made / "lock").open("w") as lock:
+                fcntl.flock(lock, fcntl.LOCK_EX)
+                if not (made / OVERLAY).exists():  # nobody else made it meanwhile
+                    make_overlay(go, made)
         except OSError as fault:
             raise Trouble(f"{made} can't be written ({fault.strerror}): XDG_CACHE_HOME names another folder") from None
-    return made / "overlay.json"
+    return made / OVERLAY
+
+
+def left_out(go: Go) -> list[str]:
+    """What isn't recorded of this Go, a line for each rule that doesn't fit and can be done without."""
+    return (overlay(go).parent / LEFT_OUT).read_text().splitlines()
 
 
 def make_overlay(go: Go, made: pathlib.Path) -> None:
-    made.mkdir(parents=True, exist_ok=True)
     program = points_program(go, made)
     run = subprocess.run(
         [program, "overlay", go.sources(), SOURCES / "log", made], capture_output=True, text=True, check=False
     )
     program.unlink()
+    lines = run.stdout.splitlines()
+    unknown = f"{go.version} isn't a release that netrev-go knows ({tried(go.version)}). "
     if run.returncode != 0:
-        unfit = [line for line in run.stdout.splitlines() if line.startswith("unfit ")]
+        unfit = [line for line in lines if line.startswith("unfit ")]
         raise Trouble(
-            f"{go.version} isn't a release that netrev-go knows. These places of it are other than the rules say "
-            f"(`netrev-go doctor` has all; {TRIED} was tried):\n" + "\n".join([*unfit, run.stderr]).strip()
+            f"{unknown}These places of it are other than the rules say (`netrev-go doctor` has all):\n"
+            + "\n".join([*unfit, run.stderr]).strip()
         )
+    compiled = quiet_go(go, made, "build", "-overlay", str(made / NEW), *CHANGED)
+    if compiled.returncode != 0:
+        raise Trouble(f"{unknown}The rules fit, and the changed files aren't compiled:\n{compiled.stderr.strip()}")
+    (made / LEFT_OUT).write_text("".join(f"{line}\n" for line in lines if line.startswith(WITHOUT)))
+    (made / NEW).rename(made / OVERLAY)

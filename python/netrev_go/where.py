@@ -4,7 +4,11 @@ from __future__ import annotations
 
 import json
 import pathlib
+from collections.abc import Iterable
 
+from netrev_model.files import written_whole
+
+from .beside import Beside
 from .lines import OF_A_LIBRARY, OF_THE_PROGRAM, Call, Calls
 from .orders import parts
 
@@ -44,9 +48,15 @@ class Numbered:
 
 
 def write_where(
-    name: pathlib.Path, stacks: list[int], calls: dict[int, Calls], orders: list[Order] | None = None
+    name: pathlib.Path,
+    stacks: list[int],
+    calls: dict[int, Calls],
+    orders: list[Order] | None = None,
+    beside: Beside = Beside(),
+    more: Iterable[object] = (),
 ) -> None:
-    """Writes the file of a recording whose steps have these stacks, and which the program puts in these orders."""
+    """Writes the file of a recording whose steps have these stacks, which the program puts in these orders, and what the log has
+    besides; and more lines."""
     numbered = Numbered(calls)
     numbered.add({"where": 1, "steps": len(stacks)})
     numbers = [numbered.stack(key) for key in stacks]
@@ -54,7 +64,16 @@ def write_where(
         numbered.add({"step": first + 1, "stacks": numbers[first : first + STEPS_A_LINE]})
     for part in parts(orders, STEPS_A_LINE) if orders is not None else ():
         numbered.add({"orders": part})
-    name.write_text("".join(numbered.lines), encoding="ascii")
+    for first in range(0, len(beside.peers), STEPS_A_LINE):
+        numbered.add({"peers": beside.peers[first : first + STEPS_A_LINE]})
+    for first in range(0, len(beside.errors), STEPS_A_LINE):
+        numbered.add({"errors": beside.errors[first : first + STEPS_A_LINE]})
+    waits = [wait._replace(stack=numbered.stack(wait.stack)) for wait in beside.waits]
+    for first in range(0, len(waits), STEPS_A_LINE):
+        numbered.add({"waits": waits[first : first + STEPS_A_LINE]})
+    for line in more:
+        numbered.add(line)
+    written_whole(name, "".join(numbered.lines).encode("ascii"))
 
 
 def own_line(calls: Calls) -> tuple[Call, str] | None:

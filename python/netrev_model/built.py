@@ -11,9 +11,27 @@ BUILT = HERE[2] / "crates/netrev/out/netrev"
 INSTALLED = HERE[3] / "bin/netrev"  # by `make install`, which puts this module into lib/netrev/netrev_model
 
 
+LAUNCHER = b"netrev_model.launching"  # stands in the script of pip's that looks for netrev itself
+
+
+def is_launcher(path: Path) -> bool:
+    """Whether a file only looks for netrev."""
+    with path.open("rb") as file:
+        return LAUNCHER in file.read(4096)
+
+
+def on_the_path() -> Optional[str]:
+    """The first netrev of the PATH that isn't a launcher."""
+    for folder in os.environ.get("PATH", os.defpath).split(os.pathsep):
+        found = shutil.which("netrev", path=folder) if folder else None
+        if found and not is_launcher(Path(found)):
+            return found
+    return None
+
+
 def netrev_program() -> Optional[str]:
     """The one that NETREV names, else the one that is built here, one that is installed beside the program that runs, or
     another that is installed."""
     beside = Path(sys.argv[0]).resolve().with_name("netrev")
-    there = [str(path) for path in (BUILT, beside, INSTALLED) if path.is_file()]
-    return os.environ.get("NETREV") or next(iter(there), None) or shutil.which("netrev")
+    there = [str(path) for path in (BUILT, beside, INSTALLED) if path.is_file() and not is_launcher(path)]
+    return os.environ.get("NETREV") or next(iter(there), None) or on_the_path()

@@ -1,28 +1,32 @@
 """What nrdb answers itself, a function for each of its commands. Each has the session and the words behind the command;
 Misused says what is wrong with them."""
 
+import re
 from fnmatch import fnmatchcase
-
 
 from netrev_model.vocabulary import CELLS, KINDS, REASONS, Of, cell_of, number_of
 
 from .answers_of_calls import OF_CALLS, answer_errors, arrive, taken_most, usage
 from .changes import history_table
 from .commands import ALL_TOPICS, COMMANDS, OF_NETREV, OF_NRDB, TOPICS, Origin, whole_command
+from .causes import hangs_table
 from .exploring import answer_explore
 from .holders import holders_table
 from .output import Row, Table
 from .places import descriptors_table, sockets_table, timers_table
+from .program.answers import OF_FRAMES, OF_PLACES, of_place, stack_at
 from .recorded_answers import spelled
 from .reducing import answer_reduce, answer_report
 from .session import Answering, Misused, Session
-from .suspects import suspects_table
+from .suspects.table import suspects_table
 from .timeline import write_timeline, write_trace
 from .timers import timer_words
 from .waiting import goroutines_table
 from .where import stack_lines
 
 ROUND = 5
+TIME = re.compile(r"(\d+(?:\.\d+)?)(ns|us|ms|s)")
+UNITS = {"ns": 1, "us": 1_000, "ms": 1_000_000, "s": 1_000_000_000}
 
 
 def taken_number(name: str, words: list[str]) -> int:
@@ -84,8 +88,10 @@ def answer_where(session: Session, words: list[str]) -> None:
     position, length, direction = session.stands()
     session.printer.note(f"at {position} of {length} {direction}")
     session.printer.place(session.place(position))
-    if session.recording and (lines := stack_lines(session.recording.lines.of(position))):
+    if session.recording and (lines := stack_lines(stack_at(session))):
         session.printer.note("\n".join(lines))
+    if session.recording and (tests := session.recording.lines.tests_at(position)):
+        session.printer.note(f"while these tests ran: {', '.join(tests)}")
 
 
 def answer_list(session: Session, words: list[str]) -> None:
@@ -111,10 +117,23 @@ def answer_list(session: Session, words: list[str]) -> None:
 
 
 def answer_goto(session: Session, words: list[str]) -> None:
-    number = taken_number("goto", words)
+    number = taken_position(session, words)
     if number > session.length:
         raise Misused(f"the recording has {session.length} steps")
     arrive(session, f"goto {number}", session.go(number))
+
+
+def taken_position(session: Session, words: list[str]) -> int:
+    """The position that `goto` names: a number, the start, the end, or the last one at which the clock isn't behind a time."""
+    word = words[0] if len(words) == 1 else ""
+    if word in ("start", "end"):
+        return session.length if word == "end" else 0
+    found = TIME.fullmatch(word)
+    if found is None:
+        return taken_number("goto", words)
+    until = float(found[1]) * UNITS[found[2]]
+    ticks = session.text().steps_of(("tick",), session.length)
+    return next((step.number - 1 for step in ticks if step.argument("time") > until), session.length)
 
 
 def taken_conditions(name: str, words: list[str]) -> dict[str, str]:
@@ -213,6 +232,8 @@ def answer_info(session: Session, words: list[str]) -> None:
         return session.printer.table(timers_table(session.world()))
     if topic == "suspects" and not rest:
         return session.printer.table(suspects_table(session.looks(), session.text()))
+    if topic == "hangs" and not rest:
+        return session.printer.table(hangs_table(session.text(), session.stands().position))
     if topic == "errors":
         return answer_errors(session, rest)
     number = number_of(rest[0]) if len(rest) == 1 else None
@@ -229,13 +250,13 @@ TABLES = {"goroutines": goroutines_table, "sockets": sockets_table, "descriptors
 ANSWERS: dict[str, Answering] = {
     "help": answer_help,
     "where": answer_where,
-    "list": answer_list,
-    "goto": answer_goto,
-    "until": answer_until,
-    "reverse-until": answer_reverse_until,
+    "list": of_place("list", answer_list),
+    "goto": of_place("goto", answer_goto),
+    "until": of_place("until", answer_until),
+    "reverse-until": of_place("reverse-until", answer_reverse_until),
     "display": answer_display,
     "undisplay": answer_undisplay,
-    "history": answer_history,
+    "history": of_place("history", answer_history),
     "timeline": answer_timeline,
     "trace": answer_trace,
     "reduce": answer_reduce,
@@ -243,5 +264,9 @@ ANSWERS: dict[str, Answering] = {
     "explore": answer_explore,
     "source": answer_source,
     "info": answer_info,
+    "break": OF_PLACES["break"],
+    "tbreak": OF_PLACES["tbreak"],
+    "delete": OF_PLACES["delete"],
+    **OF_FRAMES,
     **OF_CALLS,
 }

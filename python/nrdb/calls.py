@@ -2,90 +2,25 @@
 and how it ended. They are found by the recording's steps, in one pass, and are nrdb's own reckoning."""
 
 from array import array
-from dataclasses import dataclass
-from enum import Enum
 from functools import lru_cache
 from typing import Any, Callable, Optional
 
 from netrev_model.vocabulary import KINDS
 
+from .one_call import CLOSE, CLOSE_WRITE, CONTROL, OPEN, Call, Outcome
 from .recording import Recording
 from .suspects.following import follow
 from .suspects.state import PLACES, State
 from .timers import timers_of
-from .words import counted
 
 ASLEEP = ("parked", "queued")
 NONE = -1
 SETTING = {"r": "SetReadDeadline", "w": "SetWriteDeadline", "rw": "SetDeadline"}
 LOCKING = {"r": "Read", "w": "Write"}
 WAITING = {"r": "WaitRead", "w": "WaitWrite"}
-OPEN, CLOSE, CLOSE_WRITE, CONTROL = "Open", "Close", "CloseWrite", "Control"
-
-
-class Outcome(Enum):
-    """How a call ended."""
-
-    DONE = "done"
-    EOF = "end of file"
-    TIMED_OUT = "timed out"
-    CLOSED = "closed"
-    EVENT_ERROR = "event error"
-    BROKEN_PIPE = "broken pipe"
-
-    @property
-    def is_error(self) -> bool:
-        """Whether the program has an error for it. (The end of a file is one that every reader expects.)"""
-        return self not in (Outcome.DONE, Outcome.EOF)
 
 
 CODES = {1: Outcome.CLOSED, 2: Outcome.TIMED_OUT, 3: Outcome.EVENT_ERROR}
-MOVING = {"Read": "got", "Write": "put"}
-
-
-@dataclass
-class Call:
-    """A call: its first and its last step, which is 0 as long as it hasn't ended, and what came of it."""
-
-    goroutine: int
-    name: str
-    socket: int
-    descriptor: int
-    first: int
-    last: int = 0
-    waited: int = 0  # steps in which its goroutine slept
-    slept: int = 0  # nanoseconds of the clock in these
-    moved: Optional[int] = None  # bytes, where it has tried to read or to write any
-    outcome: Outcome = Outcome.DONE
-    side: str = ""  # of the lock that it has
-    is_asking: bool = False  # for a lock that another has
-    is_ending: bool = False  # it has given up its reference, and still has to release or to destroy
-    destroys: bool = False
-
-    def steps(self) -> str:
-        """Its steps, in words."""
-        if not self.last:
-            return f"since step {self.first}"
-        return f"step {self.first}" if self.first == self.last else f"steps {self.first} to {self.last}"
-
-    def came(self) -> str:
-        """What came of it, in words."""
-        if not self.last:
-            return "hasn't ended"
-        moved = "" if self.moved is None else f"{MOVING.get(self.name, 'moved')} {counted(self.moved, 'byte')}"
-        if self.outcome is Outcome.DONE:
-            return moved
-        return f"{moved}, {self.outcome.value}" if self.moved else self.outcome.value
-
-    def as_begun(self) -> "Call":
-        """It as it is known before it ends: when it began."""
-        return Call(self.goroutine, self.name, self.socket, self.descriptor, self.first)
-
-    def words(self) -> str:
-        """It, but for whose it is: `Read on socket 40: steps 35420 to 35556, waited 94, timed out`."""
-        clock = f" ({self.slept} ns)" if self.slept else ""
-        waited = f"waited {self.waited}{clock}" if self.waited else ""
-        return f"{self.name} on socket {self.socket}: " + ", ".join(filter(None, (self.steps(), waited, self.came())))
 
 
 class Book:
@@ -96,10 +31,12 @@ class Book:
         self.calls: list[Call] = []
         self.goroutines, self.sockets, self.descriptors = array("i"), array("i"), array("i")
         self._timers = timers_of(recording)
+        self._errors = recording.lines.errors
         self._open: dict[int, list[Call]] = {}  # the calls that each goroutine is in, the innermost last
         self._asleep: dict[int, tuple[int, int]] = {}  # since which step, and the clock then
         self._named: dict[int, tuple[int, int]] = {}  # the socket and descriptor that a goroutine named last
         self._descriptor_of: dict[int, int] = {}
+        self._socket_of: dict[tuple[int, int], int] = {}  # of a use of a descriptor, by its tag
         follow(recording, self._see)
 
     def _see(self, state: State, kind: str, values: list[Any]) -> None:
@@ -117,6 +54,8 @@ class Book:
             self._wakes(state, calls, *self._asleep.pop(g))
         if handler := HANDLERS.get(kind):
             handler(self, state, calls, arguments)
+        if calls and state.step in self._errors:
+            calls[-1].outcome, calls[-1].error = Outcome.SYSTEM_ERROR, self._errors[state.step]
         status = state.goroutines[g].status[0]
         if status in ASLEEP:
             self._asleep[g] = state.step, state.clock
@@ -128,11 +67,14 @@ class Book:
         if kind == "sockopen":
             return len(state.sockets) - 1, NONE
         if kind == "pollopen":
-            opened = (d for d, one in enumerate(state.descriptors) if one.is_open and one.opened == state.step)
-            self._descriptor_of[arguments["s"]] = next(opened)
+            opened = next(d for d, one in enumerate(state.descriptors) if one.is_open and one.opened == state.step)
+            self._descriptor_of[arguments["s"]] = opened
+            self._socket_of[opened, state.descriptors[opened].fdseq] = arguments["s"]
         if kind in ("pop", "fire"):
             timer = self._timers[state.step]
             return timer.socket, timer.descriptor
+        if kind == "pollevent":
+            return self._socket_of.get((arguments["d"], arguments["tag"]), NONE), arguments["d"]
         if "s" in arguments:
             place = arguments["s"], self._descriptor_of.get(arguments["s"], NONE)
         elif "d" in arguments:
@@ -148,6 +90,11 @@ class Book:
         if calls:
             calls[-1].waited += state.step - step - 1
             calls[-1].slept += state.clock - clock
+
+    def sleeps_at_the_end(self, call: Call) -> bool:
+        """Whether the recording ends while a call's goroutine sleeps in it."""
+        inside = self._open.get(call.goroutine)
+        return call.goroutine in self._asleep and bool(inside) and inside is not None and inside[-1] is call
 
     def frees(self, socket: int) -> None:
         """The socket's descriptor is free."""
@@ -165,6 +112,20 @@ class Book:
 Handler = Callable[[Book, State, list[Call], dict[str, Any]], None]
 
 
+def _fails(state: State, call: Call, outcome: Outcome, place: int = 0) -> None:
+    """A call has this outcome; which step brought that about is known of a timeout, of a close and of a shut write side."""
+    call.outcome = outcome
+    socket = state.sockets[call.socket]
+    if outcome is Outcome.CLOSED and socket.closer:
+        call.cause = socket.closer[0]
+    elif outcome is Outcome.BROKEN_PIPE and socket.shut:
+        call.cause = socket.shut[0]
+    elif outcome is Outcome.TIMED_OUT:
+        descriptor = state.descriptors[call.descriptor]
+        setting, passing = descriptor.settings[place], descriptor.passings[place]
+        call.cause, call.passed = setting.step if setting else 0, passing.step if passing else 0
+
+
 def _opens(book: Book, state: State, calls: list[Call], arguments: dict[str, Any]) -> None:
     book.begin(state, calls, OPEN, arguments).is_ending = True
 
@@ -176,7 +137,8 @@ def _locks(book: Book, state: State, calls: list[Call], arguments: dict[str, Any
         top = book.begin(state, calls, LOCKING[side], arguments, side)
     top.is_asking = state.goroutines[arguments["g"]].status[0] == "acquiring"
     if not top.is_asking and state.sockets[s].closed:
-        top.outcome, top.is_ending = Outcome.CLOSED, True
+        top.is_ending = True
+        _fails(state, top, Outcome.CLOSED)
 
 
 def _unlocks(book: Book, state: State, calls: list[Call], arguments: dict[str, Any]) -> None:
@@ -194,7 +156,8 @@ def _gives(state: State, s: int, call: Optional[Call]) -> None:
 def _refers(book: Book, state: State, calls: list[Call], arguments: dict[str, Any]) -> None:
     call = book.begin(state, calls, CONTROL, arguments)
     if state.sockets[arguments["s"]].closed:
-        call.outcome, call.is_ending = Outcome.CLOSED, True
+        call.is_ending = True
+        _fails(state, call, Outcome.CLOSED)
 
 
 def _unrefers(book: Book, state: State, calls: list[Call], arguments: dict[str, Any]) -> None:
@@ -205,7 +168,8 @@ def _unrefers(book: Book, state: State, calls: list[Call], arguments: dict[str, 
 def _closes(book: Book, state: State, calls: list[Call], arguments: dict[str, Any]) -> None:
     call = book.begin(state, calls, CLOSE, arguments)
     if state.sockets[arguments["s"]].closer != (state.step, arguments["g"]):
-        call.outcome, call.is_ending = Outcome.CLOSED, True
+        call.is_ending = True
+        _fails(state, call, Outcome.CLOSED)
 
 
 def _destroys(book: Book, state: State, calls: list[Call], arguments: dict[str, Any]) -> None:
@@ -220,7 +184,7 @@ def _checks(book: Book, state: State, calls: list[Call], arguments: dict[str, An
     code = state.descriptors[d].check(PLACES[side][0])
     top = calls[-1] if calls else book.begin(state, calls, WAITING[side], arguments)
     if code:
-        top.outcome = CODES[code]
+        _fails(state, top, CODES[code], PLACES[side][0])
     if top.name in WAITING.values():
         top.is_ending = True
 
@@ -228,11 +192,13 @@ def _checks(book: Book, state: State, calls: list[Call], arguments: dict[str, An
 def _checks_again(book: Book, state: State, calls: list[Call], arguments: dict[str, Any]) -> None:
     """`waitcheck`: the side is that of the wait which it ends."""
     row = state.goroutines[arguments["g"]]
-    if calls and row.status[0] == "idle" and state.timeouts[-1:] and state.timeouts[-1].step == state.step:
-        calls[-1].outcome = Outcome.TIMED_OUT
-    elif calls and row.status[0] == "idle":
+    if not calls or row.status[0] != "idle":
+        return
+    if state.timeouts[-1:] and state.timeouts[-1].step == state.step:
+        _fails(state, calls[-1], Outcome.TIMED_OUT, state.timeouts[-1].place)
+    else:
         descriptor = state.descriptors[book.descriptors[-1]]
-        calls[-1].outcome = Outcome.CLOSED if descriptor.closing else Outcome.EVENT_ERROR
+        _fails(state, calls[-1], Outcome.CLOSED if descriptor.closing else Outcome.EVENT_ERROR)
 
 
 def _reads(book: Book, state: State, calls: list[Call], arguments: dict[str, Any]) -> None:
@@ -244,7 +210,7 @@ def _reads(book: Book, state: State, calls: list[Call], arguments: dict[str, Any
 
 def _writes(book: Book, state: State, calls: list[Call], arguments: dict[str, Any]) -> None:
     if calls and state.sockets[arguments["s"]].shut:
-        calls[-1].outcome = Outcome.BROKEN_PIPE
+        _fails(state, calls[-1], Outcome.BROKEN_PIPE)
     elif calls:
         calls[-1].moved = (calls[-1].moved or 0) + state.moved
 

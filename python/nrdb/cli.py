@@ -1,5 +1,5 @@
 """How nrdb is called, and its exit status, which is netrev's: 0 done, 1 the recording was refused, 2 other words, 3 the
-file, the program or the connection failed; and 4 where --suspects prints some, or --explore."""
+file, the program or the connection failed; and 4 where --suspects, --explore or --explore-failures prints some."""
 
 import argparse
 import io
@@ -25,7 +25,7 @@ from .refusals import explained
 from .scout import Lost, Scout
 from .session import Mismatched, Misused, Session
 from .shapes import POSITION, Refused, Strange
-from .suspects import suspects_table
+from .suspects.table import suspects_table
 from .terminal import Terminal
 from .timeline import write_timeline, write_trace
 from .web import serve_page
@@ -60,7 +60,7 @@ def parser() -> Words:
         "-x", dest="lines", action=InOrder, const="source", metavar="FILE", help="takes lines from a file"
     )
     made.add_argument("-ex", dest="lines", action=InOrder, const="line", metavar="COMMAND", help="takes this line")
-    made.add_argument("--batch", action="store_true", help="ends behind -x and -ex, in place of a prompt")
+    made.add_argument("--batch", "-batch", action="store_true", help="ends behind -x and -ex, in place of a prompt")
     made.add_argument("--json", action="store_true", help="prints a line of JSON for each event")
     made.add_argument(
         "--suspects", action="store_true", help="prints the suspects, behind -x and -ex, and ends: with status 4 if any"
@@ -76,12 +76,16 @@ def parser() -> Words:
         help="plays schedules near the recorded one, behind -x and -ex, prints which of them end with a suspect, and ends: with "
         "status 4 if any",
     )
+    made.add_argument("--explore-failures", action="store_true", help="the same, of calls that fail and had gone well")
     made.add_argument("--join", metavar="HOST:PORT", help="joins a session that `netrev serve` has")
     made.add_argument(
         "--dap", action="store_true", help="serves an editor by the Debug Adapter Protocol, over the standard streams"
     )
     made.add_argument(
-        "--dap-port", metavar="PORT", type=int, help="the same at a port of the loopback, one after the other"
+        "--dap-port",
+        metavar="PORT",
+        type=int,
+        help="the same at a port of the loopback, one after the other; a launch names the token that is printed",
     )
     made.add_argument(
         "--web",
@@ -108,8 +112,10 @@ def main(words: Optional[Sequence[str]] = None) -> int:
     printer = JsonPrinter() if wanted.json else TextPrinter(is_coloured=has_colours())
     try:
         return run(wanted, printer)
-    except BrokenPipeError:  # whoever read what is printed has gone
+    except OSError as error:  # what is said can't be printed: whoever read it has gone, or there is no room
         sys.stdout = open(os.devnull, "w", encoding="utf-8")
+        if not isinstance(error, BrokenPipeError):
+            print(f"nrdb: standard output: {error.strerror}", file=sys.stderr)
         return FAILED
 
 
@@ -166,6 +172,8 @@ def begun(wanted: argparse.Namespace, netrev: Netrev, interrupts: Interrupts, pr
         return refused(wanted, netrev, first, printer)
     try:
         session.begin(first)
+        if recording and recording.lines.fault:
+            printer.note(recording.lines.why_unused(wanted.file))
         status = played(session, wanted)
     finally:
         if scout:
@@ -211,10 +219,10 @@ def played(session: Session, wanted: argparse.Namespace) -> int:
             return DONE
     if wanted.suspects:
         return suspected(session)
-    if wanted.explore:
-        return schedules_tried(session)
+    if wanted.explore or wanted.explore_failures:
+        return schedules_tried(session, wanted.explore_failures)
     for name, write in WRITERS.items():
-        if file := getattr(wanted, name):
+        if (file := getattr(wanted, name)) is not None:
             return made(session, file, write)
     if wanted.web is not None:
         return serve_page(session, wanted.web, lambda printer: opened(wanted, session.interrupts, printer))
@@ -235,11 +243,11 @@ def suspected(session: Session) -> int:
     return SUSPECTS if table.rows else DONE
 
 
-def schedules_tried(session: Session) -> int:
+def schedules_tried(session: Session, is_of_failures: bool) -> int:
     """Explores; the exit status."""
     try:
         with session.interrupts.held():
-            said = explored(session)
+            said = explored(session, is_of_failures=is_of_failures)
     except (Interrupted, Misused, Refused) as stopped:
         session.printer.note(str(stopped) or "interrupted")
         return FAILED
@@ -286,6 +294,6 @@ def typed(session: Session) -> None:
 def address(text: str) -> tuple[str, int]:
     """The host and the port of an address."""
     host, _, port = text.rpartition(":")
-    if not port.isdigit():
+    if not (port.isascii() and port.isdigit() and len(port) < 6 and int(port) < 2**16):
         parser().error(f"{text} is no HOST:PORT")
     return host.strip("[]") or "127.0.0.1", int(port)

@@ -21,8 +21,14 @@ OF_NRDB = {
     for row in (
         command("help [COMMAND]", "lists the commands, or tells of one; of a kind, a cell and a reason's number too"),
         command("where", "the position, the last step and the next one"),
-        command("list [N]", "the steps round the position, or round step N; => is the next one"),
-        command("goto N", "goes to position N, either way"),
+        command(
+            "list [N | FILE:LINE]",
+            "the steps round the position, or round step N; => is the next one; or the source round a line",
+        ),
+        command("frame [N]", "a call of the program's stack here, 0 is the innermost, and the source round it"),
+        command("up", "the call that called this one"),
+        command("down", "the call that this one called"),
+        command("goto N|start|end|TIME|PLACE", "goes to a position, either way; to a time of the clock, as 35ms"),
         command(
             "until CELL VALUE",
             "goes to the next step that gives the cell this value, or these words; * is any text; `and CELL VALUE` may follow",
@@ -60,8 +66,9 @@ OF_NRDB = {
         ),
         command("report OUT.md [N | CELL VALUE]", "the same, with what is said of it in Markdown beside it"),
         command(
-            "explore [N]",
-            "plays N schedules near the recorded one, 3000 without N, and writes those that end with a suspect",
+            "explore [failures] [N]",
+            "plays N schedules near the recorded one, 3000 without N, and writes those that end with a suspect; or those in which a call "
+            "fails that went well",
         ),
         command("source FILE", "takes lines from a file"),
     )
@@ -91,7 +98,10 @@ TOPICS = {
         Topic(
             Origin.NRDB,
             "errors [N|all]",
-            "the calls that ended with a timeout, a close, a broken pipe or an event error",
+            "the calls that failed, each with its cause: who set the deadline, who closed",
+        ),
+        Topic(
+            Origin.NRDB, "hangs", "the calls that wait and don't end in the recording, and who could have woken them"
         ),
         Topic(Origin.NRDB, "suspects", "what isn't as it should be in the whole recording, by rules, the worst first"),
         Topic(Origin.NRDB, "holders S", "who holds the references of socket S, and since which step"),
@@ -112,6 +122,7 @@ SPELLINGS = {
     "rni": "reverse-stepi",
     "rn": "reverse-next",
     "fin": "finish",
+    "f": "frame",
     "i": "info",
     "l": "list",
     "h": "help",

@@ -1,5 +1,6 @@
 """A netrev to talk to: one of one's own, `netrev run FILE`, or a front of a session that netrev serves."""
 
+import errno
 import os
 import select
 import socket
@@ -16,6 +17,15 @@ AT_ONCE = 16_384  # bytes that are sent before replies are read: no pipe is fill
 READ = 65_536
 LONGEST = 2 * 1_048_576 + 64  # bytes of the longest reply, a dump of a full buffer
 SILENCE = 1  # second, after which somebody who waits for the first reply is told so
+
+
+def bytes_of(text: str) -> bytes:
+    """Lines as they are sent. What came as bytes that are no UTF-8 goes so; half a character, which an editor's JSON can name, is
+    none either."""
+    try:
+        return text.encode("utf-8", "surrogateescape")
+    except UnicodeEncodeError:
+        return text.encode("utf-8", "surrogatepass")
 
 
 class Ended(Exception):
@@ -125,7 +135,7 @@ class Netrev:
             raise Ended
         self._unread = len(lines)
         if lines:
-            self._send("".join(f"{line}\n" for line in lines).encode("utf-8", "surrogateescape"))
+            self._send(bytes_of("".join(f"{line}\n" for line in lines)))
 
     def _reply(self, line: str) -> Reply:
         first = self._line(line)
@@ -192,7 +202,10 @@ class Joined(Netrev):
 
     def __init__(self, address: tuple[str, int], interrupts: Interrupts, silent: Callable[[], None]):
         super().__init__(interrupts)
-        self._socket = socket.create_connection(address, timeout=10)
+        try:
+            self._socket = socket.create_connection(address, timeout=10)
+        except UnicodeError:
+            raise OSError(errno.EINVAL, "no host has that name") from None
         self._socket.settimeout(None)
         self._socket.setsockopt(socket.IPPROTO_TCP, socket.TCP_NODELAY, 1)
         self._lines = Lines(self._socket.fileno(), silent)

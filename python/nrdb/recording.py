@@ -2,7 +2,9 @@
 recording, and that its steps apply, is for netrev to say."""
 
 import json
+import os
 import re
+import stat
 from array import array
 from bisect import bisect_left, bisect_right
 from functools import cached_property
@@ -10,6 +12,7 @@ from itertools import accumulate
 from os.path import commonprefix
 from typing import Any, Iterable, Iterator, NamedTuple, Optional, Sequence
 
+from netrev_model.files import check_name
 from netrev_model.vocabulary import KINDS
 
 from .where import Lines
@@ -74,7 +77,10 @@ class Recording:
 
     @classmethod
     def read(cls, path: str) -> "Recording":
-        """Reads the file; an OSError where it can't be read."""
+        """Reads the file, which netrev reads too; an OSError where it can't be read, NoRecording where it can't be read twice."""
+        check_name(path)
+        if not stat.S_ISREG(os.stat(path).st_mode) and not os.path.isdir(path):
+            raise NoRecording(f"{path} isn't a file: nrdb reads a recording twice, so write it to one")
         with open(path, "rb") as file:
             recording = cls(file.read())
         recording.lines = Lines.beside(path, recording.length)

@@ -4,6 +4,7 @@ from dataclasses import dataclass, field
 from pathlib import Path
 from typing import Callable, Mapping, Optional, Sequence
 
+from netrev_model.files import check_name
 from netrev_model.vocabulary import cell_of
 
 from .attached import Attached
@@ -12,6 +13,7 @@ from .changes import marks_table
 from .commands import COMMANDS, Ambiguous, is_answered_here, whole_words
 from .interrupts import Interrupted, Interrupts
 from .line_hints import hint
+from .program.breaks import Breaks, names_a_place
 from .netrev import Joined, Netrev, Reply
 from .output import Place, Printer, Row, Table
 from .recording import Recording
@@ -61,6 +63,9 @@ class Session:
     depth: int = 0
     program: str = ""  # netrev's, and the recording's file, where they are known
     path: str = ""
+    breaks: Breaks = field(default_factory=Breaks)  # at places of the program
+    frame: Optional[int] = None  # of the stack, from the innermost; None for the program's own line
+    is_before: bool = False  # a place of the program: the stack is that of the next step
 
     def begin(self, reply: str) -> None:
         """Tells where the session stands, with netrev's first reply, to `info position`. Mismatched where the recording
@@ -153,7 +158,7 @@ class Session:
     def answer(self, line: str) -> bool:
         """Answers a line that has words."""
         words = whole_words(line.split())
-        if is_answered_here(words):
+        if is_answered_here(words) or names_a_place(self.recording, words):
             return self.answers[words[0]](self, words[1:]) is not False
         return self.pass_on(line, words)
 
@@ -162,17 +167,34 @@ class Session:
         sent = " ".join(words) if words[0] in COMMANDS else line
         # (a stop takes away the temporary breaks that it names, so what stands before it is asked for too)
         stood = self.netrev.marks() if words[0] in STOPPING and self.scout else []
-        reply = self.netrev.ask(sent)
+        reply = self.back_to_a_break(sent, self.netrev.ask(sent)) if words[0] in STOPPING else self.netrev.ask(sent)
         self.show(line, reply, words[0] == "dump")
         if MOVED.fullmatch(reply.first):
             move = move_of(sent, reply.first)
             self.arrive(move.position, move.marks, stood)
+            self.tell_breaks(words[0], move.position)
         elif reply.first.startswith("fault"):
             self.printer.note(hint(words, reply.first))
         elif words == ["info", "breakpoints"]:
-            for told in self.attached.listed(reply.entries):
+            for told in (*self.attached.listed(reply.entries), *(one.words() for one in self.breaks.standing.values())):
                 self.printer.note(told)
         return reply.first != "bye"
+
+    def back_to_a_break(self, sent: str, reply: Reply) -> Reply:
+        """The reply to a move; where it passed a break of the program, that of the move back to it."""
+        if not self.breaks.standing or not MOVED.fullmatch(reply.first):
+            return reply
+        position = move_of(sent, reply.first).position
+        near = self.breaks.nearest(self.stood, position > self.stood)
+        if near is None or (near - position) * (position - self.stood) >= 0:
+            return reply
+        return Reply(self.go(near))
+
+    def tell_breaks(self, name: str, position: int) -> None:
+        """Tells which breaks of the program stop here, where a move was to one."""
+        for hit in self.breaks.hit(position) if name in STOPPING else ():
+            self.is_before = True
+            self.printer.note(f"break {hit.number}: {hit.place.spelled}")
 
     def show(self, line: str, reply: Reply, is_dump: bool = False) -> None:
         """Shows a reply, a value with its words."""
@@ -196,7 +218,7 @@ class Session:
     def arrive(self, position: int, numbers: Sequence[str] = (), stood: Sequence[Listed] = ()) -> None:
         """Tells where the session stands after a move, which marks hit there, what the last step changed, and what is
         displayed. Before the move these marks stood, of which some may be gone."""
-        self.stood = position
+        self.stood, self.frame, self.is_before = position, None, False
         self.attached.hits(numbers)
         self.printer.place(self.place(position))
         if self.scout and self.recording:
@@ -259,6 +281,7 @@ class Session:
         ended."""
         if self.depth == NESTED:
             raise Misused(f"files are {NESTED} deep in each other already")
+        check_name(path)
         lines = Path(path).read_text(encoding="utf-8", errors="surrogateescape").splitlines()
         self.depth += 1
         try:

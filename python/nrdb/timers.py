@@ -15,8 +15,8 @@ FOLLOWED = ("sockopen", "pollopen", "pollclose", "setdeadline", "evict", "tick",
 
 
 class Timer(NamedTuple):
-    """A timer of a `pop` or a `fire`: its sides, whose it is, when it was due, and the step that set that deadline. A stale one
-    was stopped or moved before its function ran."""
+    """A timer of a `pop` or a `fire`: its sides, the descriptor and the socket that this was of when the deadline was set, when it
+    was due, and the step that set it. A stale one was stopped or moved before its function ran."""
 
     sides: str
     descriptor: int
@@ -36,17 +36,20 @@ class Timer(NamedTuple):
 def timers_of(recording: Recording) -> Mapping[int, Timer]:
     """The timer of each `pop` and each `fire`, by the step's number."""
     state, found = State(), {}
+    sockets: dict[int, int] = {}  # by the steps that set deadlines: a descriptor may be another socket's by now
     for step in recording.steps_of(FOLLOWED, recording.length):
         state.step = step.number
         entry = state.firings[step.arguments[0]] if step.kind == "fire" else None
         HANDLERS[step.kind](state, *step.arguments)
+        if step.kind == "setdeadline":
+            sockets[step.number] = state.descriptors[step.arguments[1]].socket
         if step.kind == "pop":
             entry = state.firings[-1]
         if entry is not None:
             due, _, d, place, covers, sequence, setting = entry
             descriptor = state.descriptors[d]
             is_stale = step.kind == "fire" and descriptor.sequences[place] != sequence
-            found[step.number] = Timer(covers, d, descriptor.socket, due, setting.step, setting.goroutine, is_stale)
+            found[step.number] = Timer(covers, d, sockets[setting.step], due, setting.step, setting.goroutine, is_stale)
     return found
 
 

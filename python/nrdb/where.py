@@ -2,11 +2,15 @@
 it, and a recording without it is as good."""
 
 import json
+import os
+import stat
 from array import array
 from pathlib import Path
-from typing import Any, NamedTuple, Optional
+from typing import Any, Iterable, NamedTuple, Optional
 
-OF_THE_PROGRAM, OF_A_LIBRARY = "program", "library"
+OF_GO, OF_THE_PROGRAM, OF_A_LIBRARY = "go", "program", "library"
+OF_CALL = {"function": str, "file": str, "line": int, "of": str}
+MOST_BYTES, MOST_LINE = 2**26, 2**24  # of the file, and of one of its lines
 SHOWN = 12  # calls of a stack
 
 
@@ -47,45 +51,122 @@ class Stack(NamedTuple):
         return f"{call.place()} {inner or call.function}"
 
 
+class Wait(NamedTuple):
+    """A wait outside of the poller: behind which step, up to which one (0: it doesn't end in the recording), whose, what for in words
+    (empty where the stack alone says it), its stack, and who made it ready, or -1."""
+
+    first: int
+    last: int
+    goroutine: int
+    reason: str
+    stack: int
+    by: int
+
+
+class Unusable(Exception):
+    """A file of lines that can't be used: why."""
+
+
 class Lines:
-    """The lines of a recording's steps. There are none where the file isn't there, isn't of this form, or is of another
-    recording."""
+    """The lines of a recording's steps, and why there are none where NAME.where can't be used. One that isn't there is no fault."""
 
     def __init__(self, text: str = "", steps: int = 0) -> None:
+        self._begin()
+        self.fault = ""
+        self.written = 0.0  # the time at which the file was written
+        if text:
+            self._take(text.splitlines(), steps)
+
+    @classmethod
+    def beside(cls, path: str, steps: int) -> "Lines":
+        """Those of the file beside a recording of so many steps."""
+        made, name = cls(), Path(path).with_suffix(".where")
+        try:
+            status = os.stat(name)
+            if not stat.S_ISREG(status.st_mode):
+                made.fault = "it isn't a file"
+            elif status.st_size > MOST_BYTES:
+                made.fault = f"it has more than {MOST_BYTES // 2**20} MB"
+            else:
+                made.written = status.st_mtime
+                with open(name, encoding="utf-8") as file:
+                    made._take(iter(lambda: file.readline(MOST_LINE), ""), steps)
+        except FileNotFoundError:
+            pass
+        except OSError as error:
+            made.fault = error.strerror or "it can't be read"
+        return made
+
+    def why_unused(self, path: str) -> str:
+        """What is said of a file that can't be used."""
+        name = Path(path).with_suffix(".where").name
+        return (
+            f"{name} isn't used: {self.fault}; docs/RECORDING.md has its form, and the recording is as good without it"
+        )
+
+    def _begin(self) -> None:
+        """No line is known."""
         self.steps = array("l")
         self.stacks: dict[int, Stack] = {0: Stack((), None)}
         self.orders: Optional[
             list[tuple[int, int]]
         ] = None  # of the program, by steps; None where the recorder saw none
+        self.bytes: Optional[
+            int
+        ] = None  # as which a read or a write counts at most; None where each has all of its own
+        self.tests: list[tuple[int, int, str]] = []  # the first and the last step while each test ran, package and name
+        self.peers: dict[int, int] = {}  # of a socket the one at the connection's other end
+        self.errors: dict[int, str] = {}  # of the system, by the step behind which a goroutine's call had them
+        self.waits: dict[int, list[Wait]] = {}  # outside of the poller, by goroutine
         self._calls: dict[int, Call] = {}
-        try:
-            self._read([json.loads(line) for line in text.splitlines()], steps)
-        except (ValueError, TypeError, KeyError, AttributeError, OverflowError):
-            self.steps, self.orders = array("l"), None
 
-    @classmethod
-    def beside(cls, path: str, steps: int) -> "Lines":
-        """Those of the file beside a recording of so many steps."""
+    def _take(self, lines: Iterable[str], steps: int) -> None:
+        """Takes the lines of the file, or none of them."""
+        number = 0
         try:
-            return cls(Path(path).with_suffix(".where").read_text(encoding="utf-8"), steps)
-        except (OSError, ValueError):
-            return cls()
+            for number, line in enumerate(lines, 1):
+                value = json.loads(line)
+                if number == 1:
+                    of_steps(value, steps)
+                else:
+                    self._add(value)
+        except Unusable as why:
+            self.fault = str(why)
+        except UnicodeDecodeError:
+            self.fault = "it isn't text"
+        except (ValueError, TypeError, KeyError, OverflowError, RecursionError):
+            self.fault = f"line {number} isn't one of its form"
+        if self.fault:
+            self._begin()
 
-    def _read(self, lines: list[Any], steps: int) -> None:
-        if not lines or lines[0]["where"] != 1 or lines[0]["steps"] != steps:
-            return
-        for line in lines[1:]:
-            if "call" in line:
-                self._calls[line["call"]] = Call(
-                    str(line["function"]), str(line["file"]), int(line["line"]), line["of"]
-                )
-            elif "stack" in line:
-                made = self._calls[line["made"]] if "made" in line else None
-                self.stacks[line["stack"]] = Stack(tuple(self._calls[number] for number in line["calls"]), made)
-            elif "orders" in line:
-                self.orders = [*(self.orders or ()), *((int(first), int(second)) for first, second in line["orders"])]
-            elif line["step"] == len(self.steps) + 1:
-                self.steps.extend(number if number in self.stacks else 0 for number in line["stacks"])
+    def _add(self, line: dict[str, Any]) -> None:
+        """Adds what a line behind the first says."""
+        if "call" in line:
+            self._calls[line["call"]] = Call(*(_typed(line[name], sort) for name, sort in OF_CALL.items()))
+        elif "stack" in line:
+            made = self._calls[line["made"]] if "made" in line else None
+            self.stacks[line["stack"]] = Stack(tuple(self._calls[number] for number in line["calls"]), made)
+        elif "orders" in line:
+            self.orders = [] if self.orders is None else self.orders
+            self.orders += [(_typed(first, int), _typed(second, int)) for first, second in line["orders"]]
+        elif "bytes" in line:
+            self.bytes = _typed(line["bytes"], int)
+        elif "test" in line:
+            first, last = line["steps"]
+            name = f"{_typed(line['package'], str)} {_typed(line['test'], str)}"
+            self.tests.append((_typed(first, int), _typed(last, int), name))
+        elif "peers" in line:
+            for one, other in line["peers"]:
+                self.peers[_typed(one, int)], self.peers[_typed(other, int)] = other, one
+        elif "waits" in line:
+            for values in line["waits"]:
+                wait = Wait(*map(_typed, values, (int, int, int, str, int, int)))
+                known = wait if wait.stack in self.stacks else wait._replace(stack=0)
+                self.waits.setdefault(wait.goroutine, []).append(known)
+        elif "errors" in line:
+            self.errors.update((_typed(step, int), _typed(name, str)) for step, name in line["errors"])
+        elif line["step"] == len(self.steps) + 1:
+            self.steps.extend(number if number in self.stacks else 0 for number in line["stacks"])
 
     def __bool__(self) -> bool:
         return len(self.steps) > 0
@@ -94,9 +175,33 @@ class Lines:
         """The stack of a step; one without calls where none is known."""
         return self.stacks[self.steps[step - 1]] if 0 < step <= len(self.steps) else self.stacks[0]
 
+    def tests_at(self, step: int) -> list[str]:
+        """The tests that ran at a step, each with its package."""
+        return [name for first, last, name in self.tests if first <= step <= last]
+
+    def wait_of(self, goroutine: int, position: int) -> Optional[Wait]:
+        """The wait outside of the poller in which a goroutine is at a position."""
+        waits = self.waits.get(goroutine, ())
+        return next((one for one in waits if one.first <= position and (not one.last or position < one.last)), None)
+
     def words(self, step: int) -> str:
         """The program's line of a step, and the function that is called there; empty where none is known."""
         return self.of(step).words()
+
+
+def of_steps(first: Any, steps: int) -> None:
+    """Unusable where the file's first line says that it is of another recording."""
+    if first["where"] != 1:
+        raise Unusable("it is of another version")
+    if first["steps"] != steps:
+        raise Unusable(f"it is of a recording of {_typed(first['steps'], int)} steps, and this one has {steps}")
+
+
+def _typed(value: Any, sort: type) -> Any:
+    """The value; a TypeError where it isn't of this type."""
+    if type(value) is not sort:
+        raise TypeError
+    return value
 
 
 def stack_lines(stack: Stack) -> list[str]:

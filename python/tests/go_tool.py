@@ -1,6 +1,7 @@
-"""netrev-go with a real Go: programs of all sorts, and each thing that can go wrong. It needs Go (Debian's golang-go) and
-netrev, and is run by `make real`:  python3 python unittest tests.go_tool"""
+"""netrev-go with a real Go: programs of all sorts, and each thing that can go wrong. It needs Go (Debian's golang-go, or one that
+netrev_go.fetching fetched, on the PATH) and netrev, and is run by `make real`:  python3 python unittest tests.go_tool"""
 
+import dataclasses
 import json
 import os
 import pathlib
@@ -11,8 +12,11 @@ import tempfile
 import time
 import unittest
 from typing import Callable
+from unittest import mock
 
-from netrev_go.toolchain import SOURCES, find_go, points_program
+from netrev_go import calls_of_go
+from netrev_go.fetching import here
+from netrev_go.toolchain import CHANGED, SOURCES, TRIED, find_go, overlay, points_program, quiet_go, release_of
 from netrev_model.built import netrev_program
 from nrdb.where import Lines
 
@@ -50,6 +54,15 @@ TEST = TEST.replace("func main()", "func TestHang(t *testing.T)")
 CHILD = program(
     '\tif len(os.Args) == 1 {\n\t\texec.Command(os.Args[0], "child").Run()\n\t}', "os", "os/exec"
 )  # fmt: skip
+# opens a socket, becomes itself again with a word more, and reads then
+BECOMES = program(
+    '\tif len(os.Args) > 1 {\n\t\ta.Write([]byte("x"))\n\t\tb.Read(make([]byte, 1))\n\t\treturn\n\t}\n'
+    '\tsyscall.Exec("/proc/self/exe", []string{"again", "again"}, os.Environ())',
+    "os", "syscall",
+)  # fmt: skip
+GENERIC = HANGS.replace("b.Read(make([]byte, 1))", "wait(b)").replace(
+    "func main()", "func wait[T net.Conn](end T) {\n\tend.Read(make([]byte, 1))\n}\n\nfunc main()"
+)
 RACING = program(
     "\tvar done sync.WaitGroup\n\tfor i := 0; i < 4; i++ {\n\t\tdone.Add(1)\n\t\tgo func() {\n\t\t\tdefer done.Done()\n"
     '\t\t\tfor j := 0; j < 50; j++ {\n\t\t\t\tv := net.Buffers{[]byte("a"), []byte("b")}\n\t\t\t\tv.WriteTo(a)\n\t\t\t}\n'
@@ -99,7 +112,7 @@ class Programs(Tool):
     def test_a_program_that_hangs_ends_with_its_line(self) -> None:
         self.written(HANGS)
         status, said = self.called("-n", "1", "run", "main.go")
-        self.assertEqual(status, 0, said)
+        self.assertEqual(status, 1, said)  # Go's own: the program was ended by SIGQUIT
         self.recorded(said)
         self.assertRegex(
             said, rf"  main\.go:{READ_LINE}: net\.\(\*conn\)\.Read waits to read \(goroutine 0, since step \d+\)"
@@ -109,7 +122,8 @@ class Programs(Tool):
     def test_a_test_that_hangs_ends_with_its_line(self) -> None:
         self.written(TEST, "p_test.go")
         status, said = self.called("-o", "t", "test", ".", "-run", "Hang", "-timeout", "1s")
-        self.recorded(said, "t")
+        self.assertEqual(status, 1)
+        self.recorded(said, r"t/\S+\.TestHang")
         self.assertRegex(said, rf"  p_test\.go:{READ_LINE + 1}: net\.\(\*conn\)\.Read waits to read")
         self.assertNotIn("vet:", said)
 
@@ -121,11 +135,46 @@ class Programs(Tool):
                 self.recorded(said)
                 self.assertRegex(said, rf"main\.go:{READ_LINE}: ")
 
-    def test_a_program_of_which_go_reads_no_lines(self) -> None:
+    def test_a_program_that_may_lie_anywhere(self) -> None:
         self.written(HANGS)
         _, said = self.called("-n", "1", "run", "-buildmode=pie", "main.go")
         self.recorded(said)
-        self.assertIn("Go reads no lines of it (-buildmode=pie)", said)
+        release, _ = release_of(find_go().version)
+        self.assertIn(
+            "Go reads no lines of it (-buildmode=pie)" if release == "1.19" else f"main.go:{READ_LINE}: ", said
+        )
+
+    def test_a_generic_function(self) -> None:
+        self.written(GENERIC)
+        _, said = self.called("-n", "1", "run", "main.go")
+        self.recorded(said)
+        self.assertIn(f"main.go:{GENERIC[: GENERIC.index('end.Read')].count(chr(10)) + 1}: ", said)
+
+    def test_a_workspace(self) -> None:
+        for name in ("mine", "dep"):
+            (self.folder / name).mkdir()
+            self.written(f"module example.org/{name}\n\ngo 1.18\n", f"{name}/go.mod")
+        self.written("go 1.18\n\nuse (\n\t./mine\n\t./dep\n)\n", "go.work")
+        self.written("package dep\n", "dep/dep.go")
+        self.written(HANGS.replace('"net"\n', '"net"\n\t_ "example.org/dep"\n'), "mine/main.go")
+        _, said = self.called("-n", "1", "run", "./mine", GO111MODULE="on")
+        self.recorded(said)
+        self.assertIn(f"mine/main.go:{READ_LINE + 1}: ", said)
+
+    def test_a_release_that_a_module_asks_for(self) -> None:
+        asked, other = here("1.27"), next(filter(None, map(here, ("1.26", "1.24", "1.23", "1.22", "1.21"))), None)
+        if not asked or not other:
+            self.skipTest("neither 1.27 nor another release that looks into go.mod is here")
+        tools = self.folder / "tools"
+        tools.mkdir()
+        (tools / "go1.27.3").symlink_to(asked / "go")
+        self.written("module example.org/mine\n\ngo 1.21\n\ntoolchain go1.27.3\n", "go.mod")
+        self.written(HANGS)
+        settings = {"PATH": f"{other}:{tools}:{os.environ['PATH']}", "GOTOOLCHAIN": "auto", "GO111MODULE": "on"}
+        self.assertIn("Go: go1.27.3, ", self.called("doctor", **settings)[1])
+        _, said = self.called("-n", "1", "run", ".", **settings)
+        self.recorded(said)
+        self.assertIn(f"main.go:{READ_LINE}: ", said)
 
     def test_a_cgo_program(self) -> None:
         self.written(HANGS.replace("import (\n", '// int one(void) { return 1; }\nimport "C"\n\nimport (\n'))
@@ -166,6 +215,12 @@ class Programs(Tool):
         _, said = self.called("-o", "c", "run", "main.go")
         self.recorded(said, "c")
         self.recorded(said, "c-2")
+
+    def test_a_program_that_becomes_another_has_two_recordings(self) -> None:
+        self.written(BECOMES)
+        _, said = self.called("-o", "b", "run", "main.go")
+        self.recorded(said, "b")
+        self.recorded(said, "b-2")
 
 
 class Orders(Tool):
@@ -233,11 +288,11 @@ class RunningOn(Tool):
         self.assertIn("it is too short for a log", self.called("convert", log.name)[1])
 
     def test_a_signal_makes_a_recording_of_what_is_there(self) -> None:
-        self.written(HANGS)
-        process = self.start(str(TOOL), "-o", "s", "-n", "4", "run", "main.go")
-        time.sleep(3)
+        self.written(program('\tos.WriteFile("here", nil, 0600)\n\tb.Read(make([]byte, 1))', "os"))
+        process = self.start(str(TOOL), "-o", "s", "-n", "9", "run", "main.go")
+        self.assertTrue(self.waited((self.folder / "here").exists, 120))
         os.kill(process.pid, signal.SIGUSR1)
-        said, _ = process.communicate(timeout=60)
+        said, _ = process.communicate(timeout=120)
         self.recorded(said, "s-so-far-1")
         self.recorded(said, "s")
 
@@ -248,8 +303,8 @@ class RunningOn(Tool):
         said, _ = run.communicate(timeout=120)
         self.assertRegex(said, r"e\.\d+\.jsonl: ok \d+ steps")
 
-    def waited(self, is_so: Callable[[], bool]) -> bool:
-        for _ in range(100):
+    def waited(self, is_so: Callable[[], bool], seconds: int = 10) -> bool:
+        for _ in range(10 * seconds):
             if is_so():
                 return True
             time.sleep(0.1)
@@ -261,6 +316,8 @@ class Sentences(Tool):
         self.written(program("\t_ = a"))
         self.written("package main\n\nfunc main() {}\n", "none.go")
         python = str(pathlib.Path(sys.executable).parent)
+        # (Go 1.21 looks into its own cache first, which is in the same folder unless it is named)
+        nowhere = {"XDG_CACHE_HOME": "/proc/none", "GOCACHE": str(self.folder / "go-build")}
         ways: tuple[tuple[tuple[str, ...], dict[str, str], str], ...] = (
             (("run", "none.go"), {}, "no socket was opened"),
             (("run", "missing.go"), {}, "nothing was recorded: Go failed before it ran"),
@@ -268,7 +325,7 @@ class Sentences(Tool):
             (("run", "-overlay=x.json", "main.go"), {}, "leave yours out"),
             (("run", "main.go"), {"GOFLAGS": "-overlay=x.json"}, "leave yours out"),
             (("run", "main.go"), {"GOARCH": "arm64"}, "records linux/amd64 alone"),
-            (("run", "main.go"), {"XDG_CACHE_HOME": "/proc/none"}, "XDG_CACHE_HOME names another folder"),
+            (("run", "main.go"), nowhere, "XDG_CACHE_HOME names another folder"),
             (("--points", "5", "run", "main.go"), {}, "--points is from 16384 to 16777216"),
             (("--pid", "1", "convert"), {}, "process 1"),
             (("convert", "nothing.1"), {}, "it can't be read: No such file or directory"),
@@ -276,7 +333,7 @@ class Sentences(Tool):
         for words, settings, said in ways:
             with self.subTest(words=words, **settings):
                 status, told = self.called(*words, **settings)
-                self.assertNotEqual(status, 0)
+                self.assertEqual(status == 0, said == "no socket was opened")
                 self.assertIn(said, told)
                 self.assertNotIn("Traceback", told)
 
@@ -294,10 +351,13 @@ class Sentences(Tool):
         """What is said of the installed Go with other words in some of its files."""
         go = find_go()
         points = points_program(go, self.folder)
-        for name in ("runtime", "internal/poll"):
+        for name in CHANGED:
             (self.folder / name).mkdir(parents=True, exist_ok=True)
             for path in (go.sources() / name).glob("*.go"):
                 (self.folder / name / path.name).write_bytes(path.read_bytes())
+        for name in ("runtime/internal", "internal/runtime"):
+            if (go.sources() / name).exists() and not (self.folder / name).exists():
+                (self.folder / name).symlink_to(go.sources() / name)
         for name, words in changes.items():
             text = (self.folder / name).read_text()
             for old, new in words.items():
@@ -330,29 +390,52 @@ class Sentences(Tool):
         self.assertNotIn("runtime_proc.go", replaced)
         self.assertIn("runtime_sema.go", replaced)
 
-    def test_rules_that_no_release_was_run_with_say_so(self) -> None:
-        error, ready = "pd.setEventErr(ev.events == _EPOLLERR)", "netpollready(&toRun, pd, mode)"
-        counted = {"atomic.Load(&root.nwait) == 0": "root.nwait.Load() == 0"}
-        for releases, events in (
-            ("1.20", {error: "pd.setEventErr(ev.Events == syscall.EPOLLERR)"}),
-            ("1.21 to 1.25", {error: "pd.setEventErr(ev.Events == syscall.EPOLLERR, tag)"}),
-            ("1.21 to 1.25", {error: "pd.setEventErr(ev.Events == 8, tag)", ready: f"delta += {ready}"}),
-        ):
-            status, said = self.fit({"runtime/netpoll_epoll.go": events, "runtime/sema.go": counted})
-            self.assertEqual(status, 0, said)
-            untried = [line for line in said if "no such release was run" in line]
-            self.assertEqual(
-                [line.partition(",")[0] for line in untried],
-                [
-                    f"fits runtime/netpoll_epoll.go netpoll ({releases}",
-                    "fits runtime/sema.go semrelease1 (1.20 to 1.25",
-                ],
-            )
+    def test_a_place_where_go_passes_and_no_rule_is_doesnt_fit(self) -> None:
+        more = "func (fd *FD) readUnlock() {"
+        swap = "func (mu *fdMutex) try(old, new uint64) bool { return atomic.CompareAndSwapUint64(&mu.state, old, new) }\n\n"
+        status, said = self.fit({"internal/poll/fd_mutex.go": {more: swap + more}})
+        self.assertEqual(status, 1)
+        self.assertEqual(
+            [line for line in said if line.startswith("unfit")],
+            ["unfit internal/poll/fd_mutex.go try: atomic.CompareAndSwap..) stands there too, of which no rule knows"],
+        )
 
     def test_the_doctor_says_that_all_is_well(self) -> None:
         status, said = self.called("doctor")
         self.assertEqual(status, 0)
-        self.assertIn("rules: all fit", said)
+        for told in ("rules: all fit\n", "compiled: ", "trial: all that was recorded is as it should be: "):
+            self.assertIn(told, said)
+        self.assertNotIn("calls: ", said)
+
+
+class Installed(Tool):
+    """The release that is on the PATH."""
+
+    def test_it_was_tried(self) -> None:
+        self.assertIn(release_of(find_go().version)[0], TRIED)
+
+    def test_the_table_has_each_call_that_it_has(self) -> None:
+        self.assertEqual(calls_of_go.unknown_calls(find_go()), [])
+        self.assertLessEqual(
+            {"FD.Read", "FD.Accept", "FD.Writev", "Splice", "SendFile"}, set(calls_of_go.calls_of(find_go()))
+        )
+
+    def test_a_call_that_no_rule_knows_is_named(self) -> None:
+        go = find_go()
+        folder = self.folder / "src/internal/poll"
+        folder.mkdir(parents=True)
+        for path in (go.sources() / "internal/poll").glob("*.go"):
+            (folder / path.name).write_bytes(path.read_bytes())
+        with (folder / "fd_unix.go").open("a") as file:
+            file.write("\nfunc (fd *FD) ReadTwice(p []byte) (int, error) { return fd.Read(p) }\n")
+        self.assertEqual(calls_of_go.unknown_calls(dataclasses.replace(go, root=self.folder)), ["FD.ReadTwice"])
+
+    def test_what_is_changed_compiles_for_another_processor(self) -> None:
+        go = find_go()
+        made = str(overlay(go))
+        with mock.patch.dict(os.environ, {"GOARCH": "arm64"}):
+            run = quiet_go(go, self.folder, "build", "-overlay", made, *CHANGED)
+        self.assertEqual((run.returncode, run.stderr), (0, ""))
 
 
 if __name__ == "__main__":

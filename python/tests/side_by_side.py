@@ -1,14 +1,15 @@
 """Runs tests side by side, each in a process of its own, as many as there are processors:
 
-    python3 python tests.side_by_side WHAT .. [--alone WHAT ..] [--jobs N]
+    python3 python tests.side_by_side WHAT .. [--alone WHAT ..] [--jobs N] [--left-out FILE]
 
 WHAT is a folder below python/, as tests/program, for each of its test modules; a program there, as tests.program.hostile or
 "tests.program.hostile reason"; or any other command, as "sh scripts/refused.sh". Those behind --alone have nothing beside
 them: they run when all others have ended, one by one.
 
 For each that ends there is a line: what it took, by the clock and of processor time, and what it said, of more than three lines
-the last one. All that it said is printed where it failed. The last line names those that failed, and the status is how many
-there are; it is 1 where there was nothing to run."""
+the last one. All that it said is printed where it failed. What it left out for want of a tool (tests/naming.py says how) isn't
+told to have passed: FILE gets a line for each. The last line names those that failed, and the status is how many there are; it is 1
+where there was nothing to run."""
 
 import argparse
 import os
@@ -20,6 +21,8 @@ import time
 from concurrent.futures import ThreadPoolExecutor, as_completed
 from pathlib import Path
 from typing import Iterator, NamedTuple, Optional, Sequence
+
+from .naming import LEFT_OUT
 
 PACKAGES = Path(__file__).resolve().parents[1]
 RAN_NONE = "Ran 0 tests"
@@ -43,10 +46,16 @@ class Ran(NamedTuple):
     seconds: float
     processor: float
 
+    @property
+    def left_out(self) -> list[str]:
+        """What it left out, each with the reason."""
+        return [line.removeprefix(LEFT_OUT) for line in self.said.splitlines() if line.startswith(LEFT_OUT)]
+
     def tell(self) -> None:
         """Prints a line, and where it failed all that it said."""
-        lines = self.said.strip().splitlines()
+        lines = [line for line in self.said.strip().splitlines() if not line.startswith(LEFT_OUT)]
         told = "\n    ".join(lines if len(lines) <= FEW else lines[-1:]) if self.passed else "FAILED"
+        told += f"; {len(self.left_out)} left out" if self.left_out else ""
         print(f"{self.seconds:6.1f} s, {self.processor:6.1f} s  {self.name}: {told}", flush=True)
         if not self.passed:
             print(f"{self.name}:\n{self.said}", file=sys.stderr, flush=True)
@@ -59,7 +68,7 @@ def tests_of(what: str) -> list[Test]:
     if (PACKAGES / what).is_dir():
         found = sorted((PACKAGES / what).rglob("test_*.py"), key=lambda path: -path.stat().st_size)
         names = [".".join(path.relative_to(PACKAGES).with_suffix("").parts) for path in found]
-        return [Test(name, [*python, "unittest", name]) for name in names]
+        return [Test(name, [*python, "tests.naming", name]) for name in names]
     words = shlex.split(what)
     return [Test(what, [*python, *words] if words[0].startswith("tests.") else words)]
 
@@ -92,6 +101,7 @@ def main(words: Optional[Sequence[str]] = None) -> int:
     arguments = argparse.ArgumentParser(description=(__doc__ or "").split("\n", 1)[0])
     arguments.add_argument("beside", nargs="*", metavar="WHAT")
     arguments.add_argument("--alone", nargs="+", default=[], metavar="WHAT", help="those that have nothing beside them")
+    arguments.add_argument("--left-out", type=Path, metavar="FILE", help="gets a line for each thing that was left out")
     arguments.add_argument("--jobs", type=int, default=os.cpu_count() or 1, metavar="N")
     given = arguments.parse_args(words)
     found = {what: tests_of(what) for what in (*given.beside, *given.alone)}
@@ -104,6 +114,9 @@ def main(words: Optional[Sequence[str]] = None) -> int:
     for one in run_all(beside, alone, given.jobs):
         one.tell()
         ran.append(one)
+    if given.left_out:
+        lines = [f"{name}\n" for one in ran for name in one.left_out]
+        given.left_out.write_text("".join(lines), encoding="utf-8")
     failed = [one.name for one in ran if not one.passed]
     took = f"{time.monotonic() - begun:.0f} s, {sum(one.processor for one in ran):.0f} s of processor time"
     print(f"{len(ran)} in {took}: {len(failed)} failed{': ' * bool(failed)}{', '.join(failed)}")

@@ -26,7 +26,7 @@ from nrdb.exploring.telling import LEFT_UNKNOWN, UNKNOWN, UNLESS, Telling, summa
 from nrdb.interrupts import Interrupted
 from nrdb.recording import Recording
 from nrdb.session import Misused
-from nrdb.suspects import suspects_of
+from nrdb.suspects.ranking import suspects_of
 from nrdb.suspects.found import Rule
 from tests.test_suspects import COMES, LOOKS, OPEN, PARK, READ, recording_of
 

@@ -14,7 +14,7 @@ from nrdb.exploring.runs import Delay
 from nrdb.exploring.schedules import single_delays
 from nrdb.exploring.scripts import Script
 from nrdb.exploring.telling import IF_RAW, LEFT_UNKNOWN, UNLESS, Telling
-from nrdb.suspects import suspects_of
+from nrdb.suspects.ranking import suspects_of
 from nrdb.suspects.found import Rule
 from nrdb.where import Lines
 from tests.test_exploring import EXAMPLES, GOOD, answered, explored

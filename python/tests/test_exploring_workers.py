@@ -1,12 +1,16 @@
 """Several processes find what one finds, and Ctrl-C keeps what they have found."""
 
+import pickle
+import sys
 import unittest
+from subprocess import PIPE, Popen
 from typing import Any
 from unittest.mock import patch
 
 from nrdb.exploring import workers
 from nrdb.exploring.finding import Exploring
 from nrdb.exploring.making import script_of
+from nrdb.exploring.telling import summary
 from nrdb.exploring.workers import Share, play_all
 from nrdb.interrupts import Interrupted
 from tests.test_exploring import EXAMPLES, answered
@@ -35,6 +39,42 @@ class Workers(unittest.TestCase):
             self.assertEqual(several.found[key].schedule, finding.schedule)
             self.assertEqual(several.found[key].played.steps, finding.played.steps)
         self.assertGreater(len(one.found), 1)
+
+    def test_a_process_that_is_killed_takes_nothing_away(self) -> None:
+        one, working = self.played(1), workers.Working
+        for which in range(3):
+            made: list[workers.Working] = []
+
+            def begun() -> workers.Working:
+                made.append(working())
+                return made[-1]
+
+            def kill() -> None:
+                made[which].process.kill()
+
+            with patch.object(workers, "Working", begun), patch.object(workers, "SECONDS", 0.01):
+                several = self.played(3, kill)
+            with self.subTest(which):
+                self.assertFalse(made[which].has_told_all)
+                self.assertEqual((several.played, several.left, several.seed), (MOST, one.left, one.seed))
+                self.assertEqual((several.times, list(several.found)), (one.times, list(one.found)))
+                self.assertIn("1 of the processes that played them ended early", summary(several, 1.0, False))
+
+    def test_a_process_whose_words_are_cut_off_takes_nothing_away(self) -> None:
+        for message in (b"", b"\0\0\0", (10**6).to_bytes(8, "big") + b"half of it"):
+            code = f"import sys; sys.stdin.buffer.read(); sys.stdout.buffer.write({message!r})"
+            with patch.object(workers, "CODE", code):
+                several = self.played(2)
+            self.assertEqual((several.played, several.taken_over), (MOST, 2))
+
+    def test_a_process_to_which_nobody_listens_says_nothing(self) -> None:
+        for given in (b"", pickle.dumps(Share(self.script, self.recording.lines, 200, 0, 1))):
+            with Popen([sys.executable, "-c", workers.CODE], stdin=PIPE, stdout=PIPE, stderr=PIPE) as process:
+                assert process.stdin and process.stdout and process.stderr
+                process.stdout.close()
+                process.stdin.write(given)
+                process.stdin.close()
+                self.assertEqual((process.stderr.read(), process.wait()), (b"", 1))
 
     def test_ctrl_c_keeps_what_was_found(self) -> None:
         exploring = Exploring(self.script, self.recording.lines.words)

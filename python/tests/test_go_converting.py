@@ -4,7 +4,7 @@ import json
 import unittest
 from typing import Optional
 
-from netrev_go.converter import Unconvertible, lock_answer
+from netrev_go.answering import Unconvertible, lock_answer
 from netrev_go.making import Nothing, Recording, make
 from netrev_go.points import Kind, Log, Point
 
@@ -34,7 +34,7 @@ class Points:
         return make(Log(self.points), most)
 
     def steps(self) -> list[list[object]]:
-        return [json.loads(line) for line in self.made().lines]
+        return [json.loads(str(line)) for line in self.made().lines]
 
 
 # a point behind the opening of a socket, and the steps that are made of it
@@ -212,7 +212,7 @@ class Choosing(unittest.TestCase):
             self.assertEqual(made.sockets, most)
             self.assertIn(f"it has {most} of 10 sockets: those still open first, and the newest", made.notes)
             gone = {0, 1, 2, 9} & {int(word) for word in openings.split()}
-            self.assertEqual(sum('"increfclose"' in line for line in made.lines), len(gone))
+            self.assertEqual(sum('"increfclose"' in str(line) for line in made.lines), len(gone))
 
     def test_a_recording_has_256_sockets_at_most(self) -> None:
         self.assertEqual(self.sockets(300).made(1000).sockets, 256)

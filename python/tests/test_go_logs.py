@@ -7,6 +7,7 @@ import tempfile
 import unittest
 from unittest import mock
 
+from netrev_fuzz.logs import STACKS, binary, from_text, packed
 from netrev_go import asking, converting, lines
 from netrev_go.converting import Wish, convert
 from netrev_go.lines import Call, Calls, Roots, lines_of, looked_up
@@ -17,12 +18,11 @@ from netrev_go.report import next_line, told_of
 from netrev_go.where import own_line, write_where
 from nrdb.where import Lines
 
-from .golog import STACKS, binary, from_text, packed
 from .test_strange import OBEYED, unseen
 
 REAL = pathlib.Path(__file__).resolve().parents[2] / "examples/real"
-NAMES = ("half", "hijacked", "hung", "leak", "lost", "past")
-SOURCES = pathlib.Path("/usr/lib/go-1.19/src")
+NAMES = ("half", "hijacked", "hung", "leak", "lost", "older", "past")
+RELEASES = {"older": "1.19"}  # of the others 1.27
 DAMAGED = 2_000
 SEED = 20_261_127
 
@@ -62,10 +62,11 @@ class Stored(unittest.TestCase):
                 log = read(data)
                 recording = make(log)
                 here = pathlib.Path("/samples") / (name if name in ("hung", "hijacked") else "")
+                sources = pathlib.Path(f"/usr/lib/go-{RELEASES.get(name, '1.27')}/src")
                 with mock.patch.object(lines, "shift", return_value=0), mock.patch.object(
                     lines, "looked_up", return_value=symbols
                 ):
-                    calls = lines_of(log, set(recording.stacks), pathlib.Path("none"), "go", Roots(SOURCES, here))
+                    calls = lines_of(log, set(recording.stacks), pathlib.Path("none"), "go", Roots(sources, here))
                 made = pathlib.Path(folder, "made.where")
                 write_where(made, recording.stacks, calls)
                 self.assertEqual(made.read_text(), (REAL / f"{name}.where").read_text())

@@ -4,16 +4,15 @@ import json
 import pathlib
 import tempfile
 import unittest
-from collections import deque
 from typing import Optional
 
+from netrev_fuzz.logs import binary
 from netrev_go.making import make
-from netrev_go.orders import of_length
+from netrev_go.orders import Queue
 from netrev_go.points import Kind, Log
 from netrev_go.where import write_where
 from nrdb.where import Lines
 
-from .golog import binary
 from .test_go_converting import WORD, Points
 from .test_go_logs import read
 
@@ -45,7 +44,7 @@ class Ordered(Points):
         recording = make(Log(self.points, has_orders=True))
         names: dict[int, str] = {}
         counts: dict[int, int] = {}
-        for number, line in enumerate(map(json.loads, recording.lines), 1):
+        for number, line in enumerate(map(json.loads, map(str, recording.lines)), 1):
             if line[0] == "incref":
                 counts[line[1]] = counts.get(line[1], 0) + 1
                 names[number] = f"{line[1] + 1}.{counts[line[1]]}"
@@ -95,7 +94,18 @@ class Orders(unittest.TestCase):
     def test_a_queue_gets_the_length_that_is_known(self) -> None:
         orders = make(Log(Ordered().at(Kind.RECEIVED, 1, 2, 2).at(Kind.SENT, 1, 9, 1).points, has_orders=True)).orders
         self.assertEqual(orders, [])
-        self.assertEqual([len(of_length(make_queue(count), 2)) for count in (0, 2, 5)], [2, 2, 2])
+        for count, taken in ((0, [{}, {}]), (1, [{}, {1: 0}]), (2, [{1: 0}, {1: 1}]), (5, [{1: 3}, {1: 4}])):
+            queue = Queue()
+            for number in range(count):
+                queue.put({1: number})
+            queue.fit(2)
+            self.assertEqual((len(queue), [queue.take(), queue.take()]), (2, taken))
+
+    def test_a_channel_has_any_number_of_places(self) -> None:
+        log = Ordered().step(1)
+        for most in (2**30, 2**62):
+            log.at(Kind.SENT, 1, 0, most).at(Kind.RECEIVED, 2, 1, most).step(2)
+        self.assertEqual(log.orders(), [["1.1", "2.1"]])
 
 
 class Written(unittest.TestCase):
@@ -114,10 +124,6 @@ class Written(unittest.TestCase):
                 write_where(path, [0] * 3_000, {}, orders)
                 self.assertEqual(Lines.beside(str(path), 3_000).orders, orders)
                 self.assertIsNone(Lines.beside(str(path), 2_999).orders)
-
-
-def make_queue(count: int) -> "deque[dict[int, int]]":
-    return deque({} for _ in range(count))
 
 
 if __name__ == "__main__":

@@ -1,133 +1,9 @@
 """scripts/pages.py: each of its rules finds the mistake that it is for, in a small tree, and nothing where there is none."""
 
-import contextlib
-import importlib.util
-import io
-import shutil
-import sys
-import tempfile
 import unittest
-from pathlib import Path
-from types import ModuleType
 
-SCRIPTS = Path(__file__).resolve().parents[2] / "scripts"
+from tests.small_tree import LOG, PAGES, TREE, SmallTree
 
-
-def loaded(name: str, file: Path) -> ModuleType:
-    """A module of scripts/, which is no folder that Python looks for modules in."""
-    spec = importlib.util.spec_from_file_location(name, file)
-    assert spec is not None and spec.loader is not None
-    module = importlib.util.module_from_spec(spec)
-    sys.modules[name] = module
-    spec.loader.exec_module(module)
-    return module
-
-
-loaded("page_rules", SCRIPTS / "page_rules" / "__init__.py")
-PAGES = loaded("pages", SCRIPTS / "pages.py")
-
-THEOREM = """\
-# The theorem
-
-`crates/counting/src/lib.rt`:
-
-```rust
-pub fn count(of: &[u8]) -> usize
-    ensures sum { result ≡ total of.now }
-```
-"""
-GLOSSARY = """\
-# Glossary
-
-A word has one meaning: [words given up](#words-given-up).
-
-## Names that several crates have
-
-- `total` is in `counting` and in `adding`.
-
-## Words given up
-
-| Given up | Now | Looked for in |
-|---|---|---|
-| want of memory | out of memory | pages, Python, source |
-| told, tells | says | pages, source |
-| row, of reports | report | by eye |
-"""
-PROMISES = """\
-# Promises
-
-## counting
-
-| Proved | By |
-|---|---|
-| The count is the total | `count`: `sum`, against `total` |
-| And so it is of none | the same |
-"""
-ARCHITECTURE = """\
-# Architecture
-
-```mermaid
-flowchart TD
-    counting --> adding
-```
-
-## How to add a kind of step
-
-`nr_rev/src/kind.rt` gets a row, and so does `counting/src/table.rt`.
-
-## Where things are
-
-`crates/adding`, `counting`.
-"""
-LIBRARY = """\
-//! Counts.
-
-ghost use Rattle.counting.specs.Count.{total};
-
-/// How many there are in all.
-pub fn count(of: &[u8]) -> usize
-    ensures sum { result ≡ total of.now }
-{
-    of.len()
-}
-"""
-KINDS = "".join(f'    (Kind::Kind{letter}, "kind{letter.lower()}"),\n' for letter in "ABCDEFGHIJKLMNOPQRSTUVWXYZ")
-TABLE = "".join(f"Step::Kind{letter} => {at},\n" for at, letter in enumerate("ABCDEFGHIJKLMNOPQRSTUVWXYZ"))
-EXAMPLES = """\
--- examples/one.script
-abbrev pub one_commands : List ℕ
-one_commands =
-    codes "stepi\\n"
-
--- the run of examples/one.jsonl
-abbrev pub one : Recording
-one = record {
-  limits = record { goroutines = 2; sockets = 1; descriptors = 1; buffer = 8 };
-  steps =
-    Spawn ∷ SysRead 1 0 4 ∷ [];
-}
-"""
-TREE = {
-    "README.md": "# Read me\n\nIt counts ([how](docs/GLOSSARY.md)), in `crates/counting/src/lib.rt`.\n",
-    "docs/THEOREM.md": THEOREM,
-    "docs/GLOSSARY.md": GLOSSARY,
-    "docs/PROMISES.md": PROMISES,
-    "docs/ARCHITECTURE.md": ARCHITECTURE,
-    "crates.txt": "adding:\ncounting: adding arrayvec\n",
-    "crates/adding/src/lib.rt": "//! Adds.\n",
-    "crates/adding/specs/Lib.antt": "-- what callers need\npub mod Sum\n-- inner: what only definitions use\npub mod Inside\n",
-    "crates/adding/specs/Sum.antt": "-- what the items come to\nabbrev pub total : List ℕ → ℕ\ntotal items = 0\n",
-    "crates/adding/specs/Inside.antt": "-- one more\nabbrev pub next : ℕ → ℕ\nnext n = n + 1\n",
-    "crates/counting/src/lib.rt": LIBRARY,
-    "crates/counting/src/table.rt": TABLE,
-    "crates/counting/specs/Lib.antt": "-- what callers need\npub mod Count\n",
-    "crates/counting/specs/Count.antt": "-- how many there are\nuse Rattle.adding.specs.Sum.{total}\nabbrev pub total : ℕ\n",
-    "crates/nr_rev/src/kind.rt": KINDS,
-    "crates/nr_programs/specs/Examples.antt": EXAMPLES,
-    "examples/one.script": "stepi\n",
-    "examples/one.jsonl": '{"netrev":1,"gor":2,"sock":1,"desc":1,"buf":8}\n["spawn"]\n["sysread",1,0,4]\n',
-    "python/nrdb/counting.py": '"""Counts."""\n',
-}
 LONG = " ".join(["word"] * 41)
 
 # a mistake: the rule that finds it, the file, what is there, what is put in its place, and what is said of it
@@ -137,6 +13,19 @@ PLANTED: list[tuple[str, str, str, str, str]] = [
     ("texts", "examples/one.script", "stepi", "continue", "one_commands has other bytes than examples/one.script"),
     ("runs", "examples/one.jsonl", "0,4]", "0,5]", "one isn't the run of examples/one.jsonl"),
     ("runs", "examples/one.jsonl", '"buf":8', '"buf":9', "one isn't the run"),
+    ("beliefs", "crates/counting/specs/Count.antt", "one : ℕ", "one : ℕ\none = 1", "counting rests on 10 lines"),
+    ("beliefs", "crates/counting/specs/Count.antt", "IsCount", "IsCounted", "no definition counting/Count:IsCount"),
+    ("beliefs", "crates/counting/specs/Count.antt", "total as", "product as", "prints '| counting | 3 | 6 |"),
+    ("beliefs", "docs/THEOREM.md", "`Sum` 5", "`Sum` 4", "has '| `adding` | `Sum` 4 | 5 |'"),
+    ("beliefs", "docs/THEOREM.md", "| `counting` | `Count` 4 | 4 |\n", "", "has 'no row'"),
+    ("beliefs", "docs/TRUSTED.md", "4 definitions", "5 definitions", "no law rests on 5 definitions in 9 lines"),
+    ("verdict", "docs/TRUSTED.md", "    logic=proved", "    logic=refused", "the page has 0 lines of a verdict"),
+    ("verdict", "docs/TRUSTED.md", "sum=d0e1", "sum=d0e2", "README.md names d0e1"),
+    ("verdict", "docs/TRUSTED.md", "main=Threads", "main=Threads+Wait", "the verdict has leave to wait"),
+    ("verdict", "docs/TRUSTED.md", "axioms=3", "axioms=3 may-wait=1", "the verdict has leave to wait"),
+    ("verdict", "crates.txt", "adding:\n", "adding may_wait=1:\n", "1 functions of adding that may wait, and not 0"),
+    ("raw-calls", "crates/counting/src/lib.rt", "of.len()", "of.read()", ".read( stands here 1 times, and 0 are"),
+    ("raw-calls", "crates/counting/src/lib.rt", "of.len()", "rt.forever()", ".forever( stands here 1 times, and 0 are"),
     ("words", "README.md", "It counts", "For want of\nmemory it counts", "'want of memory' is given up"),
     ("words", "README.md", "It counts", "It tells", "'tells' is given up"),
     ("words", "python/nrdb/counting.py", "Counts.", "Want of memory.", "python/nrdb/counting.py:1"),
@@ -164,39 +53,44 @@ PLANTED: list[tuple[str, str, str, str, str]] = [
     ("modules", "crates/counting/src/lib.rt", "pub fn count", "fn count", "no public contract cites it"),
     ("comments", "crates/counting/src/lib.rt", "How many there are in all.", "So are those.", "leans on the comment"),
     ("comments", "crates/adding/specs/Inside.antt", "one more", "the same", "leans on the comment"),
+    ("forgotten", "crates/counting/src/lib.rt", "    of.len()", "    mem::forget(of)", "mem::forget leaks memory"),
+    ("forgotten", "crates/counting/src/lib.rt", "    of.len()", "    Box::leak(of)", "Box::leak leaks memory"),
+    (
+        "refused",
+        "crates/counting/src/lib.rt",
+        "    of.len()",
+        "    Err(Fault::Memory)",
+        "Fault::Memory: nothing here says",
+    ),
+    ("refused", "crates/counting/src/lib.rt", "    of.len()", "    Err(AllocError)", "AllocError: nothing here says"),
+    (
+        "refused",
+        "crates/counting/src/lib.rt",
+        "    of.len()",
+        "    Full => Err(Fault::Memory),",
+        "Fault::Memory: nothing here",
+    ),
+    (
+        "refused",
+        "crates/counting/src/lib.rt",
+        "    of.len()",
+        "    send(&OutOfMemory)",
+        "&OutOfMemory: nothing here says",
+    ),
     (
         "lines",
         "crates/adding/specs/Sum.antt",
-        "total items = 0",
-        "total items = " + 44 * "0 + ",
-        "a line of 190 columns",
+        "foldr ◌add◌ items",
+        "foldr ◌add◌ (" + 44 * "0 + ",
+        "a line of 203 columns",
     ),
 ]
 
 
-class Pages(unittest.TestCase):
-    def setUp(self) -> None:
-        self.top = Path(tempfile.mkdtemp())
-        self.addCleanup(shutil.rmtree, self.top)
-        for path, text in TREE.items():
-            self.write(path, text)
-
-    def write(self, path: str, text: str) -> None:
-        file = self.top / path
-        file.parent.mkdir(parents=True, exist_ok=True)
-        file.write_text(text, encoding="utf-8")
-
-    def run_over(self, *words: str) -> tuple[int, str]:
-        """Runs the script over the small tree: its status, and what it prints."""
-        with contextlib.redirect_stdout(io.StringIO()) as printed, contextlib.redirect_stderr(printed):
-            try:
-                status = PAGES.main(["--root", str(self.top), *words])
-            except SystemExit as ended:
-                status = int(ended.code or 0)
-        return status, printed.getvalue()
-
+class Pages(SmallTree):
     def test_finds_nothing_where_there_is_no_mistake(self) -> None:
-        self.assertEqual(self.run_over(), (0, "pages: 5 pages, 18 rules, 0 findings\n"))
+        self.keep(LOG)
+        self.assertEqual(self.run_over(), (0, "pages: 6 pages, 23 rules, 0 findings\n"))
 
     def test_each_mistake_is_found_by_its_rule(self) -> None:
         for rule, path, old, new, says in PLANTED:

@@ -16,7 +16,7 @@ from nrdb.reducing.playing import Player
 from nrdb.reducing.shrinking import Shrinking
 from nrdb.reducing.targets import CellTarget
 from nrdb.reducing.units import Unit, units_of
-from nrdb.reducing.writing import where_text, write_lines
+from nrdb.reducing.writing import where_text, write_recording
 from nrdb.where import Lines
 from tests.test_suspects import BACK, COMES, LOOKS, OPEN, PARK, PASSES, PAST, READ, USED_AGAIN, Steps, recording_of
 
@@ -45,6 +45,14 @@ class Units(unittest.TestCase):
 
     def test_a_call_is_from_rest_to_rest(self) -> None:
         self.assertEqual(self.kinds(OPEN + CALL)[-1], ["rwlock", "pollreset", "sysread", "rwunlock"])
+
+    def test_a_timer_that_goes_off_twice_before_it_is_run_is_two(self) -> None:
+        late: Steps = [["tick", 17], ["pop"]]
+        twice: Steps = [["setdeadline", 0, 0, "w", 3], *late, ["setdeadline", 0, 0, "w", 3], ["tick", 40], ["pop"]]
+        for runs, wanted in (([0, 0], [[6, 10], [9, 11]]), ([1, 0], [[6, 11], [9, 10]])):
+            _, units, events = player_of(recording_of(OPEN + twice + [["fire", place] for place in runs]))
+            found = [[events.all[place].number for place in unit.events] for unit in units]
+            self.assertEqual([one for one in found if len(one) > 1], wanted)
 
     def test_a_reference_that_is_kept_is_no_call_for_ever(self) -> None:
         self.assertEqual(self.kinds(OPEN + [["incref", 1, 0]] + CALL)[-2:], [["incref"], [step[0] for step in CALL]])
@@ -133,12 +141,12 @@ class Where(unittest.TestCase):
         lines = Recording.read(str(EXAMPLES / "real/past.jsonl")).lines
         with tempfile.TemporaryDirectory() as folder:
             path, beside = f"{folder}/x.jsonl", Path(folder) / "x.where"
-            write_lines(path, lines, [5, 9])
-            self.assertEqual(Lines.beside(path, 2).of(2), lines.of(9))
-            write_lines(path, Lines(), [1])
+            write_recording(path, "", b"steps", lines, [5, 9])
+            self.assertEqual((Path(path).read_bytes(), Lines.beside(path, 2).of(2)), (b"steps", lines.of(9)))
+            write_recording(path, "", b"steps", Lines(), [1])
             self.assertFalse(beside.exists())
             beside.write_text("mine")
-            write_lines(path, Lines(), [1])
+            write_recording(path, "", b"steps", Lines(), [1])
             self.assertEqual(beside.read_text(), "mine")
 
 

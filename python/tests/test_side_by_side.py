@@ -2,10 +2,14 @@
 
 import io
 import signal
+import subprocess
 import tempfile
 import unittest
 from contextlib import redirect_stderr, redirect_stdout
+from pathlib import Path
+from unittest.mock import patch
 
+from . import naming
 from .side_by_side import main
 
 SAYS = 'sh -c "echo %s; exit %d"'
@@ -37,6 +41,54 @@ class SideBySide(unittest.TestCase):
         with tempfile.TemporaryDirectory() as folder:
             late = f"sh -c 'sleep 0.3; touch {folder}/ended'"
             self.assertEqual(played(late, "--alone", f"test -e {folder}/ended")[0], 0)
+
+    def test_what_is_left_out_is_named_and_has_not_passed(self) -> None:
+        says = "sh -c \"echo '3 cases'; echo 'left out: page in a browser: no chromium'; echo 'left out: black: none'\""
+        with tempfile.TemporaryDirectory() as folder:
+            file = Path(folder, "left-out")
+            _, lines, _ = played(says, SAYS % ("fine", 0), "--left-out", str(file))
+            self.assertIn(f"{says}: 3 cases; 2 left out", lines)
+            self.assertEqual(file.read_text(), "page in a browser: no chromium\nblack: none\n")
+            played(SAYS % ("fine", 0), "--left-out", str(file))
+            self.assertEqual(file.read_text(), "")
+
+    def test_tests_that_are_skipped_are_named(self) -> None:
+        class Skipped(unittest.TestCase):
+            @unittest.skip("no such tool")
+            def test_of_it(self) -> None:
+                raise AssertionError
+
+            def test_that_passes(self) -> None:
+                pass
+
+        found = unittest.defaultTestLoader.loadTestsFromTestCase(Skipped)
+        with redirect_stdout(io.StringIO()) as out, redirect_stderr(io.StringIO()), patch.object(
+            unittest.defaultTestLoader, "loadTestsFromNames", return_value=found
+        ):
+            self.assertEqual(naming.main(["any"]), 0)
+        (line,) = out.getvalue().splitlines()
+        self.assertRegex(line, r"^left out: .*Skipped\.test_of_it: no such tool$")
+
+    def test_the_gate_tells_how_many_were_skipped_behind_what_passed(self) -> None:
+        text = (Path(__file__).resolve().parents[2] / "scripts/gate.sh").read_text()
+        ending = text[text.index("# what was left out here") :]
+        for left_out, wanted in (
+            ("", ["7 passed, 1 failed"]),
+            ("a: no b\nc: no d\n", ["left out here:", "    a: no b", "    c: no d", "7 passed, 1 failed, 2 skipped"]),
+        ):
+            with tempfile.TemporaryDirectory() as folder:
+                out = Path(folder, "out")
+                out.mkdir()
+                (out / "left-out.txt").write_text(left_out)
+                (out / "log").write_text("7 passed, 0 failed\n")
+                ran = subprocess.run(
+                    ["sh", "-euc", f"log=out/log more=1 sum=out/sum\n{ending}"],
+                    cwd=folder,
+                    capture_output=True,
+                    text=True,
+                    check=False,
+                )
+            self.assertEqual((ran.stdout.splitlines(), ran.returncode), (wanted, 1), ran.stderr)
 
     def test_what_has_no_tests_fails(self) -> None:
         self.assertEqual(played("netrev_bench"), (1, [], "there are no tests in netrev_bench\n"))

@@ -85,6 +85,10 @@ class Surface(unittest.TestCase):
         compared = self.run_over(SOURCE, TABLE)
         self.assertEqual((compared.returncode, compared.stdout.split(",")[0]), (0, "surface: 3 calls of 1 crates"))
 
+    def test_an_argument_that_a_body_leaves_unused_is_the_same_call(self) -> None:
+        compared = self.run_over(SOURCE.replace("of: &[C]", "_of: &[C]"), TABLE)
+        self.assertEqual(compared.returncode, 0, compared.stdout)
+
     def test_reports_another_name_argument_or_result(self) -> None:
         for old, new in (
             ("fn count(&self)", "fn counted(&self)"),

@@ -9,7 +9,7 @@ from netrev_fuzz.injections import Bug, Count, counted
 from netrev_model.machine import Limits, World
 from netrev_model.steps import apply
 from nrdb.recording import Recording
-from nrdb.suspects import suspects_of
+from nrdb.suspects.ranking import suspects_of
 from nrdb.suspects.found import Rule, Suspect
 from tests.examples import ALL, REFUSED
 

@@ -30,6 +30,7 @@ class Tree:
     def __init__(self, root: Path) -> None:
         self.root = root
         self._texts: dict[str, str] = {}
+        self.notes: list[str] = []  # what a rule couldn't look at
 
     @cached_property
     def paths(self) -> list[str]:

@@ -4,6 +4,7 @@ use Rattle.std.specs.declared.io.ErrorKind.{ErrorKind}
 use Rattle.std.specs.declared.io.ErrorKind.TheVariants as kind
 use Rattle.nr_text.specs.Streams.{Incoming, Outgoing, Sends}
 use Rattle.nr_recording.specs.Faults.{memory_line}
+use Rattle.nr_serving.specs.Conversations.{FrontsLog}
 use Rattle.nr_programs.specs.Run.{Checks, EndsPrinting, Runs}
 use Rattle.nr_programs.specs.Serving.{ServesAll}
 use Rattle.nr_programs.specs.Sharing.{is_in_range}
@@ -45,17 +46,18 @@ IsInRange (program.Upgrade file) = Unit {0}
 IsInRange (program.Serve file sharing) = is_in_range sharing ≡ true
 
 -- What a program does over the bytes of its file. Only `run` reads input, and it writes its
--- transcript.
-abbrev pub Plays : Program → List ℕ → Incoming → Incoming → Outgoing → Outgoing → ExitStatus
-    → Type 0
-Plays (program.Run file) bytes input left old new status =
-    Runs bytes input left old new status × RunsTranscript bytes input left old new status
-Plays (program.Check file) bytes input left old new status =
-    (left ≡ input) × Checks bytes old new status
-Plays (program.Upgrade file) bytes input left old new status =
-    (left ≡ input) × Upgrades bytes old new status
-Plays (program.Serve file sharing) bytes input left old new status =
-    (left ≡ input) × ServesAll bytes sharing old new status
+-- transcript. Only `serve` opens ports.
+abbrev pub Plays : Program → List ℕ → Incoming → Incoming → FrontsLog → FrontsLog → Outgoing
+    → Outgoing → ExitStatus → Type 0
+Plays (program.Run file) bytes input left before after old new status =
+    (after ≡ before) × Runs bytes input left old new status
+    × RunsTranscript bytes input left old new status
+Plays (program.Check file) bytes input left before after old new status =
+    (left ≡ input) × (after ≡ before) × Checks bytes old new status
+Plays (program.Upgrade file) bytes input left before after old new status =
+    (left ≡ input) × (after ≡ before) × Upgrades bytes old new status
+Plays (program.Serve file sharing) bytes input left before after old new status =
+    (left ≡ input) × ServesAll bytes sharing before after old new status
 
 -- What is printed where no program runs: a prefix of how netrev is called, on the second stream;
 -- out of memory, on the first; nothing.

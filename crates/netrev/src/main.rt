@@ -15,9 +15,9 @@ use crate::loopback::Loopback;
 use crate::starting::{Unstarted, start};
 use nr_machine::World;
 use nr_programs::ExitStatus;
+use nr_serving::LoggedPorts;
 use nr_text::{Sink, Source};
 use std::process::ExitCode;
-use std::sync::Wait;
 use std::thread::Threads;
 use std::{env, fs};
 
@@ -29,12 +29,8 @@ fn collect_arguments(rt: &HostRuntime) -> Result<Vec<String>, Unstarted> {
     }
 }
 
-// Runs the program that the arguments ask for, on the process's streams. `run` may wait for its input, and `serve` starts
-// threads that listen on ports.
-fn run_program<H: Threads + Wait + Sync>(
-    rt: &HostRuntime,
-    handles: &H,
-) -> Result<ExitStatus, Unstarted> {
+// Runs the program that the arguments ask for, on the process's streams and the ports of the loopback. `serve` starts threads.
+fn run_program<H: Threads + Sync>(rt: &HostRuntime, handles: &H) -> Result<ExitStatus, Unstarted> {
     let alloc = rt.alloc();
     let texts = collect_arguments(rt)?;
     let arguments: Vec<&str> = texts.iter().map(|text| text.as_str()).collect(alloc)?;
@@ -42,7 +38,7 @@ fn run_program<H: Threads + Wait + Sync>(
     let file = fs::read(rt, program.file());
     let mut input = Source::new(rt.stdin());
     let mut output = Sink::new(rt.stdout());
-    let mut ports = Loopback::new(rt, program);
+    let mut ports = LoggedPorts::new(Loopback::new(rt, program));
     start::<World, _, _, _, _>(
         handles,
         alloc,

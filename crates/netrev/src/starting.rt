@@ -10,12 +10,11 @@ use crate::arguments::{ArgumentsFault, Program, USAGE};
 use nr_programs::{ExitStatus, check_bytes, refuse, run_bytes, serve_bytes, upgrade_bytes};
 use nr_recording::OutOfMemory;
 use nr_rev::Worlds;
-use nr_serving::Ports;
+use nr_serving::{LoggedPorts, Ports};
 use nr_text::{Sink, Source};
 use std::alloc::{AllocError, Global};
 use std::io;
 use std::io::{ErrorKind, Read, Write};
-use std::sync::Wait;
 use std::thread::Threads;
 
 /// Why no program ran.
@@ -88,13 +87,13 @@ pub fn start<W, R, P, I, O>(
     file: io::Result<Vec<u8>>,
     input: &mut Source<I>,
     output: &mut Sink<O>,
-    ports: &mut P,
+    ports: &mut LoggedPorts<P>,
 ) -> Result<ExitStatus, Unstarted>
 where
     W: Worlds + Drop + Send + Sync,
     W::Delta: Drop + Send,
     W::Snapshot: Drop + Sync,
-    R: Threads + Wait + Sync,
+    R: Threads + Sync,
     P: Ports,
     I: Read,
     O: Write,
@@ -102,10 +101,10 @@ where
     requires input { input.old.failed ≡ false }
     requires output { output.old.failed ≡ false }
     ensures plays { IfOk file (λ bytes. (status : Status) × (result ≡ Ok status)
-        × Plays program.entry bytes.items input.old input.new output.old output.new status) }
+        × Plays program.entry bytes.items input.old input.new ports.old ports.new output.old output.new status) }
     ensures no_file { IfErr file (λ error.
         (result ≡ Err (unstarted_by (error_kind error) reasons.File))
-        × (input.new ≡ input.old) × (output.new ≡ output.old)) }
+        × (input.new ≡ input.old) × (ports.new ≡ ports.old) × (output.new ≡ output.old)) }
 {
     let bytes = match file {
         Ok(bytes) => bytes,
@@ -123,20 +122,20 @@ fn play<W, R, P, I, O>(
     bytes: &[u8],
     input: &mut Source<I>,
     output: &mut Sink<O>,
-    ports: &mut P,
+    ports: &mut LoggedPorts<P>,
 ) -> ExitStatus
 where
     W: Worlds + Drop + Send + Sync,
     W::Delta: Drop + Send,
     W::Snapshot: Drop + Sync,
-    R: Threads + Wait + Sync,
+    R: Threads + Sync,
     P: Ports,
     I: Read,
     O: Write,
     requires program { IsInRange program }
     requires input { input.old.failed ≡ false }
     requires output { output.old.failed ≡ false }
-    ensures { Plays program.entry bytes.now input.old input.new output.old output.new result }
+    ensures { Plays program.entry bytes.now input.old input.new ports.old ports.new output.old output.new result }
 {
     match program {
         Program::Run { .. } => run_bytes::<W, R, I, O>(rt, alloc, bytes, input, output),

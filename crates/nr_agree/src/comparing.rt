@@ -2,7 +2,7 @@
 
 use crate::tally::Tally;
 use crate::walked::Walked;
-use nr_rev::{Answer, Bytes, Cell, CellValue, Limits, Queue, Refusal, Side, Worlds};
+use nr_rev::{Answer, Bytes, Cell, CellValue, Limits, Memory, Queue, Refusal, Side, Worlds};
 use std::alloc::{AllocError, AllocFailed, Global};
 
 /// Why a walk ends before its end.
@@ -15,7 +15,13 @@ pub enum Stop {
 }
 
 impl From<AllocError> for Stop {
-    fn from(_error: AllocError) -> Stop {
+    fn from(_refused: AllocError) -> Stop {
+        Stop::Memory
+    }
+}
+
+impl From<Memory> for Stop {
+    fn from(_refused: Memory) -> Stop {
         Stop::Memory
     }
 }
@@ -77,7 +83,7 @@ impl Pair<'_> {
         left: Result<Answer, Refusal>,
         right: Result<Answer, Refusal>,
     ) -> Result<(), Stop> {
-        if left == Err(Refusal::Memory) || right == Err(Refusal::Memory) {
+        if let (Err(Refusal::Memory(_)), _) | (_, Err(Refusal::Memory(_))) = (left, right) {
             return Err(Stop::Memory);
         }
         if left == right {

@@ -62,9 +62,9 @@ where
     pub fn apply(&mut self, step: &Step) -> Result<Answer, Refusal>
         ensures { OnErr result (self.new ≡ self.old) }
     {
-        let Ok(()) = self.deltas.try_reserve(1) else {
-            return Err(Refusal::Memory);
-        };
+        if let Err(refused) = self.deltas.try_reserve(1) {
+            return Err(Refusal::Memory(refused.into()));
+        }
         let (answer, delta) = self.world.apply(step)?;
         self.deltas.push_reserved(delta);
         Ok(answer)

@@ -6,14 +6,13 @@ use Rattle.nr_rev.specs.declared.answer.Answer.{Answer}
 use Rattle.nr_rev.specs.declared.descriptor.Descriptor.{Descriptor}
 use Rattle.nr_rev.specs.declared.descriptor.WaitWord.{WaitWord}
 use Rattle.nr_rev.specs.declared.refusal.Refusal.{Refusal}
-use Rattle.nr_rev.specs.declared.refusal.Refusal.TheVariants.{Memory}
 use Rattle.nr_rev.specs.declared.sides.Mode.{Mode}
 use Rattle.nr_rev.specs.declared.sides.Side.{Side}
 use Rattle.nr_rev.specs.declared.sides.Side.TheVariants.{Read, Write}
 use Rattle.nr_rev.specs.declared.sides.Sides.{Sides}
 use Rattle.nr_rev.specs.declared.timer.TimerFunction.{TimerFunction}
 use Rattle.nr_rev.specs.Sides.{of_side}
-use Rattle.nr_rev.specs.Refusing.{◌>>=◌, ◌>>◌, raised_sequence, refused_if, refused_unless}
+use Rattle.nr_rev.specs.Refusing.{◌>>=◌, ◌>>◌, out_of_memory, raised_sequence, refused_if, refused_unless}
 use Rattle.nr_rev.specs.Descriptor.{Change, both_raised, change_by_deadline, change_by_evict, change_by_firing, check, deadline_from, is_combo, is_current, is_timed, opened_for, same_bool, timer_follows, with_deadlines}
 use Rattle.nr_desc.specs.Code.{is_awaited}
 use Rattle.nr_desc.specs.declared.op.DescAnswer.{DescAnswer}
@@ -58,7 +57,7 @@ weight_is_within op = lit≤ tt
 -- it isn't refused for being out of memory
 abbrev NoMemory : {A : Type 0} → Result A Refusal → Type 0
 NoMemory (Ok a) = Unit {0}
-NoMemory (Err e) = e ≡ Memory → ⊥
+NoMemory (Err e) = e ≡ out_of_memory → ⊥
 
 no_bind : {A B : Type 0} (r : Result A Refusal) (f : A → Result B Refusal) → NoMemory r
     → ((a : A) → NoMemory (f a)) → NoMemory (r >>= f)
@@ -75,11 +74,11 @@ no_if : {A : Type 0} (b : Bool) (r s : Result A Refusal) → NoMemory r → NoMe
 no_if true r s p q = p
 no_if false r s p q = q
 
-no_unless : (b : Bool) (e : Refusal) → (e ≡ Memory → ⊥) → NoMemory (refused_unless b e)
+no_unless : (b : Bool) (e : Refusal) → (e ≡ out_of_memory → ⊥) → NoMemory (refused_unless b e)
 no_unless true e h = tt
 no_unless false e h = h
 
-no_refused_if : (b : Bool) (e : Refusal) → (e ≡ Memory → ⊥) → NoMemory (refused_if b e)
+no_refused_if : (b : Bool) (e : Refusal) → (e ≡ out_of_memory → ⊥) → NoMemory (refused_if b e)
 no_refused_if true e h = h
 no_refused_if false e h = tt
 
@@ -165,11 +164,11 @@ outcome_no d (op.Fire function sequence) =
     no_bind (change_by_firing function sequence d) _ (firing_no function sequence d) (λ change. tt)
 outcome_no d (op.Event tag mode error) = tt
 
-never_memory : (o : Outcome) → NoMemory o → refusal_of o ≡ Some Memory → ⊥
+never_memory : (o : Outcome) → NoMemory o → refusal_of o ≡ Some out_of_memory → ⊥
 never_memory (Ok made) h is = cc
 never_memory (Err e) h is = h cc
 
 -- being out of memory is no reason
 pub memory_is_no_reason : (old : Descriptor) (op : DescOp) → DescFits old
-    → desc_reason old op ≡ Some Memory → ⊥
+    → desc_reason old op ≡ Some out_of_memory → ⊥
 memory_is_no_reason old op fits is = never_memory (outcome old op) (outcome_no old op) is

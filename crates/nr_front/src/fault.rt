@@ -1,5 +1,10 @@
 //! Why a call has no reply.
 
+ghost use Rattle.std.specs.Prelude.{◌≡◌};
+ghost use Rattle.nr_front.specs.declared.fault.FrontFault.TheVariants as faults;
+
+use nr_rev::Memory;
+
 /// Why a call has no reply.
 #[derive(Clone, Copy, Debug, PartialEq, Eq)]
 pub enum FrontFault {
@@ -9,4 +14,12 @@ pub enum FrontFault {
     Placed(usize),
     /// The journal is full. The call's command isn't placed.
     Full,
+}
+
+impl From<Memory> for FrontFault {
+    ghost from_gives = { λ _ fault. fault ≡ faults.Memory };
+
+    fn from(_refused: Memory) -> FrontFault {
+        FrontFault::Memory
+    }
 }

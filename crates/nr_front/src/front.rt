@@ -72,15 +72,13 @@ where
         if self.owed_command().is_some() {
             return Err(FrontFault::Placed(self.place()));
         }
-        let Ok(()) = self.catch_up(journal) else {
-            return Err(FrontFault::Memory);
-        };
+        self.catch_up(journal)?;
         if let Err(fault) = self.offer_until_placed(journal, command) {
             return Err(fault);
         }
         match self.run(command) {
             Ok(reply) => Ok(reply),
-            Err(Memory) => Err(FrontFault::Placed(self.place())),
+            Err(_) => Err(FrontFault::Placed(self.place())),
         }
     }
 
@@ -98,13 +96,8 @@ where
         if self.owed_command().is_some() {
             return Err(FrontFault::Placed(self.place()));
         }
-        let Ok(()) = self.catch_up(journal) else {
-            return Err(FrontFault::Memory);
-        };
-        match self.look_here(query) {
-            Ok(reply) => Ok(reply),
-            Err(Memory) => Err(FrontFault::Memory),
-        }
+        self.catch_up(journal)?;
+        Ok(self.look_here(query)?)
     }
 
     /// Returns the reply that is owed, once; None where none is. Where it runs out of memory again, it fails with
@@ -119,7 +112,7 @@ where
         let place = self.place();
         match self.run(command) {
             Ok(reply) => Ok(Some(reply)),
-            Err(Memory) => Err(FrontFault::Placed(place)),
+            Err(_) => Err(FrontFault::Placed(place)),
         }
     }
 }

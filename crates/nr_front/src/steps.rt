@@ -135,11 +135,7 @@ where
             match self.offer(journal, command) {
                 Offered::Placed => return Ok(()),
                 Offered::Full => return Err(FrontFault::Full),
-                Offered::Lost(_) => {
-                    let Ok(()) = self.run_pending() else {
-                        return Err(FrontFault::Memory);
-                    };
-                }
+                Offered::Lost(_) => self.run_pending()?,
             }
         }
     }

@@ -3,7 +3,7 @@
 use Rattle.std.proofs.Common.{◌≡◌, ◌+◌, ◌-◌, ◌^◌, ◌≤◌, Some, None, Ok, Err, Result, refl, sym, ap, ◌∙◌, lit≤, true≢false}
 use Rattle.nr_rev.specs.declared.answer.Answer.{Answer}
 use Rattle.nr_rev.specs.declared.refusal.Refusal.{Refusal}
-use Rattle.nr_rev.specs.declared.refusal.Refusal.TheVariants.{Memory}
+use Rattle.nr_rev.specs.Refusing.{out_of_memory}
 use Rattle.nr_rev.specs.declared.status.Status.{Status}
 use Rattle.nr_rev.specs.declared.status.Status.TheVariants.{Idle, Acquiring, Queued, Relock, Owing, Entering, Armed, Parking, Parked, Swapping, Checking, Gone}
 use Rattle.nr_rev.proofs.OutcomeLemmas.{Ends, Ends-bind, Ends-found_or, Ends-ok, Ends-refused_unless, Ends-then}
@@ -111,6 +111,6 @@ refused_for (Err reason) e is = cc
 
 -- being out of memory is no reason
 pub memory_is_no_reason : (t : GoroutineTable) (op : GOperation) → IsQueuedUp t
-    → table_reason t op ≡ Some Memory → ⊥
+    → table_reason t op ≡ Some out_of_memory → ⊥
 memory_is_no_reason t op h is =
-    true≢false ((ends_outcome t op).given Memory (refused_for (outcome t op) Memory is))
+    true≢false ((ends_outcome t op).given out_of_memory (refused_for (outcome t op) _ is))

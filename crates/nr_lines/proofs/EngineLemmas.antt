@@ -2,19 +2,21 @@
 use Rattle.std.proofs.Common.{◌≡◌, ℕ, suc, ◌+◌, ◌<◌, ◌≤◌, min, Bool, ◌||◌, true, false, cond, Ok, Err, List, [], ◌∷◌, ◌++◌, arith, length, take, drop, refl, sym, ap, ◌∙◌, subst, nat_eq, append_assoc, append-nil, get_or, take-append-drop, take_all, drop-cons}
 use Rattle.std.proofs.lemmas.List.{length-take, take_more}
 use Rattle.std.proofs.lemmas.Bool.{lt-ltb, le-ltb, eqb-false, false≢true}
-use Rattle.std.specs.List.{concat}
-use Rattle.nr_text.specs.Streams.{Incoming, IsOver, Outgoing, Receives, Sends}
+use Rattle.std.specs.List.{All, concat}
+use Rattle.std.proofs.lemmas.List.Elements.{All-append, All-nil, All-weaker}
+use Rattle.nr_text.specs.Moments.{Moment}
+use Rattle.nr_text.specs.Streams.{Incoming, IsNow, IsOver, Outgoing, Passes, ReadsNow, Receives, Sends}
 use Rattle.nr_command.specs.Command.{meaning_of}
 use Rattle.nr_front.specs.FrontState.{FrontState}
 use Rattle.nr_text.proofs.StreamLemmas.{receives_none, receives_then, sends_none, sends_then}
 use Rattle.nr_lines.specs.declared.ending.End.TheVariants.{Closed, Quit}
 use Rattle.nr_lines.specs.declared.ending.LineEnd.{LineEnd}
 use Rattle.nr_lines.specs.declared.ending.LineEnd.TheVariants.{Read, Write}
-use Rattle.nr_lines.specs.Engine.{lines_of, Turns, has_quit, Answered, AnswersLines}
+use Rattle.nr_lines.specs.Engine.{lines_of, Turns, has_quit, Answered, AnswersLines, ArePrompt, IsPrompt, whole_lines}
 use Rattle.nr_lines.specs.Turn.{Turn, is_quit, count_with, StopsInside}
-use Rattle.nr_lines.specs.LoopInvariant.{GoesOn, LoopInvariant, unfinished_line, whole_lines}
+use Rattle.nr_lines.specs.LoopInvariant.{GoesOn, LoopInvariant, unfinished_line}
 use Rattle.nr_lines.proofs.LineLemmas.{whole_lines-byte, unfinished_line-byte, whole_lines-feed, unfinished_line-feed, lines_at_end, meaning_of-take, kept_more}
-use Rattle.nr_lines.proofs.TurnLemmas.{counted_more, has_quit-append, concat_more, turns_more, turn_asks}
+use Rattle.nr_lines.proofs.TurnLemmas.{counted_more, has_quit-append, concat_more, one_text_each, turns_more, turn_asks}
 
 -- what a turn gave
 abbrev Turned : FrontState → List ℕ → FrontState → Outgoing → Outgoing → ℕ → ℕ → Type 0
@@ -27,13 +29,57 @@ Failed p line p' w w' whole e = (text : List ℕ) × Turn p line text p' × Stop
 asks : (line read : List ℕ) → line ≡ take 257 (unfinished_line read) → meaning_of line ≡ meaning_of (unfinished_line read)
 asks line read kept = ap meaning_of kept ∙ meaning_of-take (unfinished_line read)
 
+-- a read that was prompt is so still, where one line more has a text
+pub prompt_more : (from : Incoming) (old : Outgoing) (moments : List Moment) (lines texts : List (List ℕ)) (line text : List ℕ) → ArePrompt from old moments lines texts
+    → ArePrompt from old moments (lines ++ line ∷ []) (texts ++ text ∷ [])
+prompt_more from old moments lines texts line text all =
+    All-weaker (IsPrompt from old lines texts) (IsPrompt from old (lines ++ line ∷ []) (texts ++ text ∷ [])) (λ m p. record {
+      read = p.read;
+      answers = p.answers;
+      lines_behind = p.lines_behind ++ line ∷ [];
+      texts_behind = p.texts_behind ++ text ∷ [];
+      received = p.received;
+      sent = p.sent;
+      one_each = p.one_each;
+      of_lines = ap (λ (l : List (List ℕ)). l ++ line ∷ []) p.of_lines ∙ append_assoc (whole_lines p.read) p.lines_behind (line ∷ []);
+      of_texts = ap (λ (l : List (List ℕ)). l ++ text ∷ []) p.of_texts ∙ append_assoc p.answers p.texts_behind (text ∷ []);
+    }) moments all
+
+-- a read now is prompt: all whole lines are answered
+prompt_now : (r r' : Incoming) (w w' : Outgoing) (p p' : FrontState) (read line : List ℕ) (whole : ℕ) (st : LoopInvariant r r' w w' p p' read read line whole) (m : Moment) → IsNow r' w' m
+    → IsPrompt r w (whole_lines read) st.texts m
+prompt_now r r' w w' p p' read line whole st m now = record {
+  read = read;
+  answers = st.texts;
+  lines_behind = [];
+  texts_behind = [];
+  received = now.0 ∙ st.reads.received;
+  sent = now.1 ∙ st.writes.sent;
+  one_each = one_text_each p (whole_lines read) st.texts p' st.turns;
+  of_lines = sym (append-nil (whole_lines read));
+  of_texts = sym (append-nil st.texts);
+}
+
+-- the reads so far, and those that are made now
+passes_more : (r r' r'' : Incoming) (before now : List Moment) → Passes r r' before → Passes r' r'' now → Passes r r'' (before ++ now)
+passes_more r r' r'' before now first then = then ∙ ap (λ (l : List Moment). l ++ now) first ∙ append_assoc r.moments before now
+
+prompt_still : (r r' : Incoming) (w w' : Outgoing) (p p' : FrontState) (read line : List ℕ) (whole : ℕ) (st : LoopInvariant r r' w w' p p' read read line whole) (now : List Moment) → All (IsNow r' w') now
+    → ArePrompt r w (st.moments ++ now) (whole_lines read) st.texts
+prompt_still r r' w w' p p' read line whole st now all =
+    All-append (IsPrompt r w (whole_lines read) st.texts) st.moments now st.prompt
+    (All-weaker (IsNow r' w') (IsPrompt r w (whole_lines read) st.texts) (prompt_now r r' w w' p p' read line whole st) now all)
+
 -- a byte that is no line feed
 pub byte_more : (r r' : Incoming) (w w' : Outgoing) (p p' : FrontState) (came read line line' : List ℕ) (whole b : ℕ)
     → LoopInvariant r r' w w' p p' came read line whole → nat_eq b 10 ≡ false → line' ≡ take 257 (line ++ b ∷ []) → LoopInvariant r r' w w' p p' came (read ++ b ∷ []) line' whole
 byte_more r r' w w' p p' came read line line' whole b st goes e = record {
   texts = st.texts;
+  moments = st.moments;
   reads = st.reads;
   writes = st.writes;
+  passes = st.passes;
+  prompt = subst (λ ls. ArePrompt r w st.moments ls st.texts) (sym (whole_lines-byte read b goes)) st.prompt;
   turns = subst (λ ls. Turns p ls st.texts p') (sym (whole_lines-byte read b goes)) st.turns;
   no_quit = ap has_quit (whole_lines-byte read b goes) ∙ st.no_quit;
   kept = e ∙ ap (λ l. take 257 (l ++ b ∷ [])) st.kept ∙ kept_more (unfinished_line read) b ∙ ap (take 257) (sym (unfinished_line-byte read b goes));
@@ -68,8 +114,11 @@ line_more r r' w w' w'' p p' p'' came read line line' whole whole' b st feed goe
     let lines : whole_lines (read ++ b ∷ []) ≡ whole_lines read ++ unfinished_line read ∷ [] = whole_lines-feed read b [] feed in
     record {
       texts = st.texts ++ text ∷ [];
+      moments = st.moments;
       reads = st.reads;
       writes = written_more w w' w'' st.texts text st.writes turned.2;
+      passes = st.passes;
+      prompt = subst (λ ls. ArePrompt r w st.moments ls (st.texts ++ text ∷ [])) (sym lines) (prompt_more r w st.moments (whole_lines read) st.texts (unfinished_line read) text st.prompt);
       turns = subst (λ ls. Turns p ls (st.texts ++ text ∷ []) p'') (sym lines) (turns_after r r' w w' p p' p'' came read line text whole st turned.1);
       no_quit = ap has_quit lines ∙ no_quit_after r r' w w' p p' came read line whole st goes;
       kept = cleared ∙ ap (take 257) (sym (unfinished_line-feed read b feed));
@@ -101,14 +150,17 @@ quits r r' w w' w'' p p' p'' came read line back whole whole' ended st lines at_
       read = came;
       out = concat (st.texts ++ text ∷ []);
       ended = ended;
+      moments = st.moments;
       reads = st.reads;
       writes = written_more w w' w'' st.texts text st.writes turned.2;
+      passes = st.passes;
       at_end = at_end;
       ends = record {
         front = whole_lines read;
         line = unfinished_line read;
         back = back;
         texts = st.texts ++ text ∷ [];
+        prompt = prompt_more r w st.moments (whole_lines read) st.texts (unfinished_line read) text st.prompt;
         split = lines;
         no_quit = st.no_quit;
         quit = ap is_quit (sym (asks line read st.kept)) ∙ stops;
@@ -130,14 +182,17 @@ cut r r' w w' w'' p p' p'' came read line back whole ended (Write n part) st lin
       read = came;
       out = concat st.texts ++ take stops.0 failed.0;
       ended = ended;
+      moments = st.moments;
       reads = st.reads;
       writes = sends_then w w' w'' (concat st.texts) (take stops.0 failed.0) st.writes stops.3;
+      passes = st.passes;
       at_end = at_end;
       ends = record {
         front = whole_lines read;
         line = rest;
         back = back;
         texts = st.texts;
+        prompt = st.prompt;
         text = failed.0;
         mid = p';
         n = stops.0;
@@ -159,11 +214,36 @@ closed r r' w w' p p' read line whole st at_end none = record {
   read = read;
   out = concat st.texts;
   ended = true;
+  moments = st.moments;
   reads = st.reads;
   writes = st.writes;
+  passes = st.passes;
   at_end = λ _. at_end;
-  ends = (refl, subst (λ ls. Answered p ls (concat st.texts) p') (sym (no_line read line st.kept none)) (record { texts = st.texts; turns = st.turns; no_quit = st.no_quit; written = refl }));
+  ends = (
+    refl,
+    subst (λ ls. Answered (ArePrompt r w st.moments) p ls (concat st.texts) p') (sym (no_line read line st.kept none))
+        (record { texts = st.texts; prompt = st.prompt; turns = st.turns; no_quit = st.no_quit; written = refl }),
+  );
 }
+
+-- a read failed, or no more of them were tried
+pub stopped : (r r' r'' : Incoming) (w w' : Outgoing) (p p' : FrontState) (read line : List ℕ) (whole : ℕ) → LoopInvariant r r' w w' p p' read read line whole → Receives r' r'' [] → ReadsNow r' r'' w'
+    → AnswersLines r r'' w w' p p' (Err Read)
+stopped r r' r'' w w' p p' read line whole st none now = record {
+  read = read;
+  out = concat st.texts;
+  ended = false;
+  moments = st.moments ++ now.0;
+  reads = subst (Receives r r'') (append-nil read) (receives_then r r' r'' read [] st.reads none);
+  writes = st.writes;
+  passes = passes_more r r' r'' st.moments now.0 st.passes now.1;
+  at_end = λ (h : false ≡ true). cc;
+  ends = (refl, record { texts = st.texts; prompt = prompt_still r r' w w' p p' read line whole st now.0 now.2; turns = st.turns; no_quit = st.no_quit; written = refl });
+}
+
+-- no more reads are made
+pub none_now : (r r' : Incoming) (w : Outgoing) → Passes r r' [] → ReadsNow r r' w
+none_now r r' w passes = ([], passes, All-nil (IsNow r w))
 
 -- the reader is at its end, and the last line isn't quit
 pub closed_after : (r r' : Incoming) (w w' w'' : Outgoing) (p p' p'' : FrontState) (read line : List ℕ) (whole whole' : ℕ) → LoopInvariant r r' w w' p p' read read line whole → IsOver r' → 0 < length line
@@ -174,13 +254,16 @@ closed_after r r' w w' w'' p p' p'' read line whole whole' st at_end some goes t
       read = read;
       out = concat (st.texts ++ text ∷ []);
       ended = true;
+      moments = st.moments;
       reads = st.reads;
       writes = written_more w w' w'' st.texts text st.writes turned.2;
+      passes = st.passes;
       at_end = λ _. at_end;
       ends = (
         refl,
-        subst (λ ls. Answered p ls (concat (st.texts ++ text ∷ [])) p'') (sym (last_line read line st.kept some)) (record {
+        subst (λ ls. Answered (ArePrompt r w st.moments) p ls (concat (st.texts ++ text ∷ [])) p'') (sym (last_line read line st.kept some)) (record {
           texts = st.texts ++ text ∷ [];
+          prompt = prompt_more r w st.moments (whole_lines read) st.texts (unfinished_line read) text st.prompt;
           turns = turns_after r r' w w' p p' p'' read read line text whole st turned.1;
           no_quit = no_quit_after r r' w w' p p' read read line whole st goes;
           written = refl;
@@ -217,8 +300,11 @@ line_cut r r' w w' w'' p p' p'' came read line bs whole b err st e feed failed =
 pub invariant_at_first : (r : Incoming) (w : Outgoing) (p : FrontState) (line : List ℕ) → line ≡ [] → LoopInvariant r r w w p p [] [] line 0
 invariant_at_first r w p line e = record {
   texts = [];
+  moments = [];
   reads = receives_none r;
   writes = sends_none w;
+  passes = sym (append-nil r.moments);
+  prompt = All-nil (IsPrompt r w [] []);
   turns = refl;
   no_quit = refl;
   kept = e;
@@ -226,12 +312,15 @@ invariant_at_first r w p line e = record {
 }
 
 -- a read that gave some bytes
-pub came_more : (r r' r'' : Incoming) (w w' : Outgoing) (p p' : FrontState) (read line bytes : List ℕ) (whole : ℕ) → LoopInvariant r r' w w' p p' read read line whole → Receives r' r'' bytes
+pub came_more : (r r' r'' : Incoming) (w w' : Outgoing) (p p' : FrontState) (read line bytes : List ℕ) (whole : ℕ) → LoopInvariant r r' w w' p p' read read line whole → Receives r' r'' bytes → ReadsNow r' r'' w'
     → LoopInvariant r r'' w w' p p' (read ++ bytes) read line whole
-came_more r r' r'' w w' p p' read line bytes whole st more = record {
+came_more r r' r'' w w' p p' read line bytes whole st more now = record {
   texts = st.texts;
+  moments = st.moments ++ now.0;
   reads = receives_then r r' r'' read bytes st.reads more;
   writes = st.writes;
+  passes = passes_more r r' r'' st.moments now.0 st.passes now.1;
+  prompt = prompt_still r r' w w' p p' read line whole st now.0 now.2;
   turns = st.turns;
   no_quit = st.no_quit;
   kept = st.kept;
@@ -256,11 +345,11 @@ relined r r' w w' p p' came read line slice whole st e = subst (λ l. LoopInvari
 
 -- a read that gave none
 pub last_invariant : (r r' r'' : Incoming) (w w' : Outgoing) (p p' : FrontState) (read line slice buf : List ℕ) (whole n : ℕ) → LoopInvariant r r' w w' p p' read read line whole
-    → Receives r' r'' (take n buf) → n ≡ 0 → slice ≡ line → LoopInvariant r r'' w w' p p' read read slice whole
-last_invariant r r' r'' w w' p p' read line slice buf whole n st more none e =
+    → Receives r' r'' (take n buf) → ReadsNow r' r'' w' → n ≡ 0 → slice ≡ line → LoopInvariant r r'' w w' p p' read read slice whole
+last_invariant r r' r'' w w' p p' read line slice buf whole n st more now none e =
     relined r r'' w w' p p' read read line slice whole
     (subst (λ came. LoopInvariant r r'' w w' p p' came read line whole) (append-nil read)
-    (came_more r r' r'' w w' p p' read line [] whole st (subst (λ m. Receives r' r'' (take m buf)) none more))) e
+    (came_more r r' r'' w w' p p' read line [] whole st (subst (λ m. Receives r' r'' (take m buf)) none more) now)) e
 
 -- what came, at the byte at i
 pub came_at : (before bytes : List ℕ) (i : ℕ) → i < length bytes → before ++ bytes ≡ (before ++ take i bytes) ++ get_or bytes i 0 ∷ drop (suc i) bytes

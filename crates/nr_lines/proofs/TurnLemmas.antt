@@ -1,5 +1,5 @@
 -- The answers to lines that go on.
-use Rattle.std.proofs.Common.{◌≡◌, ℕ, ◌+◌, Bool, true, false, cond, ◌||◌, List, [], ◌∷◌, ◌++◌, arith, length, filter, refl, sym, ap, ◌∙◌, subst, nat_lt, append-nil, length-append}
+use Rattle.std.proofs.Common.{◌≡◌, ℕ, suc, ◌+◌, Bool, true, false, cond, ◌||◌, List, [], ◌∷◌, ◌++◌, arith, length, filter, refl, sym, ap, ◌∙◌, subst, nat_lt, append-nil, length-append}
 use Rattle.std.specs.List.{concat}
 use Rattle.std.proofs.lemmas.List.Folds.{concat-append}
 use Rattle.std.proofs.lemmas.List.Elements.{filter-append}
@@ -37,6 +37,13 @@ turns_more p [] [] mid line text p' here turn = (p', subst (λ m. Turn m line te
 turns_more p [] (t ∷ ts) mid line text p' here turn = absurd here
 turns_more p (l ∷ ls) [] mid line text p' here turn = absurd here
 turns_more p (l ∷ ls) (t ∷ ts) mid line text p' here turn = (here.0, here.1, turns_more here.0 ls ts mid line text p' here.2 turn)
+
+-- each line has one text
+pub one_text_each : (p : FrontState) (lines texts : List (List ℕ)) (p' : FrontState) → Turns p lines texts p' → length texts ≡ length lines
+one_text_each p [] [] p' turns = refl
+one_text_each p [] (t ∷ ts) p' turns = absurd turns
+one_text_each p (l ∷ ls) [] p' turns = absurd turns
+one_text_each p (l ∷ ls) (t ∷ ts) p' turns = ap suc (one_text_each turns.0 ls ts p' turns.2)
 
 -- a line that asks for the same has the same turns
 pub turn_asks : (a b text : List ℕ) (p p' : FrontState) → meaning_of a ≡ meaning_of b → Turn p a text p' → Turn p b text p'

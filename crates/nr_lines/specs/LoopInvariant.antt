@@ -1,15 +1,12 @@
 -- The state of the line loop between two lines.
 use Rattle.std.specs.Prelude.{◌≡◌, ℕ, ◌==◌, Bool, true, false, List, [], ◌∷◌, take, Result, Ok, Err}
 use Rattle.std.specs.List.{concat, slice_split}
-use Rattle.nr_text.specs.Streams.{Incoming, Outgoing, Receives, Sends, saturating_count}
+use Rattle.nr_text.specs.Moments.{Moment}
+use Rattle.nr_text.specs.Streams.{Incoming, Outgoing, Passes, Receives, Sends, saturating_count}
 use Rattle.nr_front.specs.FrontState.{FrontState}
-use Rattle.nr_lines.specs.Engine.{AnswersLines, Turns, has_quit, lines_of, some_count}
+use Rattle.nr_lines.specs.Engine.{AnswersLines, ArePrompt, Turns, has_quit, some_count, whole_lines}
 use Rattle.nr_lines.specs.declared.ending.End.TheVariants.{Quit}
 use Rattle.nr_lines.specs.declared.ending.LineEnd.{LineEnd}
-
--- the lines of a text that end by a line feed
-abbrev pub whole_lines : List ℕ → List (List ℕ)
-whole_lines text = lines_of false text
 
 -- the last part, empty where there is none
 abbrev pub last_part : List (List ℕ) → List ℕ
@@ -22,12 +19,16 @@ abbrev pub unfinished_line : List ℕ → List ℕ
 unfinished_line text = last_part (slice_split (λ b. b == 10) text)
 
 -- Of the bytes that came from a source, these were read. Their whole lines are answered, none of
--- them quit. The line that is kept is what follows them, up to 257 bytes of it.
+-- them quit, and all reads so far were prompt. The line that is kept is what follows them, up to
+-- 257 bytes of it.
 pub record LoopInvariant (from left : Incoming) (old new : Outgoing) (d d' : FrontState)
     (came read line : List ℕ) (whole : ℕ) : Type 0 where
   pub texts : List (List ℕ)
+  pub moments : List Moment
   pub reads : Receives from left came
   pub writes : Sends old new (concat texts)
+  pub passes : Passes from left moments
+  pub prompt : ArePrompt from old moments (whole_lines read) texts
   pub turns : Turns d (whole_lines read) texts d'
   pub no_quit : has_quit (whole_lines read) ≡ false
   pub kept : line ≡ take 257 (unfinished_line read)

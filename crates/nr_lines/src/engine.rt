@@ -24,13 +24,14 @@ const LINE_ROOM: usize = MAX_LINE + 1;
 /// How many bytes are read at once.
 const CHUNK: usize = 512;
 
-/// Answers the lines of a source, up to the first `quit`. The last line may lack its line feed.
+/// Answers the lines of a source, up to the first `quit`. The last line may lack its line feed. Before each read all whole lines
+/// that came are answered, and their replies are out.
 ///
 /// The source may be read past `quit`, or past the line whose reply was not written. Where a read failed, the whole
 /// lines before it are answered. Whatever the end, the front can be used again, and each line up to there was run, also
-/// one whose reply was not written. A failure is reported exactly where there was one.
-pub fn serve<R: Read, W: Write, S: Worlds + Drop + Sync, F: Finder>(
-    rt: &impl Wait,
+/// one whose reply was not written. A failure is reported exactly where there was one. It returns: behind `u64::MAX` reads the
+/// last one counts as failed.
+pub fn answer<R: Read, W: Write, S: Worlds + Drop + Sync, F: Finder>(
     r: &mut Source<R>,
     w: &mut Sink<W>,
     front: &mut Front<'_, S, F>,
@@ -51,8 +52,8 @@ where
     let mut line = ArrayVec::<u8, LINE_ROOM>::new();
     let mut whole = 0u64;
     let mut chunk = [0u8; CHUNK];
-    for _ in rt.forever() {
-        let Ok(count) = r.read(rt, &mut chunk) else {
+    for _ in 0..u64::MAX {
+        let Ok(count) = r.read(w, &mut chunk) else {
             return Err(LineEnd::Read);
         };
         if count == 0 {
@@ -66,7 +67,31 @@ where
             return Ok(End::Quit);
         }
     }
-    unreachable!()
+    r.give_up();
+    Err(LineEnd::Read)
+}
+
+/// As `answer`, for callers that have a runtime which may wait: it is used for nothing.
+pub fn serve<R: Read, W: Write, S: Worlds + Drop + Sync, F: Finder>(
+    _rt: &impl Wait,
+    r: &mut Source<R>,
+    w: &mut Sink<W>,
+    front: &mut Front<'_, S, F>,
+    journal: &Journal,
+) -> Result<End, LineEnd>
+where
+    S::Delta: Drop,
+    S::Snapshot: Drop + Sync,
+    requires table { front.old.table ≡ journal.now }
+    requires reader { r.old.failed ≡ false }
+    requires writer { w.old.failed ≡ false }
+    ensures table { front.new.table ≡ front.old.table }
+    ensures serves { AnswersLines r.old r.new w.old w.new
+        front.old front.new result }
+    ensures reader { r.new.failed ≡ is_read_failure result }
+    ensures writer { w.new.failed ≡ is_write_failure result }
+{
+    answer(r, w, front, journal)
 }
 
 /// Answers the lines that end among these bytes, up to a `quit`, and says whether there was one. The first of them begins

@@ -7,4 +7,4 @@ pub mod laws;
 mod turn;
 
 pub use ending::{End, LineEnd};
-pub use engine::serve;
+pub use engine::{answer, serve};

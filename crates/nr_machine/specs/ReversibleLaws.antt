@@ -3,7 +3,7 @@
 use Rattle.std.proofs.Common.{◌≡◌, ◌≤◌, List, [], ◌∷◌, Some, None, Ok, Err, sym, ap, subst, ◌∙◌, lit≤}
 use Rattle.nr_rev.specs.declared.answer.Answer.{Answer}
 use Rattle.nr_rev.specs.declared.refusal.Refusal.{Refusal}
-use Rattle.nr_rev.specs.declared.refusal.Refusal.TheVariants.{Memory}
+use Rattle.nr_rev.specs.Refusing.{out_of_memory}
 use Rattle.nr_rev.specs.declared.step.Step.{Step}
 use Rattle.nr_rev.specs.Step.{Outcome, outcome}
 use Rattle.nr_rev.specs.Worlds.{refusal_of}
@@ -57,6 +57,6 @@ refused_for (Err reason) e is = cc
 
 -- being out of memory is no reason
 pub memory_is_no_reason : (m : WorldParts) (step : Step) → IsWorld m
-    → parts_reason m step ≡ Some Memory → ⊥
+    → parts_reason m step ≡ Some out_of_memory → ⊥
 memory_is_no_reason m step h is =
-    none_for_memory (meant m) step h.meaning (refused_for (outcome (meant m) step) Memory is)
+    none_for_memory (meant m) step h.meaning (refused_for (outcome (meant m) step) out_of_memory is)

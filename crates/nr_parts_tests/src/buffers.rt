@@ -6,9 +6,9 @@ ghost use Rattle.nr_rev.specs.Transaction.{LeadsBack};
 ghost use Rattle.nr_sockbuf.specs.Delta as back;
 
 use arrayvec::ArrayVec;
-use nr_rev::{Answer, Bytes, Refusal, Reversible, Side, Step, transact, undo_all};
+use nr_rev::{Answer, Bytes, Memory, Refusal, Reversible, Side, Step, transact, undo_all};
 use nr_sockbuf::{Sock, SockDelta};
-use std::alloc::{AllocError, Global};
+use std::alloc::Global;
 use std::test::Fail;
 
 const OPEN: Step = Step::SockOpen {
@@ -34,12 +34,12 @@ fn read(count: u32) -> Step {
     }
 }
 
-fn arrive(alloc: Global, bytes: &[u8]) -> Result<Step, AllocError> {
+fn arrive(alloc: Global, bytes: &[u8]) -> Result<Step, Memory> {
     let bytes = Bytes::new(Vec::from_slice(alloc, bytes)?);
     Ok(Step::Arrive { socket: 0, bytes })
 }
 
-fn write(alloc: Global, bytes: &[u8]) -> Result<Step, AllocError> {
+fn write(alloc: Global, bytes: &[u8]) -> Result<Step, Memory> {
     let bytes = Bytes::new(Vec::from_slice(alloc, bytes)?);
     Ok(Step::SysWrite {
         goroutine: 0,
@@ -49,17 +49,17 @@ fn write(alloc: Global, bytes: &[u8]) -> Result<Step, AllocError> {
 }
 
 /// Buffers with room for four bytes, at once or, where memory was refused, the next time.
-fn made(alloc: Global) -> Result<Sock, AllocError> {
+fn made(alloc: Global) -> Result<Sock, Memory> {
     match Sock::with_limits(alloc, 4) {
-        Err(AllocError) => Sock::with_limits(alloc, 4),
+        Err(_) => Sock::with_limits(alloc, 4),
         made => made,
     }
 }
 
 /// An equal one, at once or the next time.
-fn copied(sock: &Sock) -> Result<Sock, AllocError> {
+fn copied(sock: &Sock) -> Result<Sock, Memory> {
     match sock.try_copy() {
-        Err(AllocError) => sock.try_copy(),
+        Err(_) => sock.try_copy(),
         copy => copy,
     }
 }
@@ -71,7 +71,7 @@ fn play(sock: &mut Sock, steps: &[Step], deltas: &mut ArrayVec<SockDelta, 8>) ->
     ensures { OnOk result (LeadsBack back.LeadsBack deltas.new.items sock.new sock.old) }
 {
     match transact(sock, steps, deltas) {
-        Err(Refusal::Memory) => transact(sock, steps, deltas),
+        Err(Refusal::Memory(_)) => transact(sock, steps, deltas),
         played => played,
     }
 }
@@ -121,7 +121,7 @@ fn rounds(sock: &mut Sock, first: &[Step], second: &[Step]) -> Result<[Held; 3],
 fn held_by_a_copy(sock: &Sock) -> Option<Held> {
     match copied(sock) {
         Ok(copy) => Some(held(&copy, Side::Read)),
-        Err(AllocError) => None,
+        Err(_) => None,
     }
 }
 
@@ -130,7 +130,7 @@ fn there_and_back(
     alloc: Global,
     first: &[Step],
     second: &[Step],
-) -> Result<(Result<[Held; 3], Refusal>, Option<Held>), AllocError>
+) -> Result<(Result<[Held; 3], Refusal>, Option<Held>), Memory>
     requires first { length first.now ≤ 8 }
     requires second { length second.now ≤ 8 }
 {
@@ -140,7 +140,7 @@ fn there_and_back(
 }
 
 /// A round that leaves bytes round the end.
-fn first_round(alloc: Global) -> Result<[Step; 4], AllocError> {
+fn first_round(alloc: Global) -> Result<[Step; 4], Memory> {
     Ok([
         OPEN,
         arrive(alloc, b"abc")?,
@@ -150,7 +150,7 @@ fn first_round(alloc: Global) -> Result<[Step; 4], AllocError> {
 }
 
 /// A round that reads them.
-fn second_round(alloc: Global) -> Result<[Step; 2], AllocError> {
+fn second_round(alloc: Global) -> Result<[Step; 2], Memory> {
     Ok([read(3), arrive(alloc, b"xyz")?])
 }
 
@@ -175,7 +175,7 @@ fn what_wraps_round_the_end_is_read_and_put_back(rt: HostRuntime) -> Result<(), 
 fn answers(
     alloc: Global,
     steps: &[Step; 5],
-) -> Result<([Result<Answer, Refusal>; 5], [Option<u8>; 4]), AllocError> {
+) -> Result<([Result<Answer, Refusal>; 5], [Option<u8>; 4]), Memory> {
     let mut sock = made(alloc)?;
     let [first, second, third, fourth, fifth] = steps;
     let answers = [
@@ -189,7 +189,7 @@ fn answers(
 }
 
 /// A write before the opening, two openings, and two writes.
-fn writes(alloc: Global) -> Result<[Step; 5], AllocError> {
+fn writes(alloc: Global) -> Result<[Step; 5], Memory> {
     Ok([
         write(alloc, b"hello")?,
         OPEN,
@@ -239,12 +239,12 @@ fn other_kinds_and_sizes_are_refused(rt: HostRuntime) -> Result<(), Fail> {
 }
 
 /// A write, and another behind the shutting of the write side, which is shut again.
-fn writes_round_the_shutting(alloc: Global) -> Result<[Step; 5], AllocError> {
+fn writes_round_the_shutting(alloc: Global) -> Result<[Step; 5], Memory> {
     Ok([OPEN, write(alloc, b"hi")?, SHUT, write(alloc, b"h")?, SHUT])
 }
 
 /// A write that goes out once the write side is shut, and another.
-fn writes_round_the_drain(alloc: Global) -> Result<[Step; 5], AllocError> {
+fn writes_round_the_drain(alloc: Global) -> Result<[Step; 5], Memory> {
     Ok([OPEN, write(alloc, b"hi")?, SHUT, DRAIN, write(alloc, b"h")?])
 }
 
@@ -309,7 +309,7 @@ fn lead_and_shut(sock: &mut Sock, steps: &[Step]) -> Result<[bool; 3], Refusal>
 }
 
 /// That, in new buffers.
-fn shut_and_back(alloc: Global, steps: &[Step]) -> Result<Result<[bool; 3], Refusal>, AllocError>
+fn shut_and_back(alloc: Global, steps: &[Step]) -> Result<Result<[bool; 3], Refusal>, Memory>
     requires { length steps.now ≤ 8 }
 {
     let mut sock = made(alloc)?;

@@ -6,8 +6,8 @@ ghost use Rattle.nr_gsema.specs.Applying.{IsQueuedUp};
 
 use arrayvec::ArrayVec;
 use nr_gsema::{GOperation, GTable};
-use nr_rev::{Refusal, Reversible, Side, Status, transact};
-use std::alloc::{AllocError, Global};
+use nr_rev::{Memory, Refusal, Reversible, Side, Status, transact};
+use std::alloc::Global;
 use std::test::Fail;
 
 /// Two goroutines, or none for either: front and back of a queue, or who is before and behind a goroutine.
@@ -70,11 +70,11 @@ const OWES: GOperation = GOperation::Move {
 };
 
 /// A table for four goroutines and a socket, at once or, where memory was refused, the next time.
-fn made(alloc: Global) -> Result<GTable, AllocError>
+fn made(alloc: Global) -> Result<GTable, Memory>
     ensures { IfOk result IsQueuedUp }
 {
     match GTable::with_limits(alloc, 4, 1) {
-        Err(AllocError) => GTable::with_limits(alloc, 4, 1),
+        Err(_) => GTable::with_limits(alloc, 4, 1),
         made => made,
     }
 }
@@ -171,9 +171,9 @@ fn what_is_refused_last_leaves_the_links(rt: HostRuntime) -> Result<(), Fail> {
 }
 
 /// A copy, at once or, where memory was refused, the next time.
-fn copied(table: &GTable) -> Result<GTable, AllocError> {
+fn copied(table: &GTable) -> Result<GTable, Memory> {
     match table.try_copy() {
-        Err(AllocError) => table.try_copy(),
+        Err(_) => table.try_copy(),
         copied => copied,
     }
 }
@@ -187,7 +187,7 @@ fn links_of_a_copy(table: &mut GTable) -> Option<Links>
     }
     match copied(table) {
         Ok(copy) => Some(links(&copy)),
-        Err(AllocError) => None,
+        Err(_) => None,
     }
 }
 

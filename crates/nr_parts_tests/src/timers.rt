@@ -5,9 +5,9 @@ ghost use Rattle.std.specs.Prelude.{◌≡◌, ◌≤◌, IfOk, length};
 ghost use Rattle.nr_timers.specs.State.{IsTimers};
 
 use arrayvec::ArrayVec;
-use nr_rev::{Entry, Refusal, Reversible, Side, Timer, TimerFunction, transact, undo_all};
+use nr_rev::{Entry, Memory, Refusal, Reversible, Side, Timer, TimerFunction, transact, undo_all};
 use nr_timers::{Timers, TimersOp};
-use std::alloc::{AllocError, Global};
+use std::alloc::Global;
 use std::test::Fail;
 
 fn arm(descriptor: u32, due: i64) -> TimersOp {
@@ -286,11 +286,11 @@ fn copies(timers: &Timers, places: &[(i64, u64)]) -> Result<bool, Refusal> {
 }
 
 /// Timers at once or, where memory was refused, the next time.
-fn made(alloc: Global) -> Result<Timers, AllocError>
+fn made(alloc: Global) -> Result<Timers, Memory>
     ensures { IfOk result IsTimers }
 {
     match Timers::with_limits(alloc, 2) {
-        Err(AllocError) => Timers::with_limits(alloc, 2),
+        Err(_) => Timers::with_limits(alloc, 2),
         made => made,
     }
 }
@@ -308,7 +308,7 @@ fn asked_and_copied(timers: &mut Timers) -> (Option<usize>, Result<bool, Refusal
     let otherwise = first_otherwise(timers, &taken);
     let places = [(20, 1), (30, 3)];
     let copied = match copies(timers, &places) {
-        Err(Refusal::Memory) => copies(timers, &places),
+        Err(Refusal::Memory(_)) => copies(timers, &places),
         copied => copied,
     };
     (otherwise, copied)

@@ -3,7 +3,7 @@
 use Rattle.std.proofs.Common.{◌≡◌, ◌≤◌, Some, None, Ok, Err, Result, sym, ap, ◌∙◌, lit≤}
 use Rattle.nr_rev.specs.declared.answer.Answer.{Answer}
 use Rattle.nr_rev.specs.declared.refusal.Refusal.{Refusal}
-use Rattle.nr_rev.specs.declared.refusal.Refusal.TheVariants.{Memory}
+use Rattle.nr_rev.specs.Refusing.{out_of_memory}
 use Rattle.nr_rev.specs.declared.step.Step.{Step}
 use Rattle.nr_rev.specs.Step.{Outcome, StepTo, outcome}
 use Rattle.nr_rev.specs.WellFormed.{WellFormed}
@@ -47,8 +47,8 @@ refused_for (Err reason) e is = cc
 
 -- being out of memory is no reason
 pub memory_is_no_reason : (w : World) (step : Step) → WellFormed w
-    → world_reason w step ≡ Some Memory → ⊥
-memory_is_no_reason w step h is = none_for_memory w step h (refused_for (outcome w step) Memory is)
+    → world_reason w step ≡ Some out_of_memory → ⊥
+memory_is_no_reason w step h is = none_for_memory w step h (refused_for (outcome w step) _ is)
 
 -- a delta leads back to one world
 pub Undoes-unique : (undo : Undo) (new a b : World) → Undoes undo new a → Undoes undo new b → a ≡ b

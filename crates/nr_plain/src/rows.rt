@@ -40,7 +40,7 @@ impl<T: Copy + Drop> Rows<T> {
     pub(crate) fn with_room(alloc: Global, most: usize, room: usize) -> Result<Rows<T>, Memory>
         ensures { IfOk result (λ r. r ≡ record { rows = []; most = most; room = room }) }
     {
-        let all = most.checked_mul(room).ok_or(Memory)?;
+        let all = most.saturating_mul(room);
         Ok(Rows {
             items: Vec::with_capacity(alloc, all)?,
             lens: Vec::with_capacity(alloc, most)?,
@@ -68,7 +68,7 @@ impl<T: Copy + Drop> Rows<T> {
     pub(crate) fn try_copy(&self, alloc: Global) -> Result<Rows<T>, Memory>
         ensures { IfOk result (λ r. r ≡ self.now) }
     {
-        let all = self.most.checked_mul(self.room).ok_or(Memory)?;
+        let all = self.most.saturating_mul(self.room);
         Ok(Rows {
             items: copy_of(alloc, &self.items, all)?,
             lens: copy_of(alloc, &self.lens, self.most)?,

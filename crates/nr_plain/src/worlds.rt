@@ -21,7 +21,7 @@ fn copy_of<T: Copy + Drop>(alloc: Global, items: &[T]) -> Result<Vec<T>, Memory>
     if items.is_empty() {
         return Ok(Vec::new(alloc));
     }
-    Vec::from_slice(alloc, items)
+    Ok(Vec::from_slice(alloc, items)?)
 }
 
 impl Worlds for PlainWorld {

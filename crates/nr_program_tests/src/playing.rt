@@ -6,7 +6,6 @@ use nr_replay_tests::{AtBrim, Cup};
 use nr_text::{Sink, Source};
 use std::alloc::{AllocError, Global};
 use std::io::{Read, Write};
-use std::sync::Wait;
 use std::thread::Threads;
 
 /// How a program ended, and what it wrote.
@@ -34,7 +33,7 @@ pub(crate) struct Ended<I, O> {
 }
 
 /// Runs a recording on streams.
-pub(crate) fn run_on<R: Wait + Threads + Sync, I: Read, O: Write>(
+pub(crate) fn run_on<R: Threads + Sync, I: Read, O: Write>(
     rt: &R,
     alloc: Global,
     recording: &str,
@@ -55,7 +54,7 @@ pub(crate) fn run_on<R: Wait + Threads + Sync, I: Read, O: Write>(
 }
 
 /// Runs a script on a header and steps.
-pub(crate) fn run<R: Wait + Threads + Sync>(
+pub(crate) fn run<R: Threads + Sync>(
     rt: &R,
     alloc: Global,
     header: &str,
@@ -72,7 +71,7 @@ pub(crate) fn run<R: Wait + Threads + Sync>(
 }
 
 /// Runs the script that looks at locks, and says what is left of its bytes.
-pub(crate) fn run_over<R: Wait + Threads + Sync>(
+pub(crate) fn run_over<R: Threads + Sync>(
     rt: &R,
     alloc: Global,
     header: &str,

@@ -5,7 +5,6 @@ use crate::texts::{EARLY, SCRIPT};
 use nr_programs::ExitStatus;
 use nr_replay_tests::{HEADER, WAITS};
 use std::alloc::{AllocError, Global};
-use std::sync::Wait;
 use std::test::*;
 use std::thread::Threads;
 
@@ -287,7 +286,7 @@ fn is_checked(alloc: Global, report: &Report) -> Result<bool, AllocError> {
 }
 
 /// Whether `run` says so too of one that is refused, and reads nothing.
-fn is_refused<R: Wait + Threads + Sync>(
+fn is_refused<R: Threads + Sync>(
     rt: &R,
     alloc: Global,
     report: &Report,

@@ -3,13 +3,12 @@ use crate::playing::{Played, record};
 use nr_machine::World;
 use nr_programs::{ExitStatus, Sharing, serve_bytes};
 use nr_replay_tests::{HEADER, WAITS};
-use nr_serving::{Connections, Next, Ports};
+use nr_serving::{Connections, LoggedPorts, Next, Ports};
 use nr_text::Sink;
 use std::alloc::{AllocError, Global};
 use std::io;
 use std::io::{ErrorKind, Read, Write};
 use std::process::Abort;
-use std::sync::Wait;
 use std::sync::atomic::AtomicU32;
 use std::sync::atomic::Ordering::SeqCst;
 use std::test::*;
@@ -173,7 +172,7 @@ impl<'a> Ports for Switchboard<'a> {
 }
 
 /// Serves a recording of twelve steps to these callers, so many at each front.
-fn serve<R: Wait + Threads + Sync>(
+fn serve<R: Threads + Sync>(
     rt: &R,
     alloc: Global,
     each: usize,
@@ -188,7 +187,7 @@ fn serve<R: Wait + Threads + Sync>(
         journal: 16,
         connections: None,
     };
-    let mut ports = Switchboard { each, parts, seen };
+    let mut ports = LoggedPorts::new(Switchboard { each, parts, seen });
     let mut output = Sink::new(Vec::new(alloc));
     let bytes = recording.as_bytes();
     let status = serve_bytes::<World, R, _, _>(rt, alloc, bytes, sharing, &mut ports, &mut output);

@@ -4,7 +4,6 @@ use crate::texts::{EARLY, REPLIES, SCRIPT, SHUTS, SHUTS_HEADER};
 use nr_programs::ExitStatus;
 use nr_replay_tests::{CLOSES, HEADER, TAKES_TURNS, WAITS};
 use std::alloc::{AllocError, Global};
-use std::sync::Wait;
 use std::test::*;
 use std::thread::Threads;
 
@@ -210,7 +209,7 @@ static SESSIONS: [Session; 23] = [
 ];
 
 /// Whether a session is answered so.
-fn is_answered<R: Wait + Threads + Sync>(
+fn is_answered<R: Threads + Sync>(
     rt: &R,
     alloc: Global,
     session: &Session,

@@ -4,7 +4,6 @@ use crate::texts::{REPLIES, SCRIPT};
 use nr_programs::ExitStatus;
 use nr_replay_tests::{AtBrim, CLOSES, Cup, Drip, HEADER};
 use std::alloc::{AllocError, Global};
-use std::sync::Wait;
 use std::test::*;
 use std::thread::Threads;
 
@@ -47,7 +46,7 @@ fn filled(room: usize, text: &str) -> Cut<'_> {
 }
 
 /// Whether that comes of the script on a recording.
-fn is_so<R: Wait + Threads + Sync>(rt: &R, alloc: Global, recording: &str, cut: &Cut<'_>) -> bool {
+fn is_so<R: Threads + Sync>(rt: &R, alloc: Global, recording: &str, cut: &Cut<'_>) -> bool {
     let reader = Drip {
         bytes: SCRIPT.as_bytes(),
         left: cut.left,

@@ -4,7 +4,6 @@ use crate::texts::{SHUTS, SHUTS_HEADER};
 use nr_programs::ExitStatus;
 use nr_replay_tests::{HEADER, WAITS};
 use std::alloc::{AllocError, Global};
-use std::sync::Wait;
 use std::test::*;
 use std::thread::Threads;
 
@@ -56,7 +55,7 @@ fn an_upgrade_has_an_answer_that_nothing_was_written(rt: HostRuntime) -> Result<
 }
 
 /// Whether each program refuses a recording for this.
-fn all_refuse<R: Wait + Threads + Sync>(
+fn all_refuse<R: Threads + Sync>(
     rt: &R,
     alloc: Global,
     recording: &str,

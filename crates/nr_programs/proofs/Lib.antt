@@ -1,5 +1,6 @@
 pub mod AcceptedLemmas
 pub mod FaultLemmas
+pub mod LieLemmas
 pub mod OpeningLemmas
 pub mod PlacedLemmas
 pub mod RepliesLemmas

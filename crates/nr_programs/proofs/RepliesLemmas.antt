@@ -1,9 +1,10 @@
 -- Line after line, what is written is the transcript.
-use Rattle.std.proofs.Common.{Option, None, Some, ◌≡◌, ◌⊎◌, inl, inr, ℕ, Bool, true, false, cond, not, ◌||◌, List, [], ◌∷◌, ◌++◌, take, drop, Result, Ok, Err, refl, sym, ap, ◌∙◌, subst, append-nil, append_assoc, take-append-drop}
-use Rattle.nr_text.specs.Streams.{Incoming, IsOver, Outgoing, Receives, Sends}
+use Rattle.std.proofs.Common.{Option, None, Some, ◌≡◌, ◌⊎◌, inl, inr, ℕ, Bool, true, false, cond, not, ◌||◌, List, [], ◌∷◌, ◌++◌, take, drop, length, Result, Ok, Err, refl, sym, ap, ◌∙◌, subst, append-nil, append_assoc, take-append-drop}
+use Rattle.nr_text.specs.Moments.{Moment}
+use Rattle.nr_text.specs.Streams.{Incoming, IsOver, Outgoing, Passes, Receives, Sends}
 use Rattle.std.specs.List.{All, concat}
 use Rattle.nr_text.proofs.StreamLemmas.{receives_none}
-use Rattle.std.proofs.lemmas.List.Elements.{All-cons, All-head, All-nil, All-push, All-tail}
+use Rattle.std.proofs.lemmas.List.Elements.{All-cons, All-head, All-nil, All-push, All-tail, All-weaker}
 use Rattle.std.proofs.lemmas.List.Folds.{concat-append}
 use Rattle.nr_rev.specs.Run.{Recording}
 use Rattle.nr_journal.specs.Rule.{StartsWith, journal_room}
@@ -14,19 +15,20 @@ use Rattle.nr_command.specs.declared.command.Line.TheVariants as lines
 use Rattle.nr_command.specs.declared.command.LineFault.{LineFault}
 use Rattle.nr_command.specs.Command.{meaning_of}
 use Rattle.nr_front.specs.FrontState.{FrontState}
-use Rattle.nr_lines.specs.Engine.{Answered, AnswersLines, Quitted, Turns, WrittenInPart, has_quit, is_read_failure, is_write_failure, lines_of}
+use Rattle.nr_lines.specs.Engine.{Answered, AnswersLines, ArePrompt, IsPrompt, Quitted, Turns, WrittenInPart, has_quit, is_read_failure, is_write_failure, lines_of, whole_lines}
 use Rattle.nr_lines.specs.Turn.{Turn, is_quit, text_or_none}
 use Rattle.nr_lines.specs.declared.ending.End.{End}
 use Rattle.nr_lines.specs.declared.ending.End.TheVariants.{Closed, Quit}
 use Rattle.nr_lines.specs.declared.ending.LineEnd.{LineEnd}
 use Rattle.nr_lines.specs.declared.ending.LineEnd.TheVariants.{Read, Write}
+use Rattle.nr_lines.proofs.EngineLemmas.{prompt_more}
 use Rattle.nr_lines.proofs.LineLemmas.{lines_at_end}
 use Rattle.nr_recording.specs.declared.fault.ReadFault.TheVariants as read
 use Rattle.nr_snaps.specs.declared.fault.LoadFault.TheVariants as load
 use Rattle.nr_programs.specs.Opening.{IsFirstFault, IsGoodText, fault_line, opened}
 use Rattle.nr_programs.specs.Run.{PrintsFault, Walks, status_after}
 use Rattle.nr_programs.specs.Shared.{MeetsOthers, StartsList, words_seen, words_with}
-use Rattle.nr_programs.specs.Transcript.{AllMayMeet, JournalSize, MayMeet, Met, RunsTranscript, UnlessQuit, SessionState, Transcribes, calm, journal_of_one, line_answer, replies, replies_over, start, status_of, texts, transcript_by}
+use Rattle.nr_programs.specs.Transcript.{AllMayMeet, JournalSize, MayMeet, Met, RunsTranscript, UnlessQuit, SessionState, Transcribes, WasPrompt, calm, journal_of_one, line_answer, next_met, replies, replies_over, start, status_of, texts, transcript_by}
 use Rattle.nr_programs.specs.declared.opening.OpenFault.{OpenFault}
 use Rattle.nr_programs.specs.declared.opening.OpenFault.TheVariants.{Load}
 use Rattle.nr_programs.specs.declared.opening.OpenFault.TheVariants as openings
@@ -187,10 +189,11 @@ lines_behind ended text front line back split =
     let more = more_lines ended text in
     (back ++ more.0, more.1 ∙ ap (λ (l : List (List ℕ)). l ++ more.0) split ∙ append_assoc front (line ∷ back) more.0)
 
--- what was written, and the state of the front then
-pub record Replied (r : Recording) (s : SessionState) (d d' : FrontState) (lines : List (List ℕ)) (out : List ℕ) (says : List Met → Type 0) : Type 0 where
+-- what was written, and the state of the front then; the reads were prompt
+pub record Replied (r : Recording) (s : SessionState) (d d' : FrontState) (from : Incoming) (old : Outgoing) (moments : List Moment) (lines : List (List ℕ)) (out : List ℕ) (says : List Met → Type 0) : Type 0 where
   pub met : List Met
   pub ran : List (List ℕ)
+  pub prompt : ArePrompt from old moments ran (texts r s ran met)
   pub first : StartsList lines ran
   pub nothing_else : StartsWith (concat (texts r s ran met)) out
   pub seen : d'.pass_state.seen ≡ d.pass_state.seen ++ words_seen d.pass_state.tag r s ran met
@@ -262,9 +265,10 @@ may_with r s d front line given text mid d' on last later all is then =
     (on.may_be (line ∷ later) (last.met ∷ [])
     (subst (λ (k : JournalSize). AllMayMeet r k on.after (line ∷ later) (last.met ∷ [])) (same_size d mid on.table on.company) (last.may_be (size_of mid) later [] last.may then)))
 
-module _ (r : Recording) (s : SessionState) (d d' : FrontState) (here : IsInState r s d) (read out : List ℕ) where
+module _ (r : Recording) (s : SessionState) (d d' : FrontState) (here : IsInState r s d) (from : Incoming) (old : Outgoing) (moments : List Moment) (read out : List ℕ) where
   -- all lines were answered
-  pub all_answered : (ended : Bool) → Answered d (lines_of ended read) out d' → Replied r s d d' (lines_of ended read) out (λ met. out ≡ replies r s ended read met)
+  pub all_answered : (ended : Bool) → Answered (ArePrompt from old moments) d (lines_of ended read) out d'
+      → Replied r s d d' from old moments (lines_of ended read) out (λ met. out ≡ replies r s ended read met)
   all_answered ended h =
       let lines = lines_of ended read in
       let on = go_on r s d lines h.texts d' here h.no_quit h.turns in
@@ -273,6 +277,7 @@ module _ (r : Recording) (s : SessionState) (d d' : FrontState) (here : IsInStat
       record {
         met = on.met ++ [];
         ran = lines;
+        prompt = subst (ArePrompt from old moments lines) (sym whole) h.prompt;
         first = ([], sym (append-nil lines));
         nothing_else = all_of (concat (texts r s lines (on.met ++ []))) out (h.written ∙ ap concat (sym whole));
         seen = on.seen ∙ ap (λ (l : List ℕ). d.pass_state.seen ++ l)
@@ -289,7 +294,8 @@ module _ (r : Recording) (s : SessionState) (d d' : FrontState) (here : IsInStat
       }
 
   -- one was quit
-  pub up_to_quit : (ended : Bool) → Quitted d (lines_of ended read) out d' → Replied r s d d' (lines_of true read) out (λ met. out ≡ replies r s true read met)
+  pub up_to_quit : (ended : Bool) → Quitted (ArePrompt from old moments) d (lines_of ended read) out d'
+      → Replied r s d d' from old moments (lines_of true read) out (λ met. out ≡ replies r s true read met)
   up_to_quit ended h =
       let by = ends_by d h.front h.line h.texts d' h.turns in
       let on = go_on r s d h.front by.front by.mid here h.no_quit by.turns in
@@ -303,6 +309,7 @@ module _ (r : Recording) (s : SessionState) (d d' : FrontState) (here : IsInStat
       record {
         met = met;
         ran = h.front ++ h.line ∷ [];
+        prompt = subst (ArePrompt from old moments (h.front ++ h.line ∷ [])) (by.given_is ∙ sym (texts_with r s d h.front h.line by.front by.text by.mid d' on last)) h.prompt;
         first = (later.0, later.1 ∙ sym (append_assoc h.front (h.line ∷ []) later.0));
         nothing_else = all_of (concat (texts r s (h.front ++ h.line ∷ []) met)) out (h.written ∙ ap concat (by.given_is ∙ sym (texts_with r s d h.front h.line by.front by.text by.mid d' on last)));
         seen = seen_with r s d h.front h.line by.front by.text by.mid d' on last;
@@ -318,7 +325,8 @@ module _ (r : Recording) (s : SessionState) (d d' : FrontState) (here : IsInStat
       }
 
   -- a write failed in the text of one
-  pub up_to_failure : (ended : Bool) (whole part : ℕ) → WrittenInPart d (lines_of ended read) whole part out d' → Replied r s d d' (lines_of true read) out (λ met. StartsWith (replies r s true read met) out)
+  pub up_to_failure : (ended : Bool) (whole part : ℕ) → WrittenInPart (ArePrompt from old moments) d (lines_of ended read) whole part out d'
+      → Replied r s d d' from old moments (lines_of true read) out (λ met. StartsWith (replies r s true read met) out)
   up_to_failure ended whole part h =
       let on = go_on r s d h.front h.texts h.mid here h.no_quit h.turns in
       let last = goes r on.after h.mid h.line h.text d' on.there h.turn in
@@ -333,6 +341,8 @@ module _ (r : Recording) (s : SessionState) (d d' : FrontState) (here : IsInStat
       record {
         met = met;
         ran = h.front ++ h.line ∷ [];
+        prompt = subst (ArePrompt from old moments (h.front ++ h.line ∷ [])) (sym (texts_with r s d h.front h.line h.texts h.text h.mid d' on last))
+            (prompt_more from old moments h.front h.texts h.line h.text h.prompt);
         first = (later.0, later.1 ∙ sym (append_assoc h.front (h.line ∷ []) later.0));
         nothing_else = (
           drop h.n h.text,
@@ -356,6 +366,37 @@ module _ (r : Recording) (s : SessionState) (d d' : FrontState) (here : IsInStat
         );
       }
 
+-- ---- when the reads were made
+
+nothing_before : (a b : List (List ℕ)) → [] ≡ a ++ b → a ≡ []
+nothing_before [] b e = refl
+nothing_before (x ∷ a) b e = absurd cc
+
+-- the first texts of lines are those of the first lines
+first_texts : (r : Recording) (s : SessionState) (lines behind : List (List ℕ)) (met : List Met) (a b : List (List ℕ)) → texts r s (lines ++ behind) met ≡ a ++ b → length a ≡ length lines
+    → a ≡ texts r s lines met
+first_texts r s [] behind met [] b e n = refl
+first_texts r s [] behind met (x ∷ a) b e n = absurd cc
+first_texts r s (line ∷ lines) behind met [] b e n = absurd cc
+first_texts r s (line ∷ lines) behind met (x ∷ a) b e n =
+    let given = line_answer r s.owed (meaning_of line) (next_met met) s in
+    let later = drop 1 met in
+    let counted : length a ≡ length lines = cc in
+    let first : x ≡ text_or_none given.0 = cc in
+    let rest : cond (is_quit (meaning_of line)) [] (texts r given.1 (lines ++ behind) later) ≡ a ++ b = cc in
+    ap (λ (t : List ℕ). t ∷ a) first
+    ∙ ap (λ (l : List (List ℕ)). text_or_none given.0 ∷ l)
+    (elim (is_quit (meaning_of line)) as (λ q. cond q [] (texts r given.1 (lines ++ behind) later) ≡ a ++ b → a ≡ cond q [] (texts r given.1 lines later))
+    [ true ↦ nothing_before a b | false ↦ λ h. first_texts r given.1 lines behind later a b h counted ] rest)
+
+-- a read was prompt: what had been sent are the replies to the whole lines that had come
+pub prompt_replies : (r : Recording) (s : SessionState) (ran : List (List ℕ)) (met : List Met) (from : Incoming) (old : Outgoing) (m : Moment) → (p : IsPrompt from old ran (texts r s ran met) m)
+    → m.sent ≡ old.sent ++ replies r s false p.read met
+prompt_replies r s ran met from old m p =
+    p.sent
+    ∙ ap (λ (l : List (List ℕ)). old.sent ++ concat l)
+    (first_texts r s (whole_lines p.read) p.lines_behind met p.answers p.texts_behind (ap (λ (l : List (List ℕ)). texts r s l met) (sym p.of_lines) ∙ p.of_texts) p.one_each)
+
 -- the statuses differ
 not_done : ¬ (Done ≡ StreamFailed)
 not_done e = cc
@@ -367,7 +408,7 @@ pub true_is_false : ¬ (true ≡ false)
 true_is_false e = cc
 
 -- one of the lines is quit
-quit_among : (front : List (List ℕ)) (line : List ℕ) (back : List (List ℕ)) → is_quit (meaning_of line) ≡ true → has_quit (front ++ line ∷ back) ≡ true
+pub quit_among : (front : List (List ℕ)) (line : List ℕ) (back : List (List ℕ)) → is_quit (meaning_of line) ≡ true → has_quit (front ++ line ∷ back) ≡ true
 quit_among [] line back quit = ap (λ q. q || has_quit back) quit
 quit_among (x ∷ front) line back quit =
     elim (is_quit (meaning_of x)) as (λ t. (t || has_quit (front ++ line ∷ back)) ≡ true) [ true ↦ refl | false ↦ quit_among front line back quit ]
@@ -391,18 +432,30 @@ module _ (recording : List ℕ) (r : Recording) (opening : opened recording ≡ 
       of_one : size_of d ≡ journal_of_one
       of_one = cc
 
+  -- the reads were prompt
+  prompt_said : (moments : List Moment) (ran : List (List ℕ)) (met : List Met) → ArePrompt from old moments ran (texts r start ran met) → All (WasPrompt recording from old met) moments
+  prompt_said moments ran met all =
+      All-weaker (IsPrompt from old ran (texts r start ran met)) (WasPrompt recording from old met) (λ m p. record {
+        commands = p.read;
+        received = p.received;
+        sent = prompt_replies r start ran met from old m p ∙ ap (λ (l : List ℕ). old.sent ++ l) (sym (over false p.read met));
+      }) moments all
+
   -- no write failed
-  whole_transcript : (status : ExitStatus) (commands written : List ℕ) (met : List Met) (failed : Bool) → AllMayMeet r (size_of d) start (lines_of (not failed) commands) met → All MeetsNoOther met → Receives from left commands → Sends old new written → left.failed ≡ failed
+  whole_transcript : (status : ExitStatus) (commands written : List ℕ) (met : List Met) (failed : Bool) (moments : List Moment) → Passes from left moments → All (WasPrompt recording from old met) moments → AllMayMeet r (size_of d) start (lines_of (not failed) commands) met → All MeetsNoOther met → Receives from left commands → Sends old new written → left.failed ≡ failed
       → new.failed ≡ false → written ≡ replies r start (not failed) commands met → status ≡ status_of (Ok r) failed false → (status ≡ Done → IsOver left ⊎ (has_quit (lines_of false commands) ≡ true))
       → Transcribes recording from left old new status
-  whole_transcript status commands written met failed may no_others reads writes is unfailed all ends complete =
+  whole_transcript status commands written met failed moments passes prompt may no_others reads writes is unfailed all ends complete =
       let whole : written ≡ transcript_by recording (not left.failed) commands met = all ∙ ap (λ f. replies r start (not f) commands met) (sym is) ∙ sym (over (not left.failed) commands met) in
       record {
         commands = commands;
         written = written;
         met = met;
+        moments = moments;
         reads = reads;
         writes = writes;
+        passes = passes;
+        prompt = prompt;
         alone = no_others;
         may = may_meet failed commands met is may;
         begins = all_of (transcript_by recording (not left.failed) commands met) written whole;
@@ -415,29 +468,32 @@ module _ (recording : List ℕ) (r : Recording) (opening : opened recording ≡ 
   transcribes : (ending : Result End LineEnd) → AnswersLines from left old new d d' ending → left.failed ≡ is_read_failure ending → new.failed ≡ is_write_failure ending
       → Transcribes recording from left old new (status_after ending)
   transcribes (Ok Closed) h read write =
-      let lines : Answered d (lines_of true h.read) h.out d' = subst (λ e. Answered d (lines_of e h.read) h.out d') h.ends.0 h.ends.1 in
-      let all = all_answered r start d d' here h.read h.out true lines in
-      whole_transcript Done h.read h.out all.met false all.may (all.no_others alone) h.reads h.writes read write all.says_it refl (λ _. inl (h.at_end h.ends.0))
+      let lines : Answered (ArePrompt from old h.moments) d (lines_of true h.read) h.out d' = subst (λ e. Answered (ArePrompt from old h.moments) d (lines_of e h.read) h.out d') h.ends.0 h.ends.1 in
+      let all = all_answered r start d d' here from old h.moments h.read h.out true lines in
+      whole_transcript Done h.read h.out all.met false h.moments h.passes (prompt_said h.moments all.ran all.met all.prompt) all.may (all.no_others alone) h.reads h.writes read write all.says_it refl (λ _. inl (h.at_end h.ends.0))
   transcribes (Ok Quit) h read write =
-      let all = up_to_quit r start d d' here h.read h.out h.ended h.ends in
-      whole_transcript Done h.read h.out all.met false all.may (all.no_others alone) h.reads h.writes read write all.says_it refl (λ _. ends_well h.ended refl)
+      let all = up_to_quit r start d d' here from old h.moments h.read h.out h.ended h.ends in
+      whole_transcript Done h.read h.out all.met false h.moments h.passes (prompt_said h.moments all.ran all.met all.prompt) all.may (all.no_others alone) h.reads h.writes read write all.says_it refl (λ _. ends_well h.ended refl)
     where
       ends_well : (ended : Bool) → h.ended ≡ ended → IsOver left ⊎ (has_quit (lines_of false h.read) ≡ true)
       ends_well true is = inl (h.at_end is)
       ends_well false is = inr (ap (λ e. has_quit (lines_of e h.read)) (sym is) ∙ ap has_quit h.ends.split ∙ quit_among h.ends.front h.ends.line h.ends.back h.ends.quit)
   transcribes (Err Read) h read write =
-      let lines : Answered d (lines_of false h.read) h.out d' = subst (λ e. Answered d (lines_of e h.read) h.out d') h.ends.0 h.ends.1 in
-      let all = all_answered r start d d' here h.read h.out false lines in
-      whole_transcript StreamFailed h.read h.out all.met true all.may (all.no_others alone) h.reads h.writes read write all.says_it refl (λ e. absurd (not_done (sym e)))
+      let lines : Answered (ArePrompt from old h.moments) d (lines_of false h.read) h.out d' = subst (λ e. Answered (ArePrompt from old h.moments) d (lines_of e h.read) h.out d') h.ends.0 h.ends.1 in
+      let all = all_answered r start d d' here from old h.moments h.read h.out false lines in
+      whole_transcript StreamFailed h.read h.out all.met true h.moments h.passes (prompt_said h.moments all.ran all.met all.prompt) all.may (all.no_others alone) h.reads h.writes read write all.says_it refl (λ e. absurd (not_done (sym e)))
   transcribes (Err (Write whole part)) h read write =
-      let part_of = up_to_failure r start d d' here h.read h.out h.ended whole part h.ends in
+      let part_of = up_to_failure r start d d' here from old h.moments h.read h.out h.ended whole part h.ends in
       let all : transcript_by recording (not left.failed) h.read part_of.met ≡ replies r start true h.read part_of.met = over (not left.failed) h.read part_of.met ∙ ap (λ f. replies r start (not f) h.read part_of.met) read in
       record {
         commands = h.read;
         written = h.out;
         met = part_of.met;
+        moments = h.moments;
         reads = h.reads;
         writes = h.writes;
+        passes = h.passes;
+        prompt = prompt_said h.moments part_of.ran part_of.met part_of.prompt;
         alone = part_of.no_others alone;
         may = may_meet false h.read part_of.met read part_of.may;
         begins = subst (λ t. StartsWith t h.out) (sym all) part_of.says_it;
@@ -462,14 +518,18 @@ fault_transcribes bytes fault from left old new status own is unfailed prints =
     let never_good : (r : Recording) → ¬ (opened bytes ≡ Ok r) = λ r good. (let both = sym opening ∙ good in cc) in
     let over : transcript_by bytes (not left.failed) [] [] ≡ fault_line fault = ap (λ o. replies_over o (not left.failed) [] []) opening in
     let unread : Receives from left [] = subst (λ (x : Incoming). Receives from x []) (sym prints.unread) (receives_none from) in
+    let passes : Passes from left [] = subst (λ (x : Incoming). Passes from x []) (sym prints.unread) (sym (append-nil from.moments)) in
     let ends : status_of (opened bytes) left.failed new.failed ≡ status_of (Err fault) left.failed new.failed = ap (λ o. status_of o left.failed new.failed) opening in
     elim prints.printed as (λ _. Transcribes bytes from left old new status) [
       | inl all ↦ record {
         commands = [];
         written = fault_line fault;
         met = [];
+        moments = [];
         reads = unread;
         writes = all.1.0;
+        passes = passes;
+        prompt = All-nil (WasPrompt bytes from old []);
         alone = All-nil MeetsNoOther;
         may = λ r good. absurd (never_good r good);
         begins = all_of (transcript_by bytes (not left.failed) [] []) (fault_line fault) (sym over);
@@ -484,8 +544,11 @@ fault_transcribes bytes fault from left old new status own is unfailed prints =
             commands = [];
             written = take cut.n (fault_line fault);
             met = [];
+            moments = [];
             reads = unread;
             writes = cut.out;
+            passes = passes;
+            prompt = All-nil (WasPrompt bytes from old []);
             alone = All-nil MeetsNoOther;
             may = λ r good. absurd (never_good r good);
             begins = (drop cut.n (fault_line fault), over ∙ sym (take-append-drop cut.n (fault_line fault)));

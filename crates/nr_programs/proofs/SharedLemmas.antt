@@ -1,12 +1,15 @@
 -- The callers of a shared session are answered by the transcript.
-use Rattle.std.proofs.Common.{◌≡◌, ◌≤◌, ℕ, Bool, true, false, not, List, [], ◌∷◌, ◌++◌, length, map, Some, Result, Ok, Err, refl, sym, ap, ◌∙◌, subst, arith, append-nil, append_assoc, length-append}
+use Rattle.std.proofs.Common.{◌≡◌, ◌≤◌, ◌⊎◌, inl, inr, ℕ, Bool, true, false, not, List, [], ◌∷◌, ◌++◌, length, map, Option, Some, Result, Ok, Err, refl, sym, ap, ◌∙◌, subst, arith, append-nil, append_assoc, length-append}
 use Rattle.std.specs.List.{All, concat}
-use Rattle.std.proofs.lemmas.List.Elements.{All-cons, All-head, All-nil, All-tail}
+use Rattle.std.specs.Prelude.{is_err}
+use Rattle.std.proofs.lemmas.List.Elements.{All-cons, All-head, All-nil, All-tail, All-weaker}
+use Rattle.nr_text.specs.Moments.{Moment}
+use Rattle.nr_text.specs.Streams.{IsOver, unread, unwritten}
 use Rattle.atomic_table.specs.Seated.{TableId}
 use Rattle.nr_rev.specs.Run.{Recording}
 use Rattle.nr_journal.specs.Rule.{Covers, StartsWith, journal_room}
 use Rattle.nr_front.specs.FrontState.{FrontState}
-use Rattle.nr_lines.specs.Engine.{Answered, Ends, Grows, is_read_failure, is_write_failure, lines_of}
+use Rattle.nr_lines.specs.Engine.{Answered, ArePrompt, Ends, Grows, IsPrompt, Quitted, has_quit, is_read_failure, is_write_failure, lines_of}
 use Rattle.nr_lines.specs.declared.ending.End.{End}
 use Rattle.nr_lines.specs.declared.ending.End.TheVariants.{Closed, Quit}
 use Rattle.nr_lines.specs.declared.ending.LineEnd.{LineEnd}
@@ -14,12 +17,12 @@ use Rattle.nr_lines.specs.declared.ending.LineEnd.TheVariants.{Read, Write}
 use Rattle.nr_lines.proofs.GrowLemmas.{turns_grow}
 use Rattle.nr_lines.proofs.TurnLemmas.{turns_more}
 use Rattle.nr_serving.specs.Fronts.{Course, ServesCaller, ServesCallers}
-use Rattle.nr_serving.specs.Conversations.{Conversation}
+use Rattle.nr_serving.specs.Conversations.{Conversation, Passed}
 use Rattle.nr_serving.specs.Session.{BeginsFresh, HasOwn, IsShared, last_pass_state}
 use Rattle.nr_serving.proofs.TagLemmas.{serving_keeps_tag}
-use Rattle.nr_programs.specs.Shared.{AreAnswered, IsAnswered, HasRun, StartsList, tag_at_end, words_seen}
+use Rattle.nr_programs.specs.Shared.{AreAnswered, HeardOut, IsAnswered, HasRun, StartsList, tag_at_end, words_seen}
 use Rattle.nr_programs.specs.Transcript.{AllMayMeet, JournalSize, Met, SessionState, replies, start, texts}
-use Rattle.nr_programs.proofs.RepliesLemmas.{Replied, all_answered, all_of, true_is_false, up_to_failure, up_to_quit}
+use Rattle.nr_programs.proofs.RepliesLemmas.{Replied, all_answered, all_of, prompt_replies, quit_among, true_is_false, up_to_failure, up_to_quit}
 use Rattle.nr_programs.proofs.TranscriptLemmas.{IsInState, same_size, size_of}
 
 starts_trans : (a b c : List ℕ) → StartsWith b a → StartsWith c b → StartsWith c a
@@ -32,13 +35,14 @@ starts_long a b one = omega (arith, ap length one.1, length-append a one.0)
 
 -- the words that are seen go on
 caller_grows : (c : Conversation) (d d' : FrontState) → ServesCaller c d d' → Grows d d'
-caller_grows c d d' h = lines_grow c.ending h.serves.ended d _ _ d' h.serves.ends
+caller_grows c d d' h = lines_grow _ c.ending h.serves.ended d _ _ d' h.serves.ends
   where
-    lines_grow : (ending : Result End LineEnd) (ended : Bool) (d : FrontState) (lines : List (List ℕ)) (out : List ℕ) (d' : FrontState) → Ends ending ended d lines out d' → Grows d d'
-    lines_grow (Ok Closed) ended d lines out d' e = turns_grow d _ _ d' e.1.turns
-    lines_grow (Ok Quit) ended d lines out d' e = turns_grow d _ _ d' e.turns
-    lines_grow (Err Read) ended d lines out d' e = turns_grow d _ _ d' e.1.turns
-    lines_grow (Err (Write whole part)) ended d lines out d' e =
+    lines_grow : (Prompt : List (List ℕ) → List (List ℕ) → Type 0) (ending : Result End LineEnd) (ended : Bool) (d : FrontState) (lines : List (List ℕ)) (out : List ℕ) (d' : FrontState)
+        → Ends Prompt ending ended d lines out d' → Grows d d'
+    lines_grow Prompt (Ok Closed) ended d lines out d' e = turns_grow d _ _ d' e.1.turns
+    lines_grow Prompt (Ok Quit) ended d lines out d' e = turns_grow d _ _ d' e.turns
+    lines_grow Prompt (Err Read) ended d lines out d' e = turns_grow d _ _ d' e.1.turns
+    lines_grow Prompt (Err (Write whole part)) ended d lines out d' e =
         turns_grow d _ _ d' (turns_more d e.front e.texts e.mid e.line e.text d' e.turns e.turn)
 
 -- it is answered, and the front is in some state then
@@ -52,23 +56,38 @@ record Goes (r : Recording) (c : Conversation) (s : SessionState) (d d' : FrontS
   pub company : d'.pass_state.passes ≡ d.pass_state.passes
 
 -- one caller, of whom these bytes were received and to whom these were sent
-module _ (r : Recording) (c : Conversation) (s : SessionState) (d d' : FrontState) (read out : List ℕ) (received : c.input.received ≡ read) (sent : c.output.sent ≡ out) where
+module _ (r : Recording) (c : Conversation) (s : SessionState) (d d' : FrontState) (known held : Option (List ℕ)) (moments : List Moment) (read out : List ℕ) (received : c.input.received ≡ read) (sent : c.output.sent ≡ out)
+    (passes : c.input.moments ≡ moments) where
   replies_are : (failed : Bool) (met : List Met) → c.input.failed ≡ failed → replies r s (not failed) read met ≡ replies r s (not c.input.failed) c.input.received met
   replies_are failed met is = ap (λ (bytes : List ℕ). replies r s (not failed) bytes met) (sym received) ∙ ap (λ (f : Bool). replies r s (not f) c.input.received met) (sym is)
 
   lines : (failed : Bool) → c.input.failed ≡ failed → lines_of (not failed) read ≡ lines_of (not c.input.failed) c.input.received
   lines failed is = ap (λ (bytes : List ℕ). lines_of (not failed) bytes) (sym received) ∙ ap (λ (f : Bool). lines_of (not f) c.input.received) (sym is)
 
+  -- the reads were prompt
+  heard_out : (ran : List (List ℕ)) (met : List Met) → ArePrompt (unread known) (unwritten held) moments ran (texts r s ran met) → All (HeardOut r s met) c.input.moments
+  heard_out ran met all =
+      subst (All (HeardOut r s met)) (sym passes)
+      (All-weaker (IsPrompt (unread known) (unwritten held) ran (texts r s ran met)) (HeardOut r s met)
+      (λ m p. prompt_replies r s ran met (unread known) (unwritten held) m p ∙ ap (λ (bytes : List ℕ). replies r s false bytes met) (sym p.received)) moments all)
+
+  -- what a caller sent ends, where neither a read nor a write failed
+  abbrev Complete : Type 0
+  Complete = is_err c.ending ≡ false → IsOver c.input ⊎ (has_quit (lines_of false c.input.received) ≡ true)
+
   -- what was replied goes on, where what was sent begins the replies, and is all of them if no write failed
   goes_with : (failed : Bool) (says : List Met → Type 0) → c.input.failed ≡ failed → ((met : List Met) → says met → StartsWith (replies r s (not failed) read met) out)
-      → ((met : List Met) → says met → c.output.failed ≡ false → out ≡ replies r s (not failed) read met) → Replied r s d d' (lines_of (not failed) read) out says → Goes r c s d d'
-  goes_with failed says is begins whole all = record {
+      → ((met : List Met) → says met → c.output.failed ≡ false → out ≡ replies r s (not failed) read met) → Complete → Replied r s d d' (unread known) (unwritten held) moments (lines_of (not failed) read) out says
+      → Goes r c s d d'
+  goes_with failed says is begins whole complete all = record {
     answered = record {
       met = all.met;
       may = subst (λ (l : List (List ℕ)). AllMayMeet r (size_of d) s l all.met) (lines failed is) all.may;
       begins = subst (λ (t : List ℕ). StartsWith t c.output.sent) (replies_are failed all.met is)
           (subst (StartsWith (replies r s (not failed) read all.met)) (sym sent) (begins all.met all.says_it));
       whole = λ calm. sent ∙ whole all.met all.says_it calm ∙ replies_are failed all.met is;
+      prompt = heard_out all.ran all.met all.prompt;
+      complete = complete;
       ran = all.ran;
       first = subst (λ (l : List (List ℕ)). StartsList l all.ran) (lines failed is) all.first;
       nothing_else = subst (StartsWith (concat (texts r s all.ran all.met))) (sym sent) all.nothing_else;
@@ -83,27 +102,41 @@ module _ (r : Recording) (c : Conversation) (s : SessionState) (d d' : FrontStat
   }
 
   -- no write failed
-  whole_of : (failed : Bool) → c.input.failed ≡ failed → Replied r s d d' (lines_of (not failed) read) out (λ met. out ≡ replies r s (not failed) read met) → Goes r c s d d'
-  whole_of failed is all =
-      goes_with failed (λ met. out ≡ replies r s (not failed) read met) is (λ met says. all_of (replies r s (not failed) read met) out says) (λ met says calm. says) all
+  whole_of : (failed : Bool) → c.input.failed ≡ failed → Complete → Replied r s d d' (unread known) (unwritten held) moments (lines_of (not failed) read) out (λ met. out ≡ replies r s (not failed) read met) → Goes r c s d d'
+  whole_of failed is complete all =
+      goes_with failed (λ met. out ≡ replies r s (not failed) read met) is (λ met says. all_of (replies r s (not failed) read met) out says) (λ met says calm. says) complete all
 
   -- one failed
-  cut_of : c.input.failed ≡ false → c.output.failed ≡ true → Replied r s d d' (lines_of true read) out (λ met. StartsWith (replies r s true read met) out) → Goes r c s d d'
-  cut_of is failed part =
-      goes_with false (λ met. StartsWith (replies r s true read met) out) is (λ met says. says) (λ met says calm. absurd (true_is_false (sym failed ∙ calm))) part
+  cut_of : c.input.failed ≡ false → c.output.failed ≡ true → Complete → Replied r s d d' (unread known) (unwritten held) moments (lines_of true read) out (λ met. StartsWith (replies r s true read met) out) → Goes r c s d d'
+  cut_of is failed complete part =
+      goes_with false (λ met. StartsWith (replies r s true read met) out) is (λ met says. says) (λ met says calm. absurd (true_is_false (sym failed ∙ calm))) complete part
+
+  -- an end that is a failure is no good one
+  never_complete : (stopped : LineEnd) → c.ending ≡ Err stopped → Complete
+  never_complete stopped is good = absurd (true_is_false (sym (ap is_err is) ∙ good))
+
+  -- one of the lines is `quit`, or the source is at its end
+  complete_quit : (ended : Bool) → (ended ≡ true → IsOver c.input) → Quitted (ArePrompt (unread known) (unwritten held) moments) d (lines_of ended read) out d' → Complete
+  complete_quit true at_end e good = inl (at_end refl)
+  complete_quit false at_end e good = inr (ap (λ (bytes : List ℕ). has_quit (lines_of false bytes)) received ∙ ap has_quit e.split ∙ quit_among e.front e.line e.back e.quit)
 
   -- by how it ended
-  goes_by : (ending : Result End LineEnd) (ended : Bool) → IsInState r s d → c.input.failed ≡ is_read_failure ending → c.output.failed ≡ is_write_failure ending → Ends ending ended d (lines_of ended read) out d'
-      → Goes r c s d d'
-  goes_by (Ok Closed) ended here reading writing e = whole_of false reading (all_answered r s d d' here read out true (subst (λ t. Answered d (lines_of t read) out d') e.0 e.1))
-  goes_by (Ok Quit) ended here reading writing e = whole_of false reading (up_to_quit r s d d' here read out ended e)
-  goes_by (Err Read) ended here reading writing e = whole_of true reading (all_answered r s d d' here read out false (subst (λ t. Answered d (lines_of t read) out d') e.0 e.1))
-  goes_by (Err (Write whole part)) ended here reading writing e = cut_of reading writing (up_to_failure r s d d' here read out ended whole part e)
+  goes_by : (ending : Result End LineEnd) (ended : Bool) → c.ending ≡ ending → (ended ≡ true → IsOver c.input) → IsInState r s d → c.input.failed ≡ is_read_failure ending
+      → c.output.failed ≡ is_write_failure ending → Ends (ArePrompt (unread known) (unwritten held) moments) ending ended d (lines_of ended read) out d' → Goes r c s d d'
+  goes_by (Ok Closed) ended is at_end here reading writing e =
+      whole_of false reading (λ good. inl (at_end e.0))
+      (all_answered r s d d' here (unread known) (unwritten held) moments read out true (subst (λ t. Answered (ArePrompt (unread known) (unwritten held) moments) d (lines_of t read) out d') e.0 e.1))
+  goes_by (Ok Quit) ended is at_end here reading writing e = whole_of false reading (complete_quit ended at_end e) (up_to_quit r s d d' here (unread known) (unwritten held) moments read out ended e)
+  goes_by (Err Read) ended is at_end here reading writing e =
+      whole_of true reading (never_complete Read is)
+      (all_answered r s d d' here (unread known) (unwritten held) moments read out false (subst (λ t. Answered (ArePrompt (unread known) (unwritten held) moments) d (lines_of t read) out d') e.0 e.1))
+  goes_by (Err (Write whole part)) ended is at_end here reading writing e =
+      cut_of reading writing (never_complete (Write whole part) is) (up_to_failure r s d d' here (unread known) (unwritten held) moments read out ended whole part e)
 
 caller_goes : (r : Recording) (c : Conversation) (s : SessionState) (d d' : FrontState) → IsInState r s d → ServesCaller c d d' → Goes r c s d d'
 caller_goes r c s d d' here h =
     let a = h.serves in
-    goes_by r c s d d' a.read a.out a.reads.received a.writes.sent c.ending a.ended here h.read_failed h.write_failed a.ends
+    goes_by r c s d d' h.remaining h.contents a.moments a.read a.out a.reads.received a.writes.sent a.passes c.ending a.ended refl a.at_end here h.read_failed h.write_failed a.ends
 
 -- ---- one after the other
 
@@ -159,8 +192,8 @@ module _ (table : TableId) (r : Recording) (fronts depth workers : ℕ) (history
       (front_answered course (All-head (BeginsFresh table r fronts depth workers) course courses served) (All-head (HasOwn history) (last_pass_state course) (map last_pass_state courses) own))
       (all_answered_so courses (All-tail (BeginsFresh table r fronts depth workers) course courses served) (All-tail (HasOwn history) (last_pass_state course) (map last_pass_state courses) own))
 
-pub shared_answered : (r : Recording) (room fronts depth workers : ℕ) (history : List ℕ) (failed : Bool) → (shared : IsShared r room fronts depth workers (Some history) failed)
+pub shared_answered : (r : Recording) (room fronts depth workers : ℕ) (passed : List Passed) (history : List ℕ) (failed : Bool) → (shared : IsShared r room fronts depth workers passed (Some history) failed)
     → All (λ course. AreAnswered r (record { room = room; passes = fronts }) (tag_at_end course) history start [] course.callers) shared.courses
-shared_answered r room fronts depth workers history failed shared =
+shared_answered r room fronts depth workers passed history failed shared =
     subst (λ (k : ℕ). All (λ course. AreAnswered r (record { room = k; passes = fronts }) (tag_at_end course) history start [] course.callers) shared.courses) shared.room_is
     (all_answered_so shared.table r fronts depth workers history shared.courses shared.served shared.one_history.own)

@@ -1,9 +1,10 @@
 -- What a session does that several people share.
-use Rattle.std.specs.Prelude.{◌⊎◌, ℕ, Bool, List, ◌++◌, length, Option, Some, None, Result, Ok, Err, codes, decimal, if◌then◌else◌}
+use Rattle.std.specs.Prelude.{◌≡◌, ◌⊎◌, ℕ, Bool, List, ◌++◌, length, Option, Some, None, Result, Ok, Err, codes, decimal, if◌then◌else◌}
 use Rattle.nr_rev.specs.Run.{Recording}
 use Rattle.nr_text.specs.Streams.{Outgoing}
 use Rattle.nr_recording.specs.Faults.{memory_line}
-use Rattle.nr_serving.specs.Session.{IsShared, words_of}
+use Rattle.nr_serving.specs.Conversations.{FrontsLog, Passed}
+use Rattle.nr_serving.specs.Session.{IsShared, Opens, words_of}
 use Rattle.nr_serving.specs.declared.session.Ended.{Ended}
 use Rattle.nr_serving.specs.declared.session.Unshared.{Unshared}
 use Rattle.nr_programs.specs.Opening.{IsFirstFault, IsGoodText, fault_line}
@@ -35,23 +36,30 @@ PrintsSession (Ok ended) old new status =
     PrintsHistory (words_of ended.history) ended.failed old new status
 PrintsSession (Err fault) old new status = EndsPrinting memory_line Refused old new status
 
--- As many fronts as were asked for shared the recording over one journal, each with as many workers
--- as were asked for and a walker as deep as that of `run`. What is printed is how many commands
--- they placed, or that collecting these ran out of memory. Or there was no memory to share the
--- recording, and that is printed.
-abbrev pub Shares : Recording → Sharing → Outgoing → Outgoing → ExitStatus → Type 0
-Shares r sharing old new status =
-    ((history : List ℕ) × (failed : Bool)
-    × IsShared r sharing.journal sharing.fronts DELTAS_KEPT sharing.workers (Some history) failed
-    × PrintsHistory (Some history) failed old new status)
-    ⊎ ((failed : Bool) × IsShared r sharing.journal sharing.fronts DELTAS_KEPT sharing.workers None
-    failed
-    × PrintsHistory None failed old new status)
-    ⊎ EndsPrinting memory_line Refused old new status
+-- As many fronts as were asked for were opened, and this passed with their callers. They shared the
+-- recording over one journal, each with as many workers as were asked for and a walker as deep as
+-- that of `run`.
+abbrev pub SharesAll : Recording → Sharing → FrontsLog → FrontsLog → Option (List ℕ) → Bool → Type 0
+SharesAll r sharing before after history failed =
+    (passed : List Passed) × Opens sharing.fronts passed before after
+    × IsShared r sharing.journal sharing.fronts DELTAS_KEPT sharing.workers passed history failed
 
--- The bytes are a recording whose steps all apply, and it is shared; or its first fault is printed.
-abbrev pub ServesAll : List ℕ → Sharing → Outgoing → Outgoing → ExitStatus → Type 0
-ServesAll bytes sharing old new status =
-    ((r : Recording) × IsGoodText bytes r × Shares r sharing old new status)
-    ⊎ ((fault : OpenFault) × IsFirstFault bytes fault
+-- What is printed is how many commands the fronts placed, or that collecting these ran out of
+-- memory. Or there was no memory to share the recording, and that is printed: no port was opened.
+abbrev pub Shares : Recording → Sharing → FrontsLog → FrontsLog → Outgoing → Outgoing → ExitStatus
+    → Type 0
+Shares r sharing before after old new status =
+    ((history : List ℕ) × (failed : Bool) × SharesAll r sharing before after (Some history) failed
+    × PrintsHistory (Some history) failed old new status)
+    ⊎ ((failed : Bool) × SharesAll r sharing before after None failed
+    × PrintsHistory None failed old new status)
+    ⊎ ((after ≡ before) × EndsPrinting memory_line Refused old new status)
+
+-- The bytes are a recording whose steps all apply, and it is shared; or its first fault is printed,
+-- and no port was opened.
+abbrev pub ServesAll : List ℕ → Sharing → FrontsLog → FrontsLog → Outgoing → Outgoing → ExitStatus
+    → Type 0
+ServesAll bytes sharing before after old new status =
+    ((r : Recording) × IsGoodText bytes r × Shares r sharing before after old new status)
+    ⊎ ((fault : OpenFault) × IsFirstFault bytes fault × (after ≡ before)
     × EndsPrinting (fault_line fault) Refused old new status)

@@ -1,5 +1,5 @@
 -- What the callers of a shared session are answered.
-use Rattle.std.specs.Prelude.{◌≡◌, ℕ, false, not, List, [], ◌∷◌, ◌++◌, length, drop, Option, None, Result, Ok, if◌then◌else◌}
+use Rattle.std.specs.Prelude.{◌≡◌, ◌⊎◌, ℕ, false, true, not, is_err, List, [], ◌∷◌, ◌++◌, length, drop, Option, None, Result, Ok, if◌then◌else◌}
 use Rattle.std.specs.List.{All, concat}
 use Rattle.nr_rev.specs.Run.{Recording}
 use Rattle.nr_journal.specs.Rule.{Covers, IsOthers, StartsWith}
@@ -10,7 +10,9 @@ use Rattle.nr_command.specs.declared.command.Line.{Line}
 use Rattle.nr_command.specs.declared.command.Line.TheVariants.{Run}
 use Rattle.nr_command.specs.declared.command.LineFault.{LineFault}
 use Rattle.nr_front.specs.FrontState.{IsAt}
-use Rattle.nr_lines.specs.Engine.{lines_of}
+use Rattle.nr_text.specs.Moments.{Moment}
+use Rattle.nr_text.specs.Streams.{IsOver}
+use Rattle.nr_lines.specs.Engine.{has_quit, lines_of}
 use Rattle.nr_lines.specs.Turn.{is_quit}
 use Rattle.nr_serving.specs.Fronts.{Course}
 use Rattle.nr_serving.specs.Conversations.{Conversation}
@@ -53,11 +55,17 @@ placed_words tag r s (line ∷ lines) met =
 abbrev pub MeetsOthers : ℕ → Met → Type 0
 MeetsOthers tag m = All (IsOthers tag) m.others
 
+-- When the caller was read, each whole line that had come from it was answered, and its reply was
+-- out.
+abbrev pub HeardOut : Recording → SessionState → List Met → Moment → Type 0
+HeardOut r s met m = m.sent ≡ replies r s false m.received met
+
 -- One caller of a front: what was sent to it is a prefix of the replies to what was received from
 -- it, from where the front was; all of it unless a write failed. Where a read failed, an unfinished
--- last line is no command. These lines were run: the first ones, up to one that is `quit`, or whose
--- reply wasn't written, or all; nothing was sent but their texts. They met what lines may meet,
--- where the journal is of this size.
+-- last line is no command. Before each read all whole lines were answered. Where neither failed,
+-- a read found the caller's end, or a line is `quit`. These lines were run: the first ones, up to
+-- one that is `quit`, or whose reply wasn't written, or all; nothing was sent but their texts. They
+-- met what lines may meet, where the journal is of this size.
 pub record IsAnswered (r : Recording) (journal : JournalSize) (tag : ℕ) (c : Conversation)
     (s : SessionState) : Type 0 where
   pub met : List Met
@@ -65,6 +73,9 @@ pub record IsAnswered (r : Recording) (journal : JournalSize) (tag : ℕ) (c : C
   pub begins : StartsWith (replies r s (not c.input.failed) c.input.received met) c.output.sent
   pub whole : c.output.failed ≡ false
       → c.output.sent ≡ replies r s (not c.input.failed) c.input.received met
+  pub prompt : All (HeardOut r s met) c.input.moments
+  pub complete : is_err c.ending ≡ false
+      → IsOver c.input ⊎ (has_quit (lines_of false c.input.received) ≡ true)
   pub ran : List (List ℕ)
   pub first : StartsList (lines_of (not c.input.failed) c.input.received) ran
   pub nothing_else : StartsWith (concat (texts r s ran met)) c.output.sent

@@ -1,6 +1,7 @@
 -- The transcript: what the lines of a front are answered, as a function of the bytes.
-use Rattle.std.specs.Prelude.{◌≡◌, ◌≢◌, ◌⊎◌, ℕ, ◌+◌, Bool, true, false, not, ◌||◌, List, [], ◌∷◌, length, drop, Option, Some, None, Result, Ok, Err, ⊤, if◌then◌else◌}
-use Rattle.nr_text.specs.Streams.{Incoming, IsOver, Outgoing, Receives, Sends}
+use Rattle.std.specs.Prelude.{◌≡◌, ◌≢◌, ◌⊎◌, ℕ, ◌+◌, Bool, true, false, not, ◌||◌, List, [], ◌∷◌, ◌++◌, length, drop, Option, Some, None, Result, Ok, Err, ⊤, if◌then◌else◌}
+use Rattle.nr_text.specs.Moments.{Moment}
+use Rattle.nr_text.specs.Streams.{Incoming, IsOver, Outgoing, Passes, Receives, Sends}
 use Rattle.std.specs.List.{All, concat}
 use Rattle.nr_rev.specs.Run.{Recording}
 use Rattle.nr_journal.specs.Rule.{StartsWith}
@@ -216,17 +217,29 @@ status_of (Ok r) read_failed write_failed =
     if read_failed || write_failed then StreamFailed else Done
 status_of (Err fault) read_failed write_failed = if write_failed then StreamFailed else Refused
 
+-- When a read was made, what had been sent was the transcript of what had been received: each whole
+-- line was answered, and its reply was out.
+pub record WasPrompt (recording : List ℕ) (from : Incoming) (old : Outgoing) (met : List Met)
+    (m : Moment) : Type 0 where
+  pub commands : List ℕ
+  pub received : m.received ≡ from.received ++ commands
+  pub sent : m.sent ≡ old.sent ++ transcript_by recording false commands met
+
 -- Commands were read and replies written: a prefix of the transcript of the commands, by what their
 -- lines met, and all of it unless a write failed. They met nothing of others. Where a read failed,
--- an unfinished last line is no command. Where it ended well, the input is at its end, or a line is
--- `quit`. Of a recording with a fault no command was read.
+-- an unfinished last line is no command. Before each read all whole lines were answered. Where it
+-- ended well, the input is at its end, or a line is `quit`. Of a recording with a fault no command
+-- was read.
 pub record Transcribes (recording : List ℕ) (from left : Incoming) (old new : Outgoing)
     (status : ExitStatus) : Type 0 where
   pub commands : List ℕ
   pub written : List ℕ
   pub met : List Met
+  pub moments : List Moment
   pub reads : Receives from left commands
   pub writes : Sends old new written
+  pub passes : Passes from left moments
+  pub prompt : All (WasPrompt recording from old met) moments
   pub alone : All (λ m. m.others ≡ []) met
   pub may : (r : Recording) → opened recording ≡ Ok r
       → AllMayMeet r journal_of_one start (lines_of (not left.failed) commands) met

@@ -1,21 +1,25 @@
 //! Laws: public functions with empty bodies, whose contracts are the laws.
 
-ghost use Rattle.std.specs.Prelude.{◌≡◌, ℕ, Bool, List, [], Some, true, slice_get, filter, map, ◌<◌, ◌==◌};
+ghost use Rattle.std.specs.Prelude.{◌≡◌, ℕ, Bool, List, [], ◌∷◌, codes, None, Some, Ok, false, true, slice_get, filter, map, ◌<◌, ◌==◌};
 ghost use Rattle.std.specs.List.{All};
 ghost use Rattle.nr_rev.specs.Run.{Recording};
 ghost use Rattle.nr_rev.specs.declared.answer.Answer.{Answer};
 ghost use Rattle.nr_rev.specs.declared.step.Step.{Step};
 ghost use Rattle.nr_recording.specs.Recording.{recorded_at};
+ghost use Rattle.nr_text.specs.Streams.{unread, unwritten};
+ghost use Rattle.nr_lines.specs.declared.ending.End.TheVariants.{Closed, Quit};
 ghost use Rattle.nr_snaps.specs.Answers.{Agrees, answer_at};
 ghost use Rattle.nr_command.specs.Looking.{is_at_world};
 ghost use Rattle.nr_command.specs.declared.command.Query.{Query};
+ghost use Rattle.nr_serving.specs.Conversations.{Passed};
 ghost use Rattle.nr_serving.specs.Session.{IsShared, IsTheirs, last_pass_state};
-ghost use Rattle.nr_programs.specs.Opening.{IsGoodText};
-ghost use Rattle.nr_programs.specs.Shared.{AreAnswered, MeetsOthers, placed_words, tag_at_end, words_seen};
+ghost use Rattle.nr_programs.specs.Opening.{IsGoodText, opened};
+ghost use Rattle.nr_programs.specs.Shared.{AreAnswered, IsAnswered, MeetsOthers, placed_words, tag_at_end, words_seen};
 ghost use Rattle.nr_journal.specs.Rule.{tag_of};
 ghost use Rattle.nr_programs.specs.Accepted.{LeadsOnAt};
-ghost use Rattle.nr_programs.specs.Transcript.{Met, SessionState, calm, enough, look_answer, start, transcript, transcript_by};
+ghost use Rattle.nr_programs.specs.Transcript.{JournalSize, Met, SessionState, Transcribes, calm, enough, look_answer, start, transcript, transcript_by};
 ghost use Rattle.nr_programs.specs.declared.opening.TheConstants.{COPY_EVERY};
+ghost use Rattle.nr_programs.specs.declared.run.ExitStatus.TheVariants.{Done};
 ghost use Rattle.nr_programs.specs.declared.run.TheConstants.{DELTAS_KEPT, JOURNAL_ROOM};
 ghost use Rattle.nr_programs.specs.declared.sharing.TheConstants.{MOST_FRONTS, MOST_JOURNAL, MOST_PORT, MOST_WORKERS};
 
@@ -31,15 +35,58 @@ pub fn a_calm_session_has_one_transcript()
 /// Each caller of a shared session is answered by the transcript of what was received from it, from where the front is that
 /// serves it. Every front is in the one history, whose length `placed K` prints: with each line that was run it sees the
 /// words that others placed before it, none of them its own, and then the line's own, once, where the line places a command. All
-/// of its own words in the history are among these, and each word of the history is one front's.
+/// of its own words in the history are among these, and each word of the history is one front's. The callers are those of the
+/// ports: these conversations passed, and no others.
 pub fn callers_are_answered_in_one_history()
-    ensures answered { (r : Recording) (room fronts depth workers : ℕ) (history : List ℕ) (failed : Bool)
-        → (shared : IsShared r room fronts depth workers (Some history) failed)
+    ensures answered { (r : Recording) (room fronts depth workers : ℕ) (passed : List Passed) (history : List ℕ) (failed : Bool)
+        → (shared : IsShared r room fronts depth workers passed (Some history) failed)
         → All (λ course. AreAnswered r (record { room = room; passes = fronts }) (tag_at_end course)
         history start [] course.callers) shared.courses }
-    ensures theirs { (r : Recording) (room fronts depth workers : ℕ) (history : List ℕ) (failed : Bool)
-        → (shared : IsShared r room fronts depth workers (Some history) failed)
+    ensures theirs { (r : Recording) (room fronts depth workers : ℕ) (passed : List Passed) (history : List ℕ) (failed : Bool)
+        → (shared : IsShared r room fronts depth workers passed (Some history) failed)
         → All (IsTheirs (map last_pass_state shared.courses)) history }
+{}
+
+/// A caller who sent nothing and was sent a byte isn't answered.
+pub fn a_lie_is_no_answer()
+    ensures { (r : Recording) (journal : JournalSize) (tag : ℕ) → ¬ (IsAnswered r journal tag (record {
+      input = unread None;
+      output = record { contents = None; sent = 65 ∷ []; failed = false };
+      ending = Ok Closed;
+    }) start) }
+{}
+
+/// A caller who was let go unread isn't answered: his end wasn't found, and no line was `quit`.
+pub fn an_unread_caller_is_not_answered()
+    ensures { (r : Recording) (journal : JournalSize) (tag : ℕ) → ¬ (IsAnswered r journal tag (record {
+      input = unread None;
+      output = unwritten None;
+      ending = Ok Closed;
+    }) start) }
+{}
+
+/// A caller who was read once more before his line was answered isn't answered, even if the reply comes in the end.
+pub fn a_late_reply_is_no_answer()
+    ensures { (r : Recording) (journal : JournalSize) (tag : ℕ) → ¬ (IsAnswered r journal tag (record {
+      input = record {
+        remaining = None;
+        received = codes "quit\n";
+        ended = false;
+        failed = false;
+        moments = record { received = codes "quit\n"; sent = [] } ∷ [];
+      };
+      output = record { contents = None; sent = codes "bye\n"; failed = false };
+      ending = Ok Quit;
+    }) start) }
+{}
+
+/// A run over streams of which nothing is known, that received nothing and sent a byte, is none.
+pub fn a_lie_is_no_run()
+    ensures { (recording : List ℕ) (r : Recording) → opened recording ≡ Ok r → ¬ (Transcribes recording
+        (unread None)
+        (record { remaining = None; received = []; ended = true; failed = false; moments = [] })
+        (unwritten None)
+        (record { contents = None; sent = 65 ∷ []; failed = false }) Done) }
 {}
 
 /// Of the words that a front sees with its callers' lines its own are those of the commands that the lines placed: in the lines'

@@ -12,7 +12,7 @@ ghost use Rattle.nr_programs.specs.declared.run.ExitStatus.TheVariants as status
 use crate::opening::{COPY_EVERY, open};
 use nr_front::Front;
 use nr_journal::Journal;
-use nr_lines::serve;
+use nr_lines::answer;
 use nr_recording::OutOfMemory;
 use nr_rev::Worlds;
 use nr_search::OneWorker;
@@ -21,7 +21,6 @@ use nr_text::{Parts, Sink, Source, Text, Token};
 use std::alloc::Global;
 use std::io::{Read, Write};
 use std::process::ExitCode;
-use std::sync::Wait;
 use std::thread::Threads;
 
 /// How many commands the one front of `run` can place.
@@ -74,7 +73,7 @@ impl From<ExitStatus> for ExitCode {
 /// fault was printed, or `fault 108 memory`, as one line, and nothing was read. `StreamFailed`: a
 /// read or a write failed; then a prefix of these texts is written, and nothing else.
 pub fn run_bytes<W, R, I, O>(
-    rt: &R,
+    _rt: &R,
     alloc: Global,
     bytes: &[u8],
     input: &mut Source<I>,
@@ -84,7 +83,7 @@ where
     W: Worlds + Drop + Sync,
     W::Delta: Drop,
     W::Snapshot: Drop + Sync,
-    R: Threads + Wait + Sync,
+    R: Threads + Sync,
     I: Read,
     O: Write,
     requires input { input.old.failed ≡ false }
@@ -102,14 +101,13 @@ where
     ensures transcript { RunsTranscript bytes.now input.old input.new output.old output.new result }
 {
     match open::<W>(alloc, bytes, COPY_EVERY) {
-        Ok(film) => walk(rt, alloc, &film, input, output),
+        Ok(film) => walk::<W, R, I, O>(alloc, &film, input, output),
         Err(fault) => refuse(&fault, output),
     }
 }
 
 // Walks a film by the lines of the input.
 fn walk<W, R, I, O>(
-    rt: &R,
     alloc: Global,
     film: &Film<W>,
     input: &mut Source<I>,
@@ -119,7 +117,7 @@ where
     W: Worlds + Drop + Sync,
     W::Delta: Drop,
     W::Snapshot: Drop + Sync,
-    R: Threads + Wait + Sync,
+    R: Threads + Sync,
     I: Read,
     O: Write,
     requires every { film.now.every ≡ 1024 }
@@ -134,7 +132,7 @@ where
     let Ok(mut front) = Front::new(alloc, pass, film, OneWorker::<R>::new(), DELTAS_KEPT) else {
         return refuse(&OutOfMemory, output);
     };
-    match serve(rt, input, output, &mut front, &journal) {
+    match answer(input, output, &mut front, &journal) {
         Ok(_) => ExitStatus::Done,
         Err(_) => ExitStatus::StreamFailed,
     }

@@ -1,13 +1,12 @@
 //! The program `serve`, over the bytes of the file and the callers of each front.
 
-ghost use Rattle.std.specs.Prelude.{◌≡◌, IfOk, true};
+ghost use Rattle.std.specs.Prelude.{◌≡◌, IfOk, OnErr, true};
 ghost use Rattle.nr_rev.specs.Run.{Recording};
 ghost use Rattle.nr_programs.specs.Opening.{IsGoodText};
 ghost use Rattle.nr_programs.specs.Run.{EndsPrinting};
-ghost use Rattle.nr_serving.specs.Session.{IsShared, words_of};
-ghost use Rattle.nr_programs.specs.Serving.{ServesAll, Shares, PrintsSession, placed_line, exit_status_of};
+ghost use Rattle.nr_serving.specs.Session.{words_of};
+ghost use Rattle.nr_programs.specs.Serving.{ServesAll, Shares, SharesAll, PrintsSession, placed_line, exit_status_of};
 ghost use Rattle.nr_programs.specs.Sharing.{is_in_range};
-ghost use Rattle.nr_programs.specs.declared.run.TheConstants.{DELTAS_KEPT};
 ghost use Rattle.nr_programs.specs.declared.run.ExitStatus.TheVariants as statuses;
 
 use crate::opening::{COPY_EVERY, open};
@@ -16,16 +15,16 @@ use crate::sharing::Sharing;
 use nr_recording::OutOfMemory;
 use nr_rev::{Memory, Worlds};
 use nr_search::{ManyWorkers, OneWorker, Open};
-use nr_serving::{Ended, Ports, Shape, Unshared, share};
+use nr_serving::{Ended, LoggedPorts, Ports, Shape, Unshared, share};
 use nr_snaps::Film;
 use nr_text::{Parts, Sink, Token};
 use std::alloc::Global;
 use std::io::Write;
-use std::sync::Wait;
 use std::thread::Threads;
 
 /// Opens the recording, and serves the callers of each front in a thread of its own, all in one session. Prints `placed
-/// K` when the last of them has ended, where K is how many commands they placed.
+/// K` when the last of them has ended, where K is how many commands they placed. What passed with the callers is in the log of the
+/// ports: where an error is printed in place of that, no port was opened.
 ///
 /// `Done`: no connection failed. `StreamFailed`: one did, or a front's callers couldn't be had, or the last line couldn't
 /// be written. `Refused`: the recording's first fault was printed, or `fault 108 memory`, as one line. The latter
@@ -35,24 +34,24 @@ pub fn serve_bytes<W, R, P, O>(
     alloc: Global,
     bytes: &[u8],
     sharing: Sharing,
-    ports: &mut P,
+    ports: &mut LoggedPorts<P>,
     output: &mut Sink<O>,
 ) -> ExitStatus
 where
     W: Worlds + Drop + Send + Sync,
     W::Delta: Drop + Send,
     W::Snapshot: Drop + Sync,
-    R: Threads + Wait + Sync,
+    R: Threads + Sync,
     P: Ports,
     O: Write,
     requires { is_in_range sharing ≡ true }
 
     // What was served and written, whatever the bytes are.
-    ensures serves { ServesAll bytes.now sharing output.old output.new result }
+    ensures serves { ServesAll bytes.now sharing ports.old ports.new output.old output.new result }
 
     // A recording whose steps all apply, and answer as is recorded of them, is shared, unless memory runs out.
     ensures good { (r : Recording) → IsGoodText bytes.now r
-        → Shares r sharing output.old output.new result }
+        → Shares r sharing ports.old ports.new output.old output.new result }
 {
     match open::<W>(alloc, bytes, COPY_EVERY) {
         Ok(film) => share_film(rt, alloc, &film, sharing, ports, output),
@@ -66,18 +65,18 @@ fn share_film<W, R, P, O>(
     alloc: Global,
     film: &Film<W>,
     sharing: Sharing,
-    ports: &mut P,
+    ports: &mut LoggedPorts<P>,
     output: &mut Sink<O>,
 ) -> ExitStatus
 where
     W: Worlds + Drop + Send + Sync,
     W::Delta: Drop + Send,
     W::Snapshot: Drop + Sync,
-    R: Threads + Wait + Sync,
+    R: Threads + Sync,
     P: Ports,
     O: Write,
     requires { is_in_range sharing ≡ true }
-    ensures { Shares film.now.recording sharing output.old output.new result }
+    ensures { Shares film.now.recording sharing ports.old ports.new output.old output.new result }
 {
     let shared = share_among(rt, alloc, film, sharing, ports);
     tell(&shared, output)
@@ -89,17 +88,18 @@ fn share_among<W, R, P>(
     alloc: Global,
     film: &Film<W>,
     sharing: Sharing,
-    ports: &mut P,
+    ports: &mut LoggedPorts<P>,
 ) -> Result<Ended, Unshared>
 where
     W: Worlds + Drop + Send + Sync,
     W::Delta: Drop + Send,
     W::Snapshot: Drop + Sync,
-    R: Threads + Wait + Sync,
+    R: Threads + Sync,
     P: Ports,
     requires { is_in_range sharing ≡ true }
-    ensures { IfOk result (λ ended. IsShared film.now.recording sharing.journal sharing.fronts
-        DELTAS_KEPT sharing.workers (words_of ended.history) ended.failed) }
+    ensures shared { IfOk result (λ ended. SharesAll film.now.recording sharing ports.old ports.new
+        (words_of ended.history) ended.failed) }
+    ensures untouched { OnErr result (ports.new ≡ ports.old) }
 {
     let shape = Shape {
         fronts: sharing.fronts as usize,
@@ -125,7 +125,7 @@ fn tell<O: Write>(shared: &Result<Ended, Unshared>, output: &mut Sink<O>) -> Exi
     };
     match &ended.history {
         Ok(history) => tell_placed(history.as_slice(), ended.failed, output),
-        Err(Memory) => refuse(&OutOfMemory, output),
+        Err(_) => refuse(&OutOfMemory, output),
     }
 }
 

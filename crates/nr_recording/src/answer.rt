@@ -4,9 +4,9 @@ ghost use Rattle.std.specs.Prelude.{◌≡◌, IfOk};
 ghost use Rattle.serde_json.specs.View.{view, items_view};
 ghost use Rattle.nr_recording.specs.Answer.{worded, counted, counted_of, answer_of, counted_data, IsAnswer};
 
-use nr_rev::{Answer, Memory};
+use nr_rev::Answer;
 use serde_json::{Value, json};
-use std::alloc::Global;
+use std::alloc::{AllocError, Global};
 
 pub(crate) fn worded(word: &[u8]) -> Option<Answer>
     ensures { result ≡ worded word.now }
@@ -61,14 +61,14 @@ pub(crate) fn answer_of(value: &Value) -> Option<Answer>
     }
 }
 
-fn counted_value(alloc: Global, word: &str, count: u32) -> Result<Value, Memory>
+fn counted_value(alloc: Global, word: &str, count: u32) -> Result<Value, AllocError>
     ensures { IfOk result (λ v. view v ≡ counted_data word.now count) }
 {
     json!(in alloc; [word, count])
 }
 
 /// The value of an answer.
-pub(crate) fn answer_value(alloc: Global, answer: Answer) -> Result<Value, Memory>
+pub(crate) fn answer_value(alloc: Global, answer: Answer) -> Result<Value, AllocError>
     ensures { IfOk result (λ v. IsAnswer (view v) answer) }
 {
     match answer {

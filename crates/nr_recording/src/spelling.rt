@@ -4,9 +4,9 @@ ghost use Rattle.std.specs.Prelude.{◌≡◌, IfOk, [], ◌∷◌};
 ghost use Rattle.serde_json.specs.View.{view};
 ghost use Rattle.nr_recording.specs.Spelling.{side_name, mode_name, numeral, digits, tag as tag_argument, time as time_argument, side as side_argument, mode as mode_argument, bit, IsSpelling};
 
-use nr_rev::{Memory, Mode, Side};
+use nr_rev::{Mode, Side};
 use serde_json::{Value, json};
-use std::alloc::Global;
+use std::alloc::{AllocError, Global};
 
 fn side_name(side: Side) -> &'static str
     ensures { result.now ≡ side_name side }
@@ -27,19 +27,19 @@ fn mode_name(mode: Mode) -> &'static str
     }
 }
 
-pub(crate) fn bare(alloc: Global, name: &str) -> Result<Value, Memory>
+pub(crate) fn bare(alloc: Global, name: &str) -> Result<Value, AllocError>
     ensures { IfOk result (λ v. IsSpelling (view v) (name.now, [])) }
 {
     json!(in alloc; [name])
 }
 
-pub(crate) fn one(alloc: Global, name: &str, n: u32) -> Result<Value, Memory>
+pub(crate) fn one(alloc: Global, name: &str, n: u32) -> Result<Value, AllocError>
     ensures { IfOk result (λ v. IsSpelling (view v) (name.now, numeral n ∷ [])) }
 {
     json!(in alloc; [name, n])
 }
 
-pub(crate) fn pair(alloc: Global, name: &str, first: u32, second: u32) -> Result<Value, Memory>
+pub(crate) fn pair(alloc: Global, name: &str, first: u32, second: u32) -> Result<Value, AllocError>
     ensures { IfOk result
         (λ v. IsSpelling (view v) (name.now, numeral first ∷ numeral second ∷ [])) }
 {
@@ -52,7 +52,7 @@ pub(crate) fn triple(
     first: u32,
     second: u32,
     third: u32,
-) -> Result<Value, Memory>
+) -> Result<Value, AllocError>
     ensures { IfOk result
         (λ v. IsSpelling (view v) (name.now, numeral first ∷ numeral second ∷ numeral third ∷ [])) }
 {
@@ -65,14 +65,19 @@ pub(crate) fn sided(
     first: u32,
     second: u32,
     side: Side,
-) -> Result<Value, Memory>
+) -> Result<Value, AllocError>
     ensures { IfOk result (λ v. IsSpelling (view v)
         (name.now, numeral first ∷ numeral second ∷ side_argument side ∷ [])) }
 {
     json!(in alloc; [name, first, second, side_name(side)])
 }
 
-pub(crate) fn arrival(alloc: Global, name: &str, socket: u32, bytes: &[u8]) -> Result<Value, Memory>
+pub(crate) fn arrival(
+    alloc: Global,
+    name: &str,
+    socket: u32,
+    bytes: &[u8],
+) -> Result<Value, AllocError>
     ensures { IfOk result (λ v. IsSpelling (view v)
         (name.now, numeral socket ∷ digits bytes.now ∷ [])) }
 {
@@ -86,7 +91,7 @@ pub(crate) fn transfer(
     goroutine: u32,
     socket: u32,
     bytes: &[u8],
-) -> Result<Value, Memory>
+) -> Result<Value, AllocError>
     ensures { IfOk result (λ v. IsSpelling (view v)
         (name.now, numeral goroutine ∷ numeral socket ∷ digits bytes.now ∷ [])) }
 {
@@ -101,7 +106,7 @@ pub(crate) fn deadline(
     descriptor: u32,
     mode: Mode,
     time: i64,
-) -> Result<Value, Memory>
+) -> Result<Value, AllocError>
     ensures { IfOk result (λ v. IsSpelling (view v) (
       name.now,
       numeral goroutine ∷ numeral descriptor ∷ mode_argument mode ∷ time_argument time ∷ [],
@@ -117,7 +122,7 @@ pub(crate) fn event(
     tag: u64,
     mode: Mode,
     error: bool,
-) -> Result<Value, Memory>
+) -> Result<Value, AllocError>
     ensures { IfOk result (λ v. IsSpelling (view v) (
       name.now,
       numeral descriptor ∷ tag_argument tag ∷ mode_argument mode ∷ bit error ∷ [],
@@ -126,7 +131,7 @@ pub(crate) fn event(
     json!(in alloc; [name, descriptor, tag, mode_name(mode), u32::from(error)])
 }
 
-pub(crate) fn timed(alloc: Global, name: &str, time: i64) -> Result<Value, Memory>
+pub(crate) fn timed(alloc: Global, name: &str, time: i64) -> Result<Value, AllocError>
     ensures { IfOk result (λ v. IsSpelling (view v) (name.now, time_argument time ∷ [])) }
 {
     json!(in alloc; [name, time])

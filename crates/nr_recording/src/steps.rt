@@ -18,7 +18,7 @@ use crate::spelling::{arrival, bare, deadline, event, one, pair, sided, timed, t
 use crate::version::Version;
 use nr_rev::{Answer, Kind, Memory, Step};
 use serde_json::Value;
-use std::alloc::Global;
+use std::alloc::{AllocError, Global};
 
 /// The step of this kind; what is behind its arguments is left.
 #[tactic(auto, unfolding(crate::specs::Arguments::none))]
@@ -150,7 +150,7 @@ fn step_in(alloc: Global, kind: Kind, arguments: &mut Parts<'_>) -> Result<Step,
 }
 
 /// The name of the step's kind, and its arguments.
-fn step_value(alloc: Global, step: &Step) -> Result<Value, Memory>
+fn step_value(alloc: Global, step: &Step) -> Result<Value, AllocError>
     ensures { IfOk result (λ v. IsSpelling (view v) (step_spelling step.now)) }
 {
     let name = step.kind().name();

@@ -21,13 +21,13 @@ use std::io::Write;
 fn header_value(alloc: Global, version: Version, limits: Limits) -> Result<Value, Memory>
     ensures { IfOk result (λ v. view v ≡ header_data version limits) }
 {
-    json!(in alloc; {
+    Ok(json!(in alloc; {
         "buf": limits.buffer,
         "desc": limits.descriptors,
         "gor": limits.goroutines,
         "netrev": version.number(),
         "sock": limits.sockets
-    })
+    })?)
 }
 
 #[tactic(auto, unfolding(crate::specs::Writing::line_text))]

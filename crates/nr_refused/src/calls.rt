@@ -9,7 +9,6 @@ use crate::{films, fronts, journals, parts, searches, serving, texts, walks, wor
 use nr_machine::World;
 use nr_plain::PlainWorld;
 use nr_search::Direction;
-use std::sync::Wait;
 use std::thread::Threads;
 
 /// A call that takes memory.
@@ -120,7 +119,7 @@ impl Call {
 
     /// Makes it while memory may be refused, and once more with memory. `None` where there was no memory for what comes
     /// before.
-    pub(crate) fn make_twice<H: Threads + Wait + Sync>(
+    pub(crate) fn make_twice<H: Threads + Sync>(
         self,
         rt: &HostRuntime,
         handles: &H,

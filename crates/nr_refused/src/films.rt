@@ -60,7 +60,7 @@ fn is_whole(film: &Film<World>) -> bool {
         if n <= film.len() {
             is_whole &= match film.world_below(n) {
                 Ok(world) => is_at(&world, n / EVERY * EVERY),
-                Err(AllocError) => false,
+                Err(_) => false,
             };
         }
     }

@@ -217,7 +217,7 @@ fn make_with<H: Threads + Sync>(
             grant(rt);
             Twice::once(steps_and_looks(&mut front, journal))
         }
-        Err((pass, AllocError)) => {
+        Err((pass, _)) => {
             grant(rt);
             Twice {
                 first: Came::Refused,

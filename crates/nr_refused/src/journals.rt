@@ -5,7 +5,8 @@ ghost use Rattle.nr_journal.specs.Rule.{HasOpcode, tag_of};
 
 use crate::twice::{Came, Twice, grant, refuse};
 use nr_journal::{Journal, Offered, Pass, Seat};
-use std::alloc::{AllocError, Global};
+use nr_rev::Memory;
+use std::alloc::Global;
 
 // A checkpoint's word with the pass's tag: opcode 9, and no argument.
 fn word_of(pass: &Pass) -> u64
@@ -49,7 +50,7 @@ fn seats_two(journal: &Journal, seat: Seat) -> bool
 fn make(alloc: Global) -> Came {
     match Journal::new(alloc, 2) {
         Ok((journal, seat)) => Came::of(seats_two(&journal, seat)),
-        Err(AllocError) => Came::Refused,
+        Err(_) => Came::Refused,
     }
 }
 
@@ -57,7 +58,7 @@ fn make(alloc: Global) -> Came {
 fn make_alone(alloc: Global) -> Came {
     match Journal::alone(alloc, 2) {
         Ok((journal, mut pass)) => Came::of(has_room_for_two(&journal, &mut pass)),
-        Err(AllocError) => Came::Refused,
+        Err(_) => Came::Refused,
     }
 }
 
@@ -84,13 +85,13 @@ pub(crate) fn make_alone_twice(rt: &HostRuntime) -> Twice {
 }
 
 // What comes of reading so many checkpoints with tag 0.
-fn is_read(words: Result<Vec<u64>, AllocError>, count: usize) -> Came {
+fn is_read(words: Result<Vec<u64>, Memory>, count: usize) -> Came {
     match words {
         Ok(words) => {
             let are_right = words.iter().all(|word| *word == 9);
             Came::of(are_right && words.len() == count)
         }
-        Err(AllocError) => Came::Refused,
+        Err(_) => Came::Refused,
     }
 }
 

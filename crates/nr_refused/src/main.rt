@@ -22,7 +22,6 @@ mod worlds;
 use crate::calls::{CALLS, Call};
 use crate::twice::Twice;
 use std::process::ExitCode;
-use std::sync::Wait;
 use std::thread::Threads;
 use std::{env, io};
 
@@ -37,7 +36,7 @@ fn main(rt: HostRuntime) -> ExitCode {
 }
 
 // Does what the arguments ask for, and returns the exit status.
-fn run<H: Threads + Wait + Sync>(rt: &HostRuntime, handles: &H) -> io::Result<u8> {
+fn run<H: Threads + Sync>(rt: &HostRuntime, handles: &H) -> io::Result<u8> {
     let words: Vec<String> = env::args(rt)?.collect(rt.alloc())?;
     let Some(word) = words.get(1) else {
         return list(rt);
@@ -59,7 +58,7 @@ fn list(rt: &HostRuntime) -> io::Result<u8> {
     Ok(2)
 }
 
-fn play_all<H: Threads + Wait + Sync>(rt: &HostRuntime, handles: &H) -> io::Result<u8> {
+fn play_all<H: Threads + Sync>(rt: &HostRuntime, handles: &H) -> io::Result<u8> {
     let mut worst = 0;
     for (name, call) in CALLS.iter() {
         worst = play(rt, handles, name, *call)?.max(worst);
@@ -68,7 +67,7 @@ fn play_all<H: Threads + Wait + Sync>(rt: &HostRuntime, handles: &H) -> io::Resu
 }
 
 // Makes a call twice, and says what came of it.
-fn play<H: Threads + Wait + Sync>(
+fn play<H: Threads + Sync>(
     rt: &HostRuntime,
     handles: &H,
     name: &str,

@@ -3,15 +3,15 @@
 
 use crate::twice::{Came, Twice, grant, refuse};
 use nr_gsema::{GOperation, GTable};
-use nr_rev::{Bytes, Reversible, Side, Status, Step, TimerFunction};
+use nr_rev::{Bytes, Memory, Reversible, Side, Status, Step, TimerFunction};
 use nr_sockbuf::{Sock, SockSnapshot};
 use nr_timers::{Timers, TimersOp};
-use std::alloc::{AllocError, Global};
+use std::alloc::Global;
 
-fn came_of_table(made: Result<GTable, AllocError>, goroutines: u32) -> Came {
+fn came_of_table(made: Result<GTable, Memory>, goroutines: u32) -> Came {
     match made {
         Ok(table) => Came::of(has_goroutines(&table, goroutines)),
-        Err(AllocError) => Came::Refused,
+        Err(_) => Came::Refused,
     }
 }
 
@@ -74,10 +74,10 @@ pub(crate) fn copy_table_twice(rt: &HostRuntime) -> Option<Twice> {
     })
 }
 
-fn came_of_sock(made: Result<Sock, AllocError>, bytes: &[u8]) -> Came {
+fn came_of_sock(made: Result<Sock, Memory>, bytes: &[u8]) -> Came {
     match made {
         Ok(sock) => Came::of(has_bytes(&sock, bytes)),
-        Err(AllocError) => Came::Refused,
+        Err(_) => Came::Refused,
     }
 }
 
@@ -131,14 +131,14 @@ pub(crate) fn copy_sock_twice(rt: &HostRuntime) -> Option<Twice> {
 fn keeps_two(alloc: Global, snapshot: &SockSnapshot) -> bool {
     match snapshot.restored(alloc) {
         Ok(sock) => has_bytes(&sock, b"hi"),
-        Err(AllocError) => false,
+        Err(_) => false,
     }
 }
 
-fn came_of_rest(made: Result<SockSnapshot, AllocError>, alloc: Global) -> Came {
+fn came_of_rest(made: Result<SockSnapshot, Memory>, alloc: Global) -> Came {
     match made {
         Ok(snapshot) => Came::of(keeps_two(alloc, &snapshot)),
-        Err(AllocError) => Came::Refused,
+        Err(_) => Came::Refused,
     }
 }
 
@@ -167,10 +167,10 @@ pub(crate) fn restore_sock_twice(rt: &HostRuntime) -> Option<Twice> {
     })
 }
 
-fn came_of_timers(made: Result<Timers, AllocError>, times: &[i64]) -> Came {
+fn came_of_timers(made: Result<Timers, Memory>, times: &[i64]) -> Came {
     match made {
         Ok(timers) => Came::of(has_times(&timers, times)),
-        Err(AllocError) => Came::Refused,
+        Err(_) => Came::Refused,
     }
 }
 

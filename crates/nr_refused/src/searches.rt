@@ -4,10 +4,9 @@ use crate::films::film;
 use crate::twice::{Came, Twice, grant, refuse};
 use nr_machine::World;
 use nr_marks::{Break, Marks};
-use nr_rev::Cell;
+use nr_rev::{Cell, Memory};
 use nr_search::{Direction, Finder, Found, ManyWorkers, OneWorker, Open, nearest_hit};
 use nr_snaps::Film;
-use std::alloc::AllocError;
 use std::num::NonZeroU32;
 use std::thread::Threads;
 
@@ -27,14 +26,14 @@ fn places(direction: Direction) -> (usize, usize, u32) {
     }
 }
 
-fn came_of_finding(direction: Direction, found: Result<Found, AllocError>) -> Came {
+fn came_of_finding(direction: Direction, found: Result<Found, Memory>) -> Came {
     let (_, position, mark) = places(direction);
     match found {
         Ok(Found::Hit(hit)) => {
             Came::of(hit.position == position && hit.marks.as_slice() == [mark].as_slice())
         }
         Ok(Found::Nothing) => Came::Wrong,
-        Err(AllocError) => Came::Refused,
+        Err(_) => Came::Refused,
     }
 }
 

@@ -5,9 +5,9 @@ use crate::texts::TEXT;
 use crate::twice::{Came, Twice, grant, refuse};
 use nr_machine::World;
 use nr_programs::{ExitStatus, Sharing, serve_bytes};
+use nr_serving::LoggedPorts;
 use nr_text::Sink;
 use std::alloc::Global;
-use std::sync::Wait;
 use std::thread::Threads;
 
 /// Lines whose replies are the same whichever front is served first, and that take no memory.
@@ -31,7 +31,7 @@ const SHARING: Sharing = Sharing {
 };
 
 // Serves the callers, and says how many bytes are out.
-fn serve_into<H: Threads + Wait + Sync>(
+fn serve_into<H: Threads + Sync>(
     handles: &H,
     alloc: Global,
     seen: &[Seen],
@@ -39,10 +39,10 @@ fn serve_into<H: Threads + Wait + Sync>(
 ) -> (ExitStatus, usize) {
     let all = room.len();
     let mut out = Sink::new(room);
-    let mut ports = Switchboard {
+    let mut ports = LoggedPorts::new(Switchboard {
         parts: PARTS.as_slice(),
         seen,
-    };
+    });
     let bytes = TEXT.as_bytes();
     let status = serve_bytes::<World, H, _, _>(
         handles, alloc, bytes, SHARING, &mut ports, &mut out,
@@ -65,7 +65,7 @@ fn came_of_serving(status: ExitStatus, out: Option<&[u8]>, seen: &[Seen; 2]) -> 
 }
 
 /// Serves two callers twice.
-pub(crate) fn serve_twice<H: Threads + Wait + Sync>(rt: &HostRuntime, handles: &H) -> Twice {
+pub(crate) fn serve_twice<H: Threads + Sync>(rt: &HostRuntime, handles: &H) -> Twice {
     let mut room = [0u8; 64];
     let seen = [Seen::new(), Seen::new()];
     refuse(rt);

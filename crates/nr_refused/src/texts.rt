@@ -4,9 +4,10 @@ use crate::twice::{Came, Twice, grant, refuse};
 use nr_machine::World;
 use nr_programs::{ExitStatus, check_bytes, upgrade_bytes};
 use nr_recording::{ReadFault, Recording, WriteFault, read, write};
+use nr_rev::Memory;
 use nr_snaps::Film;
 use nr_text::Sink;
-use std::alloc::{AllocError, Global};
+use std::alloc::Global;
 
 /// A goroutine waits for bytes at a socket and reads them. It is as `write` writes it.
 pub(crate) const TEXT: &str = r#"{"buf":16,"desc":2,"gor":4,"netrev":1,"sock":2}
@@ -145,10 +146,10 @@ fn came_of_checking(status: ExitStatus, out: Option<&[u8]>) -> Came {
     }
 }
 
-fn came_of_answering(alloc: Global, answered: Result<Recording, AllocError>) -> Came {
+fn came_of_answering(alloc: Global, answered: Result<Recording, Memory>) -> Came {
     match answered {
         Ok(recording) => written(alloc, &recording, ANSWERED),
-        Err(AllocError) => Came::Refused,
+        Err(_) => Came::Refused,
     }
 }
 

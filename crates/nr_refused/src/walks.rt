@@ -3,6 +3,7 @@
 use crate::films::{film, is_at};
 use crate::twice::{Came, Twice, grant, refuse};
 use nr_machine::World;
+use nr_rev::Memory;
 use nr_snaps::Film;
 use nr_walker::{Moved, Walker};
 use std::alloc::AllocError;
@@ -78,10 +79,10 @@ fn stops_at(walker: &Walker<'_, World>, stop: &Stop) -> bool {
     is_at_position(walker, stop.position) && walker.kept() == stop.kept
 }
 
-fn came_of_making(made: Result<Walker<'_, World>, AllocError>) -> Came {
+fn came_of_making(made: Result<Walker<'_, World>, Memory>) -> Came {
     match made {
         Ok(walker) => Came::of(is_at_position(&walker, 0) && walker.kept() == 0),
-        Err(AllocError) => Came::Refused,
+        Err(_) => Came::Refused,
     }
 }
 
@@ -103,17 +104,17 @@ pub(crate) fn make_twice(rt: &HostRuntime) -> Option<Twice> {
 }
 
 // Goes to a position, where the film has it.
-fn go(walker: &mut Walker<'_, World>, position: usize) -> Result<Moved, AllocError> {
+fn go(walker: &mut Walker<'_, World>, position: usize) -> Result<Moved, Memory> {
     if position > walker.film().len() {
-        return Err(AllocError);
+        return Err(Memory::from(AllocError));
     }
     walker.goto(position)
 }
 
-fn came_of_going(walker: &Walker<'_, World>, leg: &Leg, went: Result<Moved, AllocError>) -> Came {
+fn came_of_going(walker: &Walker<'_, World>, leg: &Leg, went: Result<Moved, Memory>) -> Came {
     match went {
         Ok(_) => Came::of(is_at_position(walker, leg.to)),
-        Err(AllocError) => {
+        Err(_) => {
             let stops = stops_at(walker, &leg.stops[0]) || stops_at(walker, &leg.stops[1]);
             Came::Refused.leaving(stops)
         }

@@ -46,7 +46,7 @@ fn is_empty<W: Worlds>(world: &W) -> bool
 fn make<W: Worlds + Drop>(alloc: Global) -> Came {
     match W::fresh(alloc, LIMITS) {
         Ok(world) => Came::of(is_empty(&world)),
-        Err(Memory) => Came::Refused,
+        Err(_) => Came::Refused,
     }
 }
 
@@ -107,7 +107,7 @@ fn copy<W: Worlds + Drop>(rt: &HostRuntime, world: &W) -> Came
             grant(rt);
             Came::of(are_alike(world, &copy))
         }
-        Err(Memory) => {
+        Err(_) => {
             grant(rt);
             Came::Refused.leaving(is_at(world, ARRIVED))
         }
@@ -121,7 +121,7 @@ fn keeps<W: Worlds + Drop>(world: &W, snapshot: &W::Snapshot) -> bool
 {
     match W::restored(snapshot) {
         Ok(restored) => are_alike(world, &restored),
-        Err(Memory) => false,
+        Err(_) => false,
     }
 }
 
@@ -136,7 +136,7 @@ where
             grant(rt);
             Came::of(keeps(world, &snapshot))
         }
-        Err(Memory) => {
+        Err(_) => {
             grant(rt);
             Came::Refused.leaving(is_at(world, ARRIVED))
         }
@@ -153,7 +153,7 @@ fn restore<W: Worlds + Drop>(rt: &HostRuntime, world: &W, snapshot: &W::Snapshot
             grant(rt);
             Came::of(are_alike(world, &restored))
         }
-        Err(Memory) => {
+        Err(_) => {
             grant(rt);
             Came::Refused.leaving(keeps(world, snapshot))
         }

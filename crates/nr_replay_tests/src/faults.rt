@@ -18,9 +18,8 @@ const FAULTS: [Fault; 6] = [
     Fault::TooManySteps,
 ];
 
-/// The reasons, by their numbers.
-const REASONS: [Refusal; 22] = [
-    Refusal::Memory,
+/// The reasons of the machine, by their numbers, from 1.
+const REASONS: [Refusal; 21] = [
     Refusal::NoSuchGoroutine,
     Refusal::NotThere,
     Refusal::TableFull,

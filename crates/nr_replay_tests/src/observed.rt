@@ -6,7 +6,7 @@ use nr_plain::PlainWorld;
 use nr_rev::{
     Answer, Bytes, Cell, CellValue, Limits, Memory, Queue, Refusal, Reversible, Side, Step, Worlds,
 };
-use std::alloc::Global;
+use std::alloc::{AllocError, Global};
 use std::marker::Model;
 use std::sync::atomic::{AtomicU32, Ordering};
 
@@ -133,7 +133,7 @@ impl Worlds for Observed {
         let refusals = self.refusals.load(Ordering::SeqCst);
         self.refusals.store(refusals / 2, Ordering::SeqCst);
         if refusals % 2 == 1 {
-            return Err(Memory);
+            return Err(Memory::from(AllocError));
         }
         Ok(Observed::around(self.world.try_copy()?))
     }

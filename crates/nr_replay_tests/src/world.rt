@@ -427,7 +427,7 @@ fn answer_in_two_tries(world: &mut World, step: &Step) -> Result<Answer, Refusal
 {
     let before = lengths(world);
     match apply(world, step) {
-        Err(Refusal::Memory) if lengths(world) == before => apply(world, step),
+        Err(Refusal::Memory(_)) if lengths(world) == before => apply(world, step),
         answered => answered,
     }
 }

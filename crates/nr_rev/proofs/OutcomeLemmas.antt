@@ -17,7 +17,7 @@ use Rattle.nr_rev.proofs.SideLemmas.{each_side}
 -- the reasons that no well-formed world gives: out of memory is none, and no descriptor contradicts itself
 abbrev pub is_never_given : Refusal → Bool
 is_never_given Refusal.CorruptedDescriptor = true
-is_never_given Refusal.Memory = true
+is_never_given (Refusal.Memory _) = true
 is_never_given _ = false
 
 -- this holds of its value, or it is refused for a reason that a well-formed world may give

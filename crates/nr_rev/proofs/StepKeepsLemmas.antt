@@ -6,6 +6,7 @@ use Rattle.nr_rev.specs.WellFormed.{WellFormed}
 use Rattle.nr_rev.specs.declared.step.Step.{Step}
 use Rattle.nr_rev.specs.Step.{IsTimely, outcome, Outcome}
 use Rattle.nr_rev.specs.declared.refusal.Refusal.{Refusal}
+use Rattle.nr_rev.specs.Refusing.{out_of_memory}
 use Rattle.nr_rev.proofs.TimerStepLemmas.{tick_sound, pop_sound, fire_sound}
 use Rattle.nr_rev.proofs.OutcomeLemmas.{Keeps, KeepsFor, Ends-map}
 use Rattle.nr_rev.proofs.GoroutineStepLemmas.{spawn_sound, exit_sound}
@@ -59,5 +60,5 @@ step_keeps w step answer next timely h e = (step_sound w step h).value (answer, 
 pub none_corrupted : (w : World) (step : Step) → WellFormed w → ◌≢◌ {A = Outcome} (outcome w step) (Err Refusal.CorruptedDescriptor)
 none_corrupted w step h e = true≢false ((step_sound w step h).given Refusal.CorruptedDescriptor e)
 
-pub none_for_memory : (w : World) (step : Step) → WellFormed w → ◌≢◌ {A = Outcome} (outcome w step) (Err Refusal.Memory)
-none_for_memory w step h e = true≢false ((step_sound w step h).given Refusal.Memory e)
+pub none_for_memory : (w : World) (step : Step) → WellFormed w → ◌≢◌ {A = Outcome} (outcome w step) (Err out_of_memory)
+none_for_memory w step h e = true≢false ((step_sound w step h).given out_of_memory e)

@@ -1,14 +1,14 @@
 -- What is said of a single operation that can be undone.
 use Rattle.std.specs.Prelude.{◌≡◌, ◌⊎◌, ℕ, ◌+◌, ◌/◌, ◌≤◌, Bool, true, Option, Some, None}
 use Rattle.nr_rev.specs.declared.refusal.Refusal.{Refusal}
-use Rattle.nr_rev.specs.declared.refusal.Refusal.TheVariants.{Memory}
+use Rattle.nr_rev.specs.Refusing.{out_of_memory}
 
 -- the refusal is the reason of the state; or there is none, and it is out of memory, at an
 -- operation that takes some there
 abbrev pub Refuses : {State Op : Type 0} → (State → Op → Option Refusal) → (State → Op → Type 0)
     → State → Op → Refusal → Type 0
 Refuses reason takes_memory old op refusal = (reason old op ≡ Some refusal)
-    ⊎ ((refusal ≡ Memory) × (reason old op ≡ None) × takes_memory old op)
+    ⊎ ((refusal ≡ out_of_memory) × (reason old op ≡ None) × takes_memory old op)
 
 -- a delta weighs at most what its operation is allowed, and one word more for each eight bytes,
 -- begun ones included, that left a buffer

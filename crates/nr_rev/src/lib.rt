@@ -19,6 +19,7 @@ mod kind;
 pub mod laws;
 mod limits;
 mod lock;
+mod memory;
 mod queue;
 mod refusal;
 mod reversible;
@@ -44,6 +45,7 @@ pub use kept::KeptBytes;
 pub use kind::Kind;
 pub use limits::{Limits, MOST_BUFFER, MOST_DESCRIPTORS, MOST_GOROUTINES, MOST_SOCKETS, is_limit};
 pub use lock::{Lock, LockOutcome};
+pub use memory::Memory;
 pub use queue::Queue;
 pub use refusal::Refusal;
 pub use reversible::Reversible;
@@ -54,6 +56,3 @@ pub use step::Step;
 pub use timer::{Entry, Timer, TimerFunction, TimerOrder};
 pub use transaction::{transact, undo_all};
 pub use worlds::Worlds;
-
-/// There was no memory: what a call answers that can run out of memory, and fails with nothing else.
-pub use std::alloc::AllocError as Memory;

@@ -1,10 +1,9 @@
 //! Why a step is refused.
 
 ghost use Rattle.std.specs.Prelude.{◌≡◌};
-ghost use Rattle.nr_rev.specs.Refusing.{refusal_number};
-ghost use Rattle.nr_rev.specs.declared.refusal.Refusal.TheVariants.{Memory};
+ghost use Rattle.nr_rev.specs.Refusing.{out_of_memory, refusal_number};
 
-use std::alloc::AllocError;
+use crate::Memory;
 
 /// Why a step does not apply. The number is what netrev prints. Of several reasons, that which the definition of the
 /// step tests first is the one reported. Those that go with a panic or a throw of Go are from `internal/poll/fd_mutex.go` and
@@ -12,51 +11,51 @@ use std::alloc::AllocError;
 #[derive(Clone, Copy, Debug, PartialEq, Eq)]
 pub enum Refusal {
     /// Memory was refused. No state of the machine has this reason.
-    Memory = 0,
+    Memory(Memory),
     /// No goroutine with this number was made, or it is gone.
-    NoSuchGoroutine = 1,
+    NoSuchGoroutine,
     /// The goroutine is not where the step begins: not idle, or not at this place of a wait.
-    NotThere = 2,
+    NotThere,
     /// As many goroutines, sockets or descriptors are there as the limits allow.
-    TableFull = 3,
+    TableFull,
     /// No socket with this number was opened.
-    NoSuchSocket = 4,
+    NoSuchSocket,
     /// The descriptor is not open, or, for an event, never was.
-    NoSuchDescriptor = 5,
+    NoSuchDescriptor,
     /// The references, the waiters or the count of a semaphore are at their greatest; Go panics with
     /// "too many concurrent operations on a single file or socket".
-    FieldOverflow = 6,
+    FieldOverflow,
     /// The lock has no such reference, or is not locked; Go panics with "inconsistent poll.fdMutex".
-    InconsistentLock = 7,
+    InconsistentLock,
     /// Another goroutine is inside a wait of this descriptor and side; Go throws "runtime: double wait".
-    DoubleWait = 8,
+    DoubleWait,
     /// The descriptor is closed and was not evicted; Go throws "runtime: close polldesc w/o unblock".
-    CloseWithoutUnblock = 9,
+    CloseWithoutUnblock,
     /// The descriptor is evicted and was so before; Go throws "runtime: unblock on closing polldesc".
-    AlreadyClosing = 10,
+    AlreadyClosing,
     /// A goroutine is inside a wait of the descriptor that is closed or reset.
-    WaiterInside = 11,
+    WaiterInside,
     /// The time is before now.
-    ClockGoesBack = 12,
+    ClockGoesBack,
     /// No timer is armed, or the first one is not due yet.
-    NoTimerDue = 13,
+    NoTimerDue,
     /// Twice as many firings wait as there may be descriptors.
-    FiringsFull = 14,
+    FiringsFull,
     /// No firing is at this place.
-    NoSuchFiring = 15,
+    NoSuchFiring,
     /// The bytes that arrive do not all fit.
-    NoRoom = 16,
+    NoRoom,
     /// Fewer bytes wait than are to leave.
-    TooFewBytes = 17,
+    TooFewBytes,
     /// A sequence, a tag or the arming number is at its last value.
-    LastNumber = 18,
+    LastNumber,
     /// A capacity or a count is 0 or above the buffer limit, or there are no bytes.
-    SizeOutOfRange = 19,
+    SizeOutOfRange,
     /// The peer has closed.
-    PeerClosed = 20,
+    PeerClosed,
     /// A current firing finds no deadline or no running timer; Go throws "runtime: inconsistent read deadline". Met in
     /// no well-formed world.
-    CorruptedDescriptor = 21,
+    CorruptedDescriptor,
 }
 
 impl Refusal {
@@ -64,15 +63,38 @@ impl Refusal {
     pub fn number(self) -> u8
         ensures { result ≡ refusal_number self }
     {
-        self as u8
+        match self {
+            Refusal::Memory(_) => 0,
+            Refusal::NoSuchGoroutine => 1,
+            Refusal::NotThere => 2,
+            Refusal::TableFull => 3,
+            Refusal::NoSuchSocket => 4,
+            Refusal::NoSuchDescriptor => 5,
+            Refusal::FieldOverflow => 6,
+            Refusal::InconsistentLock => 7,
+            Refusal::DoubleWait => 8,
+            Refusal::CloseWithoutUnblock => 9,
+            Refusal::AlreadyClosing => 10,
+            Refusal::WaiterInside => 11,
+            Refusal::ClockGoesBack => 12,
+            Refusal::NoTimerDue => 13,
+            Refusal::FiringsFull => 14,
+            Refusal::NoSuchFiring => 15,
+            Refusal::NoRoom => 16,
+            Refusal::TooFewBytes => 17,
+            Refusal::LastNumber => 18,
+            Refusal::SizeOutOfRange => 19,
+            Refusal::PeerClosed => 20,
+            Refusal::CorruptedDescriptor => 21,
+        }
     }
 }
 
 /// Memory that was refused is the reason `Memory`.
-impl From<AllocError> for Refusal {
-    ghost from_gives = { λ _ reason. reason ≡ Memory };
+impl From<Memory> for Refusal {
+    ghost from_gives = { λ _ reason. reason ≡ out_of_memory };
 
-    fn from(_error: AllocError) -> Refusal {
-        Refusal::Memory
+    fn from(refused: Memory) -> Refusal {
+        Refusal::Memory(refused)
     }
 }

@@ -3,7 +3,7 @@
 ghost use Rattle.std.specs.Prelude.{◌≡◌, ◌≤◌, ℕ, Option, Some, IfOk, IfErr, OnErr};
 ghost use Rattle.nr_rev.specs.Reversible.{IsLight, Refuses};
 ghost use Rattle.nr_rev.specs.declared.refusal.Refusal.{Refusal};
-ghost use Rattle.nr_rev.specs.declared.refusal.Refusal.TheVariants.{Memory};
+ghost use Rattle.nr_rev.specs.Refusing.{out_of_memory};
 
 use crate::refusal::Refusal;
 
@@ -74,7 +74,7 @@ pub trait Reversible {
 
     /// No state has the reason that memory is refused.
     ghost memory_is_no_reason: { (old : Self) (op : Self.Op) → is_well_formed old
-        → reason old op ≡ Some Memory → ⊥ };
+        → reason old op ≡ Some out_of_memory → ⊥ };
 
     /// From a state, an operation gives one answer and leads to one state.
     ghost steps_unique: { (old : Self) (op : Self.Op) (a b : Self.Answer) (new other : Self)

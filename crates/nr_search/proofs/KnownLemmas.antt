@@ -18,7 +18,7 @@ none-true span hits = record { each = λ s. record { found = λ found said. absu
 -- where nothing is found, no hit is known
 agrees-no_hit : (slot : Slot) (found : Found) → Agrees slot found → is_hit found ≡ false → has_hit slot ≡ false
 agrees-no_hit (Searched known) found is none = subst (λ f. is_hit f ≡ false) is none
-agrees-no_hit Refused found is none = refl
+agrees-no_hit (Refused _) found is none = refl
 agrees-no_hit Unknown found is none = refl
 
 split : (a b : ℕ) → (a < b) ⊎ (b ≤ a)

@@ -18,12 +18,12 @@ use Rattle.nr_search.proofs.SegmentLemmas.{nth-within}
 -- nothing is said
 first_known-none : (slot : Slot) → first_known slot Unknown ≡ slot
 first_known-none Unknown = refl
-first_known-none Refused = refl
+first_known-none (Refused _) = refl
 first_known-none (Searched found) = refl
 
 first_known-thrice : (a b c : Slot) → first_known (first_known a b) c ≡ first_known a (first_known b c)
 first_known-thrice Unknown b c = refl
-first_known-thrice Refused b c = refl
+first_known-thrice (Refused _) b c = refl
 first_known-thrice (Searched found) b c = refl
 
 within-or-past : (s n : ℕ) → (s < n) ⊎ (n ≤ s)
@@ -99,7 +99,7 @@ module _ (span : Span) (hits : ℕ → List ℕ) where
 
   first_known-true : (s : ℕ) (slot said : Slot) → IsTrue span hits s slot → IsTrue span hits s said → IsTrue span hits s (first_known slot said)
   first_known-true s Unknown said first second = second
-  first_known-true s Refused said first second = first
+  first_known-true s (Refused _) said first second = first
   first_known-true s (Searched found) said first second = first
 
   said-true : (report : Report) (s : ℕ) → IsReport span hits report → IsTrue span hits s (said_by report s)

@@ -34,25 +34,25 @@ slot_of slots s = or_unknown (slice_get slots s)
 -- something is known of the segment
 abbrev pub is_known : Slot → Bool
 is_known (Searched found) = true
-is_known Refused = true
+is_known (Refused _) = true
 is_known Unknown = false
 
 -- the segment is searched
 abbrev pub is_searched : Slot → Bool
 is_searched (Searched found) = true
-is_searched Refused = false
+is_searched (Refused _) = false
 is_searched Unknown = false
 
 -- it is searched, and has a hit
 abbrev pub has_hit : Slot → Bool
 has_hit (Searched found) = is_hit found
-has_hit Refused = false
+has_hit (Refused _) = false
 has_hit Unknown = false
 
 -- what is found is what is known, where the segment is searched
 abbrev pub Agrees : Slot → Found → Type 0
 Agrees (Searched known) found = found ≡ known
-Agrees Refused found = Unit {0}
+Agrees (Refused _) found = Unit {0}
 Agrees Unknown found = Unit {0}
 
 -- the segment that comes behind k others on the way

@@ -5,12 +5,13 @@ use Rattle.nr_search.specs.declared.found.Found.{Found}
 use Rattle.nr_search.specs.declared.segments.Span.{Span}
 use Rattle.nr_search.specs.declared.slot.Report.{Report}
 use Rattle.nr_search.specs.declared.slot.Slot.{Slot}
+use Rattle.nr_rev.specs.declared.memory.Memory.{Memory}
 use Rattle.nr_search.specs.declared.slot.Slot.TheVariants.{Unknown, Refused, Searched}
 
 -- what a search of a segment makes known of it
-abbrev pub slot_from : {E : Type 0} → Result Found E → Slot
+abbrev pub slot_from : Result Found Memory → Slot
 slot_from (Ok found) = Searched found
-slot_from (Err e) = Refused
+slot_from (Err refused) = Refused refused
 
 -- a report says something of its segment, and that is true
 pub record IsReport (span : Span) (hits : ℕ → List ℕ) (report : Report) : Type 0 where
@@ -20,7 +21,7 @@ pub record IsReport (span : Span) (hits : ℕ → List ℕ) (report : Report) : 
 -- what is known already, or else what is said then
 abbrev pub first_known : Slot → Slot → Slot
 first_known (Searched found) said = Searched found
-first_known Refused said = Refused
+first_known (Refused refused) said = Refused refused
 first_known Unknown said = said
 
 -- what a report says of segment s

@@ -107,7 +107,7 @@ where
     {
         match slot_at(known, s) {
             Slot::Searched(found) => Ok(found),
-            Slot::Refused => Err(Memory),
+            Slot::Refused(refused) => Err(refused),
             Slot::Unknown => self.search_segment(s, held),
         }
     }

@@ -15,7 +15,7 @@ pub(crate) enum Slot {
     /// Nothing: it was skipped, or the report of it was lost.
     Unknown,
     /// A worker ran out of memory for it.
-    Refused,
+    Refused(Memory),
     /// It was searched.
     Searched(Found),
 }
@@ -27,7 +27,7 @@ impl Slot {
     {
         match searched {
             Ok(found) => Slot::Searched(found),
-            Err(Memory) => Slot::Refused,
+            Err(refused) => Slot::Refused(refused),
         }
     }
 
@@ -37,7 +37,7 @@ impl Slot {
     {
         match self {
             Slot::Searched(found) => Slot::Searched(found.copy()),
-            Slot::Refused => Slot::Refused,
+            Slot::Refused(refused) => Slot::Refused(*refused),
             Slot::Unknown => Slot::Unknown,
         }
     }

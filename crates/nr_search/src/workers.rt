@@ -15,7 +15,7 @@ use crate::search::Search;
 use crate::slot::{Report, Slot, unknown};
 use crate::stretch::WorldAt;
 use nr_rev::{Memory, Worlds};
-use std::alloc::Global;
+use std::alloc::{AllocError, Global};
 use std::marker::Model;
 use std::sync::atomic::{AtomicUsize, Ordering};
 use std::thread::{Threads, map_indices};
@@ -208,7 +208,7 @@ fn gather<W: Worlds + Drop + Sync, R: Threads + Sync, G: Gate + Sync>(
     many: &ManyWorkers<R, G>,
     search: &Search<'_, W>,
     claims: &Claims,
-) -> Result<Vec<Vec<Report>>, Memory>
+) -> Result<Vec<Vec<Report>>, AllocError>
 where
     W::Snapshot: Drop + Sync,
     ensures { IfOk result (λ by_worker. All (λ one_worker. All (IsReport search.now.span

@@ -2,7 +2,7 @@
 use Rattle.std.proofs.Common.{◌≡◌, ◌≢◌, ◌<◌, ◌+◌, ℕ, zero, suc, add-one, inl, inr, List, [], ◌∷◌, ◌++◌, map, refl, ◌∙◌, sym, ap, subst, arith, append_assoc, append-nil, Result, Ok, Err}
 use Rattle.std.specs.Prelude.{IfOk, IfSome}
 use Rattle.std.specs.Global.{Vec}
-use Rattle.std.specs.declared.alloc.AllocError.{AllocError}
+use Rattle.nr_rev.specs.declared.memory.Memory.{Memory}
 use mathlib.Core.Logic.{dite}
 use native.Mathlib.Decide.{ℕ_discrete}
 use Rattle.std.specs.List.{All, Contains}
@@ -30,7 +30,7 @@ own_seen room words pass_state s =
     subst (λ (w : List ℕ). Covers w pass_state.tag pass_state.seen) (sym s.is) (covers_on pass_state.tag pass_state.seen s.before.seen s.after.seen s.others more)
 
 -- the pass that looks last
-pub seen_last : (room : ℕ) (given : Result (Vec ℕ) AllocError) (old new : PassState) → SeesOthers old new → CatchesUp room old new → IfOk given (λ words. words.items ≡ new.seen)
+pub seen_last : (room : ℕ) (given : Result (Vec ℕ) Memory) (old new : PassState) → SeesOthers old new → CatchesUp room old new → IfOk given (λ words. words.items ≡ new.seen)
     → IfOk given (λ words. IsSeenBy room words.items old)
 seen_last room (Ok words) old new sees_others caught_up is = record {
   before = old;
@@ -44,7 +44,7 @@ seen_last room (Ok words) old new sees_others caught_up is = record {
 seen_last room (Err fault) old new sees_others caught_up is = tt
 
 -- it took in what another had seen before
-pub seen_before : (room : ℕ) (given : Result (Vec ℕ) AllocError) (old mid : PassState) (reported : List ℕ) → SeesOthers (informed old reported) mid
+pub seen_before : (room : ℕ) (given : Result (Vec ℕ) Memory) (old mid : PassState) (reported : List ℕ) → SeesOthers (informed old reported) mid
     → IfOk given (λ words. IsSeenBy room words.items mid) → IfOk given (λ words. IsSeenBy room words.items old)
 seen_before room (Ok words) old mid reported g s = record {
   before = s.before;
@@ -68,7 +68,7 @@ own_more room words fin reported mid own later s is (x, p) g (y, q) =
     (x ++ c.0, whole, all_front (IsOthers own.tag) (x ++ c.0) y (subst (All (IsOthers own.tag)) (sym (append_cancel_left own.seen ((x ++ c.0) ++ y) g.0 long)) g.2))
 
 -- one pass more has its own words in the history
-pub others_more : (room : ℕ) (given : Result (Vec ℕ) AllocError) (rest all : List Done) (other : Done) (met mid fin later : PassState) (reported more : List ℕ) → all ≡ rest ++ other ∷ []
+pub others_more : (room : ℕ) (given : Result (Vec ℕ) Memory) (rest all : List Done) (other : Done) (met mid fin later : PassState) (reported more : List ℕ) → all ≡ rest ++ other ∷ []
     → IfOk given (λ words. IsSeenBy room words.items mid) → IfOk given (λ words. words.items ≡ fin.seen) → StartsWith mid.seen other.pass.pass_state.seen
     → met ≡ informed other.pass.pass_state reported → SeesOthers (informed met more) later → StartsWith later.seen fin.seen → IfOk given (λ words. All (λ d. HasOwn words.items d.pass.pass_state) rest)
     → IfOk given (λ words. All (λ d. HasOwn words.items d.pass.pass_state) all)
@@ -79,16 +79,16 @@ others_more room (Ok words) rest all other met mid fin later reported more split
 others_more room (Err fault) rest all other met mid fin later reported more split s is first was sees_others last own = tt
 
 -- the tags of the words, where as many passes may be
-pub below_as : (given : Result (Vec ℕ) AllocError) (passes passes' : ℕ) → passes' ≡ passes → IfOk given (λ words. All (HasTagBelow passes') words.items) → IfOk given (λ words. All (HasTagBelow passes) words.items)
+pub below_as : (given : Result (Vec ℕ) Memory) (passes passes' : ℕ) → passes' ≡ passes → IfOk given (λ words. All (HasTagBelow passes') words.items) → IfOk given (λ words. All (HasTagBelow passes) words.items)
 below_as given passes passes' is below = subst (λ (n : ℕ). IfOk given (λ words. All (HasTagBelow n) words.items)) is below
 
-pub below_seen : (given : Result (Vec ℕ) AllocError) (passes passes' : ℕ) (seen : List ℕ) → passes' ≡ passes → IfOk given (λ words. words.items ≡ seen) → All (HasTagBelow passes') seen
+pub below_seen : (given : Result (Vec ℕ) Memory) (passes passes' : ℕ) (seen : List ℕ) → passes' ≡ passes → IfOk given (λ words. words.items ≡ seen) → All (HasTagBelow passes') seen
     → IfOk given (λ words. All (HasTagBelow passes) words.items)
 below_seen (Ok words) passes passes' seen is are below = subst (All (HasTagBelow passes)) (sym are) (subst (λ (n : ℕ). All (HasTagBelow n) seen) is below)
 below_seen (Err fault) passes passes' seen is are below = tt
 
 -- none of the others is left
-pub others_none : (given : Result (Vec ℕ) AllocError) (all : List Done) → all ≡ [] → IfOk given (λ words. All (λ d. HasOwn words.items d.pass.pass_state) all)
+pub others_none : (given : Result (Vec ℕ) Memory) (all : List Done) → all ≡ [] → IfOk given (λ words. All (λ d. HasOwn words.items d.pass.pass_state) all)
 others_none (Ok words) all none = subst (All (λ d. HasOwn words.items d.pass.pass_state)) (sym none) (All-nil (λ d. HasOwn words.items d.pass.pass_state))
 others_none (Err fault) all none = tt
 
@@ -123,7 +123,7 @@ theirs words n all passes tags is below =
     words below
 
 -- the history of those that ended
-pub history_of : (room n : ℕ) (given : Result (Vec ℕ) AllocError) (rest all : List Done) (last : Done) → all ≡ rest ++ last ∷ [] → IfOk given (λ words. IsSeenBy room words.items last.pass.pass_state)
+pub history_of : (room n : ℕ) (given : Result (Vec ℕ) Memory) (rest all : List Done) (last : Done) → all ≡ rest ++ last ∷ [] → IfOk given (λ words. IsSeenBy room words.items last.pass.pass_state)
     → IfOk given (λ words. All (λ d. HasOwn words.items d.pass.pass_state) rest) → IfOk given (λ words. All (HasTagBelow last.pass.pass_state.passes) words.items)
     → map (λ d. d.pass.pass_state.tag) all ≡ numbers_below n → All (λ d. d.pass.pass_state.passes ≡ n) all
     → IfSome (words_of given) (IsHistory room (map (λ d. d.pass.pass_state) all))

@@ -7,7 +7,8 @@ use Rattle.std.proofs.Math.Bool.{or-false}
 use Rattle.std.proofs.lemmas.List.{map-append}
 use Rattle.nr_front.specs.FrontState.{FrontState}
 use Rattle.nr_serving.specs.Fronts.{Adds, AreServed, IsServed, ServesCaller, ServesCallers, came, is_failure}
-use Rattle.nr_serving.specs.Conversations.{Conversation}
+use Rattle.nr_serving.specs.Conversations.{Conversation, Passed}
+use Rattle.nr_serving.specs.Logged.{with_arrival}
 use Rattle.nr_serving.specs.declared.conversations.Arrival.{Arrival}
 use Rattle.nr_serving.specs.declared.conversations.Arrival.TheVariants.{Came}
 use Rattle.nr_serving.specs.declared.fronts.Done.{Done}
@@ -29,6 +30,10 @@ pub came_more : (callers conversations : List Conversation) (c : Conversation) (
     → arrived ≡ came (callers ++ c ∷ [])
 came_more callers conversations c before arrived is was now = now ∙ ap (λ (l : List Arrival). l ++ Came ∷ []) was ∙ sym (map-append (λ c. Came) callers (c ∷ []))
 
+-- all who came were served, and this came of waiting once more
+pub ended_with : (last : Arrival) (p : Passed) → p.arrivals ≡ came p.callers → with_arrival last p ≡ record { arrivals = came p.callers ++ last ∷ []; callers = p.callers }
+ended_with last p is = ap (λ (l : List Arrival). record { arrivals = l ++ last ∷ []; callers = p.callers }) is
+
 -- the last of some pairs was taken
 pub last_taken : {A B : Type 0} (old new : List (A × B)) (taken : Option (A × B)) → old ≡ new ++ option_to_list taken
     → IfSome taken (λ f. map {A = A × B} {B = A} (λ p. p.0) old ≡ map {A = A × B} {B = A} (λ p. p.0) new ++ f.0 ∷ [])
@@ -36,24 +41,24 @@ last_taken old new None e = tt
 last_taken old new (Some f) e = ap (map (λ p. p.0)) e ∙ map-append (λ p. p.0) new (f ∷ [])
 
 -- one front more was served
-pub served_more : (starts : List FrontState) (dones : List Done) (start : FrontState) (done : Done) → AreServed starts dones → IsServed start done
-    → AreServed (starts ++ start ∷ []) (dones ++ done ∷ [])
-served_more [] [] start done are is = (is, tt)
-served_more [] (d ∷ dones) start done are is = absurd are
-served_more (s ∷ starts) [] start done are is = absurd are
-served_more (s ∷ starts) (d ∷ dones) start done are is = (are.0, served_more starts dones start done are.1 is)
+pub served_more : (starts : List FrontState) (ones : List (Done × Passed)) (start : FrontState) (one : Done × Passed) → AreServed starts ones → IsServed start one.0 one.1
+    → AreServed (starts ++ start ∷ []) (ones ++ one ∷ [])
+served_more [] [] start one are is = (is, tt)
+served_more [] (o ∷ ones) start one are is = absurd are
+served_more (s ∷ starts) [] start one are is = absurd are
+served_more (s ∷ starts) (o ∷ ones) start one are is = (are.0, served_more starts ones start one are.1 is)
 
-pub adds_one : (starts all : List FrontState) (old mid new : List Done) (start : FrontState) (done : Done) → all ≡ starts ++ start ∷ [] → Adds starts old mid → IsServed start done
-    → new ≡ mid ++ done ∷ [] → Adds all old new
-adds_one starts all old mid new start done whole (more, behind, are) is put = (
-  more ++ done ∷ [],
-  put ∙ ap (λ (l : List Done). l ++ done ∷ []) behind
-      ∙ append_assoc old more (done ∷ []),
-  subst (λ (l : List FrontState). AreServed l (more ++ done ∷ [])) (sym whole) (served_more starts more start done are is),
+pub adds_one : (starts all : List FrontState) (old mid new : List (Done × Passed)) (start : FrontState) (one : Done × Passed) → all ≡ starts ++ start ∷ [] → Adds starts old mid → IsServed start one.0 one.1
+    → new ≡ mid ++ one ∷ [] → Adds all old new
+adds_one starts all old mid new start one whole (more, behind, are) is put = (
+  more ++ one ∷ [],
+  put ∙ ap (λ (l : List (Done × Passed)). l ++ one ∷ []) behind
+      ∙ append_assoc old more (one ∷ []),
+  subst (λ (l : List FrontState). AreServed l (more ++ one ∷ [])) (sym whole) (served_more starts more start one are is),
 )
 
 -- none was left
-pub adds_none : (starts : List FrontState) (old : List Done) → starts ≡ [] → Adds starts old old
+pub adds_none : (starts : List FrontState) (old : List (Done × Passed)) → starts ≡ [] → Adds starts old old
 adds_none starts old none = ([], sym (append-nil old), subst (λ (l : List FrontState). AreServed l []) (sym none) tt)
 
 -- what is behind the first ten of some facts

@@ -24,13 +24,13 @@ tag = record {
   joins = λ a b c x y. (y.0 ∙ x.0, y.1 ∙ x.1);
 }
 
-ends_keep : (ending : Result End LineEnd) (ended : Bool) (d : FrontState) (lines : List (List ℕ)) (out : List ℕ) (d' : FrontState) → Ends ending ended d lines out d' → HasSameTag d d'
-ends_keep (Ok ends.Closed) ended d lines out d' e = turns_keep HasSameTag tag d _ _ d' e.1.turns
-ends_keep (Ok ends.Quit) ended d lines out d' e = turns_keep HasSameTag tag d _ _ d' e.turns
-ends_keep (Err Read) ended d lines out d' e = turns_keep HasSameTag tag d _ _ d' e.1.turns
-ends_keep (Err (Write whole part)) ended d lines out d' e = tag.joins d e.mid d' (turns_keep HasSameTag tag d _ _ e.mid e.turns) (turn_keeps HasSameTag tag (meaning_of e.line) e.mid e.turn.0 d' e.turn.1)
+ends_keep : (Prompt : List (List ℕ) → List (List ℕ) → Type 0) (ending : Result End LineEnd) (ended : Bool) (d : FrontState) (lines : List (List ℕ)) (out : List ℕ) (d' : FrontState) → Ends Prompt ending ended d lines out d' → HasSameTag d d'
+ends_keep Prompt (Ok ends.Closed) ended d lines out d' e = turns_keep HasSameTag tag d _ _ d' e.1.turns
+ends_keep Prompt (Ok ends.Quit) ended d lines out d' e = turns_keep HasSameTag tag d _ _ d' e.turns
+ends_keep Prompt (Err Read) ended d lines out d' e = turns_keep HasSameTag tag d _ _ d' e.1.turns
+ends_keep Prompt (Err (Write whole part)) ended d lines out d' e = tag.joins d e.mid d' (turns_keep HasSameTag tag d _ _ e.mid e.turns) (turn_keeps HasSameTag tag (meaning_of e.line) e.mid e.turn.0 d' e.turn.1)
 
 -- with each caller the front keeps them
 pub serving_keeps_tag : (callers : List Conversation) (d d' : FrontState) → ServesCallers callers d d' → HasSameTag d d'
 serving_keeps_tag [] d d' is = tag.stays d d' (ap (λ (t : FrontState). t.pass_state) is)
-serving_keeps_tag (c ∷ callers) d d' (mid, first, rest) = tag.joins d mid d' (ends_keep c.ending first.serves.ended d _ _ mid first.serves.ends) (serving_keeps_tag callers mid d' rest)
+serving_keeps_tag (c ∷ callers) d d' (mid, first, rest) = tag.joins d mid d' (ends_keep _ c.ending first.serves.ended d _ _ mid first.serves.ends) (serving_keeps_tag callers mid d' rest)

@@ -1,7 +1,8 @@
--- What passes between a front and its callers.
+-- What passes between fronts and their callers.
 use Rattle.std.specs.Prelude.{◌≡◌, ℕ, Bool, true, false, List, Option, Some, None, Result, Ok, Err, refl}
 use Rattle.std.specs.Coded.{Coded, code_by, coded×, coded_ℕ, coded_bool, coded_list, coded_option}
 use mathlib.Core.Path.{ap}
+use Rattle.nr_text.specs.Moments.{Moment, moments_code}
 use Rattle.nr_text.specs.Streams.{Incoming, Outgoing}
 use Rattle.nr_lines.specs.declared.ending.End.{End}
 use Rattle.nr_lines.specs.declared.ending.End.TheVariants.{Closed, Quit}
@@ -16,6 +17,18 @@ pub record Conversation : Type 0 where
   pub input : Incoming
   pub output : Outgoing
   pub ending : Result End LineEnd
+
+-- What passed between a front and its callers: what came of waiting for each, and the conversation
+-- with each who came, in their order.
+pub record Passed : Type 0 where
+  pub arrivals : List Arrival
+  pub callers : List Conversation
+
+-- The fronts of a session: how many were opened, and what passed with the callers of each that has
+-- ended, in their order.
+pub record FrontsLog : Type 0 where
+  pub opened : ℕ
+  pub ended : List Passed
 
 -- ---- how the prover stores these
 
@@ -62,7 +75,7 @@ ending_of-ending_parts (Err Read) = refl
 ending_of-ending_parts (Err (Write whole part)) = refl
 
 abbrev InputParts : Type 0
-InputParts = Option (List ℕ) × (List ℕ × (Bool × Bool))
+InputParts = Option (List ℕ) × (List ℕ × (Bool × (Bool × List Moment)))
 
 abbrev OutputParts : Type 0
 OutputParts = Option (List ℕ) × (List ℕ × Bool)
@@ -72,7 +85,7 @@ Parts = InputParts × (OutputParts × EndingParts)
 
 abbrev to_parts : Conversation → Parts
 to_parts c = (
-  (c.input.remaining, (c.input.received, (c.input.ended, c.input.failed))),
+  (c.input.remaining, (c.input.received, (c.input.ended, (c.input.failed, c.input.moments)))),
   ((c.output.contents, (c.output.sent, c.output.failed)), ending_parts c.ending),
 )
 
@@ -82,7 +95,8 @@ from_parts p = record {
     remaining = p.0.0;
     received = p.0.1.0;
     ended = p.0.1.1.0;
-    failed = p.0.1.1.1;
+    failed = p.0.1.1.1.0;
+    moments = p.0.1.1.1.1;
   };
   output = record { contents = p.1.0.0; sent = p.1.0.1.0; failed = p.1.0.1.1 };
   ending = ending_of p.1.1;
@@ -98,7 +112,8 @@ coded_bytes = coded_list coded_ℕ
 
 abbrev coded_input : Coded InputParts
 coded_input =
-    coded× (coded_option coded_bytes) (coded× coded_bytes (coded× coded_bool coded_bool))
+    coded× (coded_option coded_bytes)
+    (coded× coded_bytes (coded× coded_bool (coded× coded_bool moments_code)))
 
 abbrev coded_output : Coded OutputParts
 coded_output = coded× (coded_option coded_bytes) (coded× coded_bytes coded_bool)
@@ -110,3 +125,20 @@ abbrev pub conversations_code : Coded (List Conversation)
 conversations_code =
     coded_list (code_by Parts (coded× coded_input (coded× coded_output coded_ending)) to_parts
     from_parts from_parts-to_parts)
+
+abbrev PassedParts : Type 0
+PassedParts = List Arrival × List Conversation
+
+abbrev passed_parts : Passed → PassedParts
+passed_parts p = (p.arrivals, p.callers)
+
+abbrev passed_of : PassedParts → Passed
+passed_of p = record { arrivals = p.0; callers = p.1 }
+
+pub passed_of-passed_parts : (p : Passed) → passed_of (passed_parts p) ≡ p
+passed_of-passed_parts p = refl
+
+abbrev pub passed_code : Coded (List Passed)
+passed_code =
+    coded_list (code_by PassedParts (coded× arrivals_code conversations_code) passed_parts passed_of
+    passed_of-passed_parts)

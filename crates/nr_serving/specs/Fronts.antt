@@ -1,23 +1,16 @@
 -- What becomes of a front that is served.
 use Rattle.std.specs.Prelude.{◌≡◌, ℕ, Bool, false, ◌||◌, List, [], ◌∷◌, ◌++◌, map, Option, is_err, if◌then◌else◌}
 use Rattle.std.specs.List.{list_any}
-use Rattle.nr_text.specs.Streams.{Incoming, Outgoing}
+use Rattle.atomic_table.specs.Seated.{TableId}
+use Rattle.nr_text.specs.Streams.{unread, unwritten}
 use Rattle.nr_front.specs.FrontState.{FrontState, pass_of}
 use Rattle.nr_lines.specs.Engine.{AnswersLines, is_read_failure, is_write_failure}
-use Rattle.nr_serving.specs.Conversations.{Conversation}
+use Rattle.nr_serving.specs.Conversations.{Conversation, Passed}
 use Rattle.nr_serving.specs.declared.connection.Next.{Next}
 use Rattle.nr_serving.specs.declared.connection.Next.TheVariants as nexts
 use Rattle.nr_serving.specs.declared.fronts.Done.{Done}
 use Rattle.nr_serving.specs.declared.conversations.Arrival.{Arrival}
 use Rattle.nr_serving.specs.declared.conversations.Arrival.TheVariants as arrivals
-
--- a reader of which no read was made, and which has these bytes, where they are known
-abbrev pub unread : Option (List ℕ) → Incoming
-unread known = record { remaining = known; received = []; ended = false; failed = false }
-
--- a writer of which no write was made, and which holds these bytes, where they are known
-abbrev pub unwritten : Option (List ℕ) → Outgoing
-unwritten known = record { contents = known; sent = []; failed = false }
 
 -- A front that was d served a caller and is d' then, over a reader and a writer that were new: what
 -- was sent answers the lines of what was received, as the ending says. It reports a failure exactly
@@ -47,12 +40,6 @@ arrival_of nexts.Failed = arrivals.Failed
 abbrev pub came : List Conversation → List Arrival
 came callers = map (λ c. arrivals.Came) callers
 
--- Each caller who came was served, in turn, and then none came any more, or the callers couldn't be
--- had.
-abbrev pub IsWhole : List Arrival → List Conversation → Bool → Type 0
-IsWhole arrived callers cut_off =
-    arrived ≡ came callers ++ (if cut_off then arrivals.Failed else arrivals.Ended) ∷ []
-
 -- serving the caller ended with a failure
 abbrev pub is_failure : Conversation → Bool
 is_failure c = is_err c.ending
@@ -68,24 +55,41 @@ pub record Course : Type 0 where
 abbrev pub has_failed : Course → Bool
 has_failed course = course.cut_off || list_any is_failure course.callers
 
--- This front was served, and this is what came back: what passed, as the streams remember it. A
--- failure is reported exactly where there was one.
-pub record IsServed (start : FrontState) (done : Done) : Type 0 where
+-- What passed with the callers of a front that had this course: each caller who came was served, in
+-- turn, and then none came any more, or the callers couldn't be had.
+abbrev pub passed_in : Course → Passed
+passed_in course = record {
+  arrivals =
+      came course.callers
+      ++ (if course.cut_off then arrivals.Failed else arrivals.Ended) ∷ [];
+  callers = course.callers;
+}
+
+-- nobody came yet
+abbrev pub none_passed : Passed
+none_passed = record { arrivals = []; callers = [] }
+
+-- A front over this journal, and its callers, none of whom has come.
+abbrev pub IsReady : TableId → FrontState × Passed → Type 0
+IsReady table f = (f.0.table ≡ table) × (f.1 ≡ none_passed)
+
+-- This front was served, this is what came back, and this passed with its callers, as the streams
+-- remember it. A failure is reported exactly where there was one.
+pub record IsServed (start : FrontState) (done : Done) (passed : Passed) : Type 0 where
   pub course : Course
-  pub passed : done.conversations.callers ≡ course.callers
-  pub whole : IsWhole done.conversations.arrivals course.callers course.cut_off
+  pub passed_is : passed ≡ passed_in course
   pub serving : ServesCallers course.callers start course.last
   pub failed : done.failed ≡ has_failed course
   pub pass : done.pass ≡ pass_of course.last
   pub same : course.last.table ≡ start.table
 
--- These fronts were served, and this came back of each.
-abbrev pub AreServed : List FrontState → List Done → Type 0
+-- These fronts were served, this came back of each, and this passed with its callers.
+abbrev pub AreServed : List FrontState → List (Done × Passed) → Type 0
 AreServed [] [] = Unit {0}
-AreServed (start ∷ starts) (done ∷ dones) = IsServed start done × AreServed starts dones
-AreServed [] (done ∷ dones) = ⊥
+AreServed (start ∷ starts) (one ∷ ones) = IsServed start one.0 one.1 × AreServed starts ones
+AreServed [] (one ∷ ones) = ⊥
 AreServed (start ∷ starts) [] = ⊥
 
 -- What came back of them follows what was there.
-abbrev pub Adds : List FrontState → List Done → List Done → Type 0
-Adds starts old new = (more : List Done) × (new ≡ old ++ more) × AreServed starts more
+abbrev pub Adds : List FrontState → List (Done × Passed) → List (Done × Passed) → Type 0
+Adds starts old new = (more : List (Done × Passed)) × (new ≡ old ++ more) × AreServed starts more

@@ -1,8 +1,8 @@
 -- What a session leaves that several people shared.
-use Rattle.std.specs.Prelude.{◌≡◌, ◌⊎◌, ℕ, zero, suc, Bool, List, [], ◌∷◌, ◌++◌, length, map, Option, Some, None, Result, Ok, Err, IfSome}
+use Rattle.std.specs.Prelude.{◌≡◌, ◌⊎◌, ℕ, ◌+◌, zero, suc, Bool, List, [], ◌∷◌, ◌++◌, length, map, Option, Some, None, Result, Ok, Err, IfSome}
 use Rattle.std.specs.List.{All, Contains, list_any}
 use Rattle.std.specs.Global.{Vec}
-use Rattle.std.specs.declared.alloc.AllocError.{AllocError}
+use Rattle.nr_rev.specs.declared.memory.Memory.{Memory}
 use Rattle.atomic_table.specs.Seated.{TableId}
 use Rattle.nr_rev.specs.Run.{Recording}
 use Rattle.nr_journal.specs.Pass.{CatchesUp, SeesOthers}
@@ -10,7 +10,8 @@ use Rattle.nr_journal.specs.Rule.{Covers, entering, journal_room, tag_of}
 use Rattle.nr_journal.specs.declared.view.PassState.{PassState}
 use Rattle.nr_front.specs.FrontState.{FrontState, opened_front}
 use Rattle.nr_front.specs.Replica.{at_start}
-use Rattle.nr_serving.specs.Fronts.{Course, ServesCallers, has_failed}
+use Rattle.nr_serving.specs.Conversations.{FrontsLog, Passed}
+use Rattle.nr_serving.specs.Fronts.{Course, ServesCallers, has_failed, passed_in}
 use Rattle.nr_serving.specs.declared.fronts.Done.{Done}
 
 -- A front of this recording, and of this journal, which is for so many fronts. It has seen no
@@ -31,7 +32,7 @@ abbrev pub any_failed : List Done → Bool
 any_failed done = list_any (λ d. d.failed) done
 
 -- the words, unless memory ran out for them
-abbrev pub words_of : Result (Vec ℕ) AllocError → Option (List ℕ)
+abbrev pub words_of : Result (Vec ℕ) Memory → Option (List ℕ)
 words_of (Ok words) = Some words.items
 words_of (Err fault) = None
 
@@ -76,9 +77,9 @@ last_pass_state course = course.last.pass_state
 
 -- So many fronts shared the session, each with a walker of this depth and so many workers. Their
 -- tags are their numbers, from 0. What was placed is the history, unless memory ran out for it. A
--- failure is reported exactly where one of the fronts failed.
-pub record IsShared (r : Recording) (room fronts depth workers : ℕ) (history : Option (List ℕ))
-    (failed : Bool) : Type 0 where
+-- failure is reported exactly where one of the fronts failed. This passed with their callers.
+pub record IsShared (r : Recording) (room fronts depth workers : ℕ) (passed : List Passed)
+    (history : Option (List ℕ)) (failed : Bool) : Type 0 where
   pub table : TableId
   pub room_is : journal_room table ≡ room
   pub courses : List Course
@@ -87,3 +88,10 @@ pub record IsShared (r : Recording) (room fronts depth workers : ℕ) (history :
   pub tags : map (λ course. course.last.pass_state.tag) courses ≡ numbers_below fronts
   pub one_history : IfSome history (IsHistory room (map last_pass_state courses))
   pub reported : failed ≡ list_any has_failed courses
+  pub passed_is : passed ≡ map passed_in courses
+
+-- So many fronts more were opened, and all of them have ended: this passed with their callers, and
+-- nothing with anybody else.
+abbrev pub Opens : ℕ → List Passed → FrontsLog → FrontsLog → Type 0
+Opens fronts passed old new =
+    new ≡ record { opened = old.opened + fronts; ended = old.ended ++ passed }

@@ -1,8 +1,9 @@
 //! What passed between a front and its callers. Only proofs read it: at run time nothing is kept of it.
 
-ghost use Rattle.std.specs.Prelude.{◌≡◌, [], ◌∷◌, ◌++◌, List};
+ghost use Rattle.std.specs.Prelude.{◌≡◌, ◌+◌, ℕ, [], ◌∷◌, ◌++◌, List};
 ghost use Rattle.std.specs.Borrow.{ftrue};
-ghost use Rattle.nr_serving.specs.Conversations.{Conversation, arrivals_code, conversations_code};
+ghost use Rattle.std.specs.Coded.{coded_ℕ};
+ghost use Rattle.nr_serving.specs.Conversations.{Conversation, Passed, arrivals_code, conversations_code, passed_code};
 ghost use Rattle.nr_serving.specs.declared.conversations.Arrival.{Arrival as DeclaredArrival};
 
 use nr_lines::{End, LineEnd};
@@ -12,7 +13,7 @@ use std::marker::Model;
 
 /// What came of waiting for the next caller.
 #[derive(Clone, Copy, Debug, PartialEq, Eq)]
-pub enum Arrival {
+pub(crate) enum Arrival {
     /// A caller came.
     Came,
     /// No caller comes any more.
@@ -23,7 +24,7 @@ pub enum Arrival {
 
 /// What passed between a front and its callers: who came, and the conversation with each, in their order.
 #[derive(Drop)]
-pub struct Conversations {
+pub(crate) struct Conversations {
     pub ghost arrivals: { List DeclaredArrival } by { arrivals_code },
     pub ghost callers: { List Conversation } by { conversations_code },
 }
@@ -64,5 +65,45 @@ impl Conversations {
             ++ record { input = _source.now; output = _sink.now; ending = _ending.now } ∷ []) }
     {
         Conversations {}
+    }
+}
+
+/// The fronts of a session: how many were opened, and what passed between each that has ended and its callers.
+#[derive(Drop)]
+pub(crate) struct Fronts {
+    pub ghost opened: { ℕ } by { coded_ℕ },
+    pub ghost ended: { List Passed } by { passed_code },
+}
+
+impl Model for Fronts {
+    ghost also_owns = { λ _. ftrue };
+}
+
+// It owns nothing.
+unsafe impl Send for Fronts {}
+
+impl Fronts {
+    // None yet.
+    pub(crate) fn new() -> Fronts
+        ensures { (result.opened ≡ 0) × (result.ended ≡ []) }
+    {
+        Fronts {}
+    }
+
+    // One was opened more.
+    #[inline(always)]
+    pub(crate) fn opened(&self) -> Fronts
+        ensures { (result.opened ≡ self.now.opened + 1) × (result.ended ≡ self.now.ended) }
+    {
+        Fronts {}
+    }
+
+    // One more has ended, with these conversations.
+    #[inline(always)]
+    pub(crate) fn ended(&self, _conversations: &Conversations) -> Fronts
+        ensures { (result.opened ≡ self.now.opened) × (result.ended ≡ self.now.ended
+            ++ record { arrivals = _conversations.now.arrivals; callers = _conversations.now.callers } ∷ []) }
+    {
+        Fronts {}
     }
 }

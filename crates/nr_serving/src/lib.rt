@@ -4,9 +4,9 @@
 mod connection;
 mod conversations;
 mod fronts;
+mod logged;
 mod session;
 
 pub use connection::{Connections, Next, Ports, read_away};
-pub use conversations::{Arrival, Conversations};
-pub use fronts::{Done, serve_each};
+pub use logged::LoggedPorts;
 pub use session::{Ended, Shape, Unshared, share};

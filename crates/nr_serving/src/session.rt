@@ -1,22 +1,24 @@
 //! A session that several people share.
 
-ghost use Rattle.std.specs.Prelude.{◌≡◌, ◌≤◌, ◌+◌, ◌++◌, ◌∷◌, [], map, vec_len, vec_capacity, IfOk, IfSome, IfNone, OnOk};
+ghost use Rattle.std.specs.Prelude.{◌≡◌, ◌≤◌, ◌+◌, ◌++◌, ◌∷◌, [], map, vec_len, vec_capacity, IfOk, IfSome, IfNone, List, OnErr, OnOk};
 ghost use Rattle.std.specs.List.{All};
 ghost use Rattle.nr_walker.specs.declared.walker.TheConstants.{LEAST_DEPTH, MOST_DEPTH};
 ghost use Rattle.nr_journal.specs.declared.rule.TheConstants.{MOST_WORDS};
 ghost use Rattle.nr_serving.specs.declared.session.Unshared.TheVariants as unshared;
 ghost use Rattle.nr_journal.specs.Rule.{entering, HasTagBelow, journal_room};
-ghost use Rattle.nr_serving.specs.Session.{HasOwn, IsFresh, IsHistory, IsSeenBy, IsShared, any_failed, numbers_below, words_of};
+ghost use Rattle.nr_serving.specs.Conversations.{Passed};
+ghost use Rattle.nr_serving.specs.Fronts.{none_passed};
+ghost use Rattle.nr_serving.specs.Session.{HasOwn, IsFresh, IsHistory, IsSeenBy, IsShared, Opens, any_failed, numbers_below, words_of};
 
-use crate::connection::{Connections, Ports};
+use crate::connection::Ports;
 use crate::fronts::{Done, serve_each};
+use crate::logged::{LoggedCallers, LoggedPorts};
 use nr_front::Front;
 use nr_journal::{Journal, MOST_PASSES, Pass, Seat};
 use nr_rev::{Memory, Worlds};
 use nr_search::Finder;
 use nr_snaps::Film;
-use std::alloc::Global;
-use std::sync::Wait;
+use std::alloc::{AllocError, Global};
 use std::thread::Threads;
 
 /// What a session leaves in the end.
@@ -51,7 +53,15 @@ pub enum Unshared {
 impl From<Memory> for Unshared {
     ghost from_gives = { λ _ fault. fault ≡ unshared.Memory };
 
-    fn from(_error: Memory) -> Unshared {
+    fn from(_refused: Memory) -> Unshared {
+        Unshared::Memory
+    }
+}
+
+impl From<AllocError> for Unshared {
+    ghost from_gives = { λ _ fault. fault ≡ unshared.Memory };
+
+    fn from(_refused: AllocError) -> Unshared {
         Unshared::Memory
     }
 }
@@ -95,20 +105,19 @@ where
     let pass = enter(journal, seat, number)?;
     match Front::new(alloc, pass, film, finder, depth) {
         Ok(front) => Ok(front),
-        Err(_) => Err(Unshared::Memory),
+        Err((_, refused)) => Err(refused.into()),
     }
 }
 
-// Opens each front, and its port.
-fn open_fronts<'f, W: Worlds + Drop + Sync, F: Finder + Copy + Drop, P: Ports>(
+// Opens each front.
+fn open_fronts<'f, W: Worlds + Drop + Sync, F: Finder + Copy + Drop>(
     alloc: Global,
     journal: &Journal,
     mut seat: Seat,
     film: &'f Film<W>,
     finder: F,
     shape: Shape,
-    ports: &mut P,
-) -> Result<Vec<(Front<'f, W, F>, P::Callers)>, Unshared>
+) -> Result<Vec<Front<'f, W, F>>, Unshared>
 where
     W::Delta: Drop,
     W::Snapshot: Drop + Sync,
@@ -116,18 +125,64 @@ where
     requires passes { seat.passes ≡ shape.fronts }
     requires depth { (LEAST_DEPTH ≤ shape.depth) × (shape.depth ≤ MOST_DEPTH) }
     ensures fresh { IfOk result (λ fronts.
-        All (λ f. IsFresh journal.now film.now.recording shape.fronts shape.depth (F.count finder) f.0)
-        fronts.items) }
+        All (IsFresh journal.now film.now.recording shape.fronts shape.depth (F.count finder)) fronts.items) }
     ensures count { IfOk result (λ fronts. vec_len fronts ≡ shape.fronts) }
     ensures tags { IfOk result (λ fronts.
-        map (λ f. f.0.pass_state.tag) fronts.items ≡ numbers_below shape.fronts) }
+        map (λ f. f.pass_state.tag) fronts.items ≡ numbers_below shape.fronts) }
 {
     let mut fronts = Vec::with_capacity(alloc, shape.fronts)?;
     for number in 0..shape.fronts {
         let front = open_front(alloc, journal, &mut seat, number, film, finder, shape.depth)?;
-        fronts.push_reserved((front, ports.open(number)));
+        fronts.push_reserved(front);
     }
     Ok(fronts)
+}
+
+// Opens the port of each front, in their order.
+fn open_ports<'f, W: Worlds + Drop + Sync, F: Finder + Drop, P: Ports>(
+    ports: &mut LoggedPorts<P>,
+    fronts: Vec<Front<'f, W, F>>,
+    room: Vec<(Front<'f, W, F>, LoggedCallers<P::Callers>)>,
+) -> Vec<(Front<'f, W, F>, LoggedCallers<P::Callers>)>
+where
+    W::Delta: Drop,
+    W::Snapshot: Drop + Sync,
+    requires none { room.items ≡ [] }
+    requires room { vec_len fronts ≤ vec_capacity room }
+    ensures fronts { map (λ f. f.0) result.items ≡ fronts.entry.items }
+    ensures none { All (λ f. f.1 ≡ none_passed) result.items }
+    ensures len { vec_len result ≡ vec_len fronts.entry }
+    ensures opened { ports.new ≡ record ports.old { opened = ports.old.opened + vec_len fronts.entry } }
+{
+    let mut opened = room;
+    let mut number = 0;
+    for front in fronts {
+        opened.push_reserved((front, ports.open(number)));
+        number += 1;
+    }
+    opened
+}
+
+// Ends the callers of each front, in their order, and returns what came of the fronts.
+fn end_ports<P: Ports>(
+    ports: &mut LoggedPorts<P>,
+    served: Vec<(Done, LoggedCallers<P::Callers>)>,
+    room: Vec<Done>,
+) -> Vec<Done>
+where
+    requires none { room.items ≡ [] }
+    requires room { vec_len served ≤ vec_capacity room }
+    ensures done { result.items ≡ map (λ s. s.0) served.items }
+    ensures len { vec_len result ≡ vec_len served }
+    ensures ended { ports.new ≡ record ports.old { ended = ports.old.ended ++ map (λ s. s.1) served.items } }
+{
+    let mut done = room;
+    for one in served {
+        let (front, callers) = one;
+        ports.end(callers);
+        done.push_reserved(front);
+    }
+    done
 }
 
 // Returns the history of the fronts that ended, and whether one failed.
@@ -180,10 +235,11 @@ fn take_done(journal: &Journal, done: &mut Vec<Done>) -> Option<Done>
 }
 
 /// Opens the fronts, each with a debugger of its own over the film. Serves each in a thread of its own until its callers
-/// end, and returns the history that they placed.
+/// end, and returns the history that they placed. What passed with the callers of the ports is theirs: as many fronts were opened
+/// as were asked for, and all of them have ended.
 ///
-/// An error comes before any caller is served. `NoTag` means that these are more fronts than a journal has tags for,
-/// `MOST_PASSES`. The contract doesn't say when an error comes. Where the history runs out of memory, after the last
+/// An error comes before any port is opened: no caller was sent a byte. `NoTag` means that these are more fronts than a journal has
+/// tags for, `MOST_PASSES`. The contract doesn't say when an error comes. Where the history runs out of memory, after the last
 /// caller, `Ended` says so in its place.
 pub fn share<W, F, R, P>(
     rt: &R,
@@ -191,26 +247,32 @@ pub fn share<W, F, R, P>(
     film: &Film<W>,
     finder: F,
     shape: Shape,
-    ports: &mut P,
+    ports: &mut LoggedPorts<P>,
 ) -> Result<Ended, Unshared>
 where
     W: Worlds + Drop + Send + Sync,
     W::Delta: Drop + Send,
     W::Snapshot: Drop + Sync,
     F: Finder + Copy + Drop + Send,
-    R: Threads + Wait + Sync,
+    R: Threads + Sync,
     P: Ports,
     requires room { (1 ≤ shape.room) × (shape.room ≤ MOST_WORDS) }
     requires depth { (LEAST_DEPTH ≤ shape.depth) × (shape.depth ≤ MOST_DEPTH) }
-    ensures { IfOk result (λ ended. IsShared film.now.recording shape.room shape.fronts
-        shape.depth (F.count finder) (words_of ended.history) ended.failed) }
+    ensures shared { IfOk result (λ ended. (passed : List Passed) × Opens shape.fronts passed ports.old ports.new
+        × IsShared film.now.recording shape.room shape.fronts shape.depth (F.count finder) passed
+        (words_of ended.history) ended.failed) }
+    ensures untouched { OnErr result (ports.new ≡ ports.old) }
 {
     if shape.fronts > MOST_PASSES as usize {
         return Err(Unshared::NoTag);
     }
     let (journal, seat) = Journal::for_passes(alloc, shape.room, shape.fronts as u32)?;
-    let fronts = open_fronts(alloc, &journal, seat, film, finder, shape, ports)?;
+    let fronts = open_fronts(alloc, &journal, seat, film, finder, shape)?;
+    let callers = Vec::with_capacity(alloc, fronts.len())?;
+    let served = Vec::with_capacity(alloc, fronts.len())?;
     let done = Vec::with_capacity(alloc, fronts.len())?;
-    let done = serve_each(rt, &journal, fronts, done);
+    let fronts = open_ports(ports, fronts, callers);
+    let served = serve_each(rt, &journal, fronts, served);
+    let done = end_ports(ports, served, done);
     Ok(finish(alloc, &journal, done))
 }

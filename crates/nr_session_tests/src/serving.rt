@@ -3,13 +3,12 @@
 use nr_machine::World;
 use nr_replay_tests::ticking;
 use nr_search::OneWorker;
-use nr_serving::{Connections, Ended, Next, Ports, Shape, share};
+use nr_serving::{Connections, Ended, LoggedPorts, Next, Ports, Shape, share};
 use nr_snaps::Film;
 use std::alloc::Global;
 use std::io;
 use std::io::{ErrorKind, Read, Write};
 use std::process::Abort;
-use std::sync::Wait;
 use std::sync::atomic::AtomicBool;
 use std::sync::atomic::Ordering::SeqCst;
 use std::test::*;
@@ -139,36 +138,29 @@ impl<'a> Ports for Wires<'a> {
 }
 
 /// A session of two fronts over these wires.
-fn share_over<R: Threads + Wait + Sync>(
-    rt: &R,
-    alloc: Global,
-    wires: &mut Wires<'_>,
-) -> Option<Ended> {
+fn share_over<R: Threads + Sync>(rt: &R, alloc: Global, wires: Wires<'_>) -> Option<Ended> {
     let film: Film<World> = ticking(alloc, 4)?;
+    let mut ports = LoggedPorts::new(wires);
     let shape = Shape {
         fronts: 2,
         room: 4,
         depth: 64,
     };
-    share(rt, alloc, &film, OneWorker::<&R>::new(), shape, wires).ok()
+    share(rt, alloc, &film, OneWorker::<&R>::new(), shape, &mut ports).ok()
 }
 
 /// The session in which the first front waits for the second, or the other way round.
-fn share_between<R: Threads + Wait + Sync>(
-    rt: &R,
-    alloc: Global,
-    first_waits: bool,
-) -> Option<Ended> {
+fn share_between<R: Threads + Sync>(rt: &R, alloc: Global, first_waits: bool) -> Option<Ended> {
     let (given, answered) = (AtomicBool::new(false), AtomicBool::new(false));
     let (more, reported) = (AtomicBool::new(false), AtomicBool::new(false));
-    let mut wires = Wires {
+    let wires = Wires {
         given: &given,
         more: &more,
         answered: &answered,
         reported: &reported,
         first_waits,
     };
-    share_over(rt, alloc, &mut wires)
+    share_over(rt, alloc, wires)
 }
 
 /// It left these words, and no front failed.

@@ -2,9 +2,8 @@
 use Rattle.std.specs.Prelude.{◌≢◌, ℕ, ◌-◌, ◌<◌, List, ◌++◌, codes, decimal}
 use Rattle.nr_recording.specs.Faults.{memory_text}
 use Rattle.nr_recording.specs.Recording.{Recorded, run_of}
-use Rattle.nr_rev.specs.Refusing.{refusal_number}
+use Rattle.nr_rev.specs.Refusing.{out_of_memory, refusal_number}
 use Rattle.nr_rev.specs.Run.{IsRefusedAt}
-use Rattle.nr_rev.specs.declared.refusal.Refusal.TheVariants.{Memory}
 use Rattle.nr_snaps.specs.Answers.{AnswersAgreeTo, AnswersOtherwiseAt}
 use Rattle.nr_snaps.specs.declared.fault.LoadFault.{LoadFault}
 use Rattle.nr_snaps.specs.declared.fault.LoadFault.TheVariants as fault
@@ -14,7 +13,7 @@ use Rattle.nr_snaps.specs.declared.fault.LoadFault.TheVariants as fault
 -- and gives another answer.
 abbrev pub IsStepFault : Recorded → LoadFault → Type 0
 IsStepFault r fault.Memory = ⊥
-IsStepFault r (fault.Refused step reason) = (0 < step) × (reason ≢ Memory)
+IsStepFault r (fault.Refused step reason) = (0 < step) × (reason ≢ out_of_memory)
     × IsRefusedAt (run_of r) (step - 1) reason × AnswersAgreeTo r (step - 1)
 IsStepFault r (fault.OtherAnswer step) = (0 < step) × AnswersOtherwiseAt r (step - 1)
 

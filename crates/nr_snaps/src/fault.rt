@@ -7,6 +7,7 @@ ghost use Rattle.nr_snaps.specs.declared.fault.LoadFault.TheVariants as faults;
 use nr_recording::OutOfMemory;
 use nr_rev::{Memory, Refusal};
 use nr_text::{Buffered, Text, Token, WriteFailed, send_all};
+use std::alloc::AllocError;
 use std::io::Write;
 use thiserror::Error;
 
@@ -59,7 +60,15 @@ impl Text for LoadFault {
 impl From<Memory> for LoadFault {
     ghost from_gives = { λ _ fault. fault ≡ faults.Memory };
 
-    fn from(_error: Memory) -> LoadFault {
+    fn from(_refused: Memory) -> LoadFault {
+        LoadFault::Memory
+    }
+}
+
+impl From<AllocError> for LoadFault {
+    ghost from_gives = { λ _ fault. fault ≡ faults.Memory };
+
+    fn from(_refused: AllocError) -> LoadFault {
         LoadFault::Memory
     }
 }

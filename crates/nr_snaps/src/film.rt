@@ -127,7 +127,7 @@ where
         };
         match world.apply_to(step, delta) {
             Ok(_) => Ok(()),
-            Err(Refusal::Memory) => Err(Memory),
+            Err(Refusal::Memory(refused)) => Err(refused),
             Err(_) => unreachable!(),
         }
     }

@@ -3,7 +3,7 @@
 ghost use Rattle.std.specs.Prelude.{◌≡◌, ◌≢◌, ◌≤◌, ◌<◌, ◌+◌, length, IfOk, IfErr, OnOk, OnErr, MatchBool, Some};
 ghost use Rattle.nr_recording.specs.Recording.{run_of};
 ghost use Rattle.nr_rev.specs.Run.{IsGood, IsRefusedFor, IsWorldAt};
-ghost use Rattle.nr_rev.specs.declared.refusal.Refusal.TheVariants.{Memory};
+ghost use Rattle.nr_rev.specs.Refusing.{out_of_memory};
 ghost use Rattle.nr_snaps.specs.Answers.{Agrees, AnswersAgree, AnswersAgreeTo, Differs, answer_at};
 ghost use Rattle.nr_snaps.specs.Fault.{IsLoadFault, IsStepFault};
 ghost use Rattle.nr_snaps.specs.Film.{HasCopies, IsFrame, Reel};
@@ -139,7 +139,7 @@ fn advance<W: Worlds>(world: &mut W, recording: &Recording, n: usize) -> Result<
     ensures answer { IfOk result (λ answer. answer_at (run_of recording.now) n ≡ Some answer) }
     ensures well_formed { W.is_well_formed world.new }
     ensures refused { IfErr result (IsRefusedFor (run_of recording.now) n) }
-    ensures no_memory { IfErr result (λ reason. reason ≢ Memory) }
+    ensures no_memory { IfErr result (λ reason. reason ≢ out_of_memory) }
 {
     let Some(step) = recording.step(n) else {
         unreachable!()

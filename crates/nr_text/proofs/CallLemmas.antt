@@ -7,6 +7,7 @@ use Rattle.std.specs.Io.KnownBytes.{Consumes, IsAtEnd, Keeps}
 use Rattle.std.specs.declared.io.ErrorKind.{ErrorKind}
 use Rattle.std.specs.declared.io.ErrorKind.TheVariants as kind
 use Rattle.nr_text.specs.Calls.{Call, a_read_failed, bytes_of, finds_end, moved, moves_none, outcome_of_kind}
+use Rattle.nr_text.specs.Moments.{Moment}
 use Rattle.nr_text.specs.Streams.{Incoming, Reads, Receives}
 use Rattle.nr_text.specs.declared.calls.Outcome.{Outcome}
 use Rattle.nr_text.specs.declared.calls.Outcome.TheVariants.{Moved, Interrupted, Failed}
@@ -27,16 +28,17 @@ none_more false = refl
 any_more : (test : Call → Bool) (calls : List Call) (call : Call) → list_any test (calls ++ call ∷ []) ≡ (list_any test calls || test call)
 any_more test calls call = list_any-append test calls (call ∷ []) ∙ ap (λ b. list_any test calls || b) (none_more (test call))
 
--- what is seen of a reader behind these calls
-abbrev seen : Option (List ℕ) → List Call → Incoming
-seen remaining calls = record { remaining = remaining; received = bytes_of calls; ended = finds_end calls; failed = a_read_failed calls }
+-- what is seen of a reader behind these calls, made at these moments
+abbrev seen : Option (List ℕ) → List Call → List Moment → Incoming
+seen remaining calls moments =
+    record { remaining = remaining; received = bytes_of calls; ended = finds_end calls; failed = a_read_failed calls; moments = moments }
 
 -- a read returned some bytes
-pub reads_some : (old : Incoming) (before remaining : Option (List ℕ)) (calls made : List Call) (buffer : List ℕ) (n : ℕ)
-    → seen before calls ≡ old → made ≡ calls ++ (buffer, Moved n) ∷ []
+pub reads_some : (old : Incoming) (before remaining : Option (List ℕ)) (calls made : List Call) (moments passed : List Moment) (buffer : List ℕ) (n : ℕ)
+    → seen before calls moments ≡ old → made ≡ calls ++ (buffer, Moved n) ∷ []
     → n ≤ length buffer → Consumes before remaining (take n buffer) → (n ≡ 0 → 0 < length buffer → IsAtEnd remaining)
-    → Reads old (seen remaining made) buffer (Moved n)
-reads_some old before remaining calls made buffer n is more within consumed at_end = (
+    → Reads old (seen remaining made passed) buffer (Moved n)
+reads_some old before remaining calls made moments passed buffer n is more within consumed at_end = (
   within,
   record { received = ap bytes_of more ∙ more_bytes calls (buffer, Moved n) ∙ ap (λ s. s.received ++ take n buffer) is; consumed = subst (λ known. Consumes known remaining (take n buffer)) (ap (λ s. s.remaining) is) consumed },
   ap a_read_failed more ∙ any_more _ calls (buffer, Moved n) ∙ search rules ∙ ap (λ s. s.failed) is,
@@ -57,12 +59,12 @@ kept_is_none (Some xs) None kept = elim kept [ ]
 kept_is_none (Some xs) (Some ys) kept = kept_none xs ys kept
 
 -- a read returned an error
-pub reads_none : (old : Incoming) (before remaining : Option (List ℕ)) (calls made : List Call) (buffer : List ℕ) (k : ErrorKind)
-    → seen before calls ≡ old → made ≡ calls ++ (buffer, outcome_of_kind k) ∷ [] → Keeps before remaining
-    → Reads old (seen remaining made) buffer (outcome_of_kind k)
-reads_none old before remaining calls made buffer k is more kept =
+pub reads_none : (old : Incoming) (before remaining : Option (List ℕ)) (calls made : List Call) (moments passed : List Moment) (buffer : List ℕ) (k : ErrorKind)
+    → seen before calls moments ≡ old → made ≡ calls ++ (buffer, outcome_of_kind k) ∷ [] → Keeps before remaining
+    → Reads old (seen remaining made passed) buffer (outcome_of_kind k)
+reads_none old before remaining calls made moments passed buffer k is more kept =
     let consumed = subst (λ known. Consumes known remaining []) (ap (λ s. s.remaining) is) (kept_is_none before remaining kept) in
-    let received : (outcome : Outcome) → made ≡ calls ++ (buffer, outcome) ∷ [] → moved (buffer, outcome) ≡ [] → Receives old (seen remaining made) [] =
+    let received : (outcome : Outcome) → made ≡ calls ++ (buffer, outcome) ∷ [] → moved (buffer, outcome) ≡ [] → Receives old (seen remaining made passed) [] =
     λ outcome more none. record { received = ap bytes_of more ∙ more_bytes calls (buffer, outcome) ∙ ap (λ t. bytes_of calls ++ t) none ∙ ap (λ s. s.received ++ []) is; consumed = consumed } in
     ⊎_elim
     (λ e. rw e ((received Interrupted (rw e at more) refl, ap a_read_failed (rw e at more) ∙ any_more _ calls (buffer, Interrupted) ∙ search rules ∙ ap (λ s. s.failed) is)))

@@ -1,5 +1,6 @@
 -- what callers need
 pub mod Streams
+pub mod Moments
 pub mod Buffered
 pub mod Text
 -- inner

@@ -1,17 +1,21 @@
 -- Readers and writers that remember what came, what went, and whether they failed.
-use Rattle.std.specs.Prelude.{◌≡◌, ℕ, ◌-◌, ◌^◌, ◌<◌, ◌≤◌, min, Bool, true, List, [], ◌++◌, length, take, Option, Result, Ok, Err}
+use Rattle.std.specs.Prelude.{◌≡◌, ℕ, ◌-◌, ◌^◌, ◌<◌, ◌≤◌, min, Bool, true, false, List, [], ◌++◌, length, take, Option, Result, Ok, Err}
 use Rattle.std.specs.Io.KnownBytes.{Appends, Consumes, IsAtEnd}
+use Rattle.std.specs.List.{All}
+use Rattle.nr_text.specs.Moments.{Moment}
 use Rattle.nr_text.specs.declared.calls.Outcome.{Outcome}
 use Rattle.nr_text.specs.declared.calls.Outcome.TheVariants.{Moved, Interrupted, Failed}
 use Rattle.nr_text.specs.declared.sink.Part.{Part}
 
 -- What is seen of a source: the bytes that its reader has left, where they are known; those that
--- reads returned, in their order; whether the last read found the end; and whether a read failed.
+-- reads returned, in their order; whether the last read found the end; whether a read failed; and
+-- when its reads were made, in their order.
 pub record Incoming : Type 0 where
   pub remaining : Option (List ℕ)
   pub received : List ℕ
   pub ended : Bool
   pub failed : Bool
+  pub moments : List Moment
 
 -- What is seen of a sink: the bytes that its writer holds, where they are known; those that writes
 -- took, in their order; and whether a write failed, or took nothing of the bytes that there were.
@@ -19,6 +23,15 @@ pub record Outgoing : Type 0 where
   pub contents : Option (List ℕ)
   pub sent : List ℕ
   pub failed : Bool
+
+-- a source of which no read was made, and whose reader has these bytes, where they are known
+abbrev pub unread : Option (List ℕ) → Incoming
+unread known =
+    record { remaining = known; received = []; ended = false; failed = false; moments = [] }
+
+-- a sink of which no write was made, and whose writer holds these bytes, where they are known
+abbrev pub unwritten : Option (List ℕ) → Outgoing
+unwritten known = record { contents = known; sent = []; failed = false }
 
 -- These bytes were received since. Where the reader's bytes are known, they were the next ones.
 pub record Receives (from left : Incoming) (bytes : List ℕ) : Type 0 where
@@ -61,6 +74,19 @@ ReadsSome old new buffer (Err _) = Reads old new buffer Failed
 abbrev pub TakesSome : {E : Type 0} → Outgoing → Outgoing → List ℕ → Result ℕ E → Type 0
 TakesSome old new bytes (Ok n) = Takes old new bytes (Moved n)
 TakesSome old new bytes (Err _) = Takes old new bytes Failed
+
+-- The moment is that of a source and a sink as they are.
+abbrev pub IsNow : Incoming → Outgoing → Moment → Type 0
+IsNow input output m = (m.received ≡ input.received) × (m.sent ≡ output.sent)
+
+-- Since then reads were made at these moments.
+abbrev pub Passes : Incoming → Incoming → List Moment → Type 0
+Passes old new moments = new.moments ≡ old.moments ++ moments
+
+-- All reads since then were made when the source was as then, and the sink as it is.
+abbrev pub ReadsNow : Incoming → Incoming → Outgoing → Type 0
+ReadsNow old new output =
+    (moments : List Moment) × Passes old new moments × All (IsNow old output) moments
 
 -- a count that stays at 2 ^ 64 - 1
 abbrev pub saturating_count : ℕ → ℕ

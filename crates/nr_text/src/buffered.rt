@@ -2,10 +2,11 @@
 
 ghost use Rattle.std.specs.Prelude.{◌≡◌, ◌+◌, ◌≤◌, ◌++◌, [], length, false, OnErr, OnOk};
 ghost use Rattle.nr_text.specs.Buffered.{PutsOut, PutsOutSome, SentOrCut, Writes};
-ghost use Rattle.nr_text.specs.Streams.{TakesSome};
+ghost use Rattle.nr_text.specs.Calls.{bytes_of};
+ghost use Rattle.nr_text.specs.Streams.{TakesSome, unwritten};
 ghost use Rattle.nr_text.specs.declared.buffered.TheConstants.{ROOM};
 
-use crate::calls::Outcome;
+use crate::calls::{Calls, Outcome};
 use crate::logged::LoggedWriter;
 use crate::text::Text;
 use arrayvec::ArrayVec;
@@ -42,7 +43,7 @@ impl<W: Write> Buffered<W> {
     // Holds nothing, and nothing of a text is out.
     pub(crate) fn new(writer: W) -> Buffered<W>
         ensures { result ≡ record {
-          taken = record { contents = W.contents writer; sent = []; failed = false };
+          taken = unwritten (W.contents writer);
           held = [];
           out = 0;
         } }
@@ -64,6 +65,13 @@ impl<W: Write> Buffered<W> {
             out: _,
         } = self;
         writer.into_inner()
+    }
+
+    // The writes that were made.
+    pub(crate) fn calls(&self) -> &Calls
+        ensures { bytes_of result.now.made ≡ self.now.taken.sent }
+    {
+        self.writer.calls()
     }
 
     // How many bytes of the text are out.

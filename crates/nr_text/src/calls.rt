@@ -1,9 +1,11 @@
-//! The calls that were made of a reader or a writer. Only proofs read them: at run time nothing is kept of them.
+//! The calls that were made of a reader or a writer, and when the reads were made. Only proofs read this: at run time nothing is
+//! kept of it.
 
 ghost use Rattle.std.specs.Prelude.{◌≡◌, ℕ, List, [], ◌∷◌, ◌++◌};
 ghost use Rattle.std.specs.Borrow.{ftrue};
 ghost use Rattle.std.specs.declared.io.ErrorKind.{ErrorKind as CallErrorKind};
-ghost use Rattle.nr_text.specs.Calls.{calls_code, outcome_of_kind};
+ghost use Rattle.nr_text.specs.Calls.{bytes_of, calls_code, outcome_of_kind};
+ghost use Rattle.nr_text.specs.Moments.{Moment, moments_code};
 ghost use Rattle.nr_text.specs.declared.calls.Outcome.{Outcome as CallOutcome};
 
 use std::io::ErrorKind;
@@ -63,5 +65,33 @@ impl Calls {
         ensures { result.made ≡ self.now.made ++ (_call.now.buffer.now, _call.now.outcome) ∷ [] }
     {
         Calls {}
+    }
+}
+
+/// When the reads were made: what had been received and sent by then, in their order.
+#[derive(Drop)]
+pub(crate) struct Moments {
+    ghost passed: { List Moment } by { moments_code },
+}
+
+impl Model for Moments {
+    ghost also_owns = { λ _. ftrue };
+}
+
+impl Moments {
+    // None yet.
+    pub(crate) fn new() -> Moments
+        ensures { result.passed ≡ [] }
+    {
+        Moments {}
+    }
+
+    // These, and one more: these reads and these writes had been made.
+    #[inline(always)]
+    pub(crate) fn and(&self, _reads: &Calls, _writes: &Calls) -> Moments
+        ensures { result.passed ≡ self.now.passed
+            ++ record { received = bytes_of _reads.now.made; sent = bytes_of _writes.now.made } ∷ [] }
+    {
+        Moments {}
     }
 }

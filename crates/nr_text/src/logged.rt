@@ -1,18 +1,20 @@
 //! A reader and a writer that remember their calls, in proofs alone.
 
-ghost use Rattle.std.specs.Prelude.{◌≡◌, [], false};
-ghost use Rattle.nr_text.specs.Streams.{Reads, Takes};
+ghost use Rattle.std.specs.Prelude.{◌≡◌, [], ◌∷◌, false, true};
+ghost use Rattle.nr_text.specs.Calls.{bytes_of};
+ghost use Rattle.nr_text.specs.Streams.{Passes, Reads, Takes, unread, unwritten};
 
-use crate::calls::{Call, Calls, Outcome};
+use crate::calls::{Call, Calls, Moments, Outcome};
 use std::io::{Read, Write};
 use std::marker::Model;
 
 /// A reader that remembers its reads. Contracts see the bytes that it has left, where they are known, those that its reads
-/// returned, whether the last one found the end, and whether one failed.
+/// returned, whether the last one found the end, whether one failed, and what had been received and sent when each was made.
 #[derive(Drop)]
 pub(crate) struct LoggedReader<R: Read> {
     reader: R,
     calls: Calls,
+    moments: Moments,
 }
 
 impl<R: Read> Model for LoggedReader<R> {
@@ -26,17 +28,19 @@ impl<R: Read> Model for LoggedReader<R> {
       received = bytes_of l.calls.made;
       ended = finds_end l.calls.made;
       failed = a_read_failed l.calls.made;
+      moments = l.moments.passed;
     } };
 }
 
 impl<R: Read> LoggedReader<R> {
     // The reader, of which no read was made.
     pub(crate) fn new(reader: R) -> LoggedReader<R>
-        ensures { result ≡ record { remaining = R.remaining reader; received = []; ended = false; failed = false } }
+        ensures { result ≡ unread (R.remaining reader) }
     {
         LoggedReader {
             reader,
             calls: Calls::new(),
+            moments: Moments::new(),
         }
     }
 
@@ -44,15 +48,22 @@ impl<R: Read> LoggedReader<R> {
     pub(crate) fn into_inner(self) -> R
         ensures { R.remaining result ≡ self.remaining }
     {
-        let LoggedReader { reader, calls: _ } = self;
+        let LoggedReader {
+            reader,
+            calls: _,
+            moments: _,
+        } = self;
         reader
     }
 
-    // Reads once.
+    // Reads once, when these writes had been made.
     #[inline(always)]
-    pub(crate) fn read(&mut self, buffer: &mut [u8]) -> Outcome
-        ensures { Reads self.old self.new buffer.new result }
+    pub(crate) fn read(&mut self, writes: &Calls, buffer: &mut [u8]) -> Outcome
+        ensures reads { Reads self.old self.new buffer.new result }
+        ensures moment { Passes self.old self.new
+            (record { received = self.old.received; sent = bytes_of writes.now.made } ∷ []) }
     {
+        self.moments = self.moments.and(&self.calls, writes);
         let outcome = match self.reader.read(buffer) {
             Ok(count) => Outcome::Moved(count),
             Err(error) => Outcome::of_kind(error.kind()),
@@ -60,6 +71,18 @@ impl<R: Read> LoggedReader<R> {
         let buffer: &[u8] = buffer;
         self.calls = self.calls.and(&Call { buffer, outcome });
         outcome
+    }
+
+    // Gives up: the last read counts as failed.
+    pub(crate) fn give_up(&mut self)
+        ensures reads { Reads self.old self.new [] Outcome.Failed }
+        ensures moments { Passes self.old self.new [] }
+    {
+        let call = Call {
+            buffer: &[],
+            outcome: Outcome::Failed,
+        };
+        self.calls = self.calls.and(&call);
     }
 }
 
@@ -87,7 +110,7 @@ impl<W: Write> Model for LoggedWriter<W> {
 impl<W: Write> LoggedWriter<W> {
     // The writer, of which no write was made.
     pub(crate) fn new(writer: W) -> LoggedWriter<W>
-        ensures { result ≡ record { contents = W.contents writer; sent = []; failed = false } }
+        ensures { result ≡ unwritten (W.contents writer) }
     {
         LoggedWriter {
             writer,
@@ -101,6 +124,13 @@ impl<W: Write> LoggedWriter<W> {
     {
         let LoggedWriter { writer, calls: _ } = self;
         writer
+    }
+
+    // The writes that were made.
+    pub(crate) fn calls(&self) -> &Calls
+        ensures { bytes_of result.now.made ≡ self.now.sent }
+    {
+        &self.calls
     }
 
     // Writes once.

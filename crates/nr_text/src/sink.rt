@@ -1,9 +1,11 @@
 //! A writer of whole texts that remembers what went out and whether a write failed.
 
 ghost use Rattle.std.specs.Prelude.{◌≡◌, [], false};
-ghost use Rattle.nr_text.specs.Streams.{Prints};
+ghost use Rattle.nr_text.specs.Calls.{bytes_of};
+ghost use Rattle.nr_text.specs.Streams.{Prints, unwritten};
 
 use crate::buffered::{Buffered, WriteFailed};
+use crate::calls::Calls;
 use crate::text::Text;
 use std::io::Write;
 use std::marker::Model;
@@ -37,7 +39,7 @@ pub struct Part(pub u64);
 impl<W: Write> Sink<W> {
     /// The writer, of which no write was made.
     pub fn new(writer: W) -> Sink<W>
-        ensures { result ≡ record { contents = W.contents writer; sent = []; failed = false } }
+        ensures { result ≡ unwritten (W.contents writer) }
     {
         Sink {
             writer: Buffered::new(writer),
@@ -51,6 +53,13 @@ impl<W: Write> Sink<W> {
     {
         let Sink { writer, failed: _ } = self;
         writer.into_inner()
+    }
+
+    // The writes that were made.
+    pub(crate) fn calls(&self) -> &Calls
+        ensures { bytes_of result.now.made ≡ self.now.sent }
+    {
+        self.writer.calls()
     }
 
     /// Whether a write failed, or took nothing of the bytes that there were.

@@ -1,17 +1,17 @@
 //! A reader that remembers what it gave and whether a read failed.
 
-ghost use Rattle.std.specs.Prelude.{◌≡◌, [], false};
-ghost use Rattle.nr_text.specs.Streams.{ReadsSome};
+ghost use Rattle.std.specs.Prelude.{◌≡◌, []};
+ghost use Rattle.nr_text.specs.Streams.{Passes, Reads, ReadsNow, ReadsSome, unread};
 
 use crate::calls::Outcome;
 use crate::logged::LoggedReader;
-use std::io::Read;
+use crate::sink::Sink;
+use std::io::{Read, Write};
 use std::marker::Model;
-use std::sync::Wait;
 
 /// A reader that remembers what its reads returned and whether one failed. Contracts see the bytes that the reader has left,
-/// where they are known, those that reads returned, whether the last one found the end, and whether one failed. What reads
-/// returned, and how each came out, is remembered in proofs alone.
+/// where they are known, those that reads returned, whether the last one found the end, whether one failed, and what had been
+/// received and sent when each was made. What reads returned, and how each came out, is remembered in proofs alone.
 #[derive(Drop)]
 pub struct Source<R: Read> {
     reader: LoggedReader<R>,
@@ -36,7 +36,7 @@ pub struct ReadFailed;
 impl<R: Read> Source<R> {
     /// The reader, of which no read was made.
     pub fn new(reader: R) -> Source<R>
-        ensures { result ≡ record { remaining = R.remaining reader; received = []; ended = false; failed = false } }
+        ensures { result ≡ unread (R.remaining reader) }
     {
         Source {
             reader: LoggedReader::new(reader),
@@ -59,12 +59,14 @@ impl<R: Read> Source<R> {
         self.failed
     }
 
-    /// Reads some bytes, and none at the end. A read that is interrupted is tried again.
-    pub fn read(&mut self, rt: &impl Wait, buf: &mut [u8]) -> Result<usize, ReadFailed>
-        ensures { ReadsSome self.old self.new buf.new result }
+    /// Reads some bytes, and none at the end, when these replies are out. A read that is interrupted is tried again, up to
+    /// `u64::MAX` times; then it counts as failed.
+    pub fn read<W: Write>(&mut self, replies: &Sink<W>, buf: &mut [u8]) -> Result<usize, ReadFailed>
+        ensures reads { ReadsSome self.old self.new buf.new result }
+        ensures moments { ReadsNow self.old self.new replies.now }
     {
-        for _ in rt.forever() {
-            match self.reader.read(buf) {
+        for _ in 0..u64::MAX {
+            match self.reader.read(replies.calls(), buf) {
                 Outcome::Moved(count) => return Ok(count),
                 Outcome::Interrupted => {}
                 Outcome::Failed => {
@@ -73,6 +75,16 @@ impl<R: Read> Source<R> {
                 }
             }
         }
-        unreachable!()
+        self.give_up();
+        Err(ReadFailed)
+    }
+
+    /// Gives up: the last read counts as failed.
+    pub fn give_up(&mut self)
+        ensures failed { Reads self.old self.new [] Outcome.Failed }
+        ensures moments { Passes self.old self.new [] }
+    {
+        self.reader.give_up();
+        self.failed = true;
     }
 }

@@ -3,7 +3,7 @@ use Rattle.std.proofs.Common.{◌≡◌, inl, inr, ℕ, ◌+◌, ◌-◌, ◌≤
 use Rattle.std.proofs.lemmas.Bool.Decides.{nat_tests}
 use Rattle.std.proofs.lemmas.Int.{ints}
 use Rattle.nr_rev.specs.declared.refusal.Refusal.{Refusal}
-use Rattle.nr_rev.specs.declared.refusal.Refusal.TheVariants.{Memory}
+use Rattle.nr_rev.specs.Refusing.{out_of_memory}
 use Rattle.nr_rev.specs.declared.timer.Entry.{Entry}
 use Rattle.nr_timers.specs.declared.delta.TimersDelta.{TimersDelta}
 use Rattle.nr_timers.specs.declared.delta.TimersUndo.{TimersUndo}
@@ -84,7 +84,7 @@ refused_has_no_step old (TakeFiring place) e answer new r s =
     let a = s.1.within in grind (arith, nat_tests)
 
 pub memory_is_no_reason : (old : State) (op : TimersOp) → IsTimers old
-    → timers_reason old op ≡ Some Memory → ⊥
+    → timers_reason old op ≡ Some out_of_memory → ⊥
 memory_is_no_reason old (Arm d side due function sequence) h r = grind (arith, nat_tests)
 memory_is_no_reason old (Stop d side) h r = grind (arith, nat_tests)
 memory_is_no_reason old (Pop now) h r = grind (arith, nat_tests)

@@ -8,10 +8,13 @@ from netrev_model.plain import plain
 from ..completion import candidates
 from ..line_hints import hint
 from ..netrev import Ended
+from ..recording import NoRecording
 from ..scout import Lost
 from ..session import Misused
 from ..shapes import Refused, Strange
-from . import breakpoints, filters
+from . import breakpoints
+from .admission import Admission, Stranger
+from .capabilities import CAPABILITIES
 from .debuggee import debuggee
 from .looking import maker_of, thread_of
 from .messages import Body, Request, Unanswerable, Wire
@@ -19,22 +22,6 @@ from .moving import Stop
 from .numbering import Numbering
 from .target import Launch, Target
 
-CAPABILITIES: Body = {
-    "supportsConfigurationDoneRequest": True,
-    "supportsFunctionBreakpoints": True,
-    "supportsConditionalBreakpoints": True,
-    "supportsDataBreakpoints": True,
-    "supportsBreakpointLocationsRequest": True,
-    "supportsExceptionInfoRequest": True,
-    "exceptionBreakpointFilters": filters.offered(),
-    "supportsStepBack": True,
-    "supportsGotoTargetsRequest": True,
-    "supportsRestartRequest": True,
-    "supportsTerminateRequest": True,
-    "supportsEvaluateForHovers": True,
-    "supportsCompletionsRequest": True,
-    "completionTriggerCharacters": [" "],
-}
 FIXED = "a recording is what happened: no value in it can be changed"
 
 
@@ -52,10 +39,10 @@ class Outcome(NamedTuple):
 
 
 class Adapter:
-    """Serves one editor."""
+    """Serves one editor. `program` is netrev's: no message names another."""
 
-    def __init__(self, wire: Wire, program: str):
-        self._wire, self._program = wire, program
+    def __init__(self, wire: Wire, program: str, admission: Admission):
+        self._wire, self._program, self._admission = wire, program, admission
         self._opened = ExitStack()
         self._target_or_none: Optional[Target] = None
         self._numbering = Numbering()
@@ -78,17 +65,24 @@ class Adapter:
         }  # fmt: skip
 
     def serve(self) -> None:
-        """Answers until the editor has gone, or says that it goes."""
+        """Answers until the editor has gone, says that it goes, or turns out to be a stranger."""
         with self._opened:
-            while (request := self._wire.request()) is not None:
-                self._answer(request)
-                if request.command == "disconnect":
-                    return
+            try:
+                while (request := self._wire.request()) is not None:
+                    self._answer(request)
+                    if request.command == "disconnect":
+                        return
+            except Stranger:
+                return
 
     def _answer(self, request: Request) -> None:
-        """Answers a request, and tells what comes of it."""
+        """Answers a request, and tells what comes of it; Stranger where nothing more is to be read."""
         try:
+            self._admission.check(request)
             outcome = self._outcome(request)
+        except Stranger as why:
+            self._wire.refuse(request, str(why))
+            raise
         except Unanswerable as why:
             self._wire.refuse(request, shown(str(why)))
             return
@@ -112,7 +106,7 @@ class Adapter:
             return answer(request)
         except Refused as refused:
             raise Unanswerable(f"netrev answered: {refused}; {hint([request.command], str(refused))}") from None
-        except Misused as wrong:
+        except (Misused, NoRecording) as wrong:
             raise Unanswerable(str(wrong)) from None
 
     @property
@@ -161,8 +155,10 @@ class Adapter:
     def _launch(self, request: Request) -> Outcome:
         launch = Launch.of(request)
         self._close()
-        debugged = self._opened.enter_context(debuggee(launch.program or self._program, launch.recording))
+        debugged = self._opened.enter_context(debuggee(self._program, launch.recording))
         debugged.say_nothing_yet()
+        if debugged.recording.lines.fault:
+            self._console(f"| {plain(debugged.recording.lines.why_unused(launch.recording))}\n")
         self._target_or_none = Target(debugged, launch)
         self._target.stop = self._target.moves.goto(launch.position(debugged.length), "entry")
         return Outcome(event="initialized")
@@ -211,7 +207,10 @@ class Adapter:
         return Outcome(stop=Stop("pause", f"at {self._target.debuggee.position}"))
 
     def _goto_targets(self, request: Request) -> Outcome:
-        step = self._target.debuggee.step_at(self._numbering.asked(request, "line"))
+        line = self._numbering.asked(request, "line")
+        if not breakpoints.is_the_recording(self._target, request):
+            return Outcome({"targets": breakpoints.targets(self._target, self._numbering, request)})
+        step = self._target.debuggee.step_at(line)
         if step is None:
             raise Unanswerable("no step stands in that line, or behind it")
         position = step.number - 1

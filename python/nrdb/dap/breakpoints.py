@@ -1,7 +1,9 @@
 """What is answered of breakpoints: at lines, of kinds of steps, of cells, and of what has gone wrong."""
 
 from netrev_model.plain import plain
+from netrev_model.vocabulary import KINDS
 
+from .go_lines import FUNCTIONS
 from .marks import Sort, cell_wish, kind_wish, wish_of
 from .messages import Body, Request, Unanswerable
 from .numbering import Numbering
@@ -14,8 +16,7 @@ def set_lines(target: Target, numbering: Numbering, request: Request) -> Body:
     """Breakpoints at lines of the recording."""
     asked = request.objects("breakpoints")
     if not is_the_recording(target, request):
-        said = "breakpoints are set in the recording's text: a line of the program has many steps"
-        return {"breakpoints": [{"verified": False, "message": said} for _ in asked]}
+        return {"breakpoints": in_the_program(target, numbering, path_of(request), asked)}
     steps = [target.debuggee.step_at(numbering.of(one)) for one in asked]
     wishes = [
         wish_of(f"@{step.number if step else target.debuggee.length + 1}", one.get("condition"))
@@ -26,17 +27,48 @@ def set_lines(target: Target, numbering: Numbering, request: Request) -> Body:
     return {"breakpoints": [one | line for one, line in zip(made, lines)]}
 
 
-def is_the_recording(target: Target, request: Request) -> bool:
-    """Whether the source that a request names is the recording."""
+def in_the_program(target: Target, numbering: Numbering, path: str, asked: list[Body]) -> list[Body]:
+    """Breakpoints in a file of the program's."""
+    if not target.debuggee.recording.lines:
+        said = (
+            "breakpoints are set in the recording's text: no line of the program is known, since NAME.where isn't there"
+        )
+        return [{"verified": False, "message": said} for _ in asked]
+    target.go_lines.clear(path)
+    made = [target.go_lines.set_line(path, numbering.of(one), wish_of("", one.get("condition"))) for one in asked]
+    return [body | ({"line": numbering.to(line)} if line else {}) for body, line in made]
+
+
+def path_of(request: Request) -> str:
+    """The path of the source that a request names; empty where it names none."""
     source = request.arguments.get("source")
     path = source.get("path") if isinstance(source, dict) else None
-    return isinstance(path, str) and target.debuggee.is_at(path)
+    return path if isinstance(path, str) else ""
+
+
+def is_the_recording(target: Target, request: Request) -> bool:
+    """Whether the source that a request names is the recording."""
+    return bool(path_of(request)) and target.debuggee.is_at(path_of(request))
 
 
 def set_functions(target: Target, _: Numbering, request: Request) -> Body:
-    """Breakpoints of kinds of steps."""
-    wishes = [kind_wish(one.get("name"), one.get("condition")) for one in request.objects("breakpoints")]
-    return {"breakpoints": target.marks.replace(Sort.FUNCTION, wishes)}
+    """Breakpoints of kinds of steps, and of the program's functions."""
+    asked = request.objects("breakpoints")
+    target.go_lines.clear(FUNCTIONS)
+    of_program = [
+        target.go_lines.set_function(str(one.get("name")), wish_of("", one.get("condition")))
+        if is_function(one)
+        else None
+        for one in asked
+    ]
+    wishes = [kind_wish(one.get("name"), one.get("condition")) for one, made in zip(asked, of_program) if made is None]
+    of_kinds = iter(target.marks.replace(Sort.FUNCTION, wishes))
+    return {"breakpoints": [made or next(of_kinds) for made in of_program]}
+
+
+def is_function(asked: Body) -> bool:
+    """Whether a breakpoint may be of a function, and is of no kind of step."""
+    return isinstance(asked.get("name"), str) and asked["name"] not in KINDS
 
 
 def data_info(target: Target, _: Numbering, request: Request) -> Body:
@@ -45,6 +77,19 @@ def data_info(target: Target, _: Numbering, request: Request) -> Body:
     if target.looks.value(name) is None:
         return {"dataId": None, "description": f"{plain(name)} is no cell"}
     return {"dataId": name, "description": name, "accessTypes": ["write"], "canPersist": True}
+
+
+def targets(target: Target, numbering: Numbering, request: Request) -> list[Body]:
+    """The positions at which a goroutine comes to a line of the program."""
+    line = numbering.asked(request, "line")
+    positions = target.go_lines.lines(path_of(request)).get(line, [])
+    if not positions:
+        raise Unanswerable("no step of the recording comes from that line")
+    whose = [(position, target.debuggee.maker(position + 1)) for position in positions[:MOST_TARGETS]]
+    return [
+        {"id": position, "label": f"position {position}: goroutine {maker}", "line": numbering.to(line)}
+        for position, maker in whose
+    ]
 
 
 def set_data(target: Target, _: Numbering, request: Request) -> Body:
@@ -56,8 +101,8 @@ def set_data(target: Target, _: Numbering, request: Request) -> Body:
 def set_filters(target: Target, _: Numbering, request: Request) -> Body:
     """What has gone wrong before which the session stops."""
     names = request.arguments.get("filters") or []
-    if not isinstance(names, list):
-        raise Unanswerable("filters has to be a list")
+    if not isinstance(names, list) or not all(isinstance(name, str) for name in names):
+        raise Unanswerable("filters has to be a list of texts")
     return {"breakpoints": target.filters.replace(names)}
 
 
@@ -71,9 +116,12 @@ def exception_info(target: Target, _: Numbering, __: Request) -> Body:
 
 
 def locations(target: Target, numbering: Numbering, request: Request) -> Body:
-    """The lines with a step, of those that are asked for."""
+    """The lines with a step, of those of the recording that are asked for; none of another source."""
     first = numbering.asked(request, "line")
     last = numbering.asked(request, "endLine") if "endLine" in request.arguments else first
+    if not is_the_recording(target, request):
+        lines = sorted(line for line in target.go_lines.lines(path_of(request)) if first <= line <= last)
+        return {"breakpoints": [{"line": numbering.to(line)} for line in lines[:MOST_TARGETS]]}
     found: list[Body] = []
     step = target.debuggee.step_at(first)
     while step is not None and step.line <= last and len(found) < MOST_TARGETS:

@@ -10,7 +10,7 @@ from ..answers import ANSWERS
 from ..backwards import last_steps
 from ..interrupts import Interrupts
 from ..netrev import Own
-from ..recording import Recording, Step
+from ..recording import NoRecording, Recording, Step
 from ..refusals import explained
 from ..scout import Scout
 from ..session import Session
@@ -73,7 +73,10 @@ class Debuggee:
 
     def is_at(self, path: str) -> bool:
         """Whether a path leads to the recording."""
-        return Path(path).resolve() == self.path
+        try:
+            return Path(path).resolve() == self.path
+        except (OSError, RuntimeError, ValueError):  # (no path, or one in a circle)
+            return False
 
     def numbers(self, of: Of) -> list[str]:
         """The numbers of what is made at the position."""
@@ -93,6 +96,8 @@ def debuggee(program: str, path: str) -> Iterator[Debuggee]:
         netrev = Own(program, path, interrupts)
     except OSError as error:
         raise Unanswerable(f"{error.filename}: {error.strerror}") from None
+    except NoRecording as wrong:
+        raise Unanswerable(str(wrong)) from None
     with closing(netrev):
         scout = Scout(lambda: Own(program, path, interrupts))
         try:

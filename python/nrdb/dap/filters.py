@@ -5,9 +5,10 @@ from enum import Enum
 from functools import cached_property
 from typing import Iterable, NamedTuple, Optional
 
-from ..calls import Outcome, book_of
+from ..calls import book_of
+from ..one_call import Outcome
 from ..recording import Recording
-from ..suspects import suspects_of
+from ..suspects.ranking import suspects_of
 from .messages import Body
 
 

@@ -42,7 +42,10 @@ class Condition(NamedTuple):
 
     def holds(self, session: Session) -> bool:
         """Whether it holds where the session stands."""
-        value = session.netrev.values([self.cell])[0]
+        return self.is_met(session, session.netrev.values([self.cell])[0])
+
+    def is_met(self, session: Session, value: str) -> bool:
+        """Whether the cell's value is what it has to be."""
         return fnmatchcase(value, self.value) or fnmatchcase(session.words_of(self.cell, value), self.value)
 
 
@@ -119,7 +122,7 @@ def kind_wish(name: object, condition: object) -> "Wish | Unset":
     """The wish for a breakpoint at each step of a kind."""
     if name in KINDS:
         return wish_of(str(name), condition)
-    return Unset(f"{name} is no kind of step; the kinds are {' '.join(KINDS)}")
+    return Unset(f"{name} is no kind of step, and no function that steps come from; the kinds are {' '.join(KINDS)}")
 
 
 def cell_wish(identity: object, condition: object) -> "Wish | Unset":

@@ -6,6 +6,7 @@ from typing import Any, BinaryIO, Optional
 
 LONGEST = 16 * 2**20  # bytes of a message
 LONGEST_HEADER = 1_024
+HEADERS = (b"content-length", b"content-type")  # all that the protocol has
 
 Body = dict[str, Any]
 
@@ -69,20 +70,21 @@ class Wire:
                 return _request(message)
 
     def _length(self) -> Optional[int]:
-        """What the header says of the length; None where nothing more comes."""
-        length: Optional[int] = None
-        while True:
-            line = self._reader.readline(LONGEST_HEADER)
+        """What the header says of the length; None where nothing more comes. Another line than the protocol's ends it: a browser
+        that posts a message for a web page begins with one."""
+        found: dict[bytes, bytes] = {}
+        while (line := self._reader.readline(LONGEST_HEADER)) not in (b"\r\n", b"\n"):
             if not line:
                 return None
-            if line in (b"\r\n", b"\n"):
-                break
             name, _, value = line.partition(b":")
-            if name.strip().lower() == b"content-length":
-                length = int(value) if value.strip().isdigit() else None
-        if length is None or length > LONGEST:
+            name = name.strip().lower()
+            if name not in HEADERS or name in found:
+                raise Malformed("a message has a header of Content-Length, and nothing else before it")
+            found[name] = value.strip()
+        length = found.get(HEADERS[0], b"")
+        if not length.isdigit() or int(length) > LONGEST:
             raise Malformed("a message has to begin with its Content-Length, of at most 16 MiB")
-        return length
+        return int(length)
 
     def respond(self, request: Request, body: Body) -> None:
         """Says that a request was done."""

@@ -7,6 +7,7 @@ from ..netrev import Reply
 from ..shapes import Listed, Move, move_of
 from .debuggee import Debuggee, Maker
 from .filters import Filters, Wrong
+from .go_lines import GoLines
 from .marks import Marks
 from .messages import Unanswerable
 
@@ -22,9 +23,9 @@ class Stop(NamedTuple):
 class Moves:
     """Moves of a session. All go on past marks whose conditions don't hold."""
 
-    def __init__(self, debuggee: Debuggee, marks: Marks, filters: Filters):
+    def __init__(self, debuggee: Debuggee, marks: Marks, filters: Filters, go_lines: GoLines):
         self._debuggee, self._session = debuggee, debuggee.session
-        self._marks, self._filters = marks, filters
+        self._marks, self._filters, self._go_lines = marks, filters, go_lines
 
     def step(self, line: str) -> Stop:
         """One step, either way: `stepi` or `reverse-stepi`."""
@@ -73,8 +74,10 @@ class Moves:
 
     def _bound(self, forwards: bool, target: Optional[int]) -> Optional[int]:
         """The position behind which a move doesn't go, whatever hits there."""
-        filtered = self._filters.nearest(self._debuggee.position, forwards)
-        bounds = [bound for bound in (filtered, target) if bound is not None]
+        position = self._debuggee.position
+        filtered = self._filters.nearest(position, forwards)
+        places = self._go_lines.nearest(position, forwards), self._session.breaks.nearest(position, forwards)
+        bounds = [bound for bound in (filtered, *places, target) if bound is not None]
         return (min if forwards else max)(bounds, default=None)
 
     def _stop_at(self, bound: int, target: Optional[int]) -> Stop:
@@ -87,6 +90,9 @@ class Moves:
         """Why a move stops where it does."""
         if hit:
             return Stop(self._marks.reason(hit[0]), f"mark {', '.join(hit)}", tuple(map(int, hit)))
+        numbers = self._go_lines.at(move.position)
+        if numbers or self._session.breaks.hit(move.position):
+            return Stop("breakpoint", f"at {move.position}", tuple(numbers))
         if wrong := self._filters.at(move.position):
             return Stop("exception", told(wrong))
         if move.position == target:

@@ -6,6 +6,7 @@ from typing import Any, Optional
 
 from .debuggee import Debuggee
 from .filters import Filters
+from .go_lines import GoLines
 from .looking import Looks
 from .marks import Marks
 from .messages import Request, Unanswerable
@@ -13,15 +14,15 @@ from .moving import Moves, Stop
 
 SOURCES = ("recording", "go")
 AT_END, AT_START = "end", "start"
+NOT_NAMED = "netrev's program is named where nrdb is called, by NETREV or --netrev, and not by a launch"
 
 
 @dataclass(frozen=True)
 class Launch:
-    """What a launch asks for: the recording, netrev's program where one is named, where to stop first, whether the program's
-    lines are shown before the recording's, and the folder that they are in."""
+    """What a launch asks for: the recording, where to stop first, whether the program's lines are shown before the recording's,
+    and the folder that they are in."""
 
     recording: str
-    program: Optional[str]
     stop_at: int | str
     goes_first: bool
     root: Optional[str]
@@ -35,8 +36,9 @@ class Launch:
             raise Unanswerable('stopAt is "end", "start" or a position')
         if source not in SOURCES:
             raise Unanswerable('source is "recording" or "go"')
-        named = {name: _text(given, name) for name in ("netrev", "sourceRoot")}
-        return cls(request.text("program"), named["netrev"], stop_at, source == "go", named["sourceRoot"])
+        if "netrev" in given:
+            raise Unanswerable(NOT_NAMED)
+        return cls(request.text("program"), stop_at, source == "go", _text(given, "sourceRoot"))
 
     def position(self, length: int) -> int:
         """The position at which to stop first."""
@@ -58,6 +60,8 @@ class Target:
     def __init__(self, debuggee: Debuggee, launch: Launch):
         self.debuggee = debuggee
         self.marks, self.filters = Marks(debuggee.session), Filters(debuggee.recording)
-        self.moves = Moves(debuggee, self.marks, self.filters)
-        self.looks = Looks(debuggee, launch.goes_first, Path(launch.root) if launch.root else debuggee.path.parent)
+        root = Path(launch.root) if launch.root else debuggee.path.parent
+        self.go_lines = GoLines(debuggee, root)
+        self.moves = Moves(debuggee, self.marks, self.filters, self.go_lines)
+        self.looks = Looks(debuggee, launch.goes_first, root)
         self.stop = Stop("entry", "not begun")

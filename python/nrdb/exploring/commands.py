@@ -11,26 +11,31 @@ from ..calls import book_of
 from ..interrupts import Interrupted
 from ..recording import Recording
 from ..reducing.reduced import Reducing, Wanted, answered_recording, reduced_of
-from ..reducing.writing import answered_by, text_of, write_lines, written
+from ..reducing.writing import answered_by, text_of, write_recording
 from ..session import Misused, Session
-from ..suspects import suspects_of
+from ..suspects.ranking import suspects_of
+from .failing import watched
 from .finding import Exploring, Finding
 from .hanging import moved_by
 from .making import script_of
+from .runs import Impossible
 from .telling import Telling, summary
 from .workers import Share, play_all, processors
 
-USAGE = "explore [N]: N is how many schedules are played, from 1 to 1000000"
+USAGE = "explore [failures] [N]: N is how many schedules are played, from 1 to 1000000"
+FAILURES = "failures"
 MOST, GREATEST = 3_000, 1_000_000
 MOST_STEPS = 100_000
 SECONDS = 0.2  # between two lines of progress
 
 
 def answer_explore(session: Session, words: list[str]) -> None:
-    number = number_of(words[0]) if len(words) == 1 else MOST if not words else None
+    is_of_failures = words[:1] == [FAILURES]
+    rest = words[is_of_failures:]
+    number = number_of(rest[0]) if len(rest) == 1 else MOST if not rest else None
     if number is None or not 0 < number <= GREATEST:
         raise Misused(USAGE)
-    session.printer.note(explored(session, number).text)
+    session.printer.note(explored(session, number, is_of_failures).text)
 
 
 class Explored(NamedTuple):
@@ -40,16 +45,22 @@ class Explored(NamedTuple):
     found: int
 
 
-def explored(session: Session, most: int = MOST) -> Explored:
-    """Plays schedules near the recorded one, and writes those that end with a suspect."""
+def explored(session: Session, most: int = MOST, is_of_failures: bool = False) -> Explored:
+    """Plays schedules near the recorded one, and writes those that end with a suspect, or else those in which a call fails that went
+    well."""
     recording = session.text()
     if recording.length > MOST_STEPS:
         raise Misused(f"explore takes at most {MOST_STEPS} steps: reduce the recording, or record less")
     answered = answered_recording(session.program, recording, recording.length)
     answered.lines = recording.lines
     begun = time.monotonic()
-    script = script_of(answered)
-    exploring = Exploring(script, recording.lines.words)
+    try:
+        script = script_of(answered)
+        if is_of_failures:
+            script.watched = watched(script)
+        exploring = Exploring(script, recording.lines.words)
+    except Impossible as why:
+        raise Misused(f"explore plays calls of Go's, and this run isn't made of such: {why}") from None
     progress = Progress(exploring, most, session.interrupts.check)
     is_stopped = False
     try:
@@ -106,27 +117,19 @@ class Keeping:
         if status:
             fault = said.decode("utf-8", "replace").strip()
             return [f"{at}. netrev doesn't take a schedule: {fault}. That is an error of nrdb's; it isn't kept"]
-        self._write(file, data)
-        write_lines(file, recording.lines, [made.number for made in played.steps])
+        write_recording(file, self.session.path, data, recording.lines, [made.number for made in played.steps])
         accepted = said.decode("utf-8", "replace").strip()
         *lines, unless = self.telling.finding(at, finding, times, file)
         lines.append(f"   netrev: {file}: {accepted}, so it is a run of the machine")
-        lines.append(f"   short:  {self._shortened(file, finding)}")
+        if not finding.reason:
+            lines.append(f"   short:  {self._shortened(file, finding)}")
         return [*lines, unless]
-
-    def _write(self, file: str, data: bytes) -> None:
-        """Writes a file, but not over the recording."""
-        if Path(file).exists() and Path(file).samefile(self.session.path):
-            raise Misused(f"{file} is the recording itself; rename it")
-        written(file, data)
 
     def _shortened(self, file: str, finding: Finding) -> str:
         """Reduces what was kept; what to say of that."""
         whole = Recording.read(file)
         short = f"{Path(file).stem}-short.jsonl"
-        if Path(short).exists() and Path(short).samefile(self.session.path):
-            raise Misused(f"{short} is the recording itself; rename it")
-        reducing = Reducing(whole, self.session.program, self.session.interrupts.check)
+        reducing = Reducing(whole, self.session.path, self.session.program, self.session.interrupts.check)
         try:
             return reduced_of(reducing, short, self._wanted(whole, finding)).words(whole.length)
         except Misused as wrong:

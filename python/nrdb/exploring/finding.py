@@ -8,11 +8,12 @@ from typing import Any, Callable, Iterator, NamedTuple, Optional
 from netrev_model.machine import Answer, Limits, Status, Step, World
 
 from ..recording import Recording
-from ..suspects import suspects_of
+from ..suspects.ranking import suspects_of
 from ..suspects.found import Rule, Suspect
 from ..suspects.ranking import WOKEN_WRONGLY
 from .arrivals import with_events
 from .control import Place
+from .failing import FAILS, Failed, failing_delays, Reason, faults_of, reason_of
 from .hanging import hangs, waits_for_ever
 from .playing import Player
 from .runs import Delay, Impossible, Made
@@ -36,6 +37,7 @@ class Played(NamedTuple):
     places: list[Place]
     sockets: dict[int, int]  # by their numbers in the recording
     has_news: bool
+    failed: Optional[Failed] = None
 
     def pairs(self) -> list[tuple[Step, Answer]]:
         return [(made.step, made.answer) for made in self.steps]
@@ -58,13 +60,14 @@ class Steps(Recording):
 
 
 class Finding(NamedTuple):
-    """What a schedule ends with: a suspect, or a goroutine that hangs."""
+    """What a schedule ends with: a suspect, a goroutine that hangs, or a call that fails."""
 
     key: Key
     suspect: Optional[Suspect]
-    hangs: int  # the goroutine, -1 where there is a suspect
+    hangs: int  # the goroutine, -1 where none does
     schedule: Schedule
     played: Played
+    reason: Optional[Reason] = None  # of a call that fails
 
 
 class Exploring:
@@ -75,14 +78,18 @@ class Exploring:
         self.found: dict[Key, Finding] = {}
         self.times: Counter[Key] = Counter()  # how many schedules end with each
         self.played = self.left = 0  # schedules in all, and those in which a step doesn't apply
+        self.taken_over = 0  # shares of processes that ended before they were done
         self._most = LONGER * script.length + 200
         self._copies: list[Player] = []
         self._times: list[int] = []  # of the copies
         self.delays = single_delays(self.script)
+        if self.script.watched:
+            self.delays = list(dict.fromkeys([*failing_delays(self.script), *self.delays]))
         self.seed = 0  # the last that drew a schedule
         self.recorded = self._play_recorded()
         self._parked = {g for g, status in enumerate(self.recorded.world.goroutines) if status[0] == "parked"}
         self.known = {finding.key for finding in self._findings(Schedule((), 0), self.recorded)}
+        self.known |= {(FAILS, self._place(g, begins), why) for g, begins, why in faults_of(self.script)}
 
     def _play_recorded(self) -> Played:
         """Plays the recorded schedule, and keeps copies on the way."""
@@ -99,7 +106,8 @@ class Exploring:
 
     def _all_of(self, player: Player) -> Played:
         steps = self._steps[: player.before] + player.steps
-        return Played(steps, player.board.world(), player.places, player.numbers.sockets, player.has_news)
+        world, sockets = player.board.world(), player.numbers.sockets
+        return Played(steps, world, player.places, sockets, player.has_news, player.failed)
 
     def run(self, most: int, tell: Callable[[], None]) -> None:
         """Plays so many schedules; `tell` is called behind each."""
@@ -110,7 +118,7 @@ class Exploring:
     def play(self, schedule: Schedule) -> set[Key]:
         """Plays a schedule, and keeps what it ends with; the keys of that."""
         self.played += 1
-        self.seed = schedule.seed or self.seed
+        self.seed = max(self.seed, schedule.seed)
         try:
             played = self.ends_of(schedule.delays)
         except Impossible:
@@ -154,6 +162,8 @@ class Exploring:
         for at in range(bisect_right(self._times, last), len(self._times)):
             player.run(self._times[at], self._most)
             copy = self._copies[at]
+            if player.is_over:
+                break
             if not player.has_news:
                 if player.is_as(copy):
                     return None
@@ -176,6 +186,9 @@ class Exploring:
         return played.has_news or bool(parked - self._parked)
 
     def _findings(self, schedule: Schedule, played: Played) -> Iterator[Finding]:
+        if self.script.watched:
+            yield from self._failure(schedule, played)
+            return
         suspects = [one for one in suspects_of(Steps(played.steps)).suspects if self._counts(one, played)]
         for suspect in suspects:
             yield Finding(self._key(suspect, played), suspect, -1, schedule, played)
@@ -185,6 +198,18 @@ class Exploring:
                 operation = self.script.goroutines[g][played.places[g].operation]
                 number = operation.steps[0] if operation.steps else 0
                 yield Finding((HANG, self.line_of(number) or (g, operation.socket)), None, g, schedule, played)
+
+    def _failure(self, schedule: Schedule, played: Played) -> Iterator[Finding]:
+        """The first call that fails, if that is something to tell."""
+        failed = played.failed
+        if failed and (reason := reason_of(self.script, failed, played.steps)):
+            key = FAILS, self._place(failed.goroutine, failed.begins), failed.why
+            yield Finding(key, None, -1, schedule, played, reason)
+
+    def _place(self, g: int, begins: int) -> Any:
+        """Where a call begins: the program's line if that is known, else whose it is and of which socket."""
+        operation = self.script.goroutines[g][begins]
+        return self.line_of(operation.steps[0]) or (g, operation.socket)
 
     def _counts(self, suspect: Suspect, played: Played) -> bool:
         """Whether it is one that an order decides, and who was woken wrongly doesn't go on by itself."""

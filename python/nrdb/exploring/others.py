@@ -145,7 +145,8 @@ class Others:
         """What comes before the deadline of a step's descriptor has passed: the clock goes on, and timers go off."""
         if step[0] != "pollreset":
             return []
-        due = max((timer.when for timer in board.timers if (timer.desc, timer.side) == step[2:4]), default=0)
+        own = (timer.when for timer in board.timers if timer.desc == step[2] and step[3] in timer.covers)
+        due = max(own, default=0)
         going = sum(timer.when <= due for timer in board.timers)
         return [("tick", max(due, board.clock)), *[("pop",)] * going, *[("fire", 0)] * going] if going else []
 

@@ -36,7 +36,7 @@ class Player(Standing):
         heap = self._heap
         most -= self.before
         self._in_order = None
-        while heap and heap[0][0] < until and len(self.steps) < most:
+        while heap and heap[0][0] < until and len(self.steps) < most and not self.is_over:
             self.now, self._at, actor, which = heappop(heap)
             if actor == GOROUTINE:
                 self._turn(which)
@@ -49,7 +49,7 @@ class Player(Standing):
         while True:
             self.run(NEVER, most)
             step = next(self.others.left(self.board, self.numbers), None)
-            if step is None or self.made() >= most:
+            if step is None or self.made() >= most or self.is_over:
                 return
             self._apply(step, 0)
 
@@ -104,6 +104,8 @@ class Player(Standing):
             return
         place, number = self.places[g], self.coming[g]
         answer = self._apply(step, number)
+        if self.script.watched:
+            self._watch(g, place)
         turn, status = self.turns.get(number), self.board.goroutines[g]
         if turn is None or turn.place != place or turn.answer != answer or turn.status != status:
             self._takes_turn(g, step, answer)

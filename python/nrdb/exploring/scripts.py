@@ -95,3 +95,5 @@ class Script:
     causes: list[Cause]
     answers: list[tuple[Any, ...]]
     orders: Optional[list[list[Order]]] = None  # of each goroutine, if the recorder saw what the program orders
+    # where calls that fail are looked for: the operations of those that went well, by goroutine, and where the call of each begins
+    watched: dict[tuple[int, int], int] = field(default_factory=dict)

@@ -9,6 +9,7 @@ from netrev_model.machine import Answer, Status, Step, World
 from .board import Board
 from .comparing import Numbered, are_alike
 from .control import GOROUTINE, Numbers, Place, Stream, next_step
+from .failing import OVER, Failed, fault_of
 from .orders import Passing
 from .others import Others
 from .runs import Delay, Made
@@ -51,6 +52,8 @@ class Standing:
         self.coming = [0] * len(script.goroutines)  # the number of that in the recording, or 0
         self.off: set[int] = set()  # who has made steps that the recording doesn't have
         self.has_news = False  # where there was none in the recording
+        self.failed: Optional[Failed] = None  # the first of the calls that are watched
+        self.is_over = False  # that call has ended
         self.held: dict[int, float] = {}  # who pauses, until when
         self.asleep: set[int] = set()
         self.lacking: list[tuple[int, int]] = []  # who waits for what isn't made
@@ -108,6 +111,15 @@ class Standing:
             and self.following == other.following
             and all(self.coming[g] == other.coming[g] for g in self.following)
         )
+
+    def _watch(self, g: int, place: Place) -> None:
+        """Notes the first call that fails of those that are watched, and when it has ended."""
+        made = self.steps[-1]
+        begins = self.script.watched.get((g, place.operation))
+        if self.failed is None and begins is not None and (why := fault_of(made)):
+            self.failed, self.has_news = Failed(g, begins, self.made(), why), True
+        if self.failed and self.failed.goroutine == g:
+            self.is_over = made.step[0] in OVER or made.answer == ("no",)
 
     def made(self) -> int:
         """How many steps were made."""

@@ -2,10 +2,12 @@
 
 from typing import Optional
 
-from ..calls import Book, Call
+from ..calls import Book
+from ..one_call import Call
 from ..recording import Recording
 from ..suspects.found import Rule
 from ..words import counted
+from .failing import FAILS, Failed, Reason, Why
 from .finding import Exploring, Finding
 from .hanging import moved_by
 from .runs import Delay
@@ -83,6 +85,8 @@ class Telling:
         return lines
 
     def _head(self, finding: Finding, file: str) -> str:
+        if finding.played.failed and finding.reason:
+            return f"{FAILS}, in {file}: {self._fails(finding.played.failed, finding.reason, finding)}"
         if finding.suspect:
             return f"{finding.suspect.rule.value}, in {file}: {finding.suspect.sentence()}"
         g = finding.hangs
@@ -95,6 +99,26 @@ class Telling:
         says = f"goroutine {g} is parked without a deadline, since step {moved_at} moved that of step {set_at}"
         return f"{finding.key[0]}, in {file}: {named}{ended} hangs: {says}"
 
+    def _fails(self, failed: Failed, reason: Reason, finding: Finding) -> str:
+        """Which call fails, and by what."""
+        first = self.script.goroutines[failed.goroutine][failed.begins]
+        call = self.call_of(failed.goroutine, first.steps[0])
+        named = self._named(call) if call else f"a call on socket {first.socket}"
+        steps = f"steps {call.first} to {call.last}" if call else f"from step {first.steps[0]} on"
+        said = f"goroutine {failed.goroutine}'s {named}, which went well in the recording ({steps}), fails at step {failed.step}"
+        return f"{said}: {self._why(failed.why, reason, finding)}"
+
+    def _why(self, why: Why, reason: Reason, finding: Finding) -> str:
+        if why is Why.BROKEN:
+            return "its other end is closed, or its writing side is shut"
+        step = finding.played.steps[reason.step - 1].step
+        if why is Why.CLOSED:
+            return f"goroutine {step[1]} closes the socket before, at step {reason.step}"
+        if not reason.served:
+            return f"goroutine {step[1]} sets its deadline in the past before, at step {reason.step}"
+        calls = f"{counted(reason.served, 'call')} before it had ended well"
+        return f"its deadline, which goroutine {step[1]} set at step {reason.step} and under which {calls}, passes"
+
 
 def summary(exploring: Exploring, seconds: float, is_stopped: bool) -> str:
     """How many schedules were played, and what came of them."""
@@ -103,6 +127,8 @@ def summary(exploring: Exploring, seconds: float, is_stopped: bool) -> str:
         how += f"; two and three: seeds 1 to {exploring.seed}"
     stopped = "stopped: " if is_stopped else ""
     said = f"{stopped}{counted(exploring.played, 'schedule')} near the recorded one in {seconds:.1f} s ({how})"
+    if exploring.taken_over:
+        said += f"; {exploring.taken_over} of the processes that played them ended early, and nrdb played the rest"
     if exploring.left:
         said += f"; in {exploring.left} of them a step didn't apply"
     return f"{said}; {counted(len(exploring.found), 'finding')}" if exploring.found else f"{said}; nothing found"

@@ -6,10 +6,10 @@ import pickle
 import subprocess
 import sys
 import time
-from contextlib import ExitStack
+from contextlib import ExitStack, suppress
 from itertools import islice
 from selectors import EVENT_READ, DefaultSelector
-from typing import IO, Any, Callable, NamedTuple
+from typing import IO, Callable, Iterator, NamedTuple
 
 from ..where import Lines
 from .finding import Exploring, Key
@@ -19,6 +19,7 @@ from .scripts import Script
 WORTH_IT = 100_000  # steps of all schedules, where they were as long as the recording
 SECONDS = 0.2  # between two messages
 LENGTH = 8  # bytes of a message's length
+CODE = f"import sys; sys.path[:0] = {sys.path!r}; from nrdb.exploring.workers import work; work()"
 
 
 class Best(NamedTuple):
@@ -34,8 +35,9 @@ class Best(NamedTuple):
 
 
 class Told(NamedTuple):
-    """What a process has found since it told last."""
+    """What a process has found since it told last, and whether that is all."""
 
+    is_all: bool
     played: int
     left: int
     seed: int
@@ -52,13 +54,23 @@ class Share(NamedTuple):
     which: int
     of: int
 
+    def play(self, exploring: Exploring, best: dict[Key, Best], behind: int = 0) -> Iterator[None]:
+        """Plays them, but for so many that were played before, and keeps the simplest of each finding; goes on behind each."""
+        mine = islice(enumerate(schedules(exploring.delays, self.most)), self.which + behind * self.of, None, self.of)
+        for at, schedule in mine:
+            for key in exploring.play(schedule):
+                one = Best(schedule.measure(), at, at, schedule)
+                best[key] = one.with_other(best.get(key, one))
+            yield
+
 
 def processors() -> int:
     return len(os.sched_getaffinity(0))
 
 
 def play_all(exploring: Exploring, share: Share, tell: Callable[[], None]) -> None:
-    """Plays so many schedules, on as many processors as there are if that is worth it; `tell` is called now and then."""
+    """Plays so many schedules, on as many processors as there are if that is worth it; `tell` is called now and then. What a process
+    leaves that ends before it has played its share, as by the system where memory runs out, is played here."""
     if share.of < 2 or share.script.length * share.most < WORTH_IT:
         exploring.run(share.most, tell)
         return
@@ -69,16 +81,22 @@ def play_all(exploring: Exploring, share: Share, tell: Callable[[], None]) -> No
         workings = [stack.enter_context(Working()) for _ in range(share.of)]
         for which, working in enumerate(workings):
             working.give(share._replace(which=which))
-            selector.register(working.told, EVENT_READ)
+            selector.register(working.told, EVENT_READ, working)
         while selector.get_map():
             for key, _ in selector.select(SECONDS):
-                if not _hear(key.fileobj, exploring, best):
+                if not key.data.hear(exploring, best):
                     selector.unregister(key.fileobj)
             tell()
+        for working in workings:
+            if not working.has_told_all:
+                exploring.taken_over += 1
+                for _ in working.share.play(exploring, best, working.played):
+                    tell()
 
 
 def _keep(exploring: Exploring, best: dict[Key, Best]) -> None:
     """Plays the simplest schedule of each finding again."""
+    exploring.found.clear()
     for key, one in sorted(best.items(), key=lambda item: item[1].first):
         exploring.keep(key, one.schedule)
 
@@ -87,19 +105,36 @@ class Working:
     """A process that plays a share, until it is left."""
 
     def __init__(self) -> None:
-        code = f"import sys; sys.path[:0] = {sys.path!r}; from nrdb.exploring.workers import work; work()"
-        words = [sys.executable, "-c", code]
+        words = [sys.executable, "-c", CODE]
         self.process = subprocess.Popen(words, stdin=subprocess.PIPE, stdout=subprocess.PIPE, start_new_session=True)
         assert self.process.stdin and self.process.stdout
         self.given, self.told = self.process.stdin, self.process.stdout
+        self.played = 0
+        self.has_told_all = False
 
     def give(self, share: Share) -> None:
         """Gives it its share, when all have been started."""
-        try:
-            with self.given as to:
-                to.write(pickle.dumps(share))
-        except BrokenPipeError:
-            pass
+        self.share = share
+        with suppress(BrokenPipeError), self.given as to:
+            to.write(pickle.dumps(share))
+
+    def hear(self, exploring: Exploring, best: dict[Key, Best]) -> bool:
+        """Takes what it tells; False where it has ended, also in the middle of telling."""
+        head = self.told.read(LENGTH)
+        size = int.from_bytes(head, "big")
+        data = self.told.read(size) if len(head) == LENGTH else b""
+        if not size or len(data) < size:
+            return False
+        told: Told = pickle.loads(data)
+        self.has_told_all = told.is_all
+        self.played += told.played
+        exploring.played += told.played
+        exploring.left += told.left
+        exploring.seed = max(exploring.seed, told.seed)
+        exploring.times.update(told.times)
+        for key, one in told.best.items():
+            best[key] = one.with_other(best.get(key, one))
+        return True
 
     def __enter__(self) -> "Working":
         return self
@@ -111,44 +146,33 @@ class Working:
         self.process.wait()
 
 
-def _hear(stream: Any, exploring: Exploring, best: dict[Key, Best]) -> bool:
-    """Takes what a process tells; False where it has ended."""
-    length = stream.read(LENGTH)
-    if len(length) < LENGTH:
-        return False
-    told: Told = pickle.loads(stream.read(int.from_bytes(length, "big")))
-    exploring.played += told.played
-    exploring.left += told.left
-    exploring.seed = max(exploring.seed, told.seed)
-    exploring.times.update(told.times)
-    for key, one in told.best.items():
-        best[key] = one.with_other(best.get(key, one))
-    return True
-
-
 # ---- in such a process
 
 
 def work() -> None:
-    """Plays the share that comes by the input, and tells by the output."""
-    share: Share = pickle.load(sys.stdin.buffer)
+    """Plays the share that comes by the input, and tells by the output. Where nobody listens any more, it just ends."""
+    try:
+        share: Share = pickle.load(sys.stdin.buffer)
+        tell_of(share, sys.stdout.buffer)
+    except (BrokenPipeError, EOFError):
+        os._exit(1)
+
+
+def tell_of(share: Share, to: IO[bytes]) -> None:
+    """Plays a share, and tells what is found."""
     exploring = Exploring(share.script, share.lines.words)
     following = time.monotonic() + SECONDS
     best: dict[Key, Best] = {}
-    shares = islice(enumerate(schedules(exploring.delays, share.most)), share.which, None, share.of)
-    for at, schedule in shares:
-        for key in exploring.play(schedule):
-            one = Best(schedule.measure(), at, at, schedule)
-            best[key] = one.with_other(best.get(key, one))
+    for _ in share.play(exploring, best):
         if time.monotonic() >= following:
-            _say(sys.stdout.buffer, exploring, best)
+            _say(to, exploring, best, False)
             following = time.monotonic() + SECONDS
-    _say(sys.stdout.buffer, exploring, best)
+    _say(to, exploring, best, True)
 
 
-def _say(to: IO[bytes], exploring: Exploring, best: dict[Key, Best]) -> None:
+def _say(to: IO[bytes], exploring: Exploring, best: dict[Key, Best], is_all: bool) -> None:
     """Tells what was found since."""
-    told = Told(exploring.played, exploring.left, exploring.seed, dict(exploring.times), dict(best))
+    told = Told(is_all, exploring.played, exploring.left, exploring.seed, dict(exploring.times), dict(best))
     data = pickle.dumps(told)
     to.write(len(data).to_bytes(LENGTH, "big") + data)
     to.flush()

@@ -71,12 +71,18 @@ function drawColumns(wide, high) {
   if (LIVE) drawStand(high);
 }
 
-// Draws the rows in view; where the middle of each is.
+// Where the middle is of the row of that name at a position: a descriptor has a row for each of its uses.
+function middleOf(middles, name, position) {
+  const rows = middles[name] || [];
+  return rows.find(({ row }) => row.begins === undefined || (row.begins <= position && position < row.ends))?.y;
+}
+
+// Draws the rows in view; where the middles of those of each name are.
 function drawRows(wide, high) {
   const middles = {};
   V.rows.forEach((row, at) => {
     const y = V.head - V.top + at * V.high;
-    if (row.name && !(row.begins > V.from + V.span || row.ends < V.from)) middles[row.name] ??= y + V.high / 2;
+    if (row.name) (middles[row.name] ??= []).push({ row, y: y + V.high / 2 });
     if (y < V.head - V.high || y > high) return;
     if (row.head) drawHead(row, y, wide);
     else if (row.kind === "clock") drawClock(row, y, wide);
@@ -99,7 +105,7 @@ function drawHead(row, y, wide) {
 }
 
 function drawLabel(row, y) {
-  X.fillStyle = row.name === V.row ? ink.head : ink.ground;
+  X.fillStyle = keyOf(row) === V.row ? ink.head : ink.ground;
   X.fillRect(0, y, labels() - 1, V.high);
   X.fillStyle = row.kind === "due" ? ink.due : row.kind === "clock" ? ink.soft : ink.ink;
   X.font = `${labels() < 100 ? 10 : 11.5}px ${SANS}`;
@@ -158,13 +164,20 @@ function drawClock(row, y, wide) {
   }
 }
 
-// From what woke somebody to who was woken, as far as they aren't too many.
-function drawArrows(middles) {
+// The wake-ups in view, as far as they aren't too many: the step, and the middles of the rows of what woke somebody, or where that
+// was, and of who was woken.
+function arrows(middles) {
   const seen = D.wakes.filter(([step]) => step >= V.from - 1 && step <= V.from + V.span + 1);
-  if (seen.length > ARROWS) return;
+  if (seen.length > ARROWS) return [];
+  return seen.map(([step, who, by, where]) => {
+    const slept = (name) => middleOf(middles, name, step - 1);
+    return [step, (by === null ? undefined : slept(`gor ${by}`)) ?? slept(where), slept(`gor ${who}`)];
+  });
+}
+
+function drawArrows(middles) {
   X.strokeStyle = X.fillStyle = ink.accent;
-  for (const [step, who, by, where] of seen) {
-    const from = (by === null ? undefined : middles[`gor ${by}`]) ?? middles[where], to = middles[`gor ${who}`];
+  for (const [step, from, to] of arrows(middles)) {
     if (from === undefined || to === undefined || from === to) continue;
     const x = xOf(step), bend = Math.min(16, 4 + perStep());
     X.lineWidth = 1.4;

@@ -67,7 +67,7 @@ function overviewTo(event) {
 
 function click(event) {
   const row = rowAt(event.offsetY);
-  V.row = row && row.name ? row.name : V.row;
+  V.row = row && row.name ? keyOf(row) : V.row;
   if (event.offsetX > labels()) choose(Math.floor(positionAt(event.offsetX)));
   else draw();
 }

@@ -43,6 +43,9 @@ function deadlineRow(use) {
   return { ...use, name: `due ${of} ${side}`, cell, kind: "due", runs, shades, title: `${SIDES[side]} deadline` };
 }
 
+// What tells a row from all others: a descriptor's number is used again, each use in a row of its own.
+const keyOf = (row) => (row.begins === undefined ? row.name : `${row.name} ${row.begins}`);
+
 function order(socket) {
   return socket < 0 ? Infinity : socket;
 }

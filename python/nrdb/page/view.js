@@ -83,10 +83,12 @@ function match(way) {
   choose(way > 0 ? ahead() : before(), true);
 }
 
-// Goes to the next change in the row that was clicked, or to the one before.
+// Goes to the next change in the row that was clicked, or to the one before; of a descriptor's to those in its use.
 function change(way) {
-  const row = V.rows.find((one) => one.name === V.row) || V.rows.find((one) => one.kind === "gor");
+  const row = V.rows.find((one) => keyOf(one) === V.row) || V.rows.find((one) => one.kind === "gor");
   if (!row) return;
-  const at = place(row.runs, V.chosen), next = row.runs[way > 0 ? at + 1 : row.runs[at][0] === V.chosen ? at - 1 : at];
+  const isIn = ([from]) => row.begins === undefined || (row.begins <= from && from <= row.ends);
+  const changes = row.runs.filter(isIn), at = place(changes, V.chosen);
+  const next = changes[way > 0 ? at + 1 : at >= 0 && changes[at][0] === V.chosen ? at - 1 : at];
   if (next) choose(next[0], true);
 }

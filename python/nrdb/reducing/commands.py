@@ -2,12 +2,12 @@
 
 from pathlib import Path
 
+from ..files import written
 from ..recording import Recording
 from ..session import Misused, Session
-from ..suspects import suspects_of
+from ..suspects.ranking import suspects_of
 from .reduced import reduced, wanted_by
 from .report import report_text
-from .writing import written
 
 USAGE = "reduce OUT.jsonl [N | CELL VALUE]"
 
@@ -31,5 +31,5 @@ def answer_report(session: Session, words: list[str]) -> None:
         raise Misused("report OUT.md [N | CELL VALUE]: the file's name ends with .md")
     wanted = wanted_by(session, words[1:])
     made = reduced(session, str(Path(words[0]).with_suffix(".jsonl")), wanted)
-    written(words[0], report_text(session, wanted, made).encode())
+    written(words[0], session.path, report_text(session, wanted, made).encode())
     session.printer.note(f"{words[0]}, and {made.words(session.text().length)}")

@@ -2,21 +2,21 @@
 
 from collections import Counter
 from fnmatch import fnmatchcase
-from pathlib import Path
 from typing import Callable, NamedTuple, Optional
 
 from netrev_model.machine import Limits
 from netrev_model.vocabulary import cell_of, number_of
 
+from ..files import spare
 from ..recording import Recording
 from ..session import Misused, Session
-from ..suspects import suspects_of
+from ..suspects.ranking import suspects_of
 from .events import Events
 from .playing import Player
 from .shrinking import NotReproduced, Shrinking
 from .targets import CellTarget, HangTarget, SuspectTarget, Target
 from .units import Sort, units_of
-from .writing import answered_by, taken, write_lines, written
+from .writing import answered_by, taken, write_recording
 
 
 class Wanted(NamedTuple):
@@ -49,23 +49,23 @@ class Reduced(NamedTuple):
 
 
 class Reducing(NamedTuple):
-    """What is reduced: a recording, netrev's program, and what looks whether Ctrl-C came."""
+    """What is reduced: a recording and its file, netrev's program, and what looks whether Ctrl-C came."""
 
     recording: Recording
+    path: str
     program: str
     check: Callable[[], None]
 
 
 def reduced(session: Session, path: str, wanted: Wanted) -> Reduced:
     """Writes the reduced recording to the path, with its NAME.where; Misused where the target doesn't show."""
-    if Path(path).exists() and session.path and Path(path).samefile(session.path):
-        raise Misused(f"{path} is the recording itself; name another file")
-    return reduced_of(Reducing(session.text(), session.program, session.interrupts.check), path, wanted)
+    spare(path, session.path)
+    return reduced_of(Reducing(session.text(), session.path, session.program, session.interrupts.check), path, wanted)
 
 
 def reduced_of(reducing: Reducing, path: str, wanted: Wanted) -> Reduced:
     """Writes what is left of any recording to the path, as `reduced` does."""
-    recording, program, check = reducing
+    recording, of, program, check = reducing
     answered = answered_recording(program, recording, wanted.until)
     events = Events(answered)
     units = units_of(events)
@@ -78,8 +78,7 @@ def reduced_of(reducing: Reducing, path: str, wanted: Wanted) -> Reduced:
         raise Misused("it doesn't show where the steps are played again; that is an error of nrdb's") from None
     data = taken(program, player, recording.has_answers)
     numbers = [events.all[place].number for place in player.chosen]
-    written(path, data)
-    write_lines(path, recording.lines, numbers)
+    write_recording(path, of, data, recording.lines, numbers)
     left_out = Counter(unit.sort for at, unit in enumerate(units) if at not in kept)
     return Reduced(path, numbers, left_out, not shrinking.is_done)
 
@@ -122,11 +121,12 @@ def wanted_by(session: Session, words: list[str]) -> Wanted:
 
 
 def _last_with(session: Session, cell: str, value: str) -> int:
-    """The session's position, if the cell has such a value there, else the last one of the recording at which it has."""
+    """The session's position, if the cell has such a value there, else the last one of the recording at which it has. What isn't
+    there has none."""
     scout, length = session.looks(), session.text().length
 
     def is_wanted(shown: str) -> bool:
-        return fnmatchcase(shown, value) or fnmatchcase(session.words_of(cell, shown), value)
+        return shown != "absent" and (fnmatchcase(shown, value) or fnmatchcase(session.words_of(cell, shown), value))
 
     for position in (session.stands().position, length):
         if is_wanted(scout.values(position, [cell])[0]):

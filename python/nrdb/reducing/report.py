@@ -12,7 +12,7 @@ from ..recorded_answers import answer_text
 from ..recording import Recording, Step
 from ..scout import Scout
 from ..session import Session
-from ..suspects import suspects_table
+from ..suspects.table import suspects_table
 from .reduced import Reduced, Wanted
 from .writing import answered_by
 

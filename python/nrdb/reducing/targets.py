@@ -8,7 +8,7 @@ from netrev_model.cells import value as value_of_cell
 from netrev_model.vocabulary import CELLS, Of
 
 from ..recording import Recording
-from ..suspects import suspects_of
+from ..suspects.ranking import suspects_of
 from ..suspects.found import Suspect
 from ..suspects.state import INSIDE
 from ..words import in_words
@@ -88,6 +88,8 @@ class CellTarget(Target):
 
     def shows(self, player: Player) -> bool:
         number = None
+        if self.which is None and self.of is not Of.ALL:  # a use of a descriptor that isn't made
+            return False
         if self.which is not None:
             number = player.numbers[LETTER[self.of]].get(self.which)
             if number is None:

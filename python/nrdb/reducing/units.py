@@ -6,7 +6,7 @@ from typing import Iterable, NamedTuple, Optional
 
 from netrev_model.vocabulary import KINDS
 
-from .events import Event, Events, Timer
+from .events import Event, Events
 
 SIDE_OF = {"arrive": "r", "peerclose": "r", "drain": "w"}
 LAST = ("last",)
@@ -64,7 +64,7 @@ def _others(events: Events) -> list[Unit]:
     """The units of the network, of timers and of what is made."""
     units: list[Unit] = []
     came: dict[tuple[int, str], list[int]] = {}
-    started: dict[Timer, Unit] = {}
+    firings: list[Unit] = []  # those that wait to be run, as the machine has them in a row
     for place, event in enumerate(events.all):
         if event.kind in SIDE_OF:
             came.setdefault((event.arguments[0], SIDE_OF[event.kind]), []).append(place)
@@ -75,10 +75,10 @@ def _others(events: Events) -> list[Unit]:
         elif event.kind == "pop":
             assert event.timer
             units.append(Unit(Sort.TIMER, [place]))
-            started[event.timer] = units[-1]
+            firings.append(units[-1])
         elif event.kind == "fire":
             assert event.timer
-            started.pop(event.timer).events.append(place)
+            firings.pop(event.arguments[0]).events.append(place)
         elif KINDS[event.kind].arguments[:1] != ("g",):
             sort = {"spawn": Sort.GOROUTINE, "sockopen": Sort.SOCKET}.get(event.kind, Sort.TICK)
             units.append(Unit(sort, [place]))

@@ -7,9 +7,11 @@ import tempfile
 from pathlib import Path
 from typing import Any, Sequence
 
+from netrev_model.files import forget_where
 from netrev_model.machine import Answer, Limits, Step, World
 from netrev_model.writing import line_of
 
+from ..files import spare, written
 from ..session import Misused
 from ..where import Call, Lines, Stack
 from .playing import Player
@@ -76,18 +78,13 @@ def where_text(lines: Lines, numbers: Sequence[int]) -> str:
     return "".join(f"{json.dumps(one, separators=(',', ':'))}\n" for one in told)
 
 
-def write_lines(path: str, lines: Lines, numbers: Sequence[int]) -> None:
-    """Writes NAME.where beside a recording of these steps. One that is there already is of another recording, and goes."""
+def write_recording(path: str, of: str, data: bytes, lines: Lines, numbers: Sequence[int]) -> None:
+    """Writes a recording of these steps of another one, whose file is `of`, with NAME.where beside it. One that is there already
+    is of another recording, and goes."""
     beside = Path(path).with_suffix(".where")
+    spare(str(beside), of)
+    written(path, of, data)
     if lines:
-        written(str(beside), where_text(lines, numbers).encode())
-    elif beside.is_file() and beside.read_bytes().startswith(b'{"where":'):
-        beside.unlink()
-
-
-def written(path: str, data: bytes) -> None:
-    """Writes a file; Misused where it can't be."""
-    try:
-        Path(path).write_bytes(data)
-    except OSError as error:
-        raise Misused(f"{path}: {error.strerror}") from None
+        written(str(beside), of, where_text(lines, numbers).encode())
+    else:
+        forget_where(beside)

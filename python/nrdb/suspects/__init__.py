@@ -1,7 +1,2 @@
 """`info suspects`: what rules find in a whole recording that isn't as it should be, the worst first. The rules and what they
 reckon with are nrdb's own, unproved; beside each suspect stands what netrev answers at the positions in question."""
-
-from .ranking import suspects_of
-from .table import suspects_table
-
-__all__ = ["suspects_of", "suspects_table"]

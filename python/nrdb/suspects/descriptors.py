@@ -127,7 +127,7 @@ def leaves(state: State, g: int, descriptor: Descriptor, place: int) -> None:
 def ends(state: State, g: int, d: int, place: int, code: int) -> None:
     """A call ends with a code."""
     if code == 2:
-        state.timeouts.append(Timeout(state.step, g, d, state.descriptors[d].passings[place]))
+        state.timeouts.append(Timeout(state.step, g, d, place, state.descriptors[d].passings[place]))
 
 
 def unblock(state: State, d: int, place: int, readiness: bool, by: str) -> None:

@@ -2,7 +2,7 @@
 
 from dataclasses import dataclass, field
 from enum import Enum, IntEnum
-from typing import NamedTuple, Optional
+from typing import NamedTuple, Optional, Union
 
 
 class Rule(Enum):
@@ -19,6 +19,16 @@ class Rule(Enum):
     NOT_EVICTED = "close without evict"
     WRITE_BEHIND_SHUT = "write behind CloseWrite"
     ERROR_EVENT = "error event on a reused descriptor"
+
+
+class RuleOfCalls(Enum):
+    """The rules that look at calls and at what NAME.where says: they come after the others, and one that isn't sure says so."""
+
+    EARLIER_DEADLINE = "deadline of an earlier call"
+    SPIN = "timeout again and again"
+    BOTH_WRITE = "both ends write"
+    LEFT_OPEN = "left open"
+    TWO_READERS = "two readers"
 
 
 class Weight(IntEnum):
@@ -48,7 +58,7 @@ class Evidence(NamedTuple):
 class Suspect:
     """A suspicious thing. What it says is in clauses, the first of which tells the whole."""
 
-    rule: Rule
+    rule: Union[Rule, RuleOfCalls]
     step: int
     weight: int
     says: list[str]
@@ -65,7 +75,7 @@ class Suspect:
         return self.weight >= Weight.SHOWN
 
     @property
-    def subject(self) -> tuple[Rule, Optional[int], Optional[int], Optional[int]]:
+    def subject(self) -> tuple[object, ...]:
         """The rule and whom it is about: of several suspects with the same subject one is shown."""
         return self.rule, self.goroutine, self.descriptor, self.socket
 

@@ -5,10 +5,21 @@ from typing import NamedTuple
 from ..recording import Recording
 from .ends import at_the_end, hangs, is_inside
 from .following import follow
-from .found import HANGS, STILL_THERE, TIMED_OUT, WENT_ON, Rule, Suspect
+from .found import HANGS, STILL_THERE, TIMED_OUT, WENT_ON, Rule, Suspect, Weight
 from .state import State, Timeout
 
 WOKEN_WRONGLY = (Rule.LOST_WAKE_UP, Rule.TAKEN_BACK)
+HELD_ON = (Rule.LEAKED_REFERENCE, Rule.LOCK_HELD)
+METHODS = ("Read", "Pread", "ReadFrom", "ReadMsg", "Write", "Pwrite", "WriteTo", "WriteMsg", "Writev", "Accept")
+# Go's own calls that hold a lock over a system call, those that hold a reference alone, and those in which a function of the program's
+# runs meanwhile
+OF_GO = frozenset(
+    (*(f"internal/poll.(*FD).{name}" for name in METHODS), "internal/poll.SendFile", "internal/poll.Splice")
+)
+CONTROLS = frozenset(
+    f"internal/poll.(*FD).{name}" for name in ("Shutdown", "SetsockoptInt", "SetsockoptLinger", "Fstat")
+)
+OF_THE_PROGRAM = frozenset(f"internal/poll.(*FD).Raw{name}" for name in ("Read", "Write", "Control"))
 
 
 class Ranked(NamedTuple):
@@ -27,7 +38,33 @@ def suspects_of(recording: Recording) -> Ranked:
             weigh_by_goroutine(state, suspect)
         elif suspect.rule is Rule.LEFT_BEHIND:
             weigh_by_timeouts(state, suspect)
+        if suspect.rule is Rule.LOST_WAKE_UP and is_accepting(recording, suspect):
+            suspect.weight = Weight.DOUBTFUL
+        elif suspect.rule in HELD_ON and is_in_a_system_call(recording, state, suspect):
+            suspect.weight = Weight.DOUBTFUL
     return Ranked(one_of_each(found), state.timeouts)
+
+
+def is_in_a_system_call(recording: Recording, state: State, suspect: Suspect) -> bool:
+    """Whether the recording ended while who holds a lock or a reference was in a call of Go's own, which gives it up behind its system call: by the
+    program's lines, it took the lock in that call and has left it at no step since."""
+    g = suspect.goroutine
+    if not recording.lines or g is None:
+        return False
+    holding = {"rwlock": OF_GO, "incref": CONTROLS}.get(recording.step(suspect.step).kind, frozenset[str]())
+    took, last = (call_of_poll(recording, step) for step in (suspect.step, state.goroutines[g].moved))
+    return took == last and took in holding
+
+
+def is_accepting(recording: Recording, suspect: Suspect) -> bool:
+    """Whether a listener waits in Go's own Accept, which tries again behind each pollreset: no wake-up is lost in it."""
+    return call_of_poll(recording, suspect.steps[-1]) == "internal/poll.(*FD).Accept"
+
+
+def call_of_poll(recording: Recording, step: int) -> str:
+    """Which of these calls a step is in, the innermost; nothing where it is in none, or that isn't known."""
+    known = OF_GO | CONTROLS | OF_THE_PROGRAM
+    return next((call.function for call in recording.lines.of(step).calls if call.function in known), "")
 
 
 def weigh_by_goroutine(state: State, suspect: Suspect) -> None:

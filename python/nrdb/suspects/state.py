@@ -46,6 +46,7 @@ class Timeout(NamedTuple):
     step: int
     goroutine: int
     descriptor: int
+    place: int
     passing: Optional[Passing]
 
 

@@ -3,9 +3,10 @@
 from ..output import Row, Table, Values
 from ..recording import Recording
 from ..scout import Scout
+from ..where import OF_GO
 from ..words import counted
 from .found import Suspect
-from .ranking import suspects_of
+from .of_calls import all_suspects_of
 from .state import Timeout
 
 MOST = 12  # suspects that are shown
@@ -13,10 +14,19 @@ MOST = 12  # suspects that are shown
 
 def suspects_table(scout: Scout, recording: Recording) -> Table:
     """The suspects, the worst first, each with netrev's answers at the positions in question."""
-    ranked = suspects_of(recording)
+    ranked = all_suspects_of(recording)
     shown = [suspect for suspect in ranked.suspects if suspect.is_shown][:MOST]
     rows = [row for at, suspect in enumerate(shown, 1) for row in _rows(scout, recording, at, suspect)]
-    return Table("suspects", rows, _rest(len(shown), len(ranked.suspects) - len(shown), ranked.timeouts))
+    timeouts = [one for one in ranked.timeouts if not is_by_go(recording, one)]
+    return Table("suspects", rows, _rest(len(shown), len(ranked.suspects) - len(shown), timeouts))
+
+
+def is_by_go(recording: Recording, timeout: Timeout) -> bool:
+    """Whether Go's own code ended a wait of its own by a deadline in the past, as net/http ends the read between two requests: for the
+    program that is no timeout."""
+    calls = recording.lines.of(timeout.step).calls
+    is_past = timeout.passing is not None and timeout.passing.kind == "setdeadline"
+    return is_past and bool(calls) and all(call.of == OF_GO for call in calls)
 
 
 def _rows(scout: Scout, recording: Recording, at: int, suspect: Suspect) -> list[Row]:

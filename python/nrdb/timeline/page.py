@@ -8,6 +8,7 @@ from typing import Any, Optional
 from netrev_model.plain import plain
 from netrev_model.vocabulary import CELLS
 
+from ..files import writing
 from ..recording import Recording, shortened
 from ..session import Misused, Session
 from ..words import in_words
@@ -29,11 +30,8 @@ def write_timeline(session: Session, path: str, first: Optional[int] = None, las
     if window.last - window.first > MOST:
         raise Misused(f"a page has room for {MOST} steps: timeline {path} FROM TO")
     data = collected(session, recording, window)
-    text = page(data)
-    try:
-        Path(path).write_text(text, encoding="utf-8")
-    except OSError as error:
-        raise Misused(f"{path}: {error.strerror}") from None
+    with writing(path, session.path) as file:
+        file.write(page(data))
     return f"{path}: positions {window.first} to {window.last}, {len(data['cells'])} cells"
 
 

@@ -9,7 +9,8 @@ from netrev_model.vocabulary import KINDS
 from ..recording import Recording
 from ..scout import Scout
 from ..session import Session
-from ..suspects import suspects_of, suspects_table
+from ..suspects.ranking import suspects_of
+from ..suspects.table import suspects_table
 from ..suspects.state import INSIDE
 from .runs import Runs, Window
 

@@ -7,11 +7,12 @@ some positions. What differs there is an error, and nothing is written then."""
 import json
 from itertools import islice
 from pathlib import Path
-from typing import Any, Callable, Iterator, Optional, TextIO
+from typing import IO, Any, Callable, Iterator, Optional
 
 from netrev_model.plain import plain
 from netrev_model.vocabulary import KINDS
 
+from ..files import writing
 from ..recording import Recording, shortened
 from ..scout import Scout
 from ..session import Misused, Session
@@ -33,15 +34,12 @@ def write_trace(session: Session, path: str) -> str:
     recording, scout = session.text(), session.looks()
     tracing = Tracing(recording)
     compared = _compared(scout, recording)
-    try:
-        with open(path, "w", encoding="utf-8") as file:
-            _write(file, tracing.events(Path(session.path).name, session.interrupts.check))
-    except OSError as error:
-        raise Misused(f"{path}: {error.strerror}") from None
+    with writing(path, session.path) as file:
+        _write(file, tracing.events(Path(session.path).name, session.interrupts.check))
     return f"{path}: {recording.length} steps, {tracing.slices} slices, {tracing.flows} wake-ups; statuses as netrev has them at {compared} positions"
 
 
-def _write(file: TextIO, events: Iterator[Event]) -> None:
+def _write(file: IO[str], events: Iterator[Event]) -> None:
     """Writes events as they come."""
     file.write('{"displayTimeUnit":"ns","traceEvents":[')
     before = "\n"

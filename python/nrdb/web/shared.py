@@ -4,7 +4,7 @@ netrev says nothing but where they left the session: so their moves are seen whe
 from dataclasses import dataclass, field, fields
 from typing import Any, Optional, Protocol, Sequence
 
-from ..answers import ANSWERS
+from ..answers import ANSWERS, answer_list
 from ..commands import whole_words
 from ..dap.collecting import Collecting
 from ..netrev import Netrev, Reply
@@ -13,7 +13,7 @@ from ..session import Answering, Misused, Session
 from ..shapes import Listed, Position, Refused
 
 OTHERS = "another front"
-WITH_FILES = ("source", "timeline", "trace", "reduce", "report")
+WITH_FILES = ("source", "timeline", "trace", "reduce", "report", "explore", "frame", "up", "down")
 NO_FILES = "the page reads and writes no files: that is for nrdb's prompt"
 NO_LINES = "the page takes one line at a time: `commands` is for nrdb's prompt"
 NO_END = "the session goes on when you close the page; where nrdb runs, Ctrl-C ends it"
@@ -35,7 +35,12 @@ def refusing(why: str) -> Answering:
     return answer
 
 
-OF_THE_PAGE = {**ANSWERS, **{name: refusing(NO_FILES) for name in WITH_FILES}, "commands": refusing(NO_LINES)}
+OF_THE_PAGE = {
+    **ANSWERS,
+    **{name: refusing(NO_FILES) for name in WITH_FILES},
+    "list": answer_list,  # of steps alone
+    "commands": refusing(NO_LINES),
+}
 
 
 class Saying(Collecting):

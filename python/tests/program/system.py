@@ -34,6 +34,7 @@ from pathlib import Path
 
 from netrev_model.debugger import Recording
 
+from ..naming import LEFT_OUT
 from .address_spaces import LOOKS, MEGABYTE, NO_MEMORY, ended, limit_memory, loads_in, play_memory, play_memory_of_serve
 from .callers import callers
 from .given import ARRIVED, FIRST, LARGE, POSITION, TEXT, TICKS, UPGRADED, UPGRADED_TICKS, Function, file_of, rest_of
@@ -663,7 +664,9 @@ def play_all(names, listed):
             continue
         if listed:
             print(case.name)
-        elif not case.skipped:
+        elif case.skipped:
+            print(f"{LEFT_OUT}{case.name}: it needs another user than root")
+        else:
             play(case)
             played += 1
     return played

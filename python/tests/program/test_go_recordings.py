@@ -6,6 +6,7 @@ import pathlib
 import tempfile
 import unittest
 
+from netrev_fuzz.logs import binary, from_text
 from netrev_go.asking import at_the_end, check, hanging, never_closed
 from netrev_go.compare import differing
 from netrev_go.logfile import read_log
@@ -13,12 +14,11 @@ from netrev_go.making import make, write, write_words
 from netrev_go.points import Kind
 from netrev_go.report import report
 
-from ..golog import binary, from_text
 from ..test_go_converting import DESCRIPTOR, WORD, Points
 from .nrdb.support import NETREV
 
 REAL = pathlib.Path(__file__).resolve().parents[3] / "examples/real"
-NAMES = ("half", "hijacked", "hung", "leak", "lost", "past")
+NAMES = ("half", "hijacked", "hung", "leak", "lost", "older", "past")
 
 
 class Recorded(unittest.TestCase):
@@ -65,7 +65,7 @@ class Recorded(unittest.TestCase):
         read.points[last] = read.points[last]._replace(b=0)
         recording = make(read)
         write(recording, self.name)
-        steps = [json.loads(line) for line in recording.lines]
+        steps = [json.loads(str(line)) for line in recording.lines]
         wrong = [number for number, step in enumerate(steps, 1) if step[0] == "parkcommit" and step[-1] == "no"]
         self.assertEqual(check(str(NETREV), self.name), (False, f"step {wrong[-1]}: fault 109 answer"))
         taken, said = report(recording, self.name, {})

@@ -13,6 +13,8 @@ const (
 	netrevMetKind      = 120 // a is the other goroutine: a value went from one to the other, and neither goes on before
 	netrevClosedKind   = 121
 	netrevEndedKind    = 122 // the channel was found closed, with nothing in it
+	netrevParksKind    = 124 // the goroutine waits: a is for what
+	netrevGoesOnKind   = 125 // and goes on
 )
 
 // netrevOrder is a point of a goroutine's; where the scheduler itself acts there is none.
@@ -31,6 +33,44 @@ func netrevReadied(gp *g, traceskip int) int {
 		netrevOrder(netrevReadyKind, netrevGoroutine(), nil, int64(gp.goid), 0)
 	}
 	return traceskip &^ (netrevSema | netrevSemaRead)
+}
+
+// What a goroutine waits for outside of the poller; for a mutex or a WaitGroup it is of neither, and its stack says so.
+const (
+	netrevForOther = iota
+	netrevForValue
+	netrevForRoom
+	netrevForSelect
+	netrevForCondition
+)
+
+// netrevParks is a goroutine of the program's that is about to wait outside of the poller; whether that is a point.
+func netrevParks(reason waitReason) bool {
+	if !netrevOrders || netrevOn == 0 || reason == waitReasonIOWait || reason == waitReasonSleep {
+		return false
+	}
+	gp := getg()
+	if gp.m == nil || gp != gp.m.curg || isSystemGoroutine(gp, false) {
+		return false
+	}
+	what := int64(netrevForOther)
+	switch reason {
+	case waitReasonChanReceive:
+		what = netrevForValue
+	case waitReasonChanSend:
+		what = netrevForRoom
+	case waitReasonSelect:
+		what = netrevForSelect
+	case waitReasonSyncCondWait:
+		what = netrevForCondition
+	}
+	netrevOrder(netrevParksKind, uint64(gp.goid), nil, what, 0)
+	return true
+}
+
+// netrevGoesOn is a goroutine that was waiting.
+func netrevGoesOn() {
+	netrevOrder(netrevGoesOnKind, uint64(getg().goid), nil, 0, 0)
 }
 
 // netrevMade is a goroutine that a `go` statement has made, before it runs.

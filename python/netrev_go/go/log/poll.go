@@ -15,6 +15,7 @@ const (
 	netrevReadKind       = 6
 	netrevWriteKind      = 7
 	netrevCloseWriteKind = 31
+	netrevNamedKind      = 123 // no step: a is the name of a connection's own end, and b that of the other one
 )
 
 // What the log has of a system call's error.
@@ -43,6 +44,8 @@ func runtime_netrevClosed(kind uint64, word *uint64, bits int64)
 //go:noescape
 func runtime_netrevPoint(kind uint64, word *uint64, a, b, c int64)
 
+func runtime_netrevDelay(kind uint64)
+
 //go:noescape
 func runtime_netrevAcquire(sema *uint32, read bool)
 
@@ -58,6 +61,7 @@ func netrevBit(b bool) int64 {
 
 // netrevSwap swaps a lock word, where there is a log; answer is what Go's function will return then.
 func netrevSwap(kind uint64, mu *fdMutex, old, new uint64, answer, read bool) bool {
+	runtime_netrevDelay(kind)
 	netrevSeenByRace(mu)
 	done := runtime_netrevSwap(kind, &mu.state, old, new, netrevBit(read)+2*netrevBit(answer))
 	netrevSeenByRace(mu)
@@ -96,23 +100,97 @@ func netrevRelease(sema *uint32, read bool) {
 // netrevInit is a descriptor that is about to be opened in the poller.
 func netrevInit(fd *FD) *FD {
 	if netrevOn != 0 {
+		netrevIsNamed(fd.Sysfd, false)
 		runtime_netrevPoint(netrevInitKind, &fd.fdmu.state, int64(fd.Sysfd), 0, 0)
+		if !netrevEnds(fd) { // it isn't connected yet
+			netrevIsNamed(fd.Sysfd, false)
+		}
 	}
 	return fd
 }
 
-// netrevBytes is a read or a write that returned.
+// netrevNamed has a bit for each of the system's descriptors whose ends were looked for since it was opened.
+var netrevNamed [2048]uint32
+
+// netrevIsNamed gives a descriptor's bit this value, and says whether it had it before; of one that has no bit it had.
+func netrevIsNamed(sysfd int, named bool) bool {
+	if uint(sysfd) >= uint(len(netrevNamed)*32) {
+		return true
+	}
+	word, bit := &netrevNamed[sysfd/32], uint32(1)<<(uint(sysfd)%32)
+	for {
+		old := atomic.LoadUint32(word)
+		if old&bit != 0 == named {
+			return true
+		}
+		if atomic.CompareAndSwapUint32(word, old, old^bit) {
+			return false
+		}
+	}
+}
+
+// netrevEnds are the names of a connection's two ends, once: by them two sockets of one process are known to be one connection's. It
+// says whether there was a connection.
+func netrevEnds(fd *FD) bool {
+	if !fd.IsStream || netrevIsNamed(fd.Sysfd, true) {
+		return true
+	}
+	other, err := syscall.Getpeername(fd.Sysfd)
+	if err != nil {
+		return false
+	}
+	own, err := syscall.Getsockname(fd.Sysfd)
+	if err == nil && netrevEnd(own) != 0 && netrevEnd(other) != 0 {
+		runtime_netrevPoint(netrevNamedKind, &fd.fdmu.state, netrevEnd(own), netrevEnd(other), 0)
+	}
+	return true
+}
+
+// netrevEnd is a number for an address and its port, the same for one of IPv4 however it is written; 0 for what is neither.
+func netrevEnd(name syscall.Sockaddr) int64 {
+	var address []byte
+	var port int
+	switch end := name.(type) {
+	case *syscall.SockaddrInet4:
+		address, port = end.Addr[:], end.Port
+	case *syscall.SockaddrInet6:
+		address, port = end.Addr[:], end.Port
+		if string(address[:12]) == "\x00\x00\x00\x00\x00\x00\x00\x00\x00\x00\xff\xff" {
+			address = address[12:]
+		}
+	default:
+		return 0
+	}
+	hash := (uint64(14695981039346656037) ^ uint64(port)) * 1099511628211
+	for _, digits := range address {
+		hash = (hash ^ uint64(digits)) * 1099511628211
+	}
+	return int64(hash | 1)
+}
+
+// netrevBytes is a call of the system by which bytes go, that returned. A connection that was taken is a byte that was read. So is
+// a message of no bytes, which would be the end else. An error that is no step has its number, below 0, in place of the bytes.
 func netrevBytes(kind uint64, fd *FD, asked, got int, err error) {
+	netrevEnds(fd)
 	seen := int64(netrevOtherError)
 	switch err {
 	case nil:
 		seen = netrevNoError
+		if got == 0 && !fd.ZeroReadIsEOF {
+			got = 1
+		}
 	case syscall.EAGAIN:
-		seen = netrevAgain
+		seen, got = netrevAgain, 0
 	case syscall.EPIPE:
-		seen = netrevBrokenPipe
+		seen, got = netrevBrokenPipe, 0
+	default:
+		got = 0
+		if number, isNumber := err.(syscall.Errno); isNumber {
+			got = -int(number)
+		}
 	}
 	runtime_netrevPoint(kind, &fd.fdmu.state, int64(asked), int64(got), seen)
+	runtime_netrevDelay(kind)
 }
 
 // netrevShutdown shuts a side of a socket; that of writing is a step.

@@ -7,8 +7,10 @@
 package runtime
 
 import (
-	"runtime/internal/atomic"
-	"runtime/internal/syscall"
+	"internal/goarch"
+	"internal/runtime/atomic"
+	"internal/runtime/sys"
+	syscall "internal/runtime/syscall/linux"
 	"unsafe"
 )
 
@@ -65,11 +67,18 @@ const (
 	netrevSemaRead = 1 << 21
 )
 
+// netrevOn is set before the first socket is opened, and never taken back. internal/poll reads it.
+//
+//go:linkname netrevOn
+var netrevOn uint32
+
 var (
-	netrevOn     uint32 // set before the first socket is opened, and never taken back
 	netrevLines  bool
 	netrevOrders bool
-	netrevFile   int32
+	netrevSeed   uint64 // of the delays; 0 where there are none
+	netrevDraws  uint64
+	netrevOwn    []byte // the log's name
+	netrevFile   uintptr
 	netrevBase   uintptr
 	netrevRing   uintptr
 	netrevPoints uint64
@@ -82,24 +91,79 @@ var (
 
 func netrevWord(i uintptr) *uint64 { return (*uint64)(unsafe.Pointer(netrevBase + i*8)) }
 
-// netrevName is a name with a number behind it, ended as the kernel wants it.
+// netrevDigits puts a number behind a text.
+func netrevDigits(text []byte, number uint64) []byte {
+	var digits [20]byte
+	at := len(digits)
+	for first := true; first || number > 0; first = false {
+		at--
+		digits[at] = byte('0' + number%10)
+		number /= 10
+	}
+	return append(text, digits[at:]...)
+}
+
+// netrevName is a name with numbers behind it, ended as the kernel wants it.
 func netrevName(path string, numbers ...uint64) []byte {
-	var buf [20]byte
 	name := []byte(path)
 	for _, number := range numbers {
-		name = append(name, '.')
-		name = append(name, itoa(buf[:], number)...)
+		name = netrevDigits(append(name, '.'), number)
 	}
 	return append(name, 0)
 }
 
-// netrevCreate makes a file that isn't there.
-func netrevCreate(name []byte) int32 { return open(&name[0], 0x2|0x40|0x80, 0600) }
+// netrevNumber is a number of at most 9 digits; 0 where the text is none.
+func netrevNumber(text string) uint64 {
+	number := uint64(0)
+	for i := 0; i < len(text); i++ {
+		if text[i] < '0' || text[i] > '9' || i == 9 {
+			return 0
+		}
+		number = number*10 + uint64(text[i]-'0')
+	}
+	return number
+}
+
+// Calls of the system, by their numbers: the runtime's own functions for them have moved from release to release. Those of arm64
+// were compiled and never run.
+const (
+	netrevOpening   = 257*goarch.IsAmd64 + 56*goarch.IsArm64
+	netrevClosing   = 3*goarch.IsAmd64 + 57*goarch.IsArm64
+	netrevWriting   = 1*goarch.IsAmd64 + 64*goarch.IsArm64
+	netrevFstat     = 5*goarch.IsAmd64 + 80*goarch.IsArm64
+	netrevMmap      = 9*goarch.IsAmd64 + 222*goarch.IsArm64
+	netrevGetpid    = 39*goarch.IsAmd64 + 172*goarch.IsArm64
+	netrevSendfile  = 40*goarch.IsAmd64 + 71*goarch.IsArm64
+	netrevTruncate  = 77*goarch.IsAmd64 + 46*goarch.IsArm64
+	netrevFallocate = 285*goarch.IsAmd64 + 47*goarch.IsArm64
+)
+
+const (
+	netrevHere         = ^uintptr(99) // the folder that the process is in
+	netrevCreateAnew   = 0x2 | 0x40 | 0x80 | netrevCloseOnExec
+	netrevCloseOnExec  = 0x80000
+	netrevAlreadyThere = 17
+)
+
+// netrevSystem is a call of the system, with its error. Nothing moves on the stack meanwhile, as it doesn't grow.
+//
+//go:nosplit
+func netrevSystem(number uintptr, arguments ...uintptr) (uintptr, uintptr) {
+	var a [6]uintptr
+	copy(a[:], arguments)
+	result, _, errno := syscall.Syscall6(number, a[0], a[1], a[2], a[3], a[4], a[5])
+	return result, errno
+}
+
+//go:nosplit
+func netrevOpenFile(name []byte, flags, mode uintptr) (file, errno uintptr) {
+	return netrevSystem(netrevOpening, netrevHere, uintptr(unsafe.Pointer(&name[0])), flags, mode)
+}
 
 // netrevReserve takes room for a part of the log, and says whether there was any. A file system that can't tell has it.
 func netrevReserve(offset, size uintptr) bool {
-	const fallocate, noSpace, quota = 285, 28, 122
-	_, _, errno := syscall.Syscall6(fallocate, uintptr(netrevFile), 0, offset, size, 0, 0)
+	const noSpace, quota = 28, 122
+	_, errno := netrevSystem(netrevFallocate, netrevFile, 0, offset, size)
 	return errno != noSpace && errno != quota
 }
 
@@ -109,53 +173,57 @@ func init() {
 	if path == "" {
 		return
 	}
-	fd := netrevCreate(netrevName(path, uint64(getpid())))
-	for again := uint64(2); fd == -17 && again < 10; again++ { // the process became another program
-		fd = netrevCreate(netrevName(path, uint64(getpid()), again))
+	process, _ := netrevSystem(netrevGetpid)
+	netrevOwn = netrevName(path, uint64(process))
+	file, errno := netrevOpenFile(netrevOwn, netrevCreateAnew, 0600)
+	for again := uint64(2); errno == netrevAlreadyThere && again < 10; again++ { // the process became another program
+		netrevOwn = netrevName(path, uint64(process), again)
+		file, errno = netrevOpenFile(netrevOwn, netrevCreateAnew, 0600)
 	}
-	if fd < 0 {
-		print("netrev: the log ", path, ".", getpid(), " can't be made (error ", -fd, "): nothing is recorded\n")
+	if errno != 0 {
+		print("netrev: the log ", path, ".", process, " can't be made (error ", errno, "): nothing is recorded\n")
 		return
 	}
-	netrevFile = fd
-	if !netrevMap() {
-		print("netrev: there is no room for the log ", path, ".", getpid(), ": nothing is recorded\n")
-		closefd(fd)
+	netrevFile = file
+	if !netrevMap(uint64(process)) {
+		print("netrev: there is no room for the log ", path, ".", process, ": nothing is recorded\n")
+		netrevSystem(netrevClosing, file)
 		return
 	}
 	netrevKeepProgram(path)
 	netrevLines = gogetenv("NETREV_LINES") != "0"
 	netrevOrders = gogetenv("NETREV_ORDERS") != "0"
+	netrevSeed = netrevNumber(gogetenv("NETREV_DELAYS"))
 	atomic.Store(&netrevOn, 1)
 }
 
 // netrevMap gives the log its size and its header.
-func netrevMap() bool {
-	const truncate, shared = 77, 1
+func netrevMap(process uint64) bool {
+	const readAndWrite, shared = 3, 1
 	points := uint64(netrevMostPoints)
-	if n, ok := atoi(gogetenv("NETREV_POINTS")); ok && n >= netrevChunk {
-		points = uint64(n)
+	if n := netrevNumber(gogetenv("NETREV_POINTS")); n >= netrevChunk {
+		points = n
 	}
 	ring := uintptr(netrevHeaderBytes + netrevStacks*netrevStackWords*8)
 	size := ring + uintptr(points)*netrevPointWords*8
-	if _, _, errno := syscall.Syscall6(truncate, uintptr(netrevFile), size, 0, 0, 0, 0); errno != 0 {
+	if _, errno := netrevSystem(netrevTruncate, netrevFile, size); errno != 0 {
 		return false
 	}
 	if !netrevReserve(0, ring+2*netrevChunk*netrevPointWords*8) {
 		return false
 	}
-	p, err := mmap(nil, size, _PROT_READ|_PROT_WRITE, shared, netrevFile, 0)
-	if err != 0 {
+	base, errno := netrevSystem(netrevMmap, 0, size, readAndWrite, shared, netrevFile, 0)
+	if errno != 0 {
 		return false
 	}
-	netrevBase = uintptr(p)
+	netrevBase = base
 	netrevRing = netrevBase + ring
 	netrevPoints = points
 	netrevBegin = nanotime()
 	*netrevWord(netrevHeadPoints) = points
 	*netrevWord(netrevHeadStacks) = netrevStacks
 	*netrevWord(netrevHeadBegin) = uint64(netrevBegin)
-	*netrevWord(netrevHeadProcess) = uint64(getpid())
+	*netrevWord(netrevHeadProcess) = process
 	*netrevWord(netrevHeadText) = uint64(firstmoduledata.text)
 	atomic.Store64(netrevWord(netrevHeadMagic), netrevMagic)
 	return true
@@ -163,26 +231,24 @@ func netrevMap() bool {
 
 // netrevKeepProgram copies the program beside the log, once for all processes that run it: by it addresses become lines.
 func netrevKeepProgram(path string) {
-	const fstat, sendfile, closed = 5, 40, 3
-	self := []byte("/proc/self/exe\x00")
-	from := open(&self[0], 0, 0)
-	if from < 0 {
+	from, errno := netrevOpenFile([]byte("/proc/self/exe\x00"), netrevCloseOnExec, 0)
+	if errno != 0 {
 		return
 	}
 	var status [24]uint64
-	syscall.Syscall6(fstat, uintptr(from), uintptr(unsafe.Pointer(&status)), 0, 0, 0, 0)
+	netrevSystem(netrevFstat, from, uintptr(unsafe.Pointer(&status)))
 	inode, changed := status[1], status[11]*1000000000+status[12]
 	*netrevWord(netrevHeadProgram), *netrevWord(netrevHeadProgramTime) = inode, changed
-	if to := netrevCreate(netrevName(path+".program", inode, changed)); to >= 0 {
+	if to, errno := netrevOpenFile(netrevName(path+".program", inode, changed), netrevCreateAnew, 0600); errno == 0 {
 		for {
-			n, _, errno := syscall.Syscall6(sendfile, uintptr(to), uintptr(from), 0, 1<<30, 0, 0)
+			n, errno := netrevSystem(netrevSendfile, to, from, 0, 1<<30)
 			if errno != 0 || n == 0 {
 				break
 			}
 		}
-		closefd(to)
+		netrevSystem(netrevClosing, to)
 	}
-	closefd(from)
+	netrevSystem(netrevClosing, from)
 }
 
 // netrevLog writes a point: what, by which goroutine, at which address, what was seen there, and a time where one was read.
@@ -197,8 +263,8 @@ func netrevLog(kind uint64, goid uint64, at uintptr, a, b, c, now int64) {
 	}
 	p := (*[netrevPointWords]uint64)(unsafe.Pointer(netrevRing + uintptr(uint64(number)%netrevPoints)*netrevPointWords*8))
 	var stack uint64
-	if gp := getg(); netrevLines && kind <= netrevOpenFailed && gp.m != nil && gp == gp.m.curg {
-		stack = netrevStack(gp, getcallersp()-16)
+	if gp := getg(); netrevLines && (kind <= netrevOpenFailed || kind == netrevParksKind) && gp.m != nil && gp == gp.m.curg {
+		stack = netrevStack(gp, sys.GetCallerSP()-16)
 	}
 	atomic.Store64(&p[0], 0)
 	p[1], p[2], p[3], p[4], p[5], p[6] = goid, uint64(at), uint64(a), uint64(b), uint64(c), uint64(now)
@@ -293,9 +359,10 @@ func netrevPollAlone(kind uint64, pd *pollDesc, a int64) {
 	}
 }
 
-// netrevOpened is a descriptor that is opened, with the sequences that its timers count from.
-func netrevOpened(pd *pollDesc, fd uintptr) {
-	netrevPoll(netrevOpen, pd, int64(fd), int64(pd.rseq), int64(pd.wseq))
+// netrevOpened is a descriptor that is opened, with the sequences that its timers count from, and the tag that its events have
+// (0 where the release has none).
+func netrevOpened(pd *pollDesc, fd, tag uintptr) {
+	netrevPoll(netrevOpen, pd, int64(fd)|int64(tag)<<32, int64(pd.rseq), int64(pd.wseq))
 }
 
 // poll_runtime_pollReset is Go's own, which is renamed, under the descriptor's lock.
@@ -408,6 +475,19 @@ func netrevEvent(pd *pollDesc, mode int32, isError bool) {
 	}
 }
 
+// netrevTagged is an event with a tag, and says whether that is the descriptor's, as Go compares it.
+func netrevTagged(pd *pollDesc, mode int32, events uint32, tag, current uintptr) bool {
+	const onlyError = 8
+	netrevLog(netrevEventCame, 0, uintptr(unsafe.Pointer(pd)), int64(mode), netrevBit(events == onlyError)+2*netrevBit(tag != current), int64(tag), 0)
+	return tag == current
+}
+
+func netrevEventBegins(pd *pollDesc) {
+	if netrevOn != 0 {
+		lock(&pd.lock)
+	}
+}
+
 func netrevEventDone(pd *pollDesc) {
 	if netrevOn != 0 {
 		unlock(&pd.lock)
@@ -449,7 +529,7 @@ func netrevRaise(addr *uint32, mark int) {
 
 //go:linkname poll_runtime_netrevAcquire internal/poll.runtime_netrevAcquire
 func poll_runtime_netrevAcquire(addr *uint32, read bool) {
-	semacquire1(addr, false, semaBlockProfile|semaProfileFlags(netrevSema+netrevSemaRead*netrevBit(read)), 0)
+	netrevSemacquire(addr, semaProfileFlags(netrevSema+netrevSemaRead*netrevBit(read)))
 }
 
 //go:linkname poll_runtime_netrevRelease internal/poll.runtime_netrevRelease
@@ -491,4 +571,57 @@ func poll_runtime_netrevClosed(kind uint64, word *uint64, bits int64) {
 	old := int64(atomic.Load64(word))
 	netrevLog(kind, netrevGoroutine(), uintptr(unsafe.Pointer(word)), old, old, bits, 0)
 	unlock(l)
+}
+
+// netrevTests is the file LOG.tests, of a program that has tests.
+var netrevTests uintptr
+
+// netrevTest writes a line there: how many points were passed, the goroutine, the time since the log began, what happened, and
+// of which test or package. The first one makes the file.
+//
+//go:linkname netrevTest
+func netrevTest(what, name string) {
+	const append_ = 0x400
+	if netrevOn == 0 {
+		return
+	}
+	if netrevTests == 0 {
+		path := append(append([]byte{}, netrevOwn[:len(netrevOwn)-1]...), ".tests\x00"...)
+		file, errno := netrevOpenFile(path, netrevCreateAnew|append_, 0600)
+		if errno != 0 {
+			return
+		}
+		netrevTests = file
+	}
+	line := netrevDigits(nil, atomic.Load64(netrevWord(netrevHeadPassed)))
+	line = netrevDigits(append(line, ' '), netrevGoroutine())
+	line = netrevDigits(append(line, ' '), uint64(nanotime()-netrevBegin))
+	line = append(append(append(append(append(line, ' '), what...), ' '), name...), '\n')
+	netrevSystem(netrevWriting, netrevTests, uintptr(unsafe.Pointer(&line[0])), uintptr(len(line)))
+}
+
+func netrevMixed(x uint64) uint64 {
+	x = (x ^ x>>31) * 0x9e3779b97f4a7c15
+	x = (x ^ x>>29) * 0xbf58476d1ce4e5b9
+	return x ^ x>>32
+}
+
+// netrevDelay lets others go first, at places of which the seed draws one of four, for half a millisecond to 8 that it draws for
+// each: the first 64 times that one is passed, and seldom later. A place is a kind of point in goroutines that were started
+// alike. No lock of the runtime's is held here.
+//
+//go:linkname poll_runtime_netrevDelay internal/poll.runtime_netrevDelay
+func poll_runtime_netrevDelay(kind uint64) {
+	const places, shortest, lengths, often, seldom = 4, 500000, 5, 64, 16
+	if netrevSeed == 0 {
+		return
+	}
+	gp := getg()
+	place := netrevMixed(netrevMixed(uint64(gp.gopc)^kind<<56) ^ uint64(gp.startpc) ^ netrevSeed<<32)
+	if place%places != 0 {
+		return
+	}
+	if draws := uint64(atomic.Xadd64(&netrevDraws, 1)); draws <= often || netrevMixed(draws)%seldom == 0 {
+		timeSleep(shortest << (place >> 8 % lengths))
+	}
 }

@@ -56,6 +56,27 @@ func printed(n ast.Node) string {
 	return text.String()
 }
 
+// declares says whether a function stands there, also one that is written in assembly.
+func (s *source) declares(name string) bool {
+	for _, declaration := range s.syntax.Decls {
+		if f, ok := declaration.(*ast.FuncDecl); ok && f.Name.Name == name && f.Recv == nil {
+			return true
+		}
+	}
+	return false
+}
+
+// has says whether a name stands anywhere in the file.
+func (s *source) has(name string) bool {
+	has := false
+	ast.Inspect(s.syntax, func(n ast.Node) bool {
+		i, ok := n.(*ast.Ident)
+		has = has || ok && i.Name == name
+		return !has
+	})
+	return has
+}
+
 // found is a call or a comparison, and the statement of a block that it is in.
 type found struct {
 	expression ast.Expr
@@ -156,6 +177,10 @@ func (s *source) changes(f *ast.FuncDecl, edits []edit) ([]change, error) {
 // changeOf is one edit's. It keeps the file's lines, so that Go's own line numbers stay what they are.
 func (s *source) changeOf(f *ast.FuncDecl, e edit, at found, put string) (change, error) {
 	text := s.filled(f, at.expression, put)
+	if e.how == beside {
+		from := s.offset(f.End())
+		return change{from, from, "; " + text}, nil
+	}
 	if e.how == replace {
 		return change{s.offset(at.expression.Pos()), s.offset(at.expression.End()), text}, nil
 	}

@@ -1,9 +1,14 @@
 package main
 
+const ofOrders = "the program's orders"
+
 // The points at which the program itself puts goroutines in order. Where one of these rules doesn't fit, all are left out.
 var orders = []rule{
 	ordered(making, "goready",
 		one(replace, "ready(gp, traceskip, true)", "ready(gp, netrevReadied(gp, traceskip), true)")),
+	ordered(making, "gopark",
+		one(before, "acquirem()", "netrevWaits := netrevParks(reason)"),
+		one(behind, "mcall(park_m)", "if netrevWaits { netrevGoesOn() }")),
 	ordered(making, "newproc",
 		one(replace, "newproc1(...)", "netrevMade($0)")),
 	ordered(polling, "netpollgoready",
@@ -16,8 +21,9 @@ var orders = []rule{
 		one(before, "chanbuf(c, c.recvx)", "netrevChannel(netrevReceivedKind, c)"),
 		one(replace, "c.qcount == 0", "$0 && netrevEnded(c)"),
 		edit{replace, "empty(c)", 2, []string{"", "$0 && netrevEnded(c)"}}),
-	ordered(channels, "send",
-		one(replace, "sg.elem != nil", "netrevToReceiver(c, sg.g) && $0")),
+	rule{channels, "send", []variant{
+		{"1.18 to 1.25", "", []edit{one(replace, "sg.elem != nil", "netrevToReceiver(c, sg.g) && $0")}},
+		{"1.26 and 1.27", "", []edit{one(replace, "sg.elem.get() != nil", "netrevToReceiver(c, sg.g) && $0")}}}},
 	ordered(channels, "recv",
 		one(replace, "c.dataqsiz == 0", "netrevFromSender(c, sg.g, $0)")),
 	ordered(channels, "closechan",
@@ -29,5 +35,5 @@ var orders = []rule{
 }
 
 func ordered(file, function string, edits ...edit) rule {
-	return rule{file, function, []variant{{"1.19", true, edits}}}
+	return rule{file, function, all(edits...)}
 }

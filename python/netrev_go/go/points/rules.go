@@ -16,16 +16,17 @@ const (
 	before  how = "before" // the statement that it is in
 	behind  how = "behind"
 	rename  how = "rename" // the function
+	beside  how = "beside" // behind the function
 )
 
-// A variant is what a function's edits are in some releases. Those that no run release has are marked; of the others 1.19 was
-// run, and no other release.
+// A variant is what a function's edits are in some releases.
 type variant struct {
 	releases string
-	tried    bool
+	has      string // a name that the file has in these releases alone; with ! one that it hasn't
 	edits    []edit
 }
 
+// A rule is what is changed in a function of Go's.
 type rule struct {
 	file, function string
 	variants       []variant
@@ -44,13 +45,18 @@ const (
 )
 
 // Which file gets which functions of ours.
-var appended = map[string]string{lockWords: "poll.go", polling: "runtime.go", channels: "orders.go"}
+var appended = map[string]string{lockWords: "poll.go", polling: "runtime.go", channels: "orders.go", testing: "tests.go"}
 
 const swap = "atomic.CompareAndSwapUint64(&mu.state, old, new)"
 const isClosed = "old&mutexClosed != 0"
 
-// all is one variant for the release that was tried, and for those of which nothing else is known.
-func all(edits ...edit) []variant { return []variant{{"1.18 to 1.25", true, edits}} }
+// all is one variant for all releases.
+func all(edits ...edit) []variant { return []variant{{"1.18 to 1.27", "", edits}} }
+
+// since121 are variants of which the second is for releases whose events have tags.
+func since121(before, since []edit) []variant {
+	return []variant{{"1.18 to 1.20", "!fdseq", before}, {"1.21 to 1.27", "fdseq", since}}
+}
 
 // orLogged is what was found where there is no log, and else another expression.
 func orLogged(put string) string { return "(netrevOn == 0 && $0 || netrevOn != 0 && " + put + ")" }
@@ -78,17 +84,23 @@ var steps = []rule{
 		one(replace, "runtime_Semrelease(...)", "netrevRelease($1, read)"))},
 	{sockets, "Init", all(
 		one(replace, "fd.pd.init(fd)", "fd.pd.init(netrevInit(fd))"))},
-	{sockets, "Read", all(
-		one(behind, "ignoringEINTRIO(syscall.Read, fd.Sysfd, ...)", "if netrevOn != 0 { netrevBytes(netrevReadKind, fd, len($3), n, err) }"))},
-	{sockets, "Write", all(
-		one(behind, "ignoringEINTRIO(syscall.Write, fd.Sysfd, ...)", "if netrevOn != 0 { netrevBytes(netrevWriteKind, fd, len($3), n, err) }"))},
+	{sockets, "Read", all(moved("ignoringEINTRIO(syscall.Read, fd.Sysfd, ...)", "netrevReadKind, fd, len($3), n, err")...)},
+	{sockets, "Write", all(moved("ignoringEINTRIO(syscall.Write, fd.Sysfd, ...)", "netrevWriteKind, fd, len($3), n, err")...)},
 	{shutting, "Shutdown", all(
 		one(replace, "syscall.Shutdown(...)", "fd.netrevShutdown($1, $2)"))},
-	{polling, "poll_runtime_pollOpen", all(
-		one(behind, "pd.publishInfo()", "netrevOpened(pd, fd)"),
-		one(before, "pollcache.free(pd)", "netrevPollAlone(netrevOpenFailed, pd, int64(errno))"))},
-	{polling, "poll_runtime_pollClose", all(
-		one(before, "netpollclose(pd.fd)", "netrevPollAlone(netrevClose, pd, 0)"))},
+	{polling, "poll_runtime_pollOpen", since121(
+		[]edit{
+			one(behind, "pd.publishInfo()", "netrevOpened(pd, fd, 0)"),
+			one(before, "pollcache.free(pd)", "netrevPollAlone(netrevOpenFailed, pd, int64(errno))")},
+		[]edit{
+			one(behind, "pd.publishInfo()", "netrevOpened(pd, fd, pd.fdseq.Load())"),
+			one(before, "pollcache.free(pd)", "netrevPollAlone(netrevOpenFailed, pd, int64(errno))")})},
+	{polling, "poll_runtime_pollClose", since121(
+		[]edit{one(before, "netpollclose(pd.fd)", "netrevPollAlone(netrevClose, pd, 0)")},
+		nil)},
+	{polling, "free", since121( // (also where a descriptor couldn't be opened: then it was no socket's)
+		nil,
+		[]edit{one(behind, "pd.publishInfo()", "netrevPoll(netrevClose, pd, 0, 0, 0)")})},
 	{polling, "poll_runtime_pollReset", all(
 		edit{how: rename, times: 1, put: []string{"netrevGoPollReset"}})},
 	{polling, "poll_runtime_pollWait", all(
@@ -107,24 +119,27 @@ var steps = []rule{
 	{polling, "netpolldeadlineimpl", all(
 		one(replace, "seq != currentSeq", "netrevFired(pd, seq, currentSeq, read, write)"))},
 	{epolling, "netpoll", []variant{
-		{"1.18 and 1.19", true, []edit{
+		{"1.18 and 1.19", "!fdseq", []edit{
 			one(before, "pd.setEventErr(ev.events == _EPOLLERR)", "netrevEvent(pd, mode, $1)"),
 			one(behind, "netpollready(&toRun, pd, mode)", "netrevEventDone(pd)")}},
-		{"1.20", false, []edit{
+		{"1.20", "!fdseq", []edit{
 			one(before, "pd.setEventErr(ev.Events == syscall.EPOLLERR)", "netrevEvent(pd, mode, $1)"),
 			one(behind, "netpollready(&toRun, pd, mode)", "netrevEventDone(pd)")}},
-		{"1.21 to 1.25", false, []edit{ // (an event with the tag of an earlier use goes by before, and is no point)
-			one(before, "pd.setEventErr(...)", "netrevEvent(pd, mode, $1)"),
-			one(behind, "netpollready(&toRun, pd, mode)", "netrevEventDone(pd)")}}}},
+		{"1.21 to 1.27", "fdseq", []edit{
+			one(before, "pd.fdseq.Load() == tag", "netrevEventBegins(pd)"),
+			one(replace, "pd.fdseq.Load() == tag", "(netrevOn == 0 && $0 || netrevOn != 0 && netrevTagged(pd, mode, ev.Events, tag, pd.fdseq.Load()))"),
+			one(behind, "pd.fdseq.Load() == tag", "netrevEventDone(pd)")}}}},
+	{queueing, "poll_runtime_Semacquire", all(
+		one(beside, "semacquire1(...)", "func netrevSemacquire(addr *uint32, mark semaProfileFlags) { semacquire1($1, $2, $3|mark, $4..) }"))},
 	{queueing, "semacquire1", all(
 		edit{replace, "cansemacquire(addr)", 3, []string{
 			"netrevEasy(addr, profile)", "netrevTake(addr, profile)", "netrevEasy(addr, profile)"}})},
 	{queueing, "semrelease1", []variant{
-		{"1.18 and 1.19", true, []edit{
+		{"1.18 and 1.19", "", []edit{
 			one(replace, "atomic.Xadd(addr, 1)", "netrev, skipframes := netrevMarked(skipframes); if netrev == 0 { $0 }"),
 			edit{replace, "atomic.Load(&root.nwait) == 0", 2, []string{"netrev == 0 && $0", ""}},
 			one(behind, "lockWithRank(&root.lock, lockRankRoot)", "netrevRaise(addr, netrev)")}},
-		{"1.20 to 1.25", false, []edit{
+		{"1.20 to 1.27", "", []edit{
 			one(replace, "atomic.Xadd(addr, 1)", "netrev, skipframes := netrevMarked(skipframes); if netrev == 0 { $0 }"),
 			edit{replace, "root.nwait.Load() == 0", 2, []string{"netrev == 0 && $0", ""}},
 			one(behind, "lockWithRank(&root.lock, lockRankRoot)", "netrevRaise(addr, netrev)")}}}},

@@ -3,6 +3,7 @@
 from __future__ import annotations
 
 import json
+import os
 import subprocess
 from typing import Any, BinaryIO, Optional, cast
 
@@ -89,7 +90,7 @@ class Client:
     def begin(self, recording: str, **launch: Any) -> Body:
         """Launches a recording; the body of the event that it stopped first."""
         self("initialize", adapterID="netrev", linesStartAt1=True, columnsStartAt1=True)
-        self("launch", program=recording, netrev=NETREV, **launch)
+        self("launch", program=recording, **launch)
         self.event("initialized")
         return self.move("configurationDone")
 
@@ -104,7 +105,11 @@ class Adapter(Client):
 
     def __init__(self) -> None:
         self.process = subprocess.Popen(
-            [NRDB, "--dap"], stdin=subprocess.PIPE, stdout=subprocess.PIPE, stderr=subprocess.PIPE
+            [NRDB, "--dap"],
+            stdin=subprocess.PIPE,
+            stdout=subprocess.PIPE,
+            stderr=subprocess.PIPE,
+            env=os.environ | {"NETREV": NETREV},
         )
         super().__init__(cast(BinaryIO, self.process.stdout), cast(BinaryIO, self.process.stdin))
 

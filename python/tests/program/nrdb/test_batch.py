@@ -34,6 +34,42 @@ class Batch(unittest.TestCase):
                         plain, [*netrev(path, ["info position"]), *netrev(path, script.read_text().splitlines())]
                     )
 
+    def test_what_cannot_be_printed_or_reached_is_a_sentence(self):
+        for words in (["--batch", "-ex", "where"], ["--json"], ["--suspects"]):
+            with open("/dev/full", "w", encoding="ascii") as full:
+                ended = subprocess.run(
+                    [NRDB, "--netrev", NETREV, *words, FIRST],
+                    stdin=subprocess.DEVNULL,
+                    stdout=full,
+                    stderr=subprocess.PIPE,
+                    check=False,
+                )
+            self.assertEqual((ended.returncode, ended.stderr), (3, b"nrdb: standard output: No space left on device\n"))
+        for host, status in (
+            ("127.0.0.1:\u00b2", 2),
+            ("127.0.0.1:65536", 2),
+            ("x" * 300 + ":80", 3),
+            ("127.0.0.1:1", 3),
+        ):
+            said, errors, ended = nrdb_process("--join", host, FIRST)
+            self.assertEqual(ended, status, host)
+            self.assertNotIn("Traceback", errors)
+        for option in ("--timeline", "--trace", "--reduce"):
+            self.assertEqual(nrdb_process(option, "", FIRST)[2], 3, option)
+
+    def test_a_file_of_lines_that_cannot_be_used_is_told_and_left(self):
+        with tempfile.TemporaryDirectory() as folder:
+            path = Path(folder, "first.jsonl")
+            path.write_bytes(FIRST.read_bytes())
+            path.with_suffix(".where").write_text("[" * 200_000)
+            said = nrdb("--batch", "-ex", "where", path).splitlines()
+            self.assertEqual(
+                said[2][:60], "| first.where isn't used: line 1 isn't one of its form; docs/RECORDING"[:60]
+            )
+            self.assertEqual(said[3], "(netrev) where")
+            path.with_suffix(".where").unlink()
+            self.assertEqual(nrdb("--batch", "-ex", "where", path).splitlines(), said[:2] + said[3:])
+
     def test_files_and_lines_are_taken_in_order(self):
         with tempfile.TemporaryDirectory() as folder:
             file = Path(folder) / "lines"

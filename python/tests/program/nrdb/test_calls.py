@@ -80,19 +80,20 @@ class Beside(unittest.TestCase):
 class Lines(unittest.TestCase):
     def test_calls_steps_and_errors(self):
         told = said(HIJACKED, "continue", "calls gor 2 3", "steps desc 2 2", "steps fire", "info errors")
-        self.assertIn("gor 2    Read on socket 3: steps 168 to 194, waited 16 (10162579 ns), got 7 bytes", told)
-        self.assertIn("gor 2    Write on socket 3: steps 195 to 197, timed out", told)
+        self.assertIn("gor 2    Read on socket 3: steps 169 to 195, waited 16 (2163709 ns), got 7 bytes", told)
+        self.assertIn("gor 2    Write on socket 3: steps 196 to 198, timed out", told)
         self.assertIn("main.go:39 net.(*conn).Write\n", told)
-        self.assertIn("|     201  pollclose 2 2", told)
-        self.assertIn("185  fire 0", told)
-        self.assertIn("(the write timer of descriptor 2, set at step 106 by goroutine 2)", told)
-        self.assertEqual(told.split("info errors\n")[1].count(", timed out "), 2)
+        self.assertIn("|     202  pollclose 2 2", told)
+        self.assertIn("186  fire 0", told)
+        self.assertIn("(the write timer of descriptor 2, set at step 107 by goroutine 2)", told)
+        self.assertEqual(told.split("info errors\n")[1].count(", timed out "), 1)
+        self.assertIn("1 more are waits of Go's own code", told)
 
     def test_next_and_finish_go_by_calls(self):
-        lines = ["goto 185", "finish 2", "next", "reverse-next", "goto 170", "next", "reverse-finish"]
+        lines = ["goto 186", "finish 2", "next", "reverse-next", "goto 171", "next", "reverse-finish"]
         stops = [event["position"] for event in events(HIJACKED, lines) if event["event"] == "place"]
-        own = [step for step in range(171, 195) if shown(HIJACKED).recording.step(step).argument("g") == 2]
-        self.assertEqual(stops, [185, 194, 197, 194, 170, own[0], 167])
+        own = [step for step in range(172, 196) if shown(HIJACKED).recording.step(step).argument("g") == 2]
+        self.assertEqual(stops, [186, 195, 198, 195, 171, own[0], 168])
 
     def test_until_takes_two_conditions(self):
         values = shown(HIJACKED).series(["gor 2", "wd 2"])
@@ -120,7 +121,7 @@ class Lines(unittest.TestCase):
         told = said(HIJACKED, *lines)
         self.assertIn("1 watch wd 2\n| mark 1 runs: print gor 2; print wd 2\n", told)
         self.assertEqual(told.count("(netrev) print wd 2\nwd 2 = "), 2)
-        self.assertIn("wd 2 = 35080549\n", told)
+        self.assertIn("wd 2 = 45061869\n", told)
         again = said(HIJACKED, "watch wd 2", "commands 1; print wd 2; continue; end", "continue")
         self.assertEqual(again.count("(netrev) print wd 2\nwd 2 = "), 3)  # (each stop goes on to the next one)
         self.assertIn("at 216 end\n", again)

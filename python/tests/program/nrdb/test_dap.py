@@ -3,19 +3,18 @@
 import json
 import os
 import signal
-import socket
 import subprocess
 import tempfile
 import unittest
 from pathlib import Path
 from typing import Any
 
-from tests.program.nrdb.dap_client import Adapter, Client, Refusal
+from tests.program.nrdb.dap_client import Adapter, Refusal
 from tests.program.nrdb.dap_forms import misfit_of_message
 from tests.program.nrdb.support import EXAMPLES, NRDB
-from tests.program.sharing import NETREV
 
 LOST = str(EXAMPLES / "lost-wakeup.jsonl")
+CAUSED = EXAMPLES.parent / "python/tests/caused/once-bad.jsonl"
 HUNG = EXAMPLES / "real/hung.jsonl"
 STRANGE = "\x1b]0;\u202e"
 
@@ -153,7 +152,7 @@ class Hunt(unittest.TestCase):
 
     def test_lines_are_counted_as_the_editor_does(self):
         self.editor("initialize", adapterID="netrev", linesStartAt1=False)
-        self.editor("launch", program=LOST, netrev=NETREV, stopAt="start")
+        self.editor("launch", program=LOST, stopAt="start")
         self.editor.event("initialized")
         self.editor.move("configurationDone")
         self.assertEqual(self.editor.line(), 1)
@@ -166,6 +165,16 @@ class Hunt(unittest.TestCase):
         self.editor.begin(LOST)
         found = self.editor("breakpointLocations", source={"path": LOST}, line=1, endLine=3)["breakpoints"]
         self.assertEqual(found, [{"line": 2}, {"line": 3}])
+
+    def test_lines_of_another_source_have_no_steps(self):
+        self.editor.begin(LOST)
+        for source in ({"path": __file__}, {"name": "main.go"}, {"path": "\0"}, {"path": 7}, "main.go", None):
+            found = self.editor("breakpointLocations", source=source, line=1, endLine=3)["breakpoints"]
+            self.assertEqual(found, [], source)
+            with self.assertRaisesRegex(Refusal, "no step of the recording comes from that line"):
+                self.editor("gotoTargets", source=source, line=20)
+            (made,) = self.editor("setBreakpoints", source=source, breakpoints=[{"line": 2}])["breakpoints"]
+            self.assertFalse(made["verified"])
 
 
 class GoLines(unittest.TestCase):
@@ -181,6 +190,31 @@ class GoLines(unittest.TestCase):
             for frame in first:
                 self.assertTrue(Path(frame["source"]["path"]).is_file())
                 self.assertEqual(frame["presentationHint"], "normal")
+
+    def test_a_line_and_a_function_stop_both_ways(self):
+        folder = EXAMPLES.parent / "tools/go/samples/causes"
+        with Adapter() as editor:
+            editor.begin(str(CAUSED), stopAt="start", source="go", sourceRoot=str(folder))
+            main = {"path": str(folder / "main.go")}
+            (made,) = editor("setBreakpoints", source=main, breakpoints=[{"line": 46}])["breakpoints"]
+            self.assertEqual((made["verified"], made["line"]), (True, 46))
+            came = []
+            for way in ("continue", "continue", "reverseContinue"):
+                stopped = editor.move(way, threadId=1)
+                self.assertEqual((stopped["reason"], stopped["hitBreakpointIds"]), ("breakpoint", [made["id"]]))
+                frames = editor("stackTrace", threadId=stopped["threadId"])["stackFrames"]
+                self.assertEqual((frames[0]["name"], frames[0]["line"]), ("main.echo", 46))
+                came.append(stopped["description"])
+            self.assertEqual(came[0], came[2])
+            self.assertNotEqual(came[0], came[1])
+            (target, *_) = editor("gotoTargets", source=main, line=46)["targets"]
+            self.assertEqual(f"at {target['id']}", came[0])
+            editor("setBreakpoints", source=main, breakpoints=[])
+            (of_function,) = editor("setFunctionBreakpoints", breakpoints=[{"name": "main.ask"}])["breakpoints"]
+            self.assertTrue(of_function["verified"])
+            self.assertEqual(editor.move("continue", threadId=1)["hitBreakpointIds"], [of_function["id"]])
+            found = editor("breakpointLocations", source=main, line=40, endLine=50)["breakpoints"]
+            self.assertIn({"line": 46}, found)
 
     def test_the_recording_comes_first_otherwise(self):
         with Adapter() as editor:
@@ -201,13 +235,25 @@ class Ends(unittest.TestCase):
             bad.write_text('{"netrev":1,"gor":1,"sock":1,"desc":1,"buf":16}\n["incref",0,0]\n')
             editor("initialize", adapterID="netrev")
             with self.assertRaisesRegex(Refusal, "step 1: fault 107 reason 4\n(?s:.*)sockopen"):
-                editor("launch", program=str(bad), netrev=NETREV)
+                editor("launch", program=str(bad))
             with self.assertRaisesRegex(Refusal, "No such file"):
-                editor("launch", program=str(bad) + ".gone", netrev=NETREV)
+                editor("launch", program=str(bad) + ".gone")
+            with self.assertRaisesRegex(Refusal, "no file can have that name"):
+                editor("launch", program=LOST + "\0")
             with self.assertRaisesRegex(Refusal, "launch comes first"):
                 editor("threads")
             editor("disconnect")
             self.assertEqual(editor.process.wait(timeout=60), 0)
+
+    def test_no_launch_names_the_program_that_is_run(self):
+        with tempfile.TemporaryDirectory() as folder, Adapter() as editor:
+            ran, program = Path(folder, "ran"), Path(folder, "program")
+            program.write_text(f"#!/bin/sh\ntouch {ran}\n")
+            program.chmod(0o700)
+            with self.assertRaisesRegex(Refusal, "not by a launch"):
+                editor("launch", program=LOST, netrev=str(program))
+            editor.begin(LOST)
+            self.assertFalse(ran.exists())
 
     def test_text_of_others_is_written_out(self):
         with tempfile.TemporaryDirectory() as folder, Adapter() as editor:
@@ -228,6 +274,7 @@ class Ends(unittest.TestCase):
                 ("frobnicate", {}), ("attach", {}), ("launch", {"program": 7}), ("goto", {"targetId": 99}),
                 ("scopes", {"frameId": "one"}), ("stackTrace", {"threadId": 0}), ("setBreakpoints", {"breakpoints": 3}),
                 ("gotoTargets", {"line": 99}), ("variables", {"variablesReference": 9}), ("exceptionInfo", {}),
+                ("setExceptionBreakpoints", {"filters": [{}]}),
             ]  # fmt: skip
             for command, arguments in wrong:
                 with self.assertRaises(Refusal, msg=command):
@@ -237,6 +284,9 @@ class Ends(unittest.TestCase):
     def test_what_is_no_message_ends_it(self):
         for data in (
             b"Hello\r\n\r\n",
+            b"POST / HTTP/1.1\r\nContent-Length: 2\r\n\r\n{}",
+            b"Content-Length: 2\r\nOrigin: http://example.com\r\n\r\n{}",
+            b"Content-Length: 2\r\nContent-Length: 3\r\n\r\n{} ",
             b"Content-Length: 3\r\n\r\n{]}",
             b"Content-Length: 99999999999\r\n\r\n",
             b"Content-Length: 2\r\n\r\n[]",
@@ -272,23 +322,6 @@ class Ends(unittest.TestCase):
         left = children(editor.process.pid)
         editor.__exit__()
         self.assertFalse([one for one in left if Path(f"/proc/{one}").exists()])
-
-
-class Port(unittest.TestCase):
-    """Editors at a port, one after the other."""
-
-    def test_two_editors(self):
-        with subprocess.Popen([NRDB, "--dap-port", "0"], stdout=subprocess.PIPE, text=True) as serving:
-            try:
-                assert serving.stdout
-                port = int(serving.stdout.readline().rpartition(":")[2])
-                for _ in range(2):
-                    with socket.create_connection(("127.0.0.1", port), timeout=60) as connection:
-                        editor = Client(connection.makefile("rb"), connection.makefile("wb"))
-                        self.assertEqual(editor.begin(LOST)["reason"], "entry")
-                        editor("disconnect")
-            finally:
-                serving.terminate()
 
 
 class Forms(unittest.TestCase):

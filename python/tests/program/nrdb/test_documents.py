@@ -1,6 +1,8 @@
 """The sessions that docs/ and README.md show: each is what nrdb prints, and so is what it says of a recording that is refused."""
 
+import os
 import re
+import tempfile
 import unittest
 
 from nrdb.commands import OF_NRDB, TOPICS, Origin
@@ -26,7 +28,33 @@ def refusals(text):
         yield block[1], [line[4:] for line in block[2].splitlines()]
 
 
+def calls(text):
+    """The blocks of a page that begin with a call of nrdb with options on a recording of examples/: its words, and the lines shown."""
+    for block in re.finditer(r"^    \$ ./nrdb (-.* examples/\S+)\n((?:    .*\n)+)", text, re.MULTILINE):
+        yield block[1].split(), [line[4:] for line in block[2].splitlines()]
+
+
+def as_shown(lines):
+    """A pattern of what is printed as lines show it: `..` alone is any lines, and how long something took is any time."""
+    shown = "".join(r"(?:.*\n)+" if line == ".." else f"{re.escape(line)}\n" for line in lines)
+    return re.sub(r"\d+\\\.\d\\ s\b", r"\\d+\\.\\d s", shown)
+
+
 class Documents(unittest.TestCase):
+    def test_calls_with_options_print_what_is_shown(self):
+        count, here = 0, os.getcwd()
+        self.addCleanup(os.chdir, here)
+        for page in [ROOT / "README.md", *sorted((ROOT / "docs").glob("*.md"))]:
+            for words, lines in calls(page.read_text(encoding="utf-8")):
+                with self.subTest(page.name, words=words), tempfile.TemporaryDirectory() as folder:
+                    os.chdir(folder)
+                    status = 4 if "--explore" in words else 0
+                    said = nrdb(*words[:-1], ROOT / words[-1], status=status)
+                    os.chdir(here)
+                    self.assertRegex(said, f"\\A{as_shown(lines)}\\Z")
+                count += 1
+        self.assertGreaterEqual(count, 2)
+
     def test_sessions_are_what_is_printed(self):
         count = 0
         for page in [ROOT / "README.md", *sorted((ROOT / "docs").glob("*.md"))]:

@@ -6,7 +6,6 @@ from typing import Any
 
 from tests.program.nrdb.dap_client import Adapter
 from tests.program.nrdb.support import EXAMPLES
-from tests.program.sharing import NETREV
 
 CONVERSATION = EXAMPLES / "editors/lost-wakeup.dap"
 RECORDING = "lost-wakeup.jsonl"
@@ -38,7 +37,7 @@ class Conversation(unittest.TestCase):
                     continue
                 arguments = dict(message.get("arguments", {}))
                 if message["command"] == "launch":
-                    arguments |= {"program": str(EXAMPLES / RECORDING), "netrev": NETREV}
+                    arguments["program"] = str(EXAMPLES / RECORDING)
                 editor.send({"seq": number, "type": "request", "command": message["command"], "arguments": arguments})
 
 

@@ -12,11 +12,11 @@ from pathlib import Path
 from nrdb.exploring.telling import UNLESS
 from nrdb.recording import Recording
 from nrdb.reducing.writing import answered_by
-from nrdb.suspects import suspects_of
+from nrdb.suspects.ranking import suspects_of
 from nrdb.suspects.found import Rule
 from tests.program.sharing import NETREV
 
-from .support import EXAMPLES, ROOT, nrdb
+from .support import EXAMPLES, nrdb
 from .test_suspects import checked
 
 SOME = 4
@@ -74,22 +74,28 @@ class Exploring(unittest.TestCase):
                     self.assertRegex(checked(name), r"^ok \d+ steps\n$")
                     self.assertIn("-short" in name.stem or name.with_name(f"{name.stem}-short.jsonl").exists(), (True,))
 
+    def test_a_run_that_is_not_of_gos_calls_is_refused(self) -> None:
+        steps = ['["sockopen",16,16]', '["pollopen",0,0]', '["increfclose",0,0]', '["decref",0,0]']
+        with tempfile.TemporaryDirectory() as folder:
+            path = Path(folder, "closed.jsonl")
+            path.write_text("\n".join(['{"netrev":1,"gor":2,"sock":1,"desc":1,"buf":16}', *steps, ""]))
+            said = nrdb("--batch", "-ex", "explore 5", "-ex", "where", path)
+        self.assertIn(
+            "| explore plays calls of Go's, and this run isn't made of such: ('pollclose', 0, 0): reason 9", said
+        )
+        self.assertIn("(netrev) where", said)
+
     def test_other_words_and_the_recording_itself_are_refused(self) -> None:
-        said = nrdb("--batch", "-ex", "explore many", "-ex", "explore 0", "-ex", "explore 3 4", GOOD)
-        self.assertEqual(said.count("| explore [N]: N is how many schedules are played, from 1 to 1000000"), 3)
+        wrong = ("explore many", "explore 0", "explore 3 4", "explore failures all")
+        said = nrdb("--batch", *(word for line in wrong for word in ("-ex", line)), GOOD)
+        self.assertEqual(
+            said.count("| explore [failures] [N]: N is how many schedules are played, from 1 to 1000000"), 4
+        )
         shutil.copy(GOOD, "x-other-1.jsonl")
         os.symlink("x-other-1.jsonl", "x.jsonl")
         said = nrdb("--explore", "x.jsonl", status=3)
-        self.assertIn("x-other-1.jsonl is the recording itself; rename it", said)
+        self.assertIn("x-other-1.jsonl is the recording itself, or its lines: name another file, or rename it", said)
         self.assertEqual(Path("x.jsonl").read_bytes(), GOOD.read_bytes())
-
-    def test_the_page_shows_what_is_printed(self) -> None:
-        text = (ROOT / "docs/NRDB.md").read_text(encoding="utf-8")
-        found = re.search(r"    \$ ./nrdb --explore (\S+)\n((?:    \| .*\n)+)", text)
-        assert found
-        said = nrdb("--explore", ROOT / found[1], status=SOME).splitlines()[2:]
-        shown = [TIMED.sub("", line[4:]) for line in found[2].splitlines()]
-        self.assertEqual([TIMED.sub("", line) for line in said][: len(shown)], shown)
 
 
 def upgraded_with_lines(path: Path) -> tuple[Path, str]:

@@ -8,7 +8,7 @@ from pathlib import Path
 
 from netrev_fuzz.injections import Bug, Traffic
 from nrdb.recording import Recording
-from nrdb.suspects import suspects_of
+from nrdb.suspects.ranking import suspects_of
 from nrdb.suspects.found import Suspect
 from tests.examples import KNOWN
 
@@ -116,13 +116,17 @@ class Reducing(unittest.TestCase):
         self.assertIn(f"`ok {left.length} steps`", text)
         self.assertRegex(text, r"netrev: `at \d+ wd 0 = -1`")
 
-    def test_the_page_shows_what_is_printed(self) -> None:
+    def test_what_is_not_there_has_no_value(self) -> None:
+        out, path = self.folder / "o.jsonl", EXAMPLES / "real/hijacked.jsonl"
+        for cell in ("rg 9", "lock 99", "gor 4000"):
+            said = nrdb("--batch", "-ex", f"reduce {out} {cell} absent", path)
+            self.assertIn(f"| no step gives {cell} the value absent", said)
+            self.assertIn(f"| no step gives {cell} the value *", nrdb("--batch", "-ex", f"reduce {out} {cell} *", path))
+        self.assertFalse(out.exists())
+        self.assertIn("accepted by netrev", nrdb("--batch", "-ex", f"reduce {out} lock 0 *", path))
+
+    def test_the_page_has_what_is_left_of_recordings(self) -> None:
         text = (ROOT / "docs/NRDB.md").read_text(encoding="utf-8")
-        found = re.search(r"    \$ ./nrdb --reduce small.jsonl (\S+)\n((?:    \| .*\n)+)", text)
-        assert found
-        out = self.folder / "small.jsonl"
-        said = nrdb("--reduce", out, ROOT / found[1]).replace(f"{self.folder}/", "")
-        self.assertEqual(said.splitlines()[2:], [line[4:] for line in found[2].splitlines()])
         rows = re.findall(r"^\| `((?:hunts|real)/[\w-]+)` \| ([\d,]+) \| (\d+) \|$", text, re.MULTILINE)
         self.assertGreater(len(rows), 8)
         for name, steps, left in rows:

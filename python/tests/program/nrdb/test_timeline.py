@@ -113,7 +113,7 @@ class Timeline(unittest.TestCase):
             self.assertEqual(f"desc {' '.join(before.split()[1:])}", where)
         (suspect,) = data["suspects"]
         self.assertEqual((suspect["rule"], suspect["s"], suspect["d"]), ("deadline left behind", 3, 2))
-        self.assertEqual(suspect["netrev"], ["at 185 wd 2 = -1", "at 184 wd 2 = 35080549"])
+        self.assertEqual(suspect["netrev"], ["at 186 wd 2 = -1", "at 185 wd 2 = 45061869"])
         told = [data["lines"]["texts"][at] for at in data["lines"]["at"]]
         self.assertEqual(
             told[: recording.length + 1], [recording.lines.words(step) for step in range(recording.length + 1)]

@@ -23,6 +23,13 @@ def page_of(path: Path, *words: str) -> str:
         return file.read_text(encoding="utf-8")
 
 
+def opened(page: str) -> str:
+    """The page, of whose script a test may use `inside`."""
+    end = "})(JSON.parse("
+    assert page.count(end) == 1
+    return page.replace(end, f"window.inside = {{ arrows, drawRows, V, C }};\n{end}")
+
+
 @unittest.skipUnless(CHROMIUM, "chromium isn't on this machine (Debian: apt-get install chromium)")
 class Page(unittest.TestCase):
     page: str
@@ -110,6 +117,28 @@ class Page(unittest.TestCase):
     def test_the_address_names_a_position(self) -> None:
         self.assertEqual(used(self.page, "told.at = position();", place=f"#{OWED}")["at"], OWED)
 
+    def test_arrows_begin_and_changes_are_in_the_use_of_that_time(self) -> None:
+        told = used(
+            opened(page_of(EXAMPLES / "real/hung.jsonl")),
+            """
+            const { arrows, drawRows, V, C } = inside, named = drawRows(C.clientWidth, C.clientHeight), rowOf = (y) => V.rows[Math.floor((y - V.head + V.top) / V.high)];
+            told.arrows = arrows(named).map(([step, from]) => [step, rowOf(from).name, rowOf(from).begins ?? 0, rowOf(from).ends ?? 9999]);
+            const again = V.rows.find((row) => row.kind === "desc" && V.rows.some((one) => one.name === row.name && one.begins < row.begins));
+            const uses = V.rows.filter((row) => row.name === again.name), second = uses[1];
+            click(20, V.head - V.top + (V.rows.indexOf(second) + 0.5) * V.high);
+            told.uses = [uses[0].begins, second.begins, second.ends]; told.changes = [];
+            key("Home"); for (let n = 0; n < 30; n++) { key("]"); told.changes.push(position()); }
+            """,
+        )
+        self.assertGreater(len(told["arrows"]), 5)
+        wrong = [arrow for arrow in told["arrows"] if not arrow[2] <= arrow[0] - 1 < arrow[3]]
+        self.assertEqual(wrong, [])
+        self.assertGreater(len({arrow[2] for arrow in told["arrows"] if arrow[1].startswith("desc")}), 2)
+        first, begins, ends = told["uses"]
+        self.assertLess(first, begins)
+        self.assertTrue(all(begins <= position <= ends for position in told["changes"]), told["changes"])
+        self.assertGreater(len(set(told["changes"])), 2)
+
     def test_light_and_dark(self) -> None:
         seen = {}
         for name, scheme in (("light", LIGHT), ("dark", DARK)):
@@ -156,7 +185,7 @@ class Page(unittest.TestCase):
             told.panel = text("panel");
             told.made = document.querySelectorAll("img, #panel b, #suspects b b").length; told.suspects = text("suspects");
             """,
-            place="#106",
+            place="#107",
         )
         self.assertNotIn(HOSTILE, page)
         self.assertNotIn("\u202e", page)

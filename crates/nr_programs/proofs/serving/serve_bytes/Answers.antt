@@ -1,4 +1,4 @@
-use Rattle.std.proofs.Common.{◌≡◌, inr}
+use Rattle.std.proofs.Common.{◌≡◌, inr, refl}
 use Rattle.nr_programs.proofs.OpeningLemmas.{one_recording, prints_memory}
 use Rattle.nr_programs.proofs.serving.serve_bytes.Goals as goal
 
@@ -9,4 +9,4 @@ returns-in-Ok-clause-good g c = λ r is.
 
 pub returns-in-Err-clause-good : goal.returns-in-Err-clause-good
 returns-in-Err-clause-good g c = λ r is.
-    inr (inr (prints_memory _ _ _ _ _ _ c.in-Err.ensures.fault is c.refuse.ensures))
+    inr (inr (refl, prints_memory _ _ _ _ _ _ c.in-Err.ensures.fault is c.refuse.ensures))

@@ -32,9 +32,8 @@ join-one-requires-after_bounds g t c κs within =
     let starter_shared = b.1.1.1.1.1.1.1.1.1.0 in
     let gate_shared = b.1.1.1.1.1.1.1.1.1.1.0 in (
       (
-        (search sendable depth 20, search sendable depth 20, search sendable depth 20, search sendable depth 20, search sendable depth 20, c.in-Some.ensures.some.0),
+        (search sendable depth 20, search sendable depth 20, search sendable depth 20, search sendable depth 20, c.in-Some.ensures.some.0, c.in-Some.ensures.some.1),
         (
-          search sendable depth 20,
           search sendable depth 20,
           search sendable depth 20,
           search sendable depth 20,

@@ -6,5 +6,4 @@ use Rattle.nr_serving.proofs.fronts.serve_one.Given as goal
 -- the callers so far came and were served
 abbrev pub invariant-loop : goal.invariant-loop
 invariant-loop g l =
-    (goal.iterator-loop g).can_next l.iterator' × (goal.iterator-loop g).is_finite l.iterator'
-    × (l.front.table ≡ l.journal) × (l.conversations.arrivals ≡ came l.conversations.callers) × ServesCallers l.conversations.callers l.fn.front l.front × (l.failed ≡ list_any is_failure l.conversations.callers)
+    (l.front.table ≡ l.journal) × (l.callers.arrivals ≡ came l.callers.callers) × ServesCallers l.callers.callers l.fn.front l.front × (l.failed ≡ list_any is_failure l.callers.callers)

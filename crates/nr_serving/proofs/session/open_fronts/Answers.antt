@@ -13,10 +13,10 @@ loop-number-preserved g c =
     record {
       table = ap (λ (w : Waiting). w.table) c.open_front.ensures.seat ∙ i.table;
       same = ap (λ (w : Waiting). w.passes) c.open_front.ensures.seat ∙ i.same;
-      fresh = subst (All (λ f. IsFresh c.args.journal.now c.args.film.now.recording c.args.shape.fronts c.args.shape.depth (g.F.Finder.count c.args.finder) f.0)) (sym c.push_reserved.ensures.items)
-          (All-push (λ f. IsFresh c.args.journal.now c.args.film.now.recording c.args.shape.fronts c.args.shape.depth (g.F.Finder.count c.args.finder) f.0) _ _ i.fresh
+      fresh = subst (All (IsFresh c.args.journal.now c.args.film.now.recording c.args.shape.fronts c.args.shape.depth (g.F.Finder.count c.args.finder))) (sym c.push_reserved.ensures.items)
+          (All-push (IsFresh c.args.journal.now c.args.film.now.recording c.args.shape.fronts c.args.shape.depth (g.F.Finder.count c.args.finder)) _ _ i.fresh
           (subst (λ n. IsFresh c.args.journal.now c.args.film.now.recording n c.args.shape.depth (g.F.Finder.count c.args.finder) c.in_ok-front.front) i.same c.in_ok-front.ensures.fresh));
-      tags = numbers_more (λ f. f.0.pass_state.tag) _ _ _ _ c.push_reserved.ensures.items i.tags c.in_ok-front.ensures.tag;
+      tags = numbers_more (λ f. f.pass_state.tag) _ _ _ _ c.push_reserved.ensures.items i.tags c.in_ok-front.ensures.tag;
       count = omega (arith, c.push_reserved.ensures.len, i.count);
       within = omega (arith, c.loop-number-test.true);
       room = subst (λ n. c.args.shape.fronts ≤ n) (sym c.push_reserved.ensures.capacity) i.room;

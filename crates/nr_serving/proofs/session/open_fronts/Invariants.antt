@@ -8,9 +8,9 @@ abbrev pub invariant-loop-number : goal.invariant-loop-number
 invariant-loop-number g l =
     record {
       table : l.seat.table ≡ l.journal;
-      fresh : All (λ f. IsFresh l.journal l.film.recording l.shape.fronts l.shape.depth (g.F.Finder.count l.finder) f.0) l.fronts.items;
+      fresh : All (IsFresh l.journal l.film.recording l.shape.fronts l.shape.depth (g.F.Finder.count l.finder)) l.fronts.items;
       same : l.seat.passes ≡ l.shape.fronts;
-      tags : map (λ f. f.0.pass_state.tag) l.fronts.items ≡ numbers_below l.number;
+      tags : map (λ f. f.pass_state.tag) l.fronts.items ≡ numbers_below l.number;
       count : vec_len l.fronts ≡ l.number;
       within : l.number ≤ l.shape.fronts;
       room : l.shape.fronts ≤ vec_capacity l.fronts;

@@ -1,4 +1,4 @@
-use Rattle.std.proofs.Common.{◌∙◌, ap}
+use Rattle.std.proofs.Common.{◌∙◌, ap, rules}
 use Rattle.nr_front.specs.FrontState.{FrontState}
 use Rattle.nr_front.proofs.StepsLemmas.{is_refused, learns_run, learns_then, learns_word, seen_all_more, seen_all_run}
 use Rattle.nr_front.proofs.front.Front.offer_until_placed.Goals as goal
@@ -8,7 +8,7 @@ loop-self-preserved g c =
     let so_far = c.loop-self.invariant in
     let lost = c.in-Lost.ensures in
     let learns = learns_then _ _ _ so_far.1 (learns_word _ _ _ so_far.1.unowed_still lost) in
-    let run = c.in-Ok.ensures.without_pending in
+    let run = c.in_ok-run_pending-in-Lost.ensures.without_pending in
     let seen = seen_all_more c.in-Lost.field-0 c.loop-self.self c.offer.new.self so_far.3 lost in (
       ap (λ (d : FrontState). d.table) run ∙ lost.same.table ∙ so_far.0,
       learns_run _ _ _ learns run,
@@ -16,8 +16,9 @@ loop-self-preserved g c =
       seen_all_run c.offer.new.self c.run_pending.new.self seen run,
     )
 
-pub returns-in_default : goal.returns-in_default
-returns-in_default g c =
+pub returns-in_err-run_pending-in-Lost : goal.returns-in_err-run_pending-in-Lost
+returns-in_err-run_pending-in-Lost g c =
     let so_far = c.loop-self.invariant in
     let learns = learns_then _ _ _ so_far.1 (learns_word _ _ _ so_far.1.unowed_still c.in-Lost.ensures) in
-    is_refused _ _ _ learns c.in_default.ensures.unchanged c.in_default.ensures.memory c.run_pending.ensures.company
+    let refused = is_refused _ _ _ learns c.in_err-run_pending-in-Lost.ensures.unchanged c.in_err-run_pending-in-Lost.ensures.memory c.run_pending.ensures.company in
+    search rules

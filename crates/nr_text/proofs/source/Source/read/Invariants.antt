@@ -1,9 +1,9 @@
 -- Each try so far was interrupted, and nothing was received.
 use Rattle.std.proofs.Common.{◌≡◌, []}
-use Rattle.nr_text.specs.Streams.{Receives}
+use Rattle.nr_text.specs.Streams.{ReadsNow, Receives}
 use Rattle.nr_text.proofs.source.Source.read.Given as goal
 
 abbrev pub invariant-loop : goal.invariant-loop
 invariant-loop g l =
-    (goal.iterator-loop g).can_next l.iterator' × (goal.iterator-loop g).is_finite l.iterator'
-    × Receives l.fn.self l.self-inside.reader [] × (l.self-inside.failed ≡ l.fn.self.failed) × (l.self-inside.reader.failed ≡ l.fn.self.failed)
+    Receives l.fn.self l.self-inside.reader [] × (l.self-inside.failed ≡ l.fn.self.failed) × (l.self-inside.reader.failed ≡ l.fn.self.failed)
+    × ReadsNow l.fn.self l.self-inside.reader l.replies

@@ -1,12 +1,10 @@
 -- What came from the source is answered, up to the line that is kept, and neither a read nor a write failed.
 use Rattle.std.proofs.Common.{◌≡◌, ℕ, List, false}
 use Rattle.nr_lines.specs.LoopInvariant.{LoopInvariant}
-use Rattle.nr_lines.proofs.engine.serve.Given as goal
+use Rattle.nr_lines.proofs.engine.answer.Given as goal
 
 abbrev pub invariant-loop : goal.invariant-loop
 invariant-loop g l = record {
-  can_next : (goal.iterator-loop g).can_next l.iterator';
-  is_finite : (goal.iterator-loop g).is_finite l.iterator';
   table : l.front.table ≡ l.journal;
   reader : l.r.failed ≡ false;
   writer : l.w.failed ≡ false;

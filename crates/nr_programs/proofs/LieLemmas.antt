@@ -1,0 +1,46 @@
+-- What no caller is sent, and no run writes.
+use Rattle.std.proofs.Common.{◌≡◌, ◌⊎◌, inl, inr, ◌∙◌, ℕ, codes, false, true, List, [], ◌∷◌, None, Ok, refl, sym, ap}
+use Rattle.std.specs.List.{All}
+use Rattle.std.proofs.lemmas.List.Elements.{All-head}
+use Rattle.nr_rev.specs.Run.{Recording}
+use Rattle.nr_text.specs.Moments.{Moment}
+use Rattle.nr_text.specs.Streams.{IsOver, unread, unwritten}
+use Rattle.nr_lines.specs.Engine.{has_quit}
+use Rattle.nr_lines.specs.declared.ending.End.TheVariants.{Closed, Quit}
+use Rattle.nr_programs.specs.Opening.{opened}
+use Rattle.nr_programs.specs.Shared.{HeardOut, IsAnswered}
+use Rattle.nr_programs.specs.Transcript.{JournalSize, Transcribes, replies_over, start, transcript_by}
+use Rattle.nr_programs.specs.declared.run.ExitStatus.TheVariants.{Done}
+
+pub lie_refused : (r : Recording) (journal : JournalSize) (tag : ℕ) → ¬ (IsAnswered r journal tag (record {
+  input = unread None;
+  output = record { contents = None; sent = 65 ∷ []; failed = false };
+  ending = Ok Closed;
+}) start)
+lie_refused r journal tag a = absurd (let same : 65 ∷ [] ≡ [] = a.whole refl in cc)
+
+pub unread_refused : (r : Recording) (journal : JournalSize) (tag : ℕ) → ¬ (IsAnswered r journal tag (record {
+  input = unread None;
+  output = unwritten None;
+  ending = Ok Closed;
+}) start)
+unread_refused r journal tag a = absurd (elim (a.complete refl) as (λ _. ⊥) [ inl over ↦ (let same : false ≡ true = over.0 in cc) | inr quit ↦ (let same : false ≡ true = quit in cc) ])
+
+pub late_refused : (r : Recording) (journal : JournalSize) (tag : ℕ) → ¬ (IsAnswered r journal tag (record {
+  input = record { remaining = None; received = codes "quit\n"; ended = false; failed = false; moments = record { received = codes "quit\n"; sent = [] } ∷ [] };
+  output = record { contents = None; sent = codes "bye\n"; failed = false };
+  ending = Ok Quit;
+}) start)
+late_refused r journal tag a =
+    let heard : [] ≡ codes "bye\n" = All-head (HeardOut r start a.met) (record { received = codes "quit\n"; sent = [] }) [] a.prompt in
+    absurd cc
+
+pub lie_no_run : (recording : List ℕ) (r : Recording) → opened recording ≡ Ok r → ¬ (Transcribes recording (unread None)
+    (record { remaining = None; received = []; ended = true; failed = false; moments = [] }) (unwritten None)
+    (record { contents = None; sent = 65 ∷ []; failed = false }) Done)
+lie_no_run recording r is t =
+    let w : 65 ∷ [] ≡ transcript_by recording true t.commands t.met = t.writes.sent ∙ t.whole refl in
+    let e : transcript_by recording true t.commands t.met ≡ transcript_by recording true [] t.met =
+    ap (λ c. transcript_by recording true c t.met) (sym t.reads.received) in
+    let f : transcript_by recording true [] t.met ≡ [] = ap (λ o. replies_over o true [] t.met) is in
+    absurd (let same : 65 ∷ [] ≡ [] = w ∙ e ∙ f in cc)

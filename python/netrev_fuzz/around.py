@@ -1,0 +1,123 @@
+"""make fuzz-around, or by hand:  python3 python netrev_fuzz.around [--of logs] [--minutes M] [--cases N] [--seed S]
+
+Plays random cases of what is round netrev, each sort for the same time: damaged `logs` of the recorder; `views` of nrdb over recordings
+with any file of lines beside them; `editors` that ask the adapter for anything; `browsers` that type any line. In each it is a fault
+where Python ends with a traceback, where one takes too long, too much memory, or a file, and where a terminal would obey. A case has
+a seed of its own, `S-logs-1`, ..; `--case S-logs-1` plays that one alone. The program is $NETREV, else the built one. Ends with status 1 where
+there was a fault.
+"""
+
+import argparse
+import os
+import shutil
+import signal
+import sys
+import tempfile
+import time
+import traceback
+from collections import Counter
+from contextlib import contextmanager
+from pathlib import Path
+from typing import Callable, Iterator, Optional, Sequence
+
+from . import browsers, damaged_logs, editors, side_files
+
+ROOT = Path(__file__).resolve().parents[2]
+PATIENCE = 120  # seconds for a case
+MOST_FAULTS = 20
+
+Wrong = Callable[[str, Path, str], str]
+SORTS: dict[str, Wrong] = {
+    "logs": lambda seed, folder, _: damaged_logs.wrong(seed, folder),
+    "views": side_files.wrong,
+    "editors": editors.wrong,
+    "browsers": browsers.wrong,
+}
+
+
+class Late(BaseException):
+    """A case takes too long. (Nothing that catches exceptions takes it for one of its own.)"""
+
+
+@contextmanager
+def in_time() -> Iterator[None]:
+    """Within, Late is raised where it takes too long."""
+
+    def end(*_: object) -> None:
+        raise Late
+
+    before = signal.signal(signal.SIGALRM, end)
+    signal.alarm(PATIENCE)
+    try:
+        yield
+    finally:
+        signal.alarm(0)
+        signal.signal(signal.SIGALRM, before)
+
+
+def fault_of(seed: str, program: str) -> str:
+    """What is wrong with the case of a seed; nothing where all is well."""
+    sort = seed.rsplit("-", 2)[1]
+    folder = Path(tempfile.mkdtemp(prefix="netrev-fuzz-"))
+    try:
+        with in_time():
+            return SORTS[sort](seed, folder, program)
+    except Late:
+        return f"it takes more than {PATIENCE} s"
+    except Exception:
+        return traceback.format_exc()
+    finally:
+        shutil.rmtree(folder, ignore_errors=True)
+
+
+def seeds(seed: str, sorts: Sequence[str], cases: Optional[int], until: float) -> Iterator[str]:
+    """The seeds that are to be played: so many of each sort, or all until the time is up, each sort for as long as the others."""
+    spent, played = dict.fromkeys(sorts, 0.0), Counter[str]()
+    while time.monotonic() < until:
+        left = [sort for sort in sorts if cases is None or played[sort] < cases]
+        if not left:
+            return
+        sort = min(left, key=lambda one: spent[one])
+        played[sort] += 1
+        begun = time.monotonic()
+        yield f"{seed}-{sort}-{played[sort]}"
+        spent[sort] += time.monotonic() - begun
+
+
+def play(program: str, all_seeds: Iterator[str]) -> tuple[Counter[str], int]:
+    """Plays cases, and tells of each that is wrong: how many there were of each sort, and how many were wrong."""
+    played, found = Counter[str](), 0
+    for seed in all_seeds:
+        played[seed.rsplit("-", 2)[1]] += 1
+        if fault := fault_of(seed, program):
+            found += 1
+            print(f"{seed}: {fault.strip()}\n    again: python3 python netrev_fuzz.around --case {seed}", flush=True)
+        if found == MOST_FAULTS:
+            break
+    return played, found
+
+
+def main(words: Optional[Sequence[str]] = None) -> int:
+    parser = argparse.ArgumentParser(prog="fuzz around", description="random cases for what is round netrev")
+    parser.add_argument("--minutes", type=float, default=5)
+    parser.add_argument("--cases", type=int, help="at most so many of each sort")
+    parser.add_argument("--seed", default="")
+    parser.add_argument("--of", choices=tuple(SORTS), action="append", help="plays cases of this sort alone")
+    parser.add_argument("--case", metavar="SEED", help="plays this one")
+    asked = parser.parse_args(words)
+    program = os.environ.get("NETREV") or str(ROOT / "crates/netrev/out/netrev")
+    if not Path(program).is_file():
+        print(f"no program at {program}: `make netrev` builds it, or NETREV names another", file=sys.stderr)
+        return 2
+    seed = asked.seed or f"{time.time_ns() // 1_000_000}"
+    until = time.monotonic() + 60 * asked.minutes
+    print(f"seed {asked.case or seed}", flush=True)
+    played, found = play(
+        program, iter([asked.case]) if asked.case else seeds(seed, asked.of or tuple(SORTS), asked.cases, until)
+    )
+    print(f"{', '.join(f'{count} {sort}' for sort, count in sorted(played.items()))}: {found} faults")
+    return int(found > 0)
+
+
+if __name__ == "__main__":
+    sys.exit(main())

@@ -1,0 +1,192 @@
+"""Cases for the recorder's reading of logs: a log of a real program with other fields, in another order, mixed with another's, or with
+damaged bytes. Whatever it is becomes a recording or a sentence, in a process that has little memory and time."""
+
+import contextlib
+import io
+import os
+import random
+import resource
+import signal
+import struct
+import tempfile
+from functools import lru_cache
+from pathlib import Path
+
+from netrev_go import report
+from netrev_go.converting import Wish, convert
+from netrev_go.logfile import HEADER_BYTES, read_log
+from netrev_go.points import KINDS, Log, Point
+
+from .logs import STACKS, binary, from_text
+
+EXAMPLES = Path(__file__).resolve().parents[2] / "examples"
+MEMORY, SECONDS = 2 * 2**30, 40  # bytes and processor time of a case
+ASKED = 0.05  # the part of the cases in which netrev is asked too, which takes longest
+GREATEST = 100 * 2**20  # bytes of a recording
+RING = HEADER_BYTES + STACKS * 256
+SIDES = (ord("r"), ord("w"), ord("r") + ord("w"))
+SMALL = (*range(11), 16, 100, 1_000, 5_000, 65_536, 100_000, 1_000_000, *SIDES)
+LIMITS = (
+    0,
+    1,
+    -1,
+    255,
+    4_096,
+    65_535,
+    65_536,
+    2**20,
+    2**24,
+    2**30,
+    2**31,
+    2**40,
+    2**53,
+    2**62,
+    2**63 - 1,
+    -(2**63),
+    *SIDES,
+)
+HEADER_WORDS = (*(value % 2**64 for value in LIMITS), 2**64 - 1, 2**14, 2**24 + 1, 2**20 + 1, 100)
+
+Points = list[Point]
+
+
+@lru_cache(maxsize=1)
+def logs() -> list[tuple[bytes, Log]]:
+    """The logs of real programs that are stored."""
+    found = []
+    with tempfile.TemporaryDirectory() as folder:
+        path = Path(folder, "log.1")
+        for stored in sorted((*EXAMPLES.glob("real/*.log"), *EXAMPLES.glob("races/*.log"))):
+            data, _ = from_text(stored.read_text(encoding="ascii"))
+            path.write_bytes(data)
+            found.append((data, read_log(path)))
+    return found
+
+
+def changed_fields(dice: random.Random, points: Points) -> Points:
+    """Points whose fields have other values; their sums are right."""
+    values = dice.choice([SMALL, LIMITS])
+    for _ in range(dice.choice([1, 1, 2, 3, 10])):
+        at = dice.randrange(len(points))
+        name = dice.choice(["kind", "goroutine", "at", "a", "b", "c", "time", "stack"])
+        value = dice.choice(values)
+        if name == "kind":
+            value = dice.choice(sorted(KINDS))
+        elif name == "stack":
+            value = abs(value) % 2**32
+        elif name == "at" and dice.random() < 0.8:
+            value = dice.choice(points).at
+        elif dice.random() < 0.3:
+            value = max(-(2**63), min(getattr(points[at], name) + dice.choice([1, -1, 2]), 2**63 - 1))
+        points[at] = points[at]._replace(**{name: value})
+    return points
+
+
+def other_order(dice: random.Random, points: Points) -> Points:
+    """Points that were exchanged, left out, doubled, moved or cut off."""
+    for _ in range(dice.choice([1, 1, 2, 3])):
+        at, other = dice.randrange(len(points)), dice.randrange(len(points))
+        how = dice.randrange(5)
+        if how == 0:
+            points[at], points[other] = points[other], points[at]
+        elif how == 1:
+            points = points[:at] + points[at + dice.choice([1, 3, 20]) :] or points
+        elif how == 2:
+            points = [*points[:at], points[other], *points[at:]]
+        else:
+            points = points[at:] if how == 3 else points[: at + 1]
+    return points
+
+
+def mixed(dice: random.Random, points: Points) -> Points:
+    """Points of another program among these."""
+    at, others = dice.randrange(len(points)), dice.choice(logs())[1].points
+    first = dice.randrange(len(others))
+    return [*points[:at], *others[first : first + dice.choice([1, 5, 50])], *points[at:]]
+
+
+def other_header(dice: random.Random, data: bytearray) -> bytearray:
+    """A header with other words, of a log that may be cut off, or have holes behind its end."""
+    for _ in range(dice.choice([1, 1, 2, 3])):
+        struct.pack_into("<Q", data, 8 * dice.randrange(12), dice.choice(HEADER_WORDS))
+    return data[: dice.randrange(len(data))] if dice.random() < 0.2 else data
+
+
+def damaged_bytes(dice: random.Random, data: bytearray) -> bytearray:
+    """Bytes that are changed, blank, lost, put in or moved."""
+    for _ in range(dice.choice([1, 1, 2, 5, 30])):
+        at, size = dice.randrange(len(data)), dice.choice([1, 8, 64, 512, 4_096])
+        place, other = (RING + 64 * dice.randrange((len(data) - RING) // 64 or 1) for _ in range(2))
+        how = dice.randrange(7)
+        if how == 0:
+            data[at] ^= 1 << dice.randrange(8)
+        elif how == 1:
+            data[at : at + size] = dice.choice([b"\0", b"\xff"]) * len(data[at : at + size])
+        elif how == 2:
+            del data[at : at + size]
+        elif how == 3:
+            data[at:at] = dice.randbytes(size)
+        elif how == 4 and len(data) > RING + 64:
+            data[place] ^= 1 << dice.randrange(8)
+        elif how == 5:
+            data[place : place + 64] = data[other : other + 64]
+        if len(data) < RING + 200:
+            break
+    return data
+
+
+OF_POINTS = (changed_fields, changed_fields, other_order, mixed)
+OF_BYTES = (other_header, damaged_bytes)
+
+
+def log_of(seed: str) -> bytes:
+    """The log of a seed."""
+    dice = random.Random(seed)
+    data, log = dice.choice(logs())
+    if dice.random() < 0.35:
+        return bytes(dice.choice(OF_BYTES)(dice, bytearray(data)))
+    points = dice.choice(OF_POINTS)(dice, list(log.points))
+    numbered = [point._replace(number=number) for number, point in enumerate(points)]
+    made = bytearray(binary(numbered, log.stacks, log.begin, room=len(numbered) + 5))
+    struct.pack_into("<Q", made, 11 * 8, dice.randrange(2))  # whether it has the program's orders
+    return bytes(made)
+
+
+def wrong(seed: str, folder: Path) -> str:
+    """What is wrong with what becomes of the log of a seed; nothing where all is well."""
+    reading, writing = os.pipe()
+    process = os.fork()
+    if process == 0:
+        said = "it ended by itself"
+        try:
+            os.close(reading)
+            said = confined(seed, folder)
+        finally:
+            os.write(writing, said.encode())
+            os._exit(0)
+    os.close(writing)
+    with open(reading, encoding="utf-8") as told:
+        said = told.read()
+    status = os.waitstatus_to_exitcode(os.waitpid(process, 0)[1])
+    return said if status == 0 else f"it ended with status {status}: more than {SECONDS} s, or memory"
+
+
+def confined(seed: str, folder: Path) -> str:
+    """What is wrong, found in a process of its own, which has little memory and time."""
+    resource.setrlimit(resource.RLIMIT_AS, (MEMORY, MEMORY))
+    resource.setrlimit(resource.RLIMIT_CPU, (SECONDS, SECONDS))
+    signal.signal(signal.SIGXCPU, signal.SIG_DFL)
+    if random.Random(f"{seed} netrev").random() > ASKED:
+        report.netrev_program = lambda: None
+    log, name = folder / "log.1", folder / "made.jsonl"
+    try:
+        log.write_bytes(log_of(seed))
+        with contextlib.redirect_stdout(io.StringIO()), contextlib.redirect_stderr(io.StringIO()):
+            outcome = convert(log, name, None, Wish())
+    except BaseException as failed:
+        return repr(failed) or "it failed"
+    if name.exists() and name.stat().st_size > GREATEST:
+        return f"the recording has {name.stat().st_size} bytes"
+    if not all(line.isprintable() for line in outcome.lines):
+        return f"a terminal may obey what is said: {outcome.lines!r}"
+    return "" if outcome.lines else "nothing is said"

@@ -1,0 +1,75 @@
+"""Logs of the recorder as text, so that they can be read and made: a line of JSON for the header, one for each stack, one for
+the line of each address, and one for each point, as `netrev_go.points.Point` has it."""
+
+import json
+import struct
+from typing import Iterable, Optional
+
+from netrev_go.logfile import HEADER_BYTES, MAGIC
+from netrev_go.points import Log, Point, Stack
+
+STACKS = 256
+FULL = 2**64 - 1
+Symbols = dict[int, tuple[str, str, int]]
+
+
+def binary(
+    points: Iterable[Point],
+    stacks: Optional[dict[int, Stack]] = None,
+    begin: int = 0,
+    room: int = 0,
+    passed: Optional[int] = None,
+) -> bytes:
+    """The log that has these points, each in the place of its number. `room` is how many there are places for."""
+    points = list(points)
+    room = room or max((point.number for point in points), default=0) + 1
+    last = max((point.number for point in points), default=-1) + 1
+    header = struct.pack("<11Q", MAGIC, last if passed is None else passed, room, STACKS, begin, 1, 0, 0, 0, 0, 0)
+    table = bytearray(STACKS * 256)
+    for number, (made, started, calls) in (stacks or {}).items():
+        words = (number, len(calls), made, started, *calls)
+        struct.pack_into(f"<{len(words)}Q", table, (number - 1) * 256, *words)
+    ring = bytearray(room * 64)
+    for point in points:
+        ring[point.number % room * 64 : point.number % room * 64 + 64] = packed(point)
+    return header.ljust(HEADER_BYTES, b"\0") + bytes(table) + bytes(ring)
+
+
+def packed(point: Point) -> bytes:
+    """A point's 64 bytes."""
+    number, kind, *seen, stack = point
+    total = number
+    for value in seen:
+        total ^= value & FULL
+    words = [
+        (number + 1) << 8 | kind,
+        *(value & FULL for value in seen),
+        stack | ((total ^ total >> 32) & 2**32 - 1) << 32,
+    ]
+    return struct.pack("<8Q", *words)
+
+
+def from_text(text: str) -> tuple[bytes, Symbols]:
+    """The log of a text, and its addresses' lines."""
+    points, stacks, symbols, header = [], {}, {}, {}
+    for line in map(json.loads, text.splitlines()):
+        if isinstance(line, list):
+            points.append(Point(*line))
+        elif "stack" in line:
+            stacks[line["stack"]] = Stack(line["made"], line["started"], tuple(line["calls"]))
+        elif "address" in line:
+            symbols[line["address"]] = (line["function"], line["file"], line["line"])
+        else:
+            header = line
+    return binary(points, stacks, header["begin"]), symbols
+
+
+def to_text(log: Log, symbols: Symbols) -> str:
+    """The text of a log, with its stacks numbered anew."""
+    used = sorted({point.stack for point in log.points if point.stack in log.stacks})
+    numbers = {stack: number for number, stack in enumerate(used, 1)}
+    lines: list[object] = [{"begin": log.begin}]
+    lines += [{"stack": numbers[stack], **log.stacks[stack]._asdict()} for stack in used]
+    lines += [{"address": at, "function": told[0], "file": told[1], "line": told[2]} for at, told in symbols.items()]
+    lines += [list(point._replace(stack=numbers.get(point.stack, 0))) for point in log.points]
+    return "".join(json.dumps(line, separators=(",", ":")) + "\n" for line in lines)

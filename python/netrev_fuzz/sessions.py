@@ -1,0 +1,31 @@
+"""A session of nrdb in this process, over a netrev of its own."""
+
+from contextlib import contextmanager
+from pathlib import Path
+from typing import Iterator
+
+from nrdb.answers import ANSWERS
+from nrdb.interrupts import Interrupts
+from nrdb.netrev import Own
+from nrdb.output import Printer
+from nrdb.recording import Recording
+from nrdb.scout import Scout
+from nrdb.session import Session
+
+
+@contextmanager
+def session_over(program: str, path: Path, printer: Printer) -> Iterator[Session]:
+    """A session over a recording that netrev takes."""
+    interrupts = Interrupts()
+
+    def netrev() -> Own:
+        return Own(program, str(path), interrupts)
+
+    session = Session(netrev(), Recording.read(str(path)), Scout(netrev), printer, interrupts, ANSWERS)
+    session.program, session.path = program, str(path)
+    try:
+        session.begin(session.ask("info position"))
+        yield session
+    finally:
+        session.looks().drop()
+        session.netrev.drop()

@@ -1,0 +1,89 @@
+"""Cases for the views of nrdb: a recording that netrev takes, at random, with a file of lines beside it that may be anything. Each
+command ends, with text that a terminal doesn't obey, and writes the files that it says and no others."""
+
+import io
+import json
+import os
+import random
+from pathlib import Path
+from typing import Any
+
+from netrev_model.writing import write_plain
+from nrdb.output import TextPrinter
+
+from .damage import damaged
+from .randomsteps import Author
+from .sessions import session_over
+from .texts import random_value
+
+VIEWS = (
+    "where", "list", "info goroutines all", "info sockets all", "info descriptors all", "info timers", "info suspects", "info errors all", "info hangs",
+    "info holders 0", "calls all", "calls gor 0", "steps gor 1 all", "steps sock 0 all", "steps desc 0 all", "goto 3", "next", "finish",
+    "reverse-finish", "continue", "timeline t.html", "trace t.json", "reduce r.jsonl", "report r.md", "explore 4", "reduce c.jsonl lock 0 *",
+    "reduce d.jsonl rg 9 absent", "report e.md gor 0 *", "history lock 0 all", "until gor 0 parked*", "source nothing", "help explore",
+    "break main.go:7", "frame", "up", "history main.go:7", "list main.go:7", "goto 1ns",
+)  # fmt: skip
+WRITTEN = (".html", ".json", ".jsonl", ".md", ".where")
+STRANGE = ("\x1b[2J", "\u202e", "\ud800", "</script>", "main.go", "x" * 300, "|`*", "\n")
+NESTED = (b"[" * 100_000, b'{"call":' * 50_000, b"9" * 5_000, b"\xff", b"null", b"{}")
+
+
+def lines_of(dice: random.Random, steps: int) -> list[Any]:
+    """The lines of a file that is of its form, with texts that a program may have."""
+    calls = dice.choice([1, 3, 10])
+    found: list[Any] = [{"where": 1, "steps": steps}]
+    for number in range(1, calls + 1):
+        names = {name: dice.choice(STRANGE) for name in ("function", "file")}
+        found.append(
+            {"call": number, **names, "line": dice.randrange(100), "of": dice.choice(["program", "library", "go"])}
+        )
+    for number in range(1, 4):
+        made = {"made": dice.randint(1, calls)} if dice.random() < 0.5 else {}
+        found.append({"stack": number, "calls": [dice.randint(1, calls) for _ in range(dice.randrange(15))], **made})
+    found.append({"step": 1, "stacks": [dice.randrange(5) for _ in range(steps)]})
+    if dice.random() < 0.7:
+        ends = [1, steps, steps + 1, 0, -1, 2**70, dice.randint(1, steps + 1)]
+        found.append({"orders": [[dice.choice(ends), dice.choice(ends)] for _ in range(dice.randrange(8))]})
+        found.append({"peers": [[dice.choice(ends), dice.choice(ends)], [0, 1]]})
+        found.append({"errors": [[dice.choice(ends), dice.choice(STRANGE)], [dice.randint(1, steps + 1), "EPIPE"]]})
+        words = dice.choice(STRANGE), dice.choice(ends), dice.choice([-1, 0, 1])
+        found.append({"waits": [[dice.choice(ends), 0, dice.randrange(3), *words]]})
+    return found
+
+
+def file_of(dice: random.Random, steps: int) -> bytes:
+    """The file: of its form, with other values in some places, or with damaged bytes."""
+    lines = lines_of(dice, steps)
+    sort = dice.randrange(4)
+    for _ in range(dice.choice([1, 2, 5]) if sort == 1 else 0):
+        line = dice.choice(lines)
+        line[dice.choice([*line, "of"])] = random_value(dice, 0)
+    texts = [json.dumps(line).encode("ascii") for line in lines]
+    if sort == 2:
+        texts[dice.randrange(len(texts))] = dice.choice(NESTED)
+    data = b"".join(text + b"\n" for text in texts)
+    return damaged(dice, data) if sort == 3 else data
+
+
+def wrong(seed: str, folder: Path, program: str) -> str:
+    """What is wrong with what the views of a seed print or write; nothing where all is well."""
+    dice = random.Random(seed)
+    recording, _ = Author(dice).recording(dice.choice([4, 20, 60]))
+    path = folder / "recording.jsonl"
+    path.write_bytes(write_plain(recording))
+    path.with_suffix(".where").write_bytes(file_of(dice, len(recording.steps)))
+    before = {name: (folder / name).read_bytes() for name in ("recording.jsonl", "recording.where")}
+    out, here = io.StringIO(), os.getcwd()
+    os.chdir(folder)
+    try:
+        with session_over(program, path, TextPrinter(out)) as session:
+            for line in VIEWS:
+                session.run(line)
+    finally:
+        os.chdir(here)
+    obeyed = [line for line in out.getvalue().split("\n") if not line.isprintable()]
+    if obeyed:
+        return f"a terminal may obey {obeyed[0]!r}"
+    changed = [name for name, data in before.items() if (folder / name).read_bytes() != data]
+    others = [name for name in os.listdir(folder) if not name.endswith(WRITTEN)]
+    return f"{changed or others}: this was written over, or isn't to be written" if changed or others else ""

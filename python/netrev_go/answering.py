@@ -1,0 +1,53 @@
+"""What a point says: which sides it is of, and which of Go's answers it has."""
+
+from __future__ import annotations
+
+from .points import Kind, Point
+from .sockets import AGAIN, Socket
+
+BROKEN_PIPE = 2
+MODES = {ord("r"): "r", ord("w"): "w", ord("r") + ord("w"): "rw"}
+UNLOCKING = {int(Kind.DECREF), int(Kind.RW_UNLOCK)}
+
+
+class Unconvertible(Exception):
+    """The log is of something that a recording can't tell."""
+
+
+def parts(count: int, most: int) -> list[int]:
+    """A number of bytes in parts that a step can move."""
+    return [most] * (count // most) + ([count % most] if count % most else [])
+
+
+def mode_of(point: Point) -> str:
+    """The side or the sides of a point at a descriptor."""
+    mode = MODES.get(point.a)
+    if mode is None:
+        raise Unconvertible(f"point {point.number}: {point.a} is neither reading nor writing")
+    return mode
+
+
+def side_of(point: Point) -> str:
+    mode = mode_of(point)
+    if len(mode) > 1:
+        raise Unconvertible(f"point {point.number}: one side is meant, and not both")
+    return mode
+
+
+def lock_answer(kind: int, was_closed: bool, bits: int) -> str:
+    """What Go's function returned: the log has its own expression for it, and that a closed word was found."""
+    if kind in UNLOCKING:
+        return "last" if bits & 2 else "notlast"
+    if was_closed:
+        return "no"
+    return "yes" if bits & 2 else "wait"
+
+
+def can_answer(socket: Socket, point: Point) -> bool:
+    """Whether the machine has an answer for what a read or a write came to. It has none for most errors, none for an EPIPE
+    that the other end brought about, and none for an output that was filled by bytes that aren't recorded."""
+    if point.b > 0:
+        return True
+    if point.c == AGAIN:
+        return point.kind == Kind.READ or socket.held == socket.capacity()
+    return point.c == BROKEN_PIPE and socket.shut if point.kind == Kind.WRITE else point.c == 0

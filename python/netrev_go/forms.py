@@ -1,0 +1,157 @@
+"""What came of each test, in the forms that machines read: a line of JSON, GitHub's annotations, JUnit's XML. docs/CI.md has them as
+tables."""
+
+from __future__ import annotations
+
+import json
+import re
+from collections.abc import Iterable
+from dataclasses import asdict, dataclass, field
+from xml.etree import ElementTree
+
+from netrev_model.plain import plain
+
+from .ran import Ran, Went
+
+LINE = re.compile(r"([\w./@+~-]+\.go):(\d+)\b")
+WORST = (Went.FAILED, Went.UNFINISHED, Went.PASSED, Went.SKIPPED)
+
+
+@dataclass
+class Cause:
+    """What is said of a line of the program."""
+
+    file: str
+    line: int
+    text: str
+
+
+@dataclass
+class Told:
+    """What came of one test in all its runs."""
+
+    package: str
+    test: str
+    status: str = Went.SKIPPED.value
+    runs: int = 0
+    failed: int = 0
+    seconds: float = 0.0
+    file: str | None = None
+    line: int | None = None
+    recording: str | None = None
+    accepted: bool | None = None  # by netrev; None where there is no recording
+    page: str | None = None
+    suspects: list[str] = field(default_factory=list)
+    causes: list[Cause] = field(default_factory=list)
+    possible: list[str] = field(default_factory=list)
+    says: list[str] = field(default_factory=list)
+
+    def add(self, test: Ran) -> None:
+        """One more run."""
+        self.runs += 1
+        self.failed += test.is_red()
+        self.seconds = round(self.seconds + test.seconds(), 6)
+        if self.file is None and test.place is not None:
+            self.file, self.line = test.place
+        self.status = min(Went(self.status), test.went(), key=WORST.index).value
+
+    def is_red(self) -> bool:
+        return self.failed > 0
+
+    def place(self) -> tuple[str, int] | None:
+        """Where it failed, else the first line of the program that is named."""
+        if self.file is not None and self.line is not None:
+            return self.file, self.line
+        return (self.causes[0].file, self.causes[0].line) if self.causes else None
+
+    def say(self, lines: list[str]) -> None:
+        """Takes what is said of its recording."""
+        self.says = lines
+        self.suspects = suspects_in(lines)
+        self.causes = causes_in(lines)
+
+
+def suspects_in(lines: list[str]) -> list[str]:
+    """The suspects, each by its first line."""
+    return [found[1] for line in lines if (found := re.match(r"\s+\d+\. (.+)", line))]
+
+
+def causes_in(lines: list[str]) -> list[Cause]:
+    """The lines that name one of the source, the first of each."""
+    found: dict[tuple[str, int], Cause] = {}
+    for line in lines:
+        if at := LINE.search(line):
+            cause = Cause(at[1], int(at[2]), line.strip())
+            found.setdefault((cause.file, cause.line), cause)
+    return list(found.values())
+
+
+def json_lines(told: Iterable[Told]) -> str:
+    """A line for each test."""
+    return "".join(json.dumps(asdict(one)) + "\n" for one in told)
+
+
+def of_data(text: str) -> str:
+    """A text as GitHub takes it behind the colons."""
+    return text.replace("%", "%25").replace("\r", "%0D").replace("\n", "%0A")
+
+
+def of_property(text: str) -> str:
+    """A text as GitHub takes it for a property."""
+    return of_data(text).replace(":", "%3A").replace(",", "%2C")
+
+
+def annotation(one: Told) -> str:
+    """GitHub's for a test that failed."""
+    title = f"title={of_property(plain(f'{one.package} {one.test}'))}"
+    words = [f"{one.status} in {one.failed} of {one.runs} runs", *one.says]
+    place = one.place()
+    where = f"file={of_property(plain(place[0]))},line={place[1]}," if place else ""
+    return f"::error {where}{title}::{of_data(chr(10).join(map(plain, words)))}"
+
+
+def github_lines(told: Iterable[Told]) -> list[str]:
+    """Those of the tests that failed, without the ones of which a part failed."""
+    red = [one for one in told if one.is_red()]
+    parts = [(one.package, one.test) for one in red]
+    return [
+        annotation(one)
+        for one in red
+        if not any(package == one.package and test.startswith(f"{one.test}/") for package, test in parts)
+    ]
+
+
+def junit(told: list[Told]) -> str:
+    """JUnit's XML: a suite for each package, a case for each test."""
+    top = ElementTree.Element("testsuites", counts(told))
+    for package in dict.fromkeys(one.package for one in told):
+        cases = [one for one in told if one.package == package]
+        suite = ElementTree.SubElement(top, "testsuite", {"name": plain(package), **counts(cases)})
+        for one in cases:
+            add_case(suite, one)
+    ElementTree.indent(top)
+    return '<?xml version="1.0" encoding="UTF-8"?>\n' + ElementTree.tostring(top, encoding="unicode") + "\n"
+
+
+def counts(told: list[Told]) -> dict[str, str]:
+    how = [Went(one.status) for one in told]
+    return {
+        "tests": str(len(told)),
+        "failures": str(how.count(Went.FAILED)),
+        "errors": str(how.count(Went.UNFINISHED)),
+        "skipped": str(how.count(Went.SKIPPED)),
+        "time": f"{sum(one.seconds for one in told):.6f}",
+    }
+
+
+def add_case(suite: ElementTree.Element, one: Told) -> None:
+    """A test: one that failed is a failure, and one that never ended an error."""
+    words = {"classname": plain(one.package), "name": plain(one.test), "time": f"{one.seconds:.6f}"}
+    case = ElementTree.SubElement(suite, "testcase", words)
+    if one.status == Went.SKIPPED.value:
+        ElementTree.SubElement(case, "skipped")
+    if not one.is_red():
+        return
+    sort = "failure" if one.status == Went.FAILED.value else "error"
+    message = f"{one.status} in {one.failed} of {one.runs} runs"
+    ElementTree.SubElement(case, sort, {"message": message}).text = "\n".join(map(plain, one.says))

@@ -1,0 +1,115 @@
+package main
+
+import (
+	"fmt"
+	"path/filepath"
+	"strings"
+)
+
+// A fitting is how a rule fits: by which of its variants, or why by none.
+type fitting struct {
+	rule    rule
+	without string // what isn't recorded where it doesn't fit; "" where nothing can be recorded then
+	variant *variant
+	changes []change
+	why     string
+}
+
+// fit tries the variants of a rule from the first.
+func (f *fitting) fit(s *source) {
+	function := s.function(f.rule.function)
+	if function == nil {
+		f.why = "there is no such function"
+		return
+	}
+	for i, v := range f.rule.variants {
+		if v.has != "" && s.has(strings.TrimPrefix(v.has, "!")) == strings.HasPrefix(v.has, "!") {
+			continue
+		}
+		changes, err := s.changes(function, v.edits)
+		if err == nil {
+			f.variant, f.changes = &f.rule.variants[i], changes
+			return
+		}
+		if f.why == "" {
+			f.why = err.Error()
+		}
+	}
+}
+
+// wanted are all rules, with what isn't recorded without them.
+func wanted() []fitting {
+	var all []fitting
+	for _, r := range steps {
+		all = append(all, fitting{rule: r})
+	}
+	for _, w := range ways {
+		all = append(all, fitting{rule: w.rule, without: w.moves})
+	}
+	for _, r := range orders {
+		all = append(all, fitting{rule: r, without: ofOrders})
+	}
+	for _, r := range tests {
+		all = append(all, fitting{rule: r, without: ofTests})
+	}
+	return all
+}
+
+// fitAll fits all rules to the sources below a folder.
+func fitAll(folder string) (map[string]*source, []fitting) {
+	sources := map[string]*source{}
+	fittings := wanted()
+	for i, f := range fittings {
+		file := f.rule.file
+		if sources[file] == nil {
+			if s, err := readSource(filepath.Join(folder, filepath.FromSlash(file))); err == nil {
+				sources[file] = s
+			}
+		}
+		if sources[file] == nil {
+			fittings[i].why = "there is no such file"
+		} else {
+			fittings[i].fit(sources[file])
+		}
+	}
+	return sources, withoutElse(fittings)
+}
+
+// together are what is recorded wholly or not at all.
+var together = map[string]bool{ofOrders: true, ofTests: true}
+
+// withoutElse takes out what isn't needed: a way's rule that doesn't fit, where another for the same does; and the rules of what is
+// recorded wholly or not at all, where one of them doesn't fit.
+func withoutElse(fittings []fitting) []fitting {
+	fits, unfit := map[string]bool{}, map[string]bool{}
+	for _, f := range fittings {
+		fits[f.without] = fits[f.without] || f.variant != nil
+		unfit[f.without] = unfit[f.without] || f.variant == nil
+	}
+	fits[""], fits[ofOrders], fits[ofTests] = false, false, false
+	var kept []fitting
+	for _, f := range fittings {
+		if f.variant == nil && !fits[f.without] || f.variant != nil && !(together[f.without] && unfit[f.without]) {
+			kept = append(kept, f)
+		}
+	}
+	return kept
+}
+
+// report prints a line for each rule, and says how many don't fit that can't be done without.
+func report(fittings []fitting) int {
+	unfit := 0
+	for _, f := range fittings {
+		name := f.rule.file + " " + f.rule.function
+		switch {
+		case f.variant == nil && f.without != "":
+			fmt.Printf("without %s: %s: %s\n", f.without, name, f.why)
+		case f.variant == nil:
+			unfit++
+			fmt.Printf("unfit %s: %s\n", name, f.why)
+		default:
+			fmt.Printf("fits %s (as in %s)\n", name, f.variant.releases)
+		}
+	}
+	return unfit
+}

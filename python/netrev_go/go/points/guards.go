@@ -1,0 +1,110 @@
+package main
+
+import (
+	"fmt"
+	"go/ast"
+	"strings"
+)
+
+// A guard says which functions of a package alone have a call. Where another has it too, Go passes where no rule is, and what is
+// recorded wouldn't be all.
+type guard struct {
+	call      string // its beginning
+	argument  string // what stands in its arguments, if not ""
+	functions string
+}
+
+// The places at which internal/poll changes a lock word or a descriptor.
+var guardsOfPoll = []guard{
+	{"atomic.CompareAndSwap", ".state", "incref increfAndClose decref rwlock rwunlock"},
+	{"atomic.Store", ".state", ""},
+	{"atomic.Swap", ".state", ""},
+	{"atomic.Add", ".state", ""},
+	{"atomic.And", ".state", ""},
+	{"atomic.Or", ".state", ""},
+	{"runtime_Semacquire(", "", "rwlock Close"},
+	{"runtime_Semrelease(", "", "increfAndClose rwunlock destroy"},
+	{"syscall.Shutdown(", "", "Shutdown"},
+	{"runtime_pollOpen(", "", "init"},
+	{"runtime_pollClose(", "", "close"},
+	{"runtime_pollReset(", "", "prepare"},
+	{"runtime_pollWait(", "", "wait"},
+	{"runtime_pollWaitCanceled(", "", "waitCanceled"}, // which linux doesn't call
+	{"fd.pd.waitCanceled(", "", ""},
+	{"runtime_pollSetDeadline(", "", "setDeadlineImpl"},
+	{"runtime_pollUnblock(", "", "evict"},
+}
+
+// The places at which internal/poll moves bytes. What goes elsewhere isn't recorded, and all else is.
+var guardsOfMoves = []guard{
+	{"ignoringEINTRIO(syscall.Read,", "", "Read"},
+	{"ignoringEINTRIO(syscall.Write,", "", "Write WriteOnce"}, // the latter is for Go's own tests
+	{"syscall.Read(", "", ""},
+	{"syscall.Write(", "", ""},
+	{"accept(", "", "Accept"},
+	{"syscall.Recv", "", "ReadFrom ReadMsg"},
+	{"unix.Recv", "", "ReadFromInet4 ReadFromInet6 ReadMsgInet4 ReadMsgInet6"},
+	{"syscall.Send", "", "WriteTo WriteMsg SendFile sendFileChunk"},
+	{"unix.Send", "", "WriteToInet4 WriteToInet6 WriteMsgInet4 WriteMsgInet6"},
+	{"writev(", "", "Writev"},
+	{"splice(", "", "spliceDrain splicePump"},
+	{"sendFileChunk(", "", "sendFile"},
+}
+
+// The places at which the runtime changes a descriptor.
+var guardsOfRuntime = []guard{
+	{"netpollcheckerr(", "", "poll_runtime_pollReset poll_runtime_pollWait netpollblock"},
+	{"netpollblock(", "", "poll_runtime_pollWait poll_runtime_pollWaitCanceled"},
+	{"netpollunblock(", "", "poll_runtime_pollSetDeadline poll_runtime_pollUnblock netpollready netpolldeadlineimpl"},
+	{"netpollready(", "", "netpoll"},
+	{"netpollopen(", "", "poll_runtime_pollOpen"},
+	{"netpollclose(", "", "poll_runtime_pollClose"},
+	{"pollcache.free(", "", "poll_runtime_pollOpen poll_runtime_pollClose"},
+	{"netpolldeadlineimpl(", "", "netpollDeadline netpollReadDeadline netpollWriteDeadline"},
+	{"gopark(netpollblockcommit,", "", "netpollblock"},
+}
+
+// guarded prints a line for each place where Go passes and no rule is, and says how many there are that can't be done without.
+func guarded(poll, runtime *folder) int {
+	for _, place := range poll.strange(guardsOfMoves) {
+		fmt.Printf("without the bytes that go there: %s\n", place)
+	}
+	places := append(poll.strange(guardsOfPoll), runtime.strange(guardsOfRuntime)...)
+	for _, place := range places {
+		fmt.Printf("unfit %s\n", place)
+	}
+	return len(places)
+}
+
+// strange are the calls of a package that a guard names and that stand in another function, each once.
+func (p *folder) strange(guards []guard) []string {
+	var told []string
+	said := map[string]bool{}
+	for _, f := range p.functions {
+		ast.Inspect(f.syntax.Body, func(n ast.Node) bool {
+			if call, ok := n.(*ast.CallExpr); ok {
+				for _, place := range f.strange(p.name, f.source.textOf(call), guards) {
+					if !said[place] {
+						told = append(told, place)
+					}
+					said[place] = true
+				}
+			}
+			return true
+		})
+	}
+	return told
+}
+
+// strange is what is said of a call in a function.
+func (f function) strange(name, text string, guards []guard) []string {
+	var told []string
+	for _, g := range guards {
+		fits := strings.HasPrefix(text, g.call) && strings.Contains(text, g.argument)
+		if fits && !strings.Contains(" "+g.functions+" ", " "+f.syntax.Name.Name+" ") {
+			told = append(told, fmt.Sprintf(
+				"%s/%s %s: %s..) stands there too, of which no rule knows", name, f.file, f.syntax.Name.Name, g.call))
+		}
+	}
+	return told
+}

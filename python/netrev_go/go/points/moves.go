@@ -1,0 +1,45 @@
+package main
+
+// The files of the ways by which bytes go besides FD.Read and FD.Write.
+const (
+	splicing = "internal/poll/splice_linux.go"
+	vectors  = "internal/poll/writev.go"
+	sending  = "internal/poll/sendfile_linux.go"
+	sender   = "internal/poll/sendfile_unix.go"
+)
+
+// moved is a call of the system by which bytes, a message or a connection go: behind it is logged what it came to. The arguments
+// are those of netrevBytes.
+func moved(call, arguments string) []edit {
+	return []edit{one(behind, call, "if netrevOn != 0 { netrevBytes("+arguments+") }")}
+}
+
+// A way is one by which bytes go besides FD.Read and FD.Write. Where a release has it otherwise all else is recorded without: of
+// rules with the same words one has to fit.
+type way struct {
+	rule
+	moves string
+}
+
+var ways = []way{
+	{rule{sockets, "Accept", all(moved("accept(fd.Sysfd)", "netrevReadKind, fd, 1, 1, err")...)}, "what Accept takes"},
+	{rule{sockets, "ReadFrom", all(moved("syscall.Recvfrom(fd.Sysfd, ...)", "netrevReadKind, fd, len(p), n, err")...)}, "what ReadFrom reads"},
+	{rule{sockets, "ReadFromInet4", all(moved("unix.RecvfromInet4(fd.Sysfd, ...)", "netrevReadKind, fd, len(p), n, err")...)}, "what ReadFromInet4 reads"},
+	{rule{sockets, "ReadFromInet6", all(moved("unix.RecvfromInet6(fd.Sysfd, ...)", "netrevReadKind, fd, len(p), n, err")...)}, "what ReadFromInet6 reads"},
+	{rule{sockets, "ReadMsg", all(moved("syscall.Recvmsg(fd.Sysfd, ...)", "netrevReadKind, fd, len(p), n, err")...)}, "what ReadMsg reads"},
+	{rule{sockets, "ReadMsgInet4", all(moved("unix.RecvmsgInet4(fd.Sysfd, ...)", "netrevReadKind, fd, len(p), n, err")...)}, "what ReadMsgInet4 reads"},
+	{rule{sockets, "ReadMsgInet6", all(moved("unix.RecvmsgInet6(fd.Sysfd, ...)", "netrevReadKind, fd, len(p), n, err")...)}, "what ReadMsgInet6 reads"},
+	{rule{sockets, "WriteTo", all(moved("syscall.Sendto(fd.Sysfd, ...)", "netrevWriteKind, fd, len(p), len(p), err")...)}, "what WriteTo writes"},
+	{rule{sockets, "WriteToInet4", all(moved("unix.SendtoInet4(fd.Sysfd, ...)", "netrevWriteKind, fd, len(p), len(p), err")...)}, "what WriteToInet4 writes"},
+	{rule{sockets, "WriteToInet6", all(moved("unix.SendtoInet6(fd.Sysfd, ...)", "netrevWriteKind, fd, len(p), len(p), err")...)}, "what WriteToInet6 writes"},
+	{rule{sockets, "WriteMsg", all(moved("syscall.SendmsgN(fd.Sysfd, ...)", "netrevWriteKind, fd, len(p), n, err")...)}, "what WriteMsg writes"},
+	{rule{sockets, "WriteMsgInet4", all(moved("unix.SendmsgNInet4(fd.Sysfd, ...)", "netrevWriteKind, fd, len(p), n, err")...)}, "what WriteMsgInet4 writes"},
+	{rule{sockets, "WriteMsgInet6", all(moved("unix.SendmsgNInet6(fd.Sysfd, ...)", "netrevWriteKind, fd, len(p), n, err")...)}, "what WriteMsgInet6 writes"},
+	{rule{vectors, "Writev", all(moved("writev(fd.Sysfd, iovecs)", "netrevWriteKind, fd, 1, int(wrote), err")...)}, "what Writev writes"},
+	{rule{splicing, "spliceDrain", all(moved("splice(pipefd, sock.Sysfd, ...)", "netrevReadKind, sock, $3, n, err")...)}, "what Splice reads"},
+	{rule{splicing, "splicePump", all(moved("splice(sock.Sysfd, pipefd, ...)", "netrevWriteKind, sock, 1, n, err")...)}, "what Splice writes"},
+	{rule{sending, "SendFile", []variant{
+		{"1.18 to 1.22", "err1", moved("syscall.Sendfile(dst, src, ...)", "netrevWriteKind, dstFD, 1, n, err1")},
+		{"1.23", "!err1", moved("syscall.Sendfile(dst, src, ...)", "netrevWriteKind, dstFD, 1, n, err")}}}, "what SendFile writes"},
+	{rule{sender, "sendFile", all(moved("sendFileChunk(dst, src, ...)", "netrevWriteKind, dstFD, 1, n, err")...)}, "what SendFile writes"},
+}

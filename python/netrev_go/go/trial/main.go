@@ -1,0 +1,186 @@
+// What netrev-go records to see whether an installed Go can be recorded: each kind of step, each way out of a wait, and ways by
+// which bytes go. It prints how many bytes were read and written, a connection that was taken being one that was read.
+//
+//	trial MILLISECONDS
+package main
+
+import (
+	"fmt"
+	"io"
+	"net"
+	"os"
+	"strconv"
+	"sync"
+	"sync/atomic"
+	"syscall"
+	"time"
+)
+
+var (
+	moment        time.Duration // in which a goroutine comes to its wait
+	reads, writes int64
+)
+
+func must(err error) {
+	if err != nil {
+		panic(err)
+	}
+}
+
+func read(n int64, err error) {
+	must(err)
+	atomic.AddInt64(&reads, n)
+}
+
+func wrote(n int64, err error) {
+	must(err)
+	atomic.AddInt64(&writes, n)
+}
+
+// backlog is what net.Listen reads of a file of the system's that the poller takes: how many bytes there are.
+func backlog() int64 {
+	file, err := syscall.Open("/proc/sys/net/core/somaxconn", syscall.O_RDONLY, 0)
+	if err != nil {
+		return 0
+	}
+	defer syscall.Close(file)
+	n, err := syscall.Read(file, make([]byte, 64))
+	must(err)
+	return int64(n)
+}
+
+func put(end io.Writer, size int) {
+	n, err := end.Write(make([]byte, size))
+	wrote(int64(n), err)
+}
+
+func pair(listener net.Listener) (*net.TCPConn, *net.TCPConn) {
+	accepted := make(chan net.Conn, 1)
+	go func() {
+		end, err := listener.Accept()
+		read(1, err)
+		accepted <- end
+	}()
+	end, err := net.Dial("tcp", listener.Addr().String())
+	must(err)
+	return end.(*net.TCPConn), (<-accepted).(*net.TCPConn)
+}
+
+// talk is a round trip, of which the other end splices its part, and the end of both.
+func talk(end, other *net.TCPConn) {
+	go func() {
+		n, err := io.Copy(other, other)
+		read(n, err)
+		wrote(n, err)
+		other.CloseWrite()
+	}()
+	put(end, 5)
+	time.Sleep(moment)
+	put(end, 5)
+	end.CloseWrite()
+	read(io.Copy(io.Discard, end))
+}
+
+// gathered are several buffers that are written by one call, and a file that is sent.
+func gathered(end, other *net.TCPConn) {
+	parts := net.Buffers{make([]byte, 3), make([]byte, 4)}
+	wrote(parts.WriteTo(end))
+	file, err := os.Open(os.Args[0]) // the poller won't have it
+	must(err)
+	wrote(io.CopyN(end, file, 1000))
+	file.Close()
+	end.CloseWrite()
+	read(io.Copy(io.Discard, other))
+}
+
+// messages are datagrams, one of them empty, for which a reader waits.
+func messages(_, _ *net.TCPConn) {
+	here, err := net.ListenPacket("udp4", "127.0.0.1:0")
+	must(err)
+	defer here.Close()
+	there, err := net.Dial("udp4", here.LocalAddr().String())
+	must(err)
+	defer there.Close()
+	go func() {
+		time.Sleep(moment)
+		put(there, 7)
+		n, err := there.Write(nil)
+		wrote(int64(n)+1, err)
+	}()
+	for i := 0; i < 2; i++ {
+		n, from, err := here.ReadFrom(make([]byte, 64))
+		if n == 0 {
+			n = 1
+		}
+		read(int64(n), err)
+		back, err := here.WriteTo(make([]byte, n), from)
+		wrote(int64(back), err)
+	}
+}
+
+// late is woken by a deadline, meets one that has passed, and one that is taken back.
+func late(end, _ *net.TCPConn) {
+	buffer := make([]byte, 8)
+	end.SetReadDeadline(time.Now().Add(moment))
+	end.Read(buffer)
+	end.Read(buffer)
+	end.SetDeadline(time.Now().Add(time.Hour))
+	end.SetWriteDeadline(time.Now().Add(2 * time.Hour))
+	go end.Read(buffer)
+	time.Sleep(moment)
+	end.SetDeadline(time.Unix(1, 0))
+	end.SetDeadline(time.Time{})
+}
+
+// queue has three readers at one lock, of which one is served and the others are sent away.
+func queue(end, other *net.TCPConn) {
+	var all sync.WaitGroup
+	for i := 0; i < 3; i++ {
+		all.Add(1)
+		go func() {
+			defer all.Done()
+			n, _ := end.Read(make([]byte, 1))
+			read(int64(n), nil)
+		}()
+	}
+	time.Sleep(moment)
+	put(other, 1)
+	time.Sleep(moment)
+	end.Close()
+	all.Wait()
+}
+
+// full fills the buffers, so that a writer waits until the other end reads.
+func full(end, other *net.TCPConn) {
+	end.SetWriteBuffer(1 << 16)
+	other.SetReadBuffer(1 << 16)
+	done := make(chan bool)
+	go func() {
+		time.Sleep(moment)
+		read(io.Copy(io.Discard, other))
+		close(done)
+	}()
+	for i := 0; i < 16; i++ {
+		put(end, 1<<16)
+	}
+	end.CloseWrite()
+	<-done
+}
+
+func main() {
+	number, err := strconv.Atoi(os.Args[1])
+	must(err)
+	moment = time.Duration(number) * time.Millisecond
+	listener, err := net.Listen("tcp", "127.0.0.1:0")
+	must(err)
+	read(backlog(), nil)
+	for _, scene := range []func(end, other *net.TCPConn){talk, gathered, messages, late, queue, full, talk} {
+		end, other := pair(listener)
+		scene(end, other)
+		end.Close()
+		other.Close()
+	}
+	listener.Close()
+	time.Sleep(moment)
+	fmt.Println(reads, writes)
+}

@@ -1,0 +1,66 @@
+"""The names of recordings, looked at before a program is run: whatever can't be written then is told while nothing is lost."""
+
+from __future__ import annotations
+
+import contextlib
+import os
+import pathlib
+
+from netrev_model.files import beside
+
+from .toolchain import Trouble
+
+RECORDING, LINES, WORDS = ".jsonl", ".where", ".words"
+LONGEST_ENDING = "-so-far-999.jsonl"
+TRIED = 65_536  # bytes that are written to see whether there is room
+
+
+def base_name(given: str | None, otherwise: str = "recording") -> pathlib.Path:
+    """What the name of a recording begins with; Trouble where it can't be one."""
+    said = otherwise if given is None else given
+    base = pathlib.Path(said.removesuffix(RECORDING))
+    is_other = os.path.exists(base) and not (os.path.isfile(base) or os.path.isdir(base))  # a device, a pipe
+    if base.name in ("", "..") or said.endswith("/") or is_other:
+        raise Trouble(f"{said!r} is no name for a recording: -o NAME makes NAME{RECORDING}")
+    return base
+
+
+def numbered(base: pathlib.Path, made: int) -> pathlib.Path:
+    """NAME.jsonl, NAME-2.jsonl, .."""
+    return base.with_name(base.name + (f"-{made}" if made > 1 else "") + RECORDING)
+
+
+def look(base: pathlib.Path) -> None:
+    """Trouble where a recording can't be written there now."""
+    try:
+        try_folder(base)
+        with contextlib.suppress(FileNotFoundError):
+            os.lstat(base.with_name(base.name + LONGEST_ENDING))
+    except OSError as fault:
+        raise Trouble(f"{base}{RECORDING} can't be written: {fault.strerror}. Nothing was run") from None
+    for ending in (RECORDING, LINES):
+        name = base.with_name(base.name + ending)
+        if name.exists() and not (name.is_file() and os.access(name, os.W_OK)):
+            raise Trouble(f"{name} is there, and can't be written: -o names another recording. Nothing was run")
+
+
+def try_folder(base: pathlib.Path) -> None:
+    """Writes a file into the folder of the recording, and takes it away again."""
+    tried = beside(base)
+    with tried.open("xb") as file:
+        try:
+            file.write(bytes(TRIED))
+            file.flush()
+        finally:
+            tried.unlink()
+
+
+def look_folder(base: pathlib.Path) -> None:
+    """Trouble where recordings can't be written into that folder, which may have to be made."""
+    try:
+        if base.exists() and not base.is_dir():
+            raise Trouble(f"{base} is there, and is no folder: -o names another one. Nothing was run")
+        there = next(folder for folder in (base, *base.absolute().parents) if folder.is_dir())
+        try_folder(there / base.name)
+    except OSError as fault:
+        raise Trouble(f"{base} can't be written: {fault.strerror}. Nothing was run") from None

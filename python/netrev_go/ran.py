@@ -1,0 +1,115 @@
+"""Which tests ran in a process, by the lines that it left beside its log: LOG.tests, which go/log/tests.go writes."""
+
+from __future__ import annotations
+
+import pathlib
+from dataclasses import dataclass, field
+from enum import Enum
+
+ENDING = ".tests"
+MOST_BYTES = 2**26
+SECOND = 10**9
+RAN_ALONE = "the package"  # what is said of a package whose tests aren't known
+
+
+class Went(Enum):
+    """How a test went. One that never ended ran when its process did."""
+
+    PASSED = "passed"
+    FAILED = "failed"
+    SKIPPED = "skipped"
+    UNFINISHED = "unfinished"
+
+
+@dataclass(eq=False)
+class Ran:
+    """A test that ran: by which goroutine, and how many points of the log were passed before it began, failed first and ended."""
+
+    package: str
+    name: str
+    goroutine: int
+    began: int
+    began_at: int  # nanoseconds of the log's
+    failed: int | None = None
+    place: tuple[str, int] | None = None  # the file and the line from which it was said to fail
+    ended: int | None = None
+    ended_at: int | None = None
+    skipped: bool = False
+
+    def went(self) -> Went:
+        if self.failed is not None:
+            return Went.FAILED
+        if self.ended is None:
+            return Went.UNFINISHED
+        return Went.SKIPPED if self.skipped else Went.PASSED
+
+    def seconds(self) -> float:
+        """How long it ran; 0 where it never ended."""
+        return (self.ended_at - self.began_at) / SECOND if self.ended_at is not None else 0.0
+
+    def is_red(self) -> bool:
+        return self.went() in (Went.FAILED, Went.UNFINISHED)
+
+    def is_below(self, other: Ran) -> bool:
+        """Whether this is one of the other's subtests, or one of theirs."""
+        return self.name.startswith(other.name + "/")
+
+
+@dataclass
+class Tests:
+    """A process's tests, in the order in which they began; the package is empty where it had none."""
+
+    package: str = ""
+    ran: list[Ran] = field(default_factory=list)
+    by_name: dict[str, Ran] = field(default_factory=dict)  # the last of each name
+
+    def take(self, passed: int, goroutine: int, time: int, what: str, name: str) -> None:
+        """What a line says."""
+        if what == "package":
+            self.package = name
+        elif what == "runs":
+            self.by_name[name] = Ran(self.package, name, goroutine, passed, time)
+            self.ran.append(self.by_name[name])
+        elif (words := name.partition("\t"))[0] in self.by_name:
+            self.happened(self.by_name[words[0]], passed, time, what, words[2])
+
+    @staticmethod
+    def happened(test: Ran, passed: int, time: int, what: str, place: str) -> None:
+        if what == "ends":
+            test.ended, test.ended_at = passed, time
+        elif what == "fails" and test.failed is None:
+            test.failed, test.place = passed, place_of(place)
+        elif what == "skips":
+            test.skipped = True
+
+    def to_keep(self) -> list[Ran]:
+        """The red tests, without those that are red since a subtest of theirs is."""
+        red = [test for test in self.ran if test.is_red()]
+        return [test for test in red if not any(other.is_below(test) for other in red)]
+
+    def leaves(self) -> list[Ran]:
+        """The tests without subtests."""
+        return [test for test in self.ran if not any(other.is_below(test) for other in self.ran)]
+
+
+def place_of(text: str) -> tuple[str, int] | None:
+    """A file, named from here where it is below, and a line."""
+    file, _, line = text.rpartition(":")
+    if not file or not (line.isascii() and line.isdigit() and len(line) < 9):
+        return None
+    return file.removeprefix(f"{pathlib.Path.cwd()}/"), int(line)
+
+
+def of_log(log: pathlib.Path) -> Tests:
+    """The tests of the process that wrote this log. A line that is damaged says nothing."""
+    tests = Tests()
+    try:
+        with log.with_name(log.name + ENDING).open("rb") as file:
+            text = file.read(MOST_BYTES).decode("utf-8", "replace")
+    except OSError:
+        return tests
+    for line in text.split("\n"):
+        words = line.split(" ", 4)
+        if len(words) == 5 and all(word.isascii() and word.isdigit() and len(word) < 20 for word in words[:3]):
+            tests.take(int(words[0]), int(words[1]), int(words[2]), words[3], words[4])
+    return tests

@@ -1,0 +1,195 @@
+"""`netrev-go test`: each test known by its name, and recordings of those that fail."""
+
+from __future__ import annotations
+
+import os
+import pathlib
+import re
+import signal
+import subprocess
+import sys
+from collections import Counter
+from collections.abc import Iterable
+from dataclasses import replace
+
+from netrev_model.built import netrev_program
+from netrev_model.plain import plain
+
+from .asking import PACKAGES
+from .converting import Outcome, ReadLog, Wish, converted
+from .forms import Told
+from .keeping import complain, say, unwritten
+from .logfile import NoLog, read_log
+from .outputs import LONGEST_ENDING, numbered
+from .ran import Ran, Tests, of_log
+from .running import logs_in
+from .toolchain import Go
+
+MAJOR = re.compile(r"v\d+\Z")
+UNFIT = re.compile(r"[^A-Za-z0-9_.-]+")
+LONGEST_NAME = 255 - len(LONGEST_ENDING)
+OTHER = "process"  # the recording of a process that has no tests
+FOUND = 4  # nrdb's status where a schedule ends badly
+GRACE = 10
+
+
+def short_name(package: str) -> str:
+    """A package's name as its test program has it: the last word that isn't a major version."""
+    words = package.split("/")
+    return words[-2] if len(words) > 1 and MAJOR.match(words[-1]) else words[-1]
+
+
+def file_name(*words: str) -> str:
+    """A name for a file: a test's slashes are dots, and what a file's name shouldn't have is _."""
+    return UNFIT.sub("_", ".".join(word.replace("/", ".") for word in words).lstrip("."))[:LONGEST_NAME]
+
+
+class Recordings:
+    """The recordings of tests, below a folder, and what came of each test in all runs."""
+
+    def __init__(self, base: pathlib.Path, go: Go, wish: Wish, keeps_all: bool, is_page_wanted: bool) -> None:
+        self.base, self._go, self._wish, self._keeps_all = base, go, wish, keeps_all
+        self._is_page_wanted = is_page_wanted
+        self.told: dict[tuple[str, str], Told] = {}
+        self._names: Counter[pathlib.Path] = Counter()
+        self._short: dict[str, str] = {}  # of which package a short name is
+        self.all_recorded = True  # what should have been
+        self.trouble = False  # whether one couldn't be written
+        self.suspected = False
+
+    def take(self, folder: pathlib.Path, failed: bool) -> None:
+        """Makes the recordings that are wanted of a run's logs."""
+        logs = [(log, of_log(log)) for log in logs_in(folder)]
+        self.count(test for _, tests in logs for test in tests.ran)
+        is_known = any(tests.to_keep() for _, tests in logs)
+        for log, tests in logs:
+            if failed and not is_known:
+                self.whole(log, tests)
+            self.of_each(log, tests, self.wanted(tests))
+
+    def count(self, ran: Iterable[Ran]) -> None:
+        for test in ran:
+            self.of(test).add(test)
+
+    def of(self, test: Ran) -> Told:
+        return self.told.setdefault((test.package, test.name), Told(test.package, test.name))
+
+    def wanted(self, tests: Tests) -> list[Ran]:
+        """The tests of which recordings are kept: of those that fail in several runs, the first run's."""
+        red = {test.name: test for test in reversed(tests.to_keep()) if self.of(test).recording is None}
+        return list(dict.fromkeys([*reversed(red.values()), *(tests.leaves() if self._keeps_all else ())]))
+
+    def name_of(self, package: str, test: str) -> pathlib.Path:
+        """The name of a recording. Where two packages have the same last word, the second has its whole path."""
+        short = short_name(package)
+        if self._short.setdefault(short, package) != package:
+            short = package.replace("/", "_")
+        name = self.base / file_name(short, test) if test else self.base / file_name(short)
+        self._names[name] += 1
+        return numbered(name, self._names[name])
+
+    def whole(self, log: pathlib.Path, tests: Tests) -> None:
+        """The recording of a process in which no test is known to have failed, though something did."""
+        name = self.name_of(tests.package or OTHER, "")
+        outcome = self.made(self.read(log, tests), name, None)
+        if outcome is not None and not outcome.is_empty:
+            say([f"{plain(tests.package or OTHER)}: no test of it is known to have failed", *outcome.lines])
+
+    def of_each(self, log: pathlib.Path, tests: Tests, kept: list[Ran]) -> None:
+        """The recordings of a process's tests."""
+        read = self.read(log, tests) if kept else None
+        for test in kept:
+            told, name = self.of(test), self.name_of(test.package, test.name)
+            outcome = self.made(read, name, test)
+            if outcome is None:
+                continue
+            if outcome.is_empty:
+                self._names[name] -= 1
+            if test.is_red():
+                at = f", at {test.place[0]}:{test.place[1]}" if test.place else ""
+                head = f"{test.went().value.upper()} {test.package} {test.name}{at}"
+                say([plain(head + (": no socket is of it" if outcome.is_empty else ""))])
+            if not outcome.is_empty:
+                self.keep(told, name, outcome)
+
+    def keep(self, told: Told, name: pathlib.Path, outcome: Outcome) -> None:
+        """Says what there is to say of a recording, and keeps it for machines."""
+        told.say(outcome.lines)
+        told.accepted = outcome.taken
+        if name.exists():
+            told.recording = str(name)
+        self.suspected = self.suspected or bool(told.suspects)
+        if told.is_red() or told.suspects or not outcome.taken:
+            say([f"  {line}" for line in outcome.lines])
+        if self._is_page_wanted and outcome.taken:
+            told.page = page_of(name)
+
+    def read(self, log: pathlib.Path, tests: Tests) -> ReadLog | None:
+        try:
+            return ReadLog(log, read_log(log), tests)
+        except NoLog as fault:
+            self.all_recorded = False
+            complain(f"{log}: {fault}")
+            return None
+
+    def made(self, read: ReadLog | None, name: pathlib.Path, test: Ran | None) -> Outcome | None:
+        """What became of a recording; None where it can't be written, which is said."""
+        if read is None:
+            return None
+        failed = test is None or test.is_red()
+        try:
+            name.parent.mkdir(parents=True, exist_ok=True)
+            outcome = converted(read, name, self._go, replace(self._wish, failed=failed), test)
+        except OSError as fault:
+            complain(unwritten(name, fault))
+            self.all_recorded, self.trouble = False, True
+            return None
+        self.all_recorded = self.all_recorded and (outcome.taken or outcome.is_empty)
+        return outcome
+
+    def explore(self, seconds: float) -> bool:
+        """Plays other schedules of the recordings that there are, for so long together; whether something is found. What is found is
+        possible: no run had it."""
+        recorded = [told for told in self.told.values() if told.recording and told.accepted]
+        for told in recorded:
+            told.possible = findings(str(told.recording), seconds / len(recorded))
+            if told.possible:
+                say([plain(f"possible, {told.package} {told.test}:"), *(f"  {plain(line)}" for line in told.possible)])
+        return any(told.possible for told in recorded)
+
+
+def page_of(name: pathlib.Path) -> str | None:
+    """The timeline of a recording, as a page beside it; None where none can be made."""
+    page = name.with_suffix(".html")
+    words = [sys.executable, str(PACKAGES), "nrdb", "--timeline", str(page), str(name)]
+    run = subprocess.run(
+        words, env=nrdb_environment(), capture_output=True, text=True, stdin=subprocess.DEVNULL, check=False
+    )
+    if run.returncode != 0 or not page.exists():
+        complain(f"{page} can't be made: {run.stdout.strip()[-300:] or run.stderr.strip()[-300:]}")
+        return None
+    return str(page)
+
+
+def nrdb_environment() -> dict[str, str]:
+    program = netrev_program()
+    return os.environ | ({"NETREV": program} if program else {})
+
+
+def findings(recording: str, seconds: float) -> list[str]:
+    """What nrdb finds by other schedules in so many seconds, line by line."""
+    words = [sys.executable, str(PACKAGES), "nrdb", "--explore", recording]
+    with subprocess.Popen(
+        words, env=nrdb_environment(), text=True, stdin=subprocess.DEVNULL, stdout=subprocess.PIPE,
+        stderr=subprocess.DEVNULL,
+    ) as running:  # fmt: skip
+        try:
+            said, _ = running.communicate(timeout=seconds)
+        except subprocess.TimeoutExpired:
+            running.send_signal(signal.SIGINT)  # it says then what it has found
+            try:
+                said, _ = running.communicate(timeout=GRACE)
+            except subprocess.TimeoutExpired:
+                running.kill()
+                return []
+    return [line.removeprefix("| ") for line in said.splitlines()[2:]] if running.returncode == FOUND else []

@@ -1,0 +1,179 @@
+"""`netrev-go test`: Go's command, once or again and again, and what is told of all runs together."""
+
+from __future__ import annotations
+
+import argparse
+import itertools
+import os
+import pathlib
+import shutil
+import sys
+import time
+from collections.abc import Callable, Iterator
+from dataclasses import dataclass, replace
+
+from netrev_model.files import written_whole
+from netrev_model.plain import plain
+
+from . import forms
+from .converting import Wish
+from .keeping import Making, complain, say
+from .outputs import base_name, look_folder
+from .running import LOGS, Runner, as_a_shell_has_it, limits_of, logs_folder, logs_in
+from .tested import Recordings
+from .toolchain import Go
+
+SO_FAR = "test"  # what the recordings of a run that goes on are named with
+FOLDER = "recordings"
+STANDARD_OUTPUT = "-"
+
+
+@dataclass
+class Came:
+    """What came of all runs."""
+
+    status: int = 0  # the first that isn't 0, as a shell has it
+    suspected: bool = False
+    possible: bool = False
+    all_recorded: bool = True
+    runs: int = 0
+
+
+@dataclass(frozen=True)
+class Round:
+    """One run: its number from 0, on how many processors where that is set, and the seed of the delays, 0 for none."""
+
+    number: int
+    processors: int | None
+    delays: int
+
+    def words(self) -> str:
+        """How it was run."""
+        how = [f"GOMAXPROCS={self.processors}"] if self.processors else []
+        how += [f"--delays {self.delays}"] if self.delays else []
+        return f"run {self.number + 1}" + (f" ({', '.join(how)})" if how else "")
+
+
+def rounds(options: argparse.Namespace) -> Iterator[Round]:
+    """The runs that are wanted, at most."""
+    is_again = options.until_failure or options.seconds is not None
+    most = options.runs or (None if is_again else 1)
+    end = time.monotonic() + options.seconds if options.seconds is not None else None
+    processors = (None, *sorted({1, 2, os.cpu_count() or 1, 2 * (os.cpu_count() or 1)}))
+    for number in itertools.count():
+        if number == most or (number and end is not None and time.monotonic() >= end):
+            return
+        changed = processors[number % len(processors)] if options.procs is None else options.procs
+        yield Round(number, changed, options.delays + number if options.delays else 0)
+
+
+def record_tests(options: argparse.Namespace, go: Go, command: list[str], wish: Wish) -> Came:
+    """Runs the tests as often as is wanted, and makes recordings of those that fail."""
+    base = base_name(options.o, FOLDER)
+    look_folder(base)
+    recordings = Recordings(base, go, wish, options.all or options.explore is not None, options.html)
+    came = Came()
+    for one in rounds(options):
+        run = Run(options, go, command, wish, recordings)
+        status = run.once(one)
+        came.runs += 1
+        came.status = came.status or status
+        came.all_recorded = came.all_recorded and run.has_recorded
+        if run.is_last or status and options.until_failure:
+            break
+    came.all_recorded = came.all_recorded and recordings.all_recorded
+    came.suspected = recordings.suspected
+    if options.explore is not None and not came.status:
+        came.possible = recordings.explore(options.explore)
+    tell(options, recordings, came)
+    return came
+
+
+class Run:
+    """One run of Go's command, and its logs."""
+
+    def __init__(
+        self, options: argparse.Namespace, go: Go, command: list[str], wish: Wish, recordings: Recordings
+    ) -> None:
+        self._options, self._go, self._command, self._wish = options, go, command, wish
+        self._recordings = recordings
+        self.is_last = False  # cancelled, or nothing ran
+        self.has_recorded = True
+
+    def once(self, one: Round) -> int:
+        """Runs it; Go's status. The logs stay where something can't be made of them."""
+        folder = logs_folder(self._options.points)
+        limits = replace(limits_of(self._options), processors=one.processors)
+        is_whole = False
+        try:
+            runner = Runner(self._command, folder, limits, one.delays)
+            status = as_a_shell_has_it(runner.wait(self._so_far(folder)))
+            self.is_last = runner.cancelled
+            if status and one.words() != "run 1":
+                say([f"netrev-go: {one.words()} failed"])
+            is_whole = self._take(folder, status != 0)
+            return status
+        finally:
+            self._leave(folder, is_whole)
+
+    def _so_far(self, folder: pathlib.Path) -> Callable[[], None]:
+        def make() -> None:
+            self._recordings.base.mkdir(parents=True, exist_ok=True)
+            making.so_far()
+
+        making = Making(folder, self._recordings.base / SO_FAR, self._go, self._wish)
+        return make
+
+    def _take(self, folder: pathlib.Path, failed: bool) -> bool:
+        """Makes the recordings; whether the logs can go."""
+        if not logs_in(folder):
+            why = "Go failed before it ran" if failed else "no program was run, or it opened no log"
+            gone = "" if folder.is_dir() else f", and {folder}, where the logs were, is gone"
+            complain(f"nothing was recorded: {why}{gone}")
+            self.is_last, self.has_recorded = True, False
+            return True
+        before, self._recordings.all_recorded = self._recordings.all_recorded, True
+        self._recordings.take(folder, failed)
+        is_whole = self._recordings.all_recorded
+        self._recordings.all_recorded = before and is_whole
+        return is_whole
+
+    def _leave(self, folder: pathlib.Path, is_whole: bool) -> None:
+        """Takes the logs away, unless they are wanted, or something isn't made of them."""
+        if not self._options.keep and (is_whole or not logs_in(folder)):
+            shutil.rmtree(folder, ignore_errors=True)
+            return
+        say([f"the logs are in {plain(str(folder))}"])
+        if not is_whole:
+            complain(f"nothing is lost: `netrev-go -o NAME convert {folder}/{LOGS}` makes recordings of the logs")
+
+
+def tell(options: argparse.Namespace, recordings: Recordings, came: Came) -> None:
+    """Says how many tests failed in how many runs, and writes what machines read."""
+    told = list(recordings.told.values())
+    red = [one for one in told if one.is_red()]
+    is_kept = any(one.recording for one in told)
+    if came.runs > 1 or red or is_kept:
+        lines = [f"netrev-go: {len(told)} tests, {came.runs} run{'s' * (came.runs > 1)}; {len(red)} failed"]
+        if came.runs > 1:
+            lines += [plain(f"  {one.package} {one.test}: failed in {one.failed} of {one.runs} runs") for one in red]
+        lines += [plain(f"  recordings are in {recordings.base}")] if is_kept else []
+        say(lines)
+    if options.json:
+        put(options.json, forms.json_lines(told), came)
+    if options.junit:
+        put(options.junit, forms.junit(told), came)
+    if options.github and red:
+        say(forms.github_lines(told), sys.stdout)
+
+
+def put(name: str, text: str, came: Came) -> None:
+    """Writes a file for machines; - is standard output."""
+    if name == STANDARD_OUTPUT:
+        say([text.rstrip("\n")], sys.stdout)
+        return
+    try:
+        written_whole(pathlib.Path(name), text.encode("utf-8", "replace"))
+    except OSError as fault:
+        complain(f"{name}: {fault.strerror or fault}")
+        came.all_recorded = False

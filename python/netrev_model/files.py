@@ -1,0 +1,73 @@
+"""Files are written whole or not at all: where a write fails, what stood there stays."""
+
+import errno
+import os
+import secrets
+from contextlib import contextmanager, suppress
+from pathlib import Path
+from typing import IO, Any, Iterator
+
+STREAMS = tuple(map(Path, ("/dev", "/dev/fd", "/proc/self/fd")))
+OF_LINES = b'{"where":'  # a file of lines beside a recording begins so (docs/RECORDING.md)
+
+
+def beside(path: Path) -> Path:
+    """A new name in the folder of a file, which is short whatever the file is called."""
+    return path.with_name(f".netrev-{os.getpid()}-{secrets.token_hex(4)}")
+
+
+@contextmanager
+def whole(path: Path, mode: str = "w") -> Iterator[IO[Any]]:
+    """A file to write to, which takes its place at the end. An OSError that names it where it can't, or where all can't be
+    written. What isn't a file, as a pipe, is written to as it is, and so is what is open already, by a name as /dev/stdout.
+    """
+    try:
+        check_name(path)
+        if path.exists() and (path.parent in STREAMS or not path.is_file()):
+            with open_for(path, mode) as direct:
+                yield direct
+            return
+        place = Path(os.path.realpath(path))
+        if place.exists() and not os.access(place, os.W_OK):
+            raise PermissionError(errno.EACCES, os.strerror(errno.EACCES))
+        part = beside(place)
+        try:
+            with open_for(part, mode.replace("w", "x")) as file:
+                yield file
+            os.replace(part, place)
+        except BaseException:
+            with suppress(OSError):
+                part.unlink()
+            raise
+    except OSError as fault:
+        raise OSError(fault.errno, fault.strerror or str(fault), str(path)) from None
+
+
+def check_name(path: str | Path) -> None:
+    """An OSError where no file can have that name."""
+    try:
+        is_name = b"\0" not in os.fsencode(path)
+    except UnicodeEncodeError:
+        is_name = False
+    if not is_name:
+        raise OSError(errno.EINVAL, "no file can have that name", str(path))
+
+
+def open_for(path: Path, mode: str) -> IO[Any]:
+    """Opens a file for text of UTF-8, or for bytes."""
+    return open(path, mode, encoding=None if "b" in mode else "utf-8")
+
+
+def forget_where(path: Path) -> None:
+    """Takes NAME.where away, which is of an earlier recording of that name; another file stays."""
+    if path.is_file():
+        with open(path, "rb") as file:
+            is_ours = file.read(len(OF_LINES)) == OF_LINES
+        if is_ours:
+            path.unlink()
+
+
+def written_whole(path: Path, data: bytes) -> None:
+    """Writes these bytes; an OSError that names the file where they can't be."""
+    with whole(path, "wb") as file:
+        file.write(data)

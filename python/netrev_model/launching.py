@@ -1,0 +1,22 @@
+"""The command `netrev` where pip installed it: pip has no proved program, so this runs the one that is found, or says how to get it."""
+
+import os
+import sys
+
+from .built import netrev_program
+
+MISSING = "netrev: the proved program isn't here: NETREV names one, and its Debian package and archive have it"
+FAILED = 3
+
+
+def main() -> int:
+    """Becomes netrev; where none is here, the exit status."""
+    program = netrev_program()
+    if program is None:
+        print(MISSING, file=sys.stderr)
+        return FAILED
+    try:
+        os.execv(program, [program, *sys.argv[1:]])
+    except OSError as fault:
+        print(f"netrev: {program!r}: {fault.strerror}", file=sys.stderr)
+        return FAILED

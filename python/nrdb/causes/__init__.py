@@ -1,0 +1,10 @@
+"""Why calls failed, and why calls hang: who set the deadline, who closed, what would wake who waits, and who could have. It is
+reckoned from the recording's steps and from NAME.where, and is nrdb's own, unproved; each sentence names steps to look at."""
+
+from .failing import causes_of
+from .first import first_words
+from .hanging import hangs_at
+from .tables import error_rows, hangs_table
+from .words import is_by_go
+
+__all__ = ["causes_of", "error_rows", "first_words", "hangs_at", "hangs_table", "is_by_go"]

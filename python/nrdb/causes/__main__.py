@@ -1,0 +1,29 @@
+"""Prints what is said first of a recording of a program that failed:  python3 python nrdb.causes FILE [PROGRAM]
+
+PROGRAM is how nrdb is called, in the line to type next."""
+
+import sys
+
+from netrev_model.plain import plain
+
+from ..recording import NoRecording, Recording
+from .first import first_words
+
+
+def main(words: list[str]) -> int:
+    """Prints the lines; the exit status."""
+    if len(words) not in (1, 2):
+        print(__doc__, file=sys.stderr)
+        return 2
+    try:
+        recording = Recording.read(words[0])
+    except (OSError, NoRecording) as fault:
+        print(plain(f"{words[0]}: {fault}"), file=sys.stderr)
+        return 3
+    for line in first_words(recording, *words):
+        print(plain(line))
+    return 0
+
+
+if __name__ == "__main__":
+    sys.exit(main(sys.argv[1:]))

@@ -1,0 +1,93 @@
+"""The calls of a recording by whose they are, and which socket is the other end of which."""
+
+from functools import lru_cache
+from typing import Iterable, NamedTuple, Optional
+
+from ..calls import book_of
+from ..one_call import CLOSE, CLOSE_WRITE, Call, Outcome
+from ..recording import Recording
+
+READING, WRITING = ("Read", "WaitRead"), ("Write", "WaitWrite")
+MOVING = ("Read", "Write")
+ACCEPTS = ("internal/poll.(*FD).Accept",)
+
+
+class Cause(NamedTuple):
+    """What is said of a call that failed or hangs: the call, sentences, the steps that they tell of, and what to type next."""
+
+    call: Call
+    says: list[str]
+    steps: list[int]
+    looks: list[str]
+    stopped: int = 0  # the step behind which a goroutine that could have woken it did nothing any more
+
+
+class Index:
+    """The calls of a recording, each list in the order of their first steps."""
+
+    def __init__(self, recording: Recording) -> None:
+        self.recording, self.book = recording, book_of(recording)
+        self.by_socket: dict[int, list[Call]] = {}
+        self.by_goroutine: dict[int, list[Call]] = {}
+        for call in self.book.calls:
+            self.by_socket.setdefault(call.socket, []).append(call)
+            self.by_goroutine.setdefault(call.goroutine, []).append(call)
+
+    def other_end(self, socket: int) -> Optional[int]:
+        """The socket at the other end of a socket's connection, where that is known."""
+        return self.recording.lines.peers.get(socket)
+
+    def at(self, step: int) -> Optional[Call]:
+        """The innermost call that a step is part of."""
+        goroutine = self.book.goroutines[step - 1]
+        calls = self.by_goroutine.get(goroutine, ())
+        return next((one for one in reversed(calls) if one.first <= step and (not one.last or one.last >= step)), None)
+
+    def closing(self, socket: int, until: int, whole: bool = False) -> Optional[Call]:
+        """The first call up to a step that closed a socket, or its write side where not the whole of it is meant."""
+        names = (CLOSE,) if whole else (CLOSE, CLOSE_WRITE)
+        calls = self.by_socket.get(socket, ())
+        return next(
+            (one for one in calls if one.name in names and not one.outcome.is_error and one.first <= until), None
+        )
+
+    def last_use(self, socket: int, until: int, names: Iterable[str] = MOVING) -> Optional[Call]:
+        """The call of these names on a socket that began last, up to a step."""
+        calls = self.by_socket.get(socket, ())
+        return next((one for one in reversed(calls) if one.name in names and one.first <= until), None)
+
+    def before(self, call: Call) -> Optional[Call]:
+        """The call by which its goroutine last read, wrote or waited before this one."""
+        calls = self.by_goroutine[call.goroutine]
+        fits = (one for one in reversed(calls) if one.first < call.first and one.name in READING + WRITING)
+        return next(fits, None)
+
+    def inside(self, goroutine: int, position: int) -> Optional[Call]:
+        """The innermost call that a goroutine is in at a position."""
+        calls = self.by_goroutine.get(goroutine, ())
+        fits = (one for one in reversed(calls) if one.first <= position and (not one.last or one.last > position))
+        return next(fits, None)
+
+    def is_listening(self, call: Call) -> bool:
+        """Whether a call takes connections: for that nobody has to come."""
+        return any(one.function in ACCEPTS for one in self.recording.lines.of(call.first).calls)
+
+    def moved(self, socket: int, name: str, until: int) -> int:
+        """How many bytes the calls of that name, which ended up to a step, moved at a socket."""
+        calls = self.by_socket.get(socket, ())
+        return sum(one.moved or 0 for one in calls if one.name == name and 0 < one.last <= until)
+
+    def failed(self, position: int) -> list[Call]:
+        """The calls that had failed at a position."""
+        return [one for one in self.book.calls if 0 < one.last <= position and one.outcome.is_error]
+
+
+def went_well(call: Call) -> bool:
+    """Whether a call has ended without an error, and had something of it."""
+    return call.last > 0 and call.outcome is Outcome.DONE and bool(call.moved)
+
+
+@lru_cache(maxsize=2)
+def index_of(recording: Recording) -> Index:
+    """The index of a recording."""
+    return Index(recording)

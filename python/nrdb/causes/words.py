@@ -1,0 +1,121 @@
+"""Calls and places in words, as they are said in a cause."""
+
+from typing import Optional
+
+from ..one_call import Call, Outcome
+from ..recording import Recording
+from ..where import OF_GO, OF_THE_PROGRAM
+from ..where import Call as LineCall
+from ..where import Stack
+
+POLL = "internal/poll.(*FD)."
+# What Go's own functions are called by programs, where it isn't the function of internal/poll.
+NAMES = {
+    "Accept": "Accept",
+    "ReadFrom": "Read",
+    "ReadMsg": "Read",
+    "WriteTo": "Write",
+    "WriteMsg": "Write",
+    "Writev": "Write",
+}
+OF_TESTS = "_testmain.go"
+OF_SYNC = {
+    "sync.(*Mutex).Lock": "a mutex",
+    "sync.(*Mutex).lockSlow": "a mutex",
+    "internal/sync.(*Mutex).lockSlow": "a mutex",
+    "sync.(*RWMutex).Lock": "a mutex",
+    "sync.(*RWMutex).RLock": "a mutex",
+    "sync.(*WaitGroup).Wait": "a WaitGroup",
+    "sync.(*Cond).Wait": "a condition",
+    "internal/poll.(*FD).Close": "the last who uses the descriptor",
+}
+BELOW = ("internal/poll.", "net.", "os.", "syscall.", "crypto/tls.", "bufio.", "io.")  # packages that hand a call on
+UNITS = ((1_000_000_000, "s"), (1_000_000, "ms"), (1_000, "µs"), (1, "ns"))
+
+
+def name_of(recording: Recording, call: Call) -> str:
+    """A call by the name that the program has for it."""
+    if call.name in ("WaitWrite", "WaitRead"):
+        return "a connect" if call.name == "WaitWrite" and is_connecting(recording.lines.of(call.first)) else call.name
+    for one in recording.lines.of(call.first).calls:
+        if one.function.startswith(POLL):
+            return NAMES.get(one.function.removeprefix(POLL), call.name)
+    return call.name
+
+
+def is_connecting(stack: Stack) -> bool:
+    return any(call.function == "net.(*netFD).connect" for call in stack.calls)
+
+
+def short(function: str) -> str:
+    """A function's name without its package's path, and without `main.`."""
+    return function.rpartition("/")[2].removeprefix("main.")
+
+
+def place_of(recording: Recording, step: int) -> str:
+    """Where the program stood at a step: ` at pool.go:31 in query`; of Go's own code the function; empty where none is known."""
+    return place_in(recording.lines.of(step))
+
+
+def place_in(stack: Stack) -> str:
+    """Where the program stands in a stack, as `place_of` has it."""
+    if found := stack.own():
+        return f" at {found[0].place()} in {short(found[0].function)}{caller_of(stack, found[0])}"
+    outer = next((call for call in stack.calls if not call.function.startswith(BELOW)), None)
+    return f" in {outer.function}" if outer else ""
+
+
+def caller_of(stack: Stack, own: LineCall) -> str:
+    """Where the program called the function that it stands in, if that is a function of its own which is called by another."""
+    own_calls = [call for call in stack.calls if call.of == OF_THE_PROGRAM and call.file != OF_TESTS]
+    behind = own_calls[own_calls.index(own) + 1 :] if own in own_calls else []
+    is_main = bool(behind) and behind[0].function == "main.main"
+    return f", called at {behind[0].place()}" if behind and not is_main else ""
+
+
+def is_of_a_lock(stack: Stack) -> bool:
+    """Whether a wait is for the lock of a descriptor, which the recording's steps have."""
+    return any(call.function == "internal/poll.(*fdMutex).rwlock" for call in stack.calls)
+
+
+def elsewhere(stack: Stack, reason: str) -> str:
+    """A wait outside of the poller: `at main.go:44 in take for a value from a channel`; of a mutex or a WaitGroup the stack says it."""
+    named = next((OF_SYNC[call.function] for call in stack.calls if call.function in OF_SYNC), "")
+    what = named or reason
+    return f"outside of the poller{place_in(stack)}" + (f", for {what}" if what else "")
+
+
+def is_of_the_program(stack: Stack) -> bool:
+    """Whether a line of the program is in a stack, but for the main function that Go makes for tests."""
+    return any(call.of == OF_THE_PROGRAM and call.file != OF_TESTS for call in stack.calls)
+
+
+def is_of_go(recording: Recording, call: Call) -> bool:
+    """Whether a call is known to be of Go's own code alone, as those of net/http between two requests."""
+    stack = recording.lines.of(call.first)
+    return bool(stack.calls) and all(one.of == OF_GO for one in stack.calls)
+
+
+def is_by_go(recording: Recording, call: Call) -> bool:
+    """Whether Go's own code ended a wait of its own by a deadline in the past, as net/http ends its read between two requests."""
+    if call.outcome is not Outcome.TIMED_OUT or not call.cause or not is_of_go(recording, call):
+        return False
+    return bool(recording.step(call.cause).argument("time") < 0)
+
+
+def told(recording: Recording, call: Call) -> str:
+    """A call with its place and its goroutine: `Read at pool.go:31 in query (goroutine 0)`."""
+    return f"{name_of(recording, call)}{place_of(recording, call.first)} (goroutine {call.goroutine})"
+
+
+def place_of_step(recording: Recording, step: int, goroutine: Optional[int] = None) -> str:
+    """The place of a step, its goroutine where one is named, and its number: ` at pool.go:20 in ping (goroutine 0, step 8)`."""
+    whose = "" if goroutine is None else f"goroutine {goroutine}, "
+    return f"{place_of(recording, step)} ({whose}step {step})"
+
+
+def duration(nanoseconds: int) -> str:
+    """A time in the largest unit of which there is one: `200 ms`."""
+    size, unit = next((one for one in UNITS if nanoseconds >= one[0]), UNITS[-1])
+    count = nanoseconds / size
+    return f"{count:.3g} {unit}" if count < 100 else f"{count:.0f} {unit}"

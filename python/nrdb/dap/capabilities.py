@@ -1,0 +1,21 @@
+"""What an editor is told that it may ask for."""
+
+from .filters import offered
+from .messages import Body
+
+CAPABILITIES: Body = {
+    "supportsConfigurationDoneRequest": True,
+    "supportsFunctionBreakpoints": True,
+    "supportsConditionalBreakpoints": True,
+    "supportsDataBreakpoints": True,
+    "supportsBreakpointLocationsRequest": True,
+    "supportsExceptionInfoRequest": True,
+    "exceptionBreakpointFilters": offered(),
+    "supportsStepBack": True,
+    "supportsGotoTargetsRequest": True,
+    "supportsRestartRequest": True,
+    "supportsTerminateRequest": True,
+    "supportsEvaluateForHovers": True,
+    "supportsCompletionsRequest": True,
+    "completionTriggerCharacters": [" "],
+}

@@ -1,0 +1,167 @@
+"""Calls that fail: in the recording one went well, and in a schedule it ends with a fault, since a deadline has passed or a close came
+first. What its goroutine does then isn't known, so such a schedule ends with that call."""
+
+from bisect import bisect_left
+from enum import Enum
+from typing import Any, Iterator, NamedTuple, Optional
+
+from .runs import Delay, Made
+from .scripts import Operation, Script, Sort
+
+FAILS = "a call that fails"
+
+
+class Why(Enum):
+    """What a call fails by."""
+
+    CLOSED = "its socket is closed first"
+    TIMED_OUT = "its deadline passes first"
+    BROKEN = "the other end is closed first"
+
+
+CHECKED: dict[tuple[Any, ...], Why] = {("code", 1): Why.CLOSED, ("code", 2): Why.TIMED_OUT}
+# what the answers say of a step of each kind
+FAULTS: dict[str, dict[tuple[Any, ...], Why]] = {
+    "rwlock": {("no",): Why.CLOSED},
+    "syswrite": {("pipe",): Why.BROKEN},
+    **{kind: CHECKED for kind in ("pollreset", "waitbegin", "waitcheck")},
+}
+OVER = ("rwunlock", "pollclose")  # with such a step a call ends that has failed
+
+Watched = dict[tuple[int, int], int]  # of a goroutine and an operation of its, at which one its call begins
+
+
+class Failed(NamedTuple):
+    """The first call that failed in a schedule: whose, where it begins in the goroutine's operations, by which of the schedule's steps,
+    and why."""
+
+    goroutine: int
+    begins: int
+    step: int
+    why: Why
+
+
+class Reason(NamedTuple):
+    """The step of a schedule by which a call fails, and how many calls had ended well under that deadline."""
+
+    step: int
+    served: int
+
+
+def fault_of(made: Made) -> Optional[Why]:
+    """What a call fails by with this step."""
+    return FAULTS.get(made.step[0], {}).get(made.answer)
+
+
+def watched(script: Script) -> Watched:
+    """The operations of those calls that lock a side of a socket and went well in the recording."""
+    return {
+        (g, at): begins
+        for g, operations in enumerate(script.goroutines)
+        for begins, operation in enumerate(operations)
+        if operation.sort is Sort.LOCK and went_well(script, operations[begins : operation.on_failure])
+        for at in range(begins, operation.on_failure)
+    }
+
+
+def went_well(script: Script, call: list[Operation]) -> bool:
+    """Whether a call has all its steps in the recording, and none has a fault or found the end."""
+    if len(call) < 2 or not (call[0].steps and call[-1].steps):
+        return False
+    steps = [pair for operation in call for pair in zip(operation.kinds, operation.steps)]
+    answers = [(kind, script.answers[number - 1]) for kind, number in steps]
+    return not any(answer[0] == "eof" or answer in FAULTS.get(kind, {}) for kind, answer in answers)
+
+
+def failing_delays(script: Script) -> list[Delay]:
+    """Delays of calls that went well: until the next close of their socket by another, until the next deadline in the past that another
+    sets, and until a deadline has passed that an earlier call had."""
+    sets, closes, ends = _of_socket(script, Sort.SET), _of_socket(script, Sort.CLOSE), ends_of(script)
+    found: list[Delay] = []
+    for (g, at), begins in script.watched.items():
+        operation = script.goroutines[g][at]
+        if at == begins:
+            later = (one.steps[0] for who, one in closes.get(operation.socket, []) if who != g)
+            found += _until(operation.steps[0], later)
+        elif operation.sort is Sort.RESET:
+            number = operation.steps[0]
+            own = [(who, one) for who, one in sets.get(operation.socket, []) if operation.side in one.side]
+            found += _until(number, (one.steps[0] for who, one in own if who != g and one.values[0] < 0))
+            before = ends.get((operation.socket, operation.side), set())
+            if _is_of_an_earlier_call(number, [one for _, one in own], before):
+                found.append(Delay(number, script.length + 1))
+    return sorted(found, key=lambda delay: delay.until - delay.before)
+
+
+def _until(before: int, later: Iterator[int]) -> list[Delay]:
+    return [Delay(before, number) for number in sorted(one for one in later if one > before)[:1]]
+
+
+def _of_socket(script: Script, sort: Sort) -> dict[int, list[tuple[int, Operation]]]:
+    """The operations of a sort that have steps, by socket, each with its goroutine, in their order."""
+    found: dict[int, list[tuple[int, Operation]]] = {}
+    for g, operations in enumerate(script.goroutines):
+        for operation in operations:
+            if operation.sort is sort and operation.steps:
+                found.setdefault(operation.socket, []).append((g, operation))
+    return {socket: sorted(row, key=lambda pair: pair[1].steps[0]) for socket, row in found.items()}
+
+
+def _is_of_an_earlier_call(number: int, sets: list[Operation], ends: set[int]) -> bool:
+    """Whether the last deadline that was set before is one to come, under which another call had ended well."""
+    last = bisect_left([one.steps[0] for one in sets], number) - 1
+    if last < 0 or sets[last].values[0] <= 0:
+        return False
+    since = sets[last].steps[0]
+    return any(since < end < number for end in ends)
+
+
+def ends_of(script: Script) -> dict[tuple[int, str], set[int]]:
+    """The last steps of those calls that went well, by socket and side."""
+    found: dict[tuple[int, str], set[int]] = {}
+    for g, begins in {(g, begins) for (g, _), begins in script.watched.items()}:
+        end = script.goroutines[g][script.goroutines[g][begins].on_failure - 1]
+        found.setdefault((end.socket, end.side), set()).add(end.steps[0])
+    return found
+
+
+def reason_of(script: Script, failed: Failed, steps: list[Made]) -> Optional[Reason]:
+    """What a call failed by, in a schedule. None where that is nothing to tell: a deadline to come that was set for it alone, since the
+    recorded order has that too, where what it waits for comes late."""
+    if failed.why is Why.BROKEN:
+        return Reason(failed.step, 0)
+    call = script.goroutines[failed.goroutine][failed.begins]
+    numbers = _numbers(script, Sort.CLOSE if failed.why is Why.CLOSED else Sort.SET, call)
+    at = next((at for at in range(failed.step - 1, 0, -1) if steps[at - 1].number in numbers), 0)
+    if not at or failed.why is Why.CLOSED:
+        return Reason(at, 0) if at else None
+    if steps[at - 1].step[4] <= 0:
+        return Reason(at, 0)
+    ends = ends_of(script).get((call.socket, call.side), set())
+    served = sum(made.number in ends for made in steps[at : failed.step])
+    return Reason(at, served) if served else None
+
+
+def _numbers(script: Script, sort: Sort, call: Operation) -> set[int]:
+    """The steps that set a deadline, or close a socket, by which a call may fail."""
+    return {
+        operation.steps[0]
+        for _, operation in _of_socket(script, sort).get(call.socket, [])
+        if sort is Sort.CLOSE or call.side in operation.side
+    }
+
+
+def faults_of(script: Script) -> Iterator[tuple[int, int, Why]]:
+    """The calls that have a fault in the recording: whose, where each begins, and why."""
+    for g, operations in enumerate(script.goroutines):
+        for begins, operation in enumerate(operations):
+            if operation.sort is Sort.LOCK and operation.steps:
+                for one in operations[begins : operation.on_failure]:
+                    yield from ((g, begins, why) for why in _faults(script, one))
+
+
+def _faults(script: Script, operation: Operation) -> Iterator[Why]:
+    for kind, number in zip(operation.kinds, operation.steps):
+        why = FAULTS.get(kind, {}).get(script.answers[number - 1])
+        if why:
+            yield why

@@ -1,0 +1,34 @@
+"""The files that nrdb writes: whole or not at all, and never over the recording that it reads."""
+
+import os
+from contextlib import contextmanager
+from pathlib import Path
+from typing import IO, Any, Iterator
+
+from netrev_model.files import whole
+
+from .session import Misused
+
+
+def spare(path: str, recording: str) -> None:
+    """Misused where a file that is to be written is the recording, or the file of its lines."""
+    for own in (Path(recording), Path(recording).with_suffix(".where")) if recording else ():
+        if os.path.exists(path) and own.exists() and own.samefile(path):
+            raise Misused(f"{path} is the recording itself, or its lines: name another file, or rename it")
+
+
+@contextmanager
+def writing(path: str, recording: str, mode: str = "w") -> Iterator[IO[Any]]:
+    """A file to be written; Misused where it can't be."""
+    spare(path, recording)
+    try:
+        with whole(Path(path), mode) as file:
+            yield file
+    except OSError as error:
+        raise Misused(f"{path}: {error.strerror}") from None
+
+
+def written(path: str, recording: str, data: bytes) -> None:
+    """Writes a file; Misused where it can't be."""
+    with writing(path, recording, "wb") as file:
+        file.write(data)

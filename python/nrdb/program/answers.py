@@ -1,0 +1,141 @@
+"""What nrdb answers where a line or a function of the program is named, and about frames."""
+
+from typing import Optional
+
+from ..answers_of_calls import arrive
+from ..output import Row, Table
+from ..recording import Recording
+from ..session import Answering, Misused, Session
+from ..where import OF_THE_PROGRAM, Call, Stack
+from .index import OF_A_LINE, Place, is_file, is_place, places_of
+from .source import source_of, text_round
+
+NO_LINES = "the lines of the program aren't known: NAME.where isn't beside the recording"
+MOST = 40
+
+
+def place_of(session: Session, spelled: str) -> Place:
+    """The place that a word spells; Misused where no step comes from there."""
+    recording = session.text()
+    if not recording.lines:
+        raise Misused(NO_LINES)
+    places = places_of(recording)
+    if place := places.place(spelled):
+        return place
+    near = places.near(spelled)
+    raise Misused(f"no step of the recording comes from {spelled}" + (f"; from {', '.join(near)}" if near else ""))
+
+
+def of_place(name: str, otherwise: Answering) -> Answering:
+    """The answer of a command that takes a place too."""
+
+    def answer(session: Session, words: list[str]) -> Optional[bool]:
+        return (OF_PLACES[name] if is_place(session.recording, words) else otherwise)(session, words)
+
+    return answer
+
+
+def break_at(is_temporary: bool) -> Answering:
+    """The answer of `break` and `tbreak` with a place."""
+
+    def answer(session: Session, words: list[str]) -> None:
+        made = session.breaks.add(place_of(session, words[0]), is_temporary)
+        session.printer.note(f"break {made.words()}")
+
+    return answer
+
+
+def answer_delete(session: Session, words: list[str]) -> None:
+    if session.breaks.standing.pop(words[0], None) is None:
+        raise Misused(f"no break has the number {words[0]}: info breakpoints")
+
+
+def go_to_place(name: str, forwards: bool) -> Answering:
+    """The answer of `until`, `goto` and `reverse-until` with a place."""
+
+    def answer(session: Session, words: list[str]) -> None:
+        place, position = place_of(session, words[0]), session.stands().position
+        ahead = [one for one in place.positions if (one > position if forwards else one < position)]
+        if not ahead:
+            raise Misused(f"no goroutine comes to {words[0]} {'later' if forwards else 'earlier'}")
+        arrive(session, f"{name} {words[0]}", session.go(ahead[0] if forwards else ahead[-1]))
+        session.is_before = True
+
+    return answer
+
+
+def answer_history(session: Session, words: list[str]) -> None:
+    """The times that goroutines came to a place, up to the position."""
+    recording, place, position = session.text(), place_of(session, words[0]), session.stands().position
+    past = [one for one in place.positions if one <= position]
+    rows = [row_of(recording, one) for one in past[-MOST:]]
+    rest = [f"{len(past) - len(rows)} earlier"] if len(rows) < len(past) else []
+    rest += [f"{len(place.positions) - len(past)} later"] if len(past) < len(place.positions) else []
+    session.printer.table(Table("history", rows, "; ".join(rest)))
+
+
+def row_of(recording: Recording, position: int) -> Row:
+    step = recording.step(position + 1)
+    values = {"position": position, "goroutine": step.argument("g"), "step": step.number, "does": str(step)}
+    return Row(values, f"{position:>7}  goroutine {step.argument('g')}, before step {step.number}: {step}")
+
+
+def answer_list(session: Session, words: list[str]) -> None:
+    """The source round a line."""
+    found = OF_A_LINE.fullmatch(words[0])
+    if found is None:
+        raise Misused("list FILE:LINE shows the source round a line; list N the steps round one")
+    show_source(session, found[1], int(found[2]))
+
+
+def show_source(session: Session, file: str, line: int) -> None:
+    recording = session.text()
+    known = next((call.file for call in calls_of(recording) if is_file(call.file, file)), None)
+    if known is None:
+        raise Misused(f"no call of the recording is in a file {file}")
+    path = source_of(known, session.path)
+    lines = text_round(recording, path, line)
+    session.printer.note("\n".join(lines) if lines else f"{known}:{line}: the source isn't here")
+
+
+def calls_of(recording: Recording) -> list[Call]:
+    return [call for stack in recording.lines.stacks.values() for call in stack.calls]
+
+
+def stack_at(session: Session) -> Stack:
+    """The program's stack where the session stands: that of the last step, and before a place of the program that of the next."""
+    return session.text().lines.of(session.stands().position + session.is_before)
+
+
+def frame_by(move: int) -> Answering:
+    """The answer of `frame [N]`, `up` and `down`: a call of the stack, and the source round it."""
+
+    def answer(session: Session, words: list[str]) -> None:
+        stack = stack_at(session).calls
+        if not stack:
+            raise Misused("no call of the program is known here: where")
+        own = next((at for at, call in enumerate(stack) if call.of == OF_THE_PROGRAM), 0)
+        wanted: Optional[int] = (own if session.frame is None else session.frame) + move
+        if not move and words:
+            wanted = int(words[0]) if words[0].isdecimal() and len(words[0]) < 6 else None
+        if wanted is None or not 0 <= wanted < len(stack):
+            raise Misused(f"the stack has frames from 0, the innermost, to {len(stack) - 1}")
+        session.frame = wanted
+        call = stack[wanted]
+        session.printer.note(f"frame {wanted}: {call.function} at {call.place()}")
+        show_source(session, call.file, call.line)
+
+    return answer
+
+
+OF_PLACES: dict[str, Answering] = {
+    "break": break_at(False),
+    "tbreak": break_at(True),
+    "delete": answer_delete,
+    "until": go_to_place("until", True),
+    "goto": go_to_place("goto", True),
+    "reverse-until": go_to_place("reverse-until", False),
+    "history": answer_history,
+    "list": answer_list,
+}
+OF_FRAMES: dict[str, Answering] = {"frame": frame_by(0), "up": frame_by(1), "down": frame_by(-1)}

@@ -1,0 +1,69 @@
+"""The breaks at places of the program. They are nrdb's own, and take none of netrev's marks: a move that netrev makes past one goes
+back to it."""
+
+import re
+from bisect import bisect_left, bisect_right
+from dataclasses import dataclass, field
+from typing import Optional
+
+from ..recording import Recording
+from .index import Place, is_place
+
+LETTER = "p"  # before the numbers of such breaks, which netrev's have none of
+NUMBER = re.compile(rf"{LETTER}\d+")
+
+
+@dataclass
+class Break:
+    """A break: its number, its place, and whether it is gone behind the first stop."""
+
+    number: str
+    place: Place
+    is_temporary: bool
+
+    def words(self) -> str:
+        """It as `info breakpoints` has it."""
+        once = ", once" if self.is_temporary else ""
+        return f"{self.number} at {self.place.spelled}: {len(self.place.positions)} of the recording's positions{once}"
+
+
+@dataclass
+class Breaks:
+    """The breaks at places of the program that stand."""
+
+    standing: dict[str, Break] = field(default_factory=dict)
+    given: int = 0
+
+    def add(self, place: Place, is_temporary: bool) -> Break:
+        self.given += 1
+        made = Break(f"{LETTER}{self.given}", place, is_temporary)
+        self.standing[made.number] = made
+        return made
+
+    def nearest(self, position: int, forwards: bool) -> Optional[int]:
+        """The nearest position that way at which one of them stops."""
+        near = [one for mark in self.standing.values() if (one := beyond(mark.place, position, forwards)) is not None]
+        return (min if forwards else max)(near, default=None)
+
+    def hit(self, position: int) -> list[Break]:
+        """The breaks that stop at a position, of which the temporary ones are gone then."""
+        found = [one for one in self.standing.values() if position in one.place.positions]
+        for one in found:
+            if one.is_temporary:
+                del self.standing[one.number]
+        return found
+
+
+def names_a_place(recording: Optional[Recording], words: list[str]) -> bool:
+    """Whether a command of netrev's names a place of the program, or a break at one: then nrdb answers."""
+    name, *rest = words
+    if name in ("break", "tbreak"):
+        return is_place(recording, rest)
+    return name == "delete" and len(rest) == 1 and NUMBER.fullmatch(rest[0]) is not None
+
+
+def beyond(place: Place, position: int, forwards: bool) -> Optional[int]:
+    """The first position of a place that way from a position."""
+    rows = place.positions
+    at = bisect_right(rows, position) if forwards else bisect_left(rows, position) - 1
+    return rows[at] if 0 <= at < len(rows) else None

@@ -1,0 +1,99 @@
+"""At which positions goroutines come to a line of the program or to a function of it, by the stacks of NAME.where."""
+
+import re
+from functools import lru_cache
+from typing import Callable, Hashable, NamedTuple, Optional, TypeVar
+
+from netrev_model.vocabulary import KINDS, cell_of
+
+from ..calls import book_of
+from ..recording import Recording
+from ..where import Call, Stack
+
+OF_A_LINE = re.compile(r"(.+):(\d{1,9})\Z")
+Key = TypeVar("Key", bound=Hashable)
+MOST_NEAR = 5  # lines that are named where none is meant
+
+
+class Place(NamedTuple):
+    """A line or a function as it was spelled, and the positions before the steps at which a goroutine comes there, rising."""
+
+    spelled: str
+    positions: list[int]
+
+
+class Places:
+    """The places of a recording."""
+
+    def __init__(self, recording: Recording) -> None:
+        self._recording, self._lines = recording, recording.lines
+        book = book_of(recording)
+        self._makers = book.goroutines
+        self._begins = {call.first for call in book.calls}
+
+    def place(self, spelled: str) -> Optional[Place]:
+        """The place that a word spells; None where no step of the recording comes from there."""
+        found = OF_A_LINE.fullmatch(spelled)
+        positions = self._of_line(found[1], int(found[2])) if found else self._of_function(spelled)
+        return Place(spelled, positions) if positions else None
+
+    def lines_of(self, is_meant: Callable[[str], bool]) -> dict[int, list[int]]:
+        """Of each line of the files that are meant the positions at which a goroutine comes there."""
+        return self._positions(lambda stack: {call.line for call in stack.calls if is_meant(call.file)})
+
+    def near(self, spelled: str) -> list[str]:
+        """The lines with steps that are nearest to one that has none."""
+        found = OF_A_LINE.fullmatch(spelled)
+        if not found:
+            return []
+        spelled, wanted = found[1], int(found[2])
+        near = sorted(self.lines_of(lambda file: is_file(file, spelled)), key=lambda line: abs(line - wanted))
+        return [f"{spelled}:{line}" for line in sorted(near[:MOST_NEAR])]
+
+    def _of_line(self, file: str, line: int) -> list[int]:
+        return self.lines_of(lambda known: is_file(known, file)).get(line, [])
+
+    def _of_function(self, name: str) -> list[int]:
+        found = self._positions(lambda stack: {name for call in stack.calls if is_function(call, name)})
+        return found.get(name, [])
+
+    def _positions(self, keys: Callable[[Stack], set[Key]]) -> dict[Key, list[int]]:
+        """Of each key the positions before the steps at which a goroutine comes to a stack that has it. One that was there at its
+        step before has come there anew where a call of its own begins."""
+        of_stack = {number: keys(stack) for number, stack in self._lines.stacks.items()}
+        found: dict[Key, list[int]] = {}
+        before: dict[int, set[Key]] = {}
+        for step, (number, maker) in enumerate(zip(self._lines.steps, self._makers), 1):
+            here = of_stack[number]
+            if not number or maker < 0:
+                continue
+            for key in here if step in self._begins else here - before.get(maker, set()):
+                found.setdefault(key, []).append(step - 1)
+            before[maker] = here
+        return found
+
+
+def is_place(recording: Optional[Recording], words: list[str]) -> bool:
+    """Whether these words, behind a command, are a place of the program and nothing else: FILE:LINE, a function with its package or
+    receiver, or any other that the recording comes from."""
+    if len(words) != 1 or words[0] in KINDS or words[0].isdecimal() or words[0].startswith("@") or cell_of(words):
+        return False
+    if OF_A_LINE.fullmatch(words[0]):
+        return True
+    return recording is not None and bool(recording.lines) and places_of(recording).place(words[0]) is not None
+
+
+def is_file(known: str, spelled: str) -> bool:
+    """Whether a file of NAME.where is the one that is spelled: the whole name, or the end of it."""
+    return known == spelled or known.endswith(f"/{spelled.removeprefix('./')}")
+
+
+def is_function(call: Call, name: str) -> bool:
+    """Whether a call is of the function that is spelled: the whole name, or without the package or its path."""
+    return call.function == name or call.function.endswith((f"/{name}", f".{name}"))
+
+
+@lru_cache(maxsize=2)
+def places_of(recording: Recording) -> Places:
+    """The places of a recording."""
+    return Places(recording)

@@ -1,0 +1,52 @@
+"""A deadline of an earlier call: a Read or Write of the program's timed out by a deadline to come that the program had set before it
+began, and under which another call of that side of the connection had ended well. It was that call's, and nobody moved it for this
+one; or it is the whole connection's, which is by design in some programs: perhaps."""
+
+from typing import Iterator
+
+from ..causes.failing import cause_of
+from ..causes.index import Index, went_well
+from ..causes.words import told
+from ..one_call import Call, Outcome
+from .found import Evidence, RuleOfCalls, Suspect, Weight
+from .state import LETTERS, NAMES, READ, WRITE
+
+SIDES = {"Read": READ, "Write": WRITE}
+
+
+def earlier_deadlines(index: Index) -> Iterator[Suspect]:
+    """Those of a recording whose lines are known."""
+    recording = index.recording
+    for call in index.book.calls:
+        if call.name not in SIDES or call.outcome is not Outcome.TIMED_OUT or not 0 < call.cause < call.first:
+            continue
+        step = recording.step(call.cause)
+        before = calls_under(index, call)
+        if before and step.argument("time") > 0 and recording.lines.of(call.cause).own():
+            yield suspect_of(index, call, before)
+
+
+def calls_under(index: Index, call: Call) -> list[Call]:
+    """The calls of the same side that ended well between the step that set the deadline and this call."""
+    calls = index.by_socket[call.socket]
+    return [one for one in calls if one.name == call.name and call.cause < one.last <= call.first and went_well(one)]
+
+
+def suspect_of(index: Index, call: Call, before: list[Call]) -> Suspect:
+    place = SIDES[call.name]
+    cell = f"{LETTERS[place]}d {call.descriptor}"
+    says = [
+        f"perhaps: {told(index.recording, call)} timed out at step {call.last} by the {NAMES[place]} deadline of step {call.cause}",
+        f"{len(before)} earlier {call.name} of that connection had ended well under it",
+    ]
+    return Suspect(
+        RuleOfCalls.EARLIER_DEADLINE,
+        call.last,
+        Weight.SHOWN,
+        says,
+        descriptor=call.descriptor,
+        socket=call.socket,
+        evidence=[Evidence(call.last, cell, "-1")],
+        looks=cause_of(index, call).looks,
+        steps=[call.cause, before[0].first, call.first],
+    )

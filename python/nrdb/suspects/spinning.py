@@ -1,0 +1,51 @@
+"""A timeout again and again: a goroutine's calls at one side of a connection time out by the same deadline, MANY in a row, and nobody
+sets another: as long as the deadline stands each further call ends at once."""
+
+from typing import Iterator
+
+from ..causes.index import Index
+from ..causes.words import is_of_go, told
+from ..one_call import Call, Outcome
+from .earlier import SIDES
+from .found import Evidence, RuleOfCalls, Suspect, Weight
+from .state import LETTERS
+
+MANY = 20
+
+
+def spins(index: Index) -> Iterator[Suspect]:
+    """Those of a recording."""
+    for calls in index.by_socket.values():
+        for name in SIDES:
+            row: list[Call] = []
+            for call in (one for one in calls if one.name == name and one.last):
+                row = [*row, call] if row and is_next(row[-1], call) else [call]
+                if len(row) == MANY and not is_of_go(index.recording, call):
+                    yield suspect_of(index, row)
+
+
+def is_next(last: Call, call: Call) -> bool:
+    """Whether a call timed out by the same deadline as the one before it, of the same goroutine."""
+    are_late = last.outcome is call.outcome is Outcome.TIMED_OUT
+    return are_late and last.cause == call.cause > 0 and last.goroutine == call.goroutine
+
+
+def suspect_of(index: Index, row: list[Call]) -> Suspect:
+    first, last = row[0], row[-1]
+    letter = LETTERS[SIDES[first.name]]
+    says = [
+        f"{told(index.recording, first)} timed out {len(row)} times in a row, from step {first.last} to {last.last}",
+        f"all by the deadline of step {first.cause}, and nobody set another",
+    ]
+    return Suspect(
+        RuleOfCalls.SPIN,
+        last.last,
+        Weight.LIKELY,
+        says,
+        goroutine=first.goroutine,
+        descriptor=first.descriptor,
+        socket=first.socket,
+        evidence=[Evidence(last.last, f"{letter}d {first.descriptor}", "-1")],
+        looks=[f"goto {first.last}", f"history {letter}d {first.descriptor}"],
+        steps=[first.cause, first.first],
+    )

@@ -1,0 +1,39 @@
+"""Two readers: a goroutine's Read had to wait for the lock that another's Read of the same connection had, and both got bytes. So who
+gets which bytes of the stream is chance. A listener, and a socket of datagrams, may have any number of readers. Perhaps."""
+
+from typing import Iterator
+
+from ..causes.index import Index, went_well
+from ..causes.words import is_of_go, told
+from ..one_call import Call
+from .found import Evidence, RuleOfCalls, Suspect, Weight
+
+
+def readers_of_one_stream(index: Index) -> Iterator[Suspect]:
+    """Those of a recording that says which sockets are streams, by their other ends or names."""
+    for socket, calls in index.by_socket.items():
+        if index.other_end(socket) is None:
+            continue
+        reads = [one for one in calls if one.name == "Read" and went_well(one)]
+        for first, second in zip(reads, reads[1:]):
+            overlap = first.goroutine != second.goroutine and second.first < first.last
+            if overlap and not is_of_go(index.recording, first) and not is_of_go(index.recording, second):
+                yield suspect_of(index, first, second)
+
+
+def suspect_of(index: Index, first: Call, second: Call) -> Suspect:
+    says = [
+        f"perhaps: two goroutines read socket {first.socket} at once, and each got bytes",
+        f"{told(index.recording, first)}, {first.steps()}",
+        f"{told(index.recording, second)}, {second.steps()}",
+    ]
+    return Suspect(
+        RuleOfCalls.TWO_READERS,
+        second.first,
+        Weight.SHOWN,
+        says,
+        socket=first.socket,
+        evidence=[Evidence(second.first, f"lock {first.socket}")],
+        looks=[f"goto {second.first}", f"calls sock {first.socket}"],
+        steps=[first.first, second.first],
+    )

@@ -1,0 +1,78 @@
+"""netrev-go with a real Go, where a run could be lost: a program that becomes another one, and what it leaves its children. It needs
+Go and netrev, and is run by `make real`:  python3 python unittest tests.go_kept"""
+
+import os
+import shutil
+import subprocess
+import unittest
+
+from tests.go_tool import ENDS, Tool, program
+
+BECOMES = program(
+    '\tif len(os.Args) == 1 {\n\t\ta.Write([]byte("x"))\n\t\tb.Read(make([]byte, 1))\n'
+    '\t\tpanic(syscall.Exec(os.Args[0], []string{os.Args[0], "again"}, os.Environ()))\n\t}',
+    "os", "syscall",
+)  # fmt: skip
+INHERITS = program(
+    '\tout, err := exec.Command("ls", "-l", "/proc/self/fd").CombinedOutput()\n\tfmt.Print(string(out), err)',
+    "fmt", "os/exec",
+)  # fmt: skip
+MANY = program("\tfor i := 0; i < 5000; i++ {\n\t\ta.SetDeadline(time.Now().Add(time.Hour))\n\t}", "time")
+
+
+class Kept(Tool):
+    """Runs that a name, a folder or a further program could lose."""
+
+    def test_a_program_that_becomes_another_one_is_recorded_on(self) -> None:
+        self.written(BECOMES)
+        status, said = self.called("-o", "x", "run", "main.go")
+        self.assertEqual(status, 0, said)
+        self.recorded(said, "x")
+        self.recorded(said, "x-2")
+        self.assertNotIn("nothing is recorded", said)
+
+    def test_a_log_that_cannot_be_made_is_told_by_its_error(self) -> None:
+        self.written(ENDS)
+        self.assertEqual(self.called("build", "-o", "prog", "main.go")[0], 0)
+        for folder, error in (("nowhere", 2), ("main.go", 20)):
+            settings = self.environment(NETREV_LOG=f"{folder}/log")
+            ended = subprocess.run(
+                ["./prog"], cwd=self.folder, env=settings, capture_output=True, text=True, check=True
+            )
+            self.assertRegex(
+                ended.stderr, rf"the log {folder}/log\.\d+ can't be made \(error {error}\): nothing is recorded"
+            )
+
+    def test_no_program_that_it_starts_has_the_log_open(self) -> None:
+        self.written(INHERITS)
+        _, said = self.called("run", "main.go")
+        self.recorded(said)
+        self.assertIn("/proc/", said)
+        self.assertNotIn("netrev-go-", said)
+
+    def test_a_status_of_gos_is_told(self) -> None:
+        self.written(ENDS.replace("_, _ = a, b", "_, _ = a, b\n\tpanic(1)"))
+        status, said = self.called("run", "main.go")
+        self.assertEqual(status, 1, said)
+        self.recorded(said)
+        self.assertIn("recording.jsonl -ex continue -ex 'info errors'", said)
+        self.assertNotIn("--explore", said)
+
+    @unittest.skipUnless(os.geteuid() == 0 and shutil.which("mount"), "only root can mount a small file system")
+    def test_a_full_disk_keeps_the_logs(self) -> None:
+        small = self.folder / "small"
+        small.mkdir()
+        if os.system(f"mount -t tmpfs -o size=128k none {small} 2>/dev/null"):
+            self.skipTest("no file system can be mounted here")
+        self.addCleanup(os.system, f"umount {small}")
+        self.written(MANY)
+        status, said = self.called("-o", "small/x", "--keep", "--strict", "run", "main.go")
+        self.assertEqual(status, 5, said)
+        self.assertIn("netrev-go: small/x.jsonl: No space left on device", said)
+        logs = said.rpartition("convert ")[2].partition("`")[0]
+        self.addCleanup(shutil.rmtree, os.path.dirname(logs))
+        self.assertEqual(self.called("-o", "again", "convert", logs)[0], 0)
+
+
+if __name__ == "__main__":
+    unittest.main()

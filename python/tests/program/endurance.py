@@ -1,0 +1,144 @@
+"""Plays the built program for long:  python3 python tests.program.endurance [--list] [NAME ..]
+
+No contract counts memory, nor how often a call may be interrupted. So that is played here: many steps to and fro over a read, and many
+copies of much that is held, in an address space that has room for it once; and reads and writes that are interrupted again and
+again, as by signals, for which it needs a C compiler. Each case has a name in plain words; of those given only the ones that begin so are
+played. Ends with status 1 at the first that isn't as it has to be.
+"""
+
+import argparse
+import os
+import subprocess
+import sys
+import tempfile
+from functools import partial
+from pathlib import Path
+from typing import Callable, Mapping
+
+from .address_spaces import MEGABYTE, limit_memory
+from .given import FIRST
+from .sharing import NETREV, PATIENCE, ROOT, Wrong, expect
+
+PIECE, BUFFER, EACH_COPY = 65_536, 1_048_576, 1_024
+TIMES = 10_000  # to and fro
+ROOM = 200 * MEGABYTE
+HELD, COPIES = 8, 200  # megabytes that are held, and copies
+INTERRUPTED = 150  # times, before each read and each write
+TOLD = 9  # the descriptor at which scripts/interrupted.c tells of it
+Case = Callable[[Path], None]
+
+
+def replies(words: list[str], script: str, room: int = 0, settings: Mapping[str, str] = {}) -> tuple[int, str, str]:
+    """netrev's status, its output and its errors, with so much address space."""
+    ran = subprocess.run(
+        [NETREV, *words],
+        input=script,
+        env={**os.environ, **settings},
+        capture_output=True,
+        text=True,
+        pass_fds=(TOLD,) if settings else (),
+        timeout=4 * PATIENCE,
+        preexec_fn=partial(limit_memory, room) if room else None,
+        check=False,
+    )
+    return ran.returncode, ran.stdout, ran.stderr
+
+
+def same(script: str, right: str, came: tuple[int, str, str]) -> None:
+    """Sees that the replies are right; where they part is said."""
+    status, output, errors = came
+    lines = list(zip([*script.splitlines(), "the end"], [*right.splitlines(), ""], [*output.splitlines(), ""]))
+    wrong = next(
+        (
+            f"line {at}, {line}: expected {one!r}, came {other!r}"
+            for at, (line, one, other) in enumerate(lines, 1)
+            if one != other
+        ),
+        "",
+    )
+    if wrong or output != right:
+        raise Wrong(f"{wrong or 'other replies'}; status {status}")
+    expect("status and errors", (0, ""), (status, errors))
+
+
+def play_to_and_fro(folder: Path) -> None:
+    """20,000 steps over a read of 65,536 bytes: each way back has them, and they are let go of the next time."""
+    path = folder / "read.jsonl"
+    lines = [f'["sockopen",{PIECE},{PIECE}]', f'["arrive",0,"{"ab" * PIECE}"]', f'["sysread",0,0,{PIECE}]']
+    path.write_text("\n".join(['{"netrev":1,"gor":1,"sock":1,"desc":1,"buf":65536}', *lines, ""]), encoding="ascii")
+    script = "si 3\n" + "rsi\np in 0\nsi\np in 0\n" * TIMES
+    right = "at 3\n" + f"at 2\nin 0 = {PIECE}\nat 3\nin 0 = 0\n" * TIMES
+    same(script, right, replies(["run", str(path)], script, ROOM))
+
+
+def play_copies(folder: Path) -> None:
+    """Copies of what stays as it is share it: all of them would be eight times as large as the address space."""
+    path = folder / "held.jsonl"
+    last = COPIES * EACH_COPY
+    with open(path, "w", encoding="ascii") as file:
+        file.write(f'{{"netrev":2,"gor":1,"sock":{HELD},"desc":1,"buf":{BUFFER}}}\n')
+        for number in range(HELD):
+            file.write(f'["sockopen",{BUFFER},1,["number",{number}]]\n')
+            file.write(f'["arrive",{number},"{"ab" * PIECE}","done"]\n' * (BUFFER // PIECE))
+        made = HELD * (1 + BUFFER // PIECE)
+        file.writelines(f'["tick",{time},"done"]\n' for time in range(1, last - made + 1))
+    expect("check", (0, f"ok {last} steps\n", ""), replies(["check", str(path)], "", ROOM))
+    script = f"si {last}\np in 0\nrsi {last - made}\np in {HELD - 1}\np clock\n"
+    right = f"at {last}\nin 0 = {BUFFER}\nat {made}\nin {HELD - 1} = {BUFFER}\nclock = 0\n"
+    same(script, right, replies(["run", str(path)], script, ROOM))
+
+
+def play_interrupted(folder: Path) -> None:
+    """Each read and each write goes on, however often it was interrupted."""
+    library, told = folder / "interrupted.so", folder / "told"
+    words = ["cc", "-O2", "-fPIC", "-shared", "-o", str(library), str(ROOT / "scripts/interrupted.c"), "-ldl"]
+    subprocess.run(words, check=True)
+    script = "si 6\np lock 0\nwatch lock 0\nc\nrc\nquit\n"
+    right = replies(["run", FIRST], script)
+    for command, given in (("run", script), ("check", "")):
+        settings = {"LD_PRELOAD": str(library), "INTERRUPTED": str(INTERRUPTED)}
+        with open(told, "wb") as file:
+            came = telling(file.fileno(), lambda: replies([command, FIRST], given, 0, settings))
+        expect("status, output and errors", right if given else (0, "ok 10 steps\n", ""), came)
+        if told.stat().st_size < (2 if given else 1) * INTERRUPTED:
+            raise Wrong(f"{command} was interrupted {told.stat().st_size} times alone")
+
+
+def telling(descriptor: int, play: Callable[[], tuple[int, str, str]]) -> tuple[int, str, str]:
+    """Plays netrev, which inherits that file as the descriptor at which it is told of interruptions."""
+    os.dup2(descriptor, TOLD)
+    try:
+        return play()
+    finally:
+        os.close(TOLD)
+
+
+CASES: dict[str, Case] = {
+    "memory: 20,000 steps to and fro over a read": play_to_and_fro,
+    "memory: 200 copies of what stays as it is": play_copies,
+    "reads and writes that are interrupted 150 times each": play_interrupted,
+}
+
+
+def main() -> int:
+    arguments = argparse.ArgumentParser(description=(__doc__ or "").split("\n", 1)[0])
+    arguments.add_argument("--list", action="store_true", help="prints the names")
+    arguments.add_argument("names", nargs="*", metavar="NAME", help="plays those whose names begin so")
+    given = arguments.parse_args()
+    chosen = [name for name in CASES if not given.names or name.startswith(tuple(given.names))]
+    if given.list:
+        print("\n".join(chosen))
+        return 0
+    for name in chosen:
+        with tempfile.TemporaryDirectory() as folder:
+            try:
+                CASES[name](Path(folder))
+            except Wrong as why:
+                print(f"{name}: {why}", file=sys.stderr)
+                return 1
+    print(f"{len(chosen)} cases: as they have to be" if chosen else "no case has such a name")
+    return 0 if chosen else 1
+
+
+if __name__ == "__main__":
+    sys.exit(main())

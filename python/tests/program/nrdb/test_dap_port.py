@@ -1,0 +1,178 @@
+"""`nrdb --dap-port`: editors at a port, one after the other, and all others who knock there."""
+
+import json
+import os
+import socket
+import struct
+import subprocess
+import tempfile
+import unittest
+from contextlib import closing
+from pathlib import Path
+from threading import Thread
+from typing import Any, Optional
+from unittest.mock import patch
+
+from nrdb.dap import serving
+from nrdb.dap.admission import Admission
+from tests.program.nrdb.dap_client import Client, Refusal
+from tests.program.nrdb.support import EXAMPLES, NRDB
+from tests.program.sharing import NETREV
+
+LOST = str(EXAMPLES / "lost-wakeup.jsonl")
+LOOPBACK = "127.0.0.1"
+PATIENCE = 60  # seconds
+
+
+def framed(*messages: dict[str, Any]) -> bytes:
+    """Messages as they are sent."""
+    texts = [json.dumps(one).encode() for one in messages]
+    return b"".join(b"Content-Length: %d\r\n\r\n%s" % (len(text), text) for text in texts)
+
+
+def asked(number: int, command: str, **arguments: Any) -> dict[str, Any]:
+    return {"seq": number, "type": "request", "command": command, "arguments": arguments}
+
+
+class Port(unittest.TestCase):
+    """A port that is served, and whoever connects to it."""
+
+    environment: dict[str, str] = {}
+
+    def setUp(self):
+        environment = os.environ | {"NETREV": NETREV} | self.environment
+        self.serving = subprocess.Popen(
+            [NRDB, "--dap-port", "0"], stdout=subprocess.PIPE, stderr=subprocess.PIPE, env=environment, text=True
+        )
+        self.addCleanup(self.end)
+        assert self.serving.stdout
+        self.port = int(self.serving.stdout.readline().rpartition(":")[2])
+        self.token = self.serving.stdout.readline().split('"')[3]
+
+    def end(self) -> None:
+        self.serving.kill()
+        self.serving.communicate()
+
+    def connect(self) -> socket.socket:
+        return socket.create_connection((LOOPBACK, self.port), timeout=PATIENCE)
+
+    def editor(self, connection: socket.socket) -> Client:
+        return Client(connection.makefile("rb"), connection.makefile("wb"))
+
+    def said_to(self, data: bytes) -> bytes:
+        """All that is said to somebody who sends this, and then nothing more."""
+        with self.connect() as connection:
+            connection.sendall(data)
+            connection.shutdown(socket.SHUT_WR)
+            return b"".join(iter(lambda: received(connection), b""))
+
+    def goes_on(self) -> None:
+        """An editor that has the token is served."""
+        with self.connect() as connection:
+            editor = self.editor(connection)
+            self.assertEqual(editor.begin(LOST, token=self.token)["reason"], "entry")
+            editor("disconnect")
+
+
+def received(connection: socket.socket) -> bytes:
+    try:
+        return connection.recv(65_536)
+    except ConnectionError:
+        return b""
+
+
+class Editors(Port):
+    """Editors that have the token."""
+
+    def test_two_editors(self):
+        self.assertGreater(len(self.token), 40)
+        self.goes_on()
+        self.goes_on()
+
+    def test_one_that_leaves_in_the_middle_ends_nothing(self):
+        launch = asked(1, "launch", program=LOST, token=self.token)
+        begun = framed(launch, asked(2, "configurationDone"))
+        for data in (begun, b"Content-Length: 100\r\n\r\n{", framed(asked(1, "initialize")), b""):
+            for resets in (False, True):
+                with self.connect() as connection:
+                    if resets:
+                        connection.setsockopt(socket.SOL_SOCKET, socket.SO_LINGER, struct.pack("ii", 1, 0))
+                    connection.sendall(data)
+        self.goes_on()
+
+
+class Strangers(Port):
+    """Whoever comes without the token."""
+
+    def test_a_page_of_a_browser_has_nothing_run(self):
+        with tempfile.TemporaryDirectory() as folder:
+            ran, program = Path(folder, "ran"), Path(folder, "program")
+            program.write_text(f"#!/bin/sh\ntouch {ran}\n")
+            program.chmod(0o700)
+            tokens: list[dict[str, Any]] = [{}, {"token": self.token}]
+            for token in tokens:
+                body = json.dumps(asked(1, "launch", program=LOST, netrev=str(program), **token)).encode()
+                head = f"POST / HTTP/1.1\r\nHost: {LOOPBACK}:{self.port}\r\nOrigin: http://evil.example\r\n"
+                head += f"Content-Type: text/plain\r\nContent-Length: {len(body)}\r\n\r\n"
+                self.assertEqual(self.said_to(head.encode() + body), b"")
+            self.goes_on()
+            self.assertFalse(ran.exists())
+
+    def test_without_the_token_nothing_is_answered(self):
+        tokens: list[dict[str, Any]] = [
+            {},
+            {"token": ""},
+            {"token": self.token[:-1]},
+            {"token": 7},
+            {"token": "\ud800"},
+        ]
+        for token in tokens:
+            launch = asked(2, "launch", program=LOST, **token)
+            told = self.said_to(framed(asked(1, "threads"), launch, asked(3, "initialize")))
+            self.assertEqual(told.count(b'"success": false'), 2, told)
+            self.assertNotIn(b'"success": true', told)
+        with self.connect() as connection, self.assertRaisesRegex(Refusal, "has the token that nrdb printed"):
+            self.editor(connection).begin(LOST)
+        self.goes_on()
+
+
+class OfOnesOwn(Port):
+    """A token that the environment names."""
+
+    environment = {"NRDB_TOKEN": "sixteen letters!"}
+
+    def test_it_is_taken(self):
+        self.assertEqual(self.token, "sixteen letters!")
+        self.goes_on()
+
+    def test_a_short_one_is_refused(self):
+        environment = os.environ | {"NRDB_TOKEN": "fifteen letters"}
+        ended = subprocess.run([NRDB, "--dap-port", "0"], env=environment, capture_output=True, text=True, check=False)
+        self.assertEqual((ended.returncode, ended.stdout), (2, ""))
+        self.assertIn("at least 16 printable characters", ended.stderr)
+
+
+class Late(unittest.TestCase):
+    """Somebody who connects, and names no token."""
+
+    def ends(self, token: Optional[str], waits: float) -> bool:
+        """Whether a connection is ended from the other side that says nothing for so long."""
+        with closing(socket.create_server((LOOPBACK, 0))) as listening, patch.object(serving, "IN_TIME", 0.2):
+            with socket.create_connection(listening.getsockname()) as connection:
+                served = Thread(target=serving.serve_connection, args=(listening.accept()[0], "", Admission(token)))
+                served.start()
+                connection.sendall(b"Content-Length: 100\r\n\r\n{")
+                served.join(waits)
+                ended = not served.is_alive()
+            served.join(PATIENCE)
+            return ended
+
+    def test_it_is_ended_in_time(self):
+        self.assertTrue(self.ends("a token", PATIENCE))
+
+    def test_one_that_is_let_in_is_waited_for(self):
+        self.assertFalse(self.ends(None, 1.0))
+
+
+if __name__ == "__main__":
+    unittest.main()

@@ -1,0 +1,177 @@
+"""What is said first of programs that failed, by recordings of tools/go/samples/causes (tests.go_caused made them): the line of the bug
+stands in it. And the rules that look at calls: each finds its bug, and not what is nearly that."""
+
+import contextlib
+import json
+import os
+import unittest
+from pathlib import Path
+from typing import Any, Iterator, NamedTuple
+
+from nrdb.causes import first_words
+from nrdb.causes.source import behind
+from nrdb.causes.tables import hangs_table
+from nrdb.causes.words import duration
+from nrdb.following import errors_table
+from nrdb.recording import Recording
+from nrdb.suspects.found import RuleOfCalls
+from nrdb.suspects.left_open import SINCE
+from nrdb.suspects.of_calls import all_suspects_of
+from nrdb.suspects.spinning import MANY
+from nrdb.where import Lines
+from tests.go_caused import NAMES, SOURCE, bug_line
+from tests.test_suspects import OPEN, Steps, recording_of
+
+CAUSED = Path(__file__).parent / "caused"
+WITHOUT_A_LINE = ("body",)  # nobody is at the line where a Close is missing
+TWO_ENDS: Steps = [*OPEN, ["sockopen", 16, 16], ["pollopen", 0, 1]]
+SETS: Steps = [["incref", 0, 0], ["setdeadline", 0, 0, "r", 5], ["decref", 0, 0]]
+PASSES: Steps = [["tick", 9], ["pop"], ["fire", 0]]
+GETS: Steps = [["arrive", 0, "6869"], ["rwlock", 1, 0, "r"], ["pollreset", 1, 0, "r"], ["sysread", 1, 0, 16]]
+UNLOCKS: Steps = [["rwunlock", 1, 0, "r"]]
+LATE: Steps = [["rwlock", 1, 0, "r"], ["pollreset", 1, 0, "r"], *UNLOCKS]
+FILLS = "00" * 16
+
+
+def writes(g: int) -> Steps:
+    """A goroutine fills the output of the socket of its number, and parks for more room."""
+    put = [["rwlock", g, g, "w"], ["pollreset", g, g, "w"], ["syswrite", g, g, FILLS], ["syswrite", g, g, "00"]]
+    return [*put, ["waitbegin", g, g, "w"], ["blockarm", g], ["blockcheck", g], ["parkcommit", g]]
+
+
+CLOSES: Steps = [["increfclose", 0, 1], ["evict", 0, 1], ["decref", 0, 1], ["pollclose", 0, 1]]
+SECOND: Steps = [["arrive", 0, "6869"], ["rwlock", 0, 0, "r"], ["pollreset", 0, 0, "r"], ["sysread", 0, 0, 16]]
+TAKES_TURN: Steps = [["rwlock", 0, 0, "r"], ["acquire", 0], *UNLOCKS, ["release", 1], ["acquire", 0], *SECOND]
+
+
+class Pair(NamedTuple):
+    """Steps with a bug, and some that nearly have it."""
+
+    bad: Steps
+    good: Steps
+
+
+PAIRS = {
+    RuleOfCalls.EARLIER_DEADLINE: Pair(
+        OPEN + SETS + GETS + UNLOCKS + PASSES + LATE,
+        OPEN + GETS + UNLOCKS + SETS + PASSES + LATE,
+    ),
+    RuleOfCalls.SPIN: Pair(OPEN + SETS + PASSES + LATE * MANY, OPEN + SETS + PASSES + LATE * (MANY - 1)),
+    RuleOfCalls.BOTH_WRITE: Pair(TWO_ENDS + writes(0) + writes(1), TWO_ENDS + writes(0) + writes(1)[:-1]),
+    RuleOfCalls.LEFT_OPEN: Pair(
+        TWO_ENDS + GETS + UNLOCKS + CLOSES + [["tick", time] for time in range(1, SINCE + 6)],
+        TWO_ENDS + GETS + CLOSES + [["tick", time] for time in range(1, SINCE + 6)],
+    ),
+    RuleOfCalls.TWO_READERS: Pair(
+        TWO_ENDS + GETS + TAKES_TURN + [["rwunlock", 0, 0, "r"]],
+        TWO_ENDS + GETS + UNLOCKS + SECOND + [["rwunlock", 0, 0, "r"]],
+    ),
+}
+
+
+def with_lines(steps: Steps, of: str = "program") -> Recording:
+    """A recording of these steps, whose lines are all of one call, and whose sockets 0 and 1 are one connection's ends."""
+    recording = recording_of(steps)
+    told: list[Any] = [
+        {"where": 1, "steps": len(steps)},
+        {"call": 1, "function": "main.main", "file": "a.go", "line": 1, "of": of},
+        {"stack": 1, "calls": [1]},
+        {"step": 1, "stacks": [1] * len(steps)},
+        {"peers": [[0, 1]]},
+    ]
+    recording.lines = Lines("\n".join(map(json.dumps, told)), len(steps))
+    assert recording.lines and not recording.lines.fault, recording.lines.fault
+    return recording
+
+
+def rules_of(recording: Recording) -> list[object]:
+    return [one.rule for one in all_suspects_of(recording).suspects if one.is_shown]
+
+
+@contextlib.contextmanager
+def in_the_folder_of_the_source() -> Iterator[None]:
+    here = os.getcwd()
+    os.chdir(SOURCE.parent)
+    try:
+        yield
+    finally:
+        os.chdir(here)
+
+
+class Causes(unittest.TestCase):
+    def test_the_line_of_each_bug_is_said_first(self) -> None:
+        for name in NAMES:
+            recording = Recording.read(str(CAUSED / f"{name}-bad.jsonl"))
+            recording.lines.written = float("inf")  # (a clone's files are newer than the recording)
+            with self.subTest(name), in_the_folder_of_the_source():
+                told = "\n".join(first_words(recording, name))
+                self.assertEqual(f"{bug_line(name)} " in told, name not in WITHOUT_A_LINE, told)
+
+    def test_good_runs_have_no_suspect(self) -> None:
+        for name in NAMES:
+            with self.subTest(name):
+                self.assertEqual(rules_of(Recording.read(str(CAUSED / f"{name}-good.jsonl"))), [])
+
+    def test_what_is_said_of_a_timeout(self) -> None:
+        told = first_words(Recording.read(str(CAUSED / "pool-bad.jsonl")), "pool.jsonl")
+        self.assertRegex(
+            told[0], r"netrev: Read at main.go:\d+ in ask, called at main.go:\d+ \(goroutine 0\) ended with a timeout\."
+        )
+        self.assertRegex(
+            told[1],
+            r" Its deadline was set at main.go:\d+ in pool.func1, called at main.go:\d+ \(goroutine 0, step \d+\), 80 ms ahead; 1 Read went",
+        )
+        self.assertRegex(told[-1], r"look:   nrdb pool.jsonl -ex 'goto \d+' -ex 'history rd 1'")
+
+    def test_calls_that_wait_for_one_another(self) -> None:
+        recording = Recording.read(str(CAUSED / "both-bad.jsonl"))
+        rows = hangs_table(recording, recording.length).rows
+        self.assertEqual(rows[0].text, "Two calls wait for one another.")
+        self.assertEqual(rules_of(recording), [RuleOfCalls.BOTH_WRITE])
+        self.assertEqual(hangs_table(recording, 10).rows, [])
+
+    def test_a_wait_that_go_ended_itself_is_no_failed_call(self) -> None:
+        recording = Recording.read(str(CAUSED / "body-good.jsonl"))
+        table = errors_table(recording, recording.length, None)
+        self.assertEqual([row for row in table.rows if "timed out" in row.text], [])
+        self.assertIn("waits of Go's own code, which it ended itself", table.rest)
+
+    def test_a_broken_connection_is_told_by_its_other_end(self) -> None:
+        recording = Recording.read(str(CAUSED / "body-bad.jsonl"))
+        table = errors_table(recording, recording.length, None)
+        self.assertIn("ECONNRESET", table.rows[0].text)
+        self.assertRegex(table.rows[1].text, r"The other end, socket 2, was closed in net/http")
+
+    def test_the_source_is_shown_to_the_end_of_its_function(self) -> None:
+        self.assertEqual(behind(["func f() {", "\tx()", "}", "", "y"], 2), [(2, "    x()")])
+
+    def test_times_are_in_the_largest_unit(self) -> None:
+        self.assertEqual(
+            [duration(time) for time in (0, 1500, 200_000_000, 90 * 10**9)], ["0 ns", "1.5 µs", "200 ms", "90 s"]
+        )
+
+
+class Rules(unittest.TestCase):
+    def test_each_finds_its_bug_and_not_what_is_nearly_that(self) -> None:
+        self.assertEqual(set(PAIRS), set(RuleOfCalls))
+        for rule, pair in PAIRS.items():
+            with self.subTest(rule.value):
+                self.assertIn(rule, rules_of(with_lines(pair.bad)))
+                self.assertNotIn(rule, rules_of(with_lines(pair.good)))
+
+    def test_those_of_lines_and_of_other_ends_say_nothing_without(self) -> None:
+        for rule in set(RuleOfCalls) - {RuleOfCalls.SPIN}:
+            self.assertNotIn(rule, rules_of(recording_of(PAIRS[rule].bad)), rule)
+
+    def test_go_s_own_code_is_not_suspected(self) -> None:
+        for rule in set(RuleOfCalls) - {RuleOfCalls.BOTH_WRITE}:
+            self.assertNotIn(rule, rules_of(with_lines(PAIRS[rule].bad, "go")), rule)
+
+    def test_they_come_after_the_others_and_say_perhaps(self) -> None:
+        for rule in (RuleOfCalls.EARLIER_DEADLINE, RuleOfCalls.LEFT_OPEN, RuleOfCalls.TWO_READERS):
+            found = all_suspects_of(with_lines(PAIRS[rule].bad)).suspects
+            self.assertTrue(found[-1].sentence().startswith("perhaps: "), rule)
+
+
+if __name__ == "__main__":
+    unittest.main()

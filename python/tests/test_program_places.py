@@ -1,0 +1,168 @@
+"""Lines and functions of the program as places: breaks that stop both ways, moves, frames and source, at the prompt; and in the
+adapter's breakpoints. Played by the model."""
+
+import io
+import unittest
+from pathlib import Path
+
+from nrdb.answers import ANSWERS
+from nrdb.dap.debuggee import Debuggee
+from nrdb.dap.collecting import Collecting
+from nrdb.dap.go_lines import GoLines
+from nrdb.dap.marks import Unset, wish_of
+from nrdb.interrupts import Interrupts
+from nrdb.output import TextPrinter
+from nrdb.program.index import is_place, places_of
+from nrdb.recording import Recording
+from nrdb.scout import Scout
+from nrdb.session import Session
+from nrdb.web.shared import OF_THE_PAGE
+from tests.go_caused import SOURCE, bug_line
+from tests.modelled import Modelled, recording_at
+from tests.test_causes import CAUSED, in_the_folder_of_the_source
+
+FILE = CAUSED / "once-bad.jsonl"
+MODEL = recording_at(FILE)
+READS = "main.go:46"  # where the lines are read, each time round
+
+
+def session_of(said: io.StringIO) -> Session:
+    """A session at the start of the recording."""
+    interrupts, recording = Interrupts(), Recording.read(str(FILE))
+
+    def opened() -> Modelled:
+        return Modelled(MODEL, interrupts, lambda _: None)
+
+    printer = TextPrinter(said)
+    session = Session(opened(), recording, Scout(opened), printer, interrupts, ANSWERS, path=str(FILE))
+    session.begin(session.ask("info position"))
+    return session
+
+
+class Prompt(unittest.TestCase):
+    def setUp(self) -> None:
+        self.said = io.StringIO()
+        self.session = session_of(self.said)
+        places = places_of(self.session.text())
+        place = places.place(READS)
+        assert place is not None
+        self.positions = place.positions
+
+    def told(self, line: str) -> str:
+        """What is said to a line."""
+        self.said.seek(0)
+        self.said.truncate()
+        self.session.run(line)
+        return self.said.getvalue()
+
+    def test_a_break_at_a_line_stops_both_ways(self) -> None:
+        self.assertIn(f"break p1 at {READS}: {len(self.positions)} of", self.told(f"break {READS}"))
+        came = []
+        for line in ["continue"] * len(self.positions) + ["reverse-continue"] * (len(self.positions) - 1):
+            self.assertIn(f"break p1: {READS}", self.told(line))
+            came.append(self.session.stood)
+        self.assertEqual(came, [*self.positions, *reversed(self.positions[:-1])])
+        self.assertIn(READS, self.told("where"))
+        self.assertIn(f"p1 at {READS}", self.told("info breakpoints"))
+        self.told("delete p1")
+        self.assertNotIn("p1", self.told("continue"))
+        self.assertEqual(self.session.stood, self.session.length)
+
+    def test_netrev_s_own_marks_stop_before_one_that_is_farther(self) -> None:
+        self.told(f"break {READS}")
+        self.told("break @4")
+        self.assertIn("mark 1", self.told("continue"))
+        self.assertEqual(self.session.stood, 3)
+
+    def test_a_temporary_break_at_a_function_stops_once(self) -> None:
+        self.assertIn("once", self.told("tbreak echo"))
+        self.assertIn("break p1: echo", self.told("continue"))
+        self.told("continue")
+        self.assertEqual(self.session.stood, self.session.length)
+
+    def test_moves_to_places_times_and_ends(self) -> None:
+        self.told(f"until {READS}")
+        self.assertEqual(self.session.stood, self.positions[0])
+        self.told("goto end")
+        self.told(f"reverse-until {READS}")
+        self.assertEqual(self.session.stood, self.positions[-1])
+        self.told("goto 60ms")
+        clock = int(self.session.netrev.values(["clock"])[0])
+        self.assertLessEqual(clock, 60_000_000)
+        self.assertIn("tick", self.told("where"))
+        self.told("goto start")
+        self.assertEqual(self.session.stood, 0)
+        self.assertIn("no goroutine comes to", self.told(f"reverse-until {READS}"))
+
+    def test_where_no_step_comes_from_the_nearest_lines_are_told(self) -> None:
+        self.assertRegex(
+            self.told("break main.go:47"), r"no step of the recording comes from main.go:47; from .*main.go:46"
+        )
+        self.assertIn("fault 202", self.told("break frob"))
+        self.assertIn("mark 1", self.told("break sysread"))
+
+    def test_the_history_of_a_place(self) -> None:
+        self.told(f"goto {self.positions[1]}")
+        told = self.told(f"history {READS}")
+        self.assertEqual(told.count("goroutine 2, before step"), 2)
+        self.assertIn(f"{len(self.positions) - 2} later", told)
+
+    def test_frames_and_the_source_round_them(self) -> None:
+        with in_the_folder_of_the_source():
+            self.told(f"until {READS}")
+            self.assertIn("main.echo at main.go:46", self.told("frame"))
+            self.assertRegex(self.told("frame"), r"=>    46 .*for lines.Scan\(\)")
+            self.assertIn("main.once.func1", self.told("up"))
+            self.assertIn("main.echo", self.told("down"))
+            self.assertIn("frames from 0", self.told("frame 99"))
+            self.session.text().lines.written = 0.0
+            self.assertIn("has changed since it was recorded", self.told(f"list {bug_line('once')}"))
+        self.assertIn("the source isn't here", self.told("list main.go:46"))
+
+    def test_a_page_is_shown_no_file(self) -> None:
+        self.session.answers = OF_THE_PAGE
+        with in_the_folder_of_the_source():
+            self.told(f"until {READS}")
+            for line in (f"list {READS}", "frame", "up", "list /etc/passwd:1"):
+                self.assertNotRegex(self.told(line), r"lines\.Scan|root")
+            self.assertIn("rwlock", self.told("list"))
+
+    def test_no_file_is_shown_that_no_call_is_in(self) -> None:
+        self.assertIn("no call of the recording is in a file /etc/passwd", self.told("list /etc/passwd:1"))
+
+    def test_a_cell_a_kind_and_a_number_are_no_places(self) -> None:
+        for line in ("sysread", "clock", "7", "@7", "gor 2", ""):
+            self.assertFalse(is_place(self.session.text(), line.split()), line)
+        self.assertTrue(is_place(None, [READS]))
+
+
+class Editor(unittest.TestCase):
+    def setUp(self) -> None:
+        session = session_of(io.StringIO())
+        self.lines = GoLines(Debuggee(session, session.text(), Collecting(), str(FILE)), SOURCE.parent)
+
+    def test_breakpoints_at_a_line_and_at_a_function(self) -> None:
+        body, line = self.lines.set_line(str(SOURCE), 45, wish_of("", None))
+        self.assertEqual((body["verified"], line), (True, 46))
+        positions = self.lines.lines(str(SOURCE))[46]
+        self.assertEqual(self.lines.nearest(0, True), positions[0])
+        self.assertEqual(self.lines.nearest(10_000, False), positions[-1])
+        self.assertEqual(list(self.lines.at(positions[0])), [body["id"]])
+        self.lines.clear(str(SOURCE))
+        made = self.lines.set_function("main.ask", wish_of("", None))
+        self.assertTrue(made and made["verified"])
+        self.assertIsNone(self.lines.set_function("main.nobody", wish_of("", None)))
+
+    def test_a_condition_holds_one_back(self) -> None:
+        self.lines.set_line(str(SOURCE), 46, wish_of("", "gor 2 nothing"))
+        self.assertIsNone(self.lines.nearest(0, True))
+        self.assertFalse(self.lines.set_line(str(SOURCE), 46, Unset("no"))[0]["verified"])
+
+    def test_another_file_has_no_lines(self) -> None:
+        for path in (str(Path(__file__)), "\0", ""):
+            self.assertEqual(self.lines.lines(path), {})
+        self.assertEqual(self.lines.set_line("main.go", 46, wish_of("", None))[1], None)
+
+
+if __name__ == "__main__":
+    unittest.main()

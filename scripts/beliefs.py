@@ -1,0 +1,61 @@
+#!/usr/bin/env python3
+"""Prints which definitions the laws rest on:  scripts/beliefs.py [--names | --write] [CRATE/FILE:NAME ..]
+
+How many they are, of how many lines, and the files in the order in which they are read: the tables of docs/THEOREM.md, as
+that page has them. `--write` puts them there; its sentences with numbers stay as they are, and scripts/pages.py finds those that are
+old. `--names` prints the definitions themselves instead, file by file. Named definitions stand in the place of the
+laws: `scripts/beliefs.py nr_rev/Step:outcome` says what that one rests on.
+"""
+
+import argparse
+import sys
+from pathlib import Path
+
+from page_rules import reading
+from page_rules.reading import Law, ReadingList
+from page_rules.tree import Tree
+
+ROOT = Path(__file__).resolve().parent.parent
+
+
+def names(found: ReadingList) -> str:
+    """The definitions, file by file, in the order in which the files are read."""
+    files = [file for crate in found.tree.crates for file in found.files(crate)]
+    return "\n".join(f"{path}: {' '.join(place.name for place in places)}" for path, places in files)
+
+
+def write(page: Path, rows: list[str]) -> None:
+    """Puts the tables in the place of those that the page has."""
+    before, heading, rest = page.read_text(encoding="utf-8").partition(f"{reading.HEADING}\n")
+    lines = rest.split("\n")
+    end = next((at for at, line in enumerate(lines) if line.startswith("## ")), len(lines))
+    tables = [at for at, line in enumerate(lines[:end]) if line.startswith("|")]
+    if not tables:
+        raise SystemExit(f"{page} has no table under {reading.HEADING[3:]!r}")
+    lines[tables[0] : tables[-1] + 1] = rows
+    page.write_text(before + heading + "\n".join(lines), encoding="utf-8")
+
+
+def main(given_words: list[str] | None = None) -> int:
+    """Prints what is asked for, by these words or by those of the command line."""
+    given = argparse.ArgumentParser(description=__doc__, formatter_class=argparse.RawDescriptionHelpFormatter)
+    how = given.add_mutually_exclusive_group()
+    how.add_argument("--names", action="store_true", help="print the definitions, file by file")
+    how.add_argument("--write", action="store_true", help=f"put the tables into {reading.PAGE}")
+    given.add_argument("--root", type=Path, default=ROOT, help=argparse.SUPPRESS)
+    given.add_argument("definitions", nargs="*", metavar="CRATE/FILE:NAME", help="these, and not the laws")
+    asked = given.parse_args(given_words)
+    laws = tuple(Law(f"`{one.rpartition(':')[2]}`", (one,)) for one in asked.definitions) or reading.LAWS
+    found = ReadingList(Tree(asked.root), laws)
+    if found.missing:
+        given.error(f"there is no definition {', '.join(found.missing)}")
+    if asked.write and asked.definitions:
+        given.error("--write is for the laws, and takes no definitions")
+    if asked.write:
+        write(asked.root / reading.PAGE, list(found.rows()))
+    print(names(found) if asked.names else "\n".join(found.rows()))
+    return 0
+
+
+if __name__ == "__main__":
+    sys.exit(main())

@@ -1,0 +1,89 @@
+#!/bin/sh
+# Makes a Debian package of the archive that scripts/package.sh left in out/:  scripts/deb.sh VERSION
+#
+# netrev_VERSION_amd64.deb is left in out/. In it are netrev, the very file that the gate played, nrdb, netrev-go, their man pages and
+# completions, the editors' files, the examples, the pages, the licenses and the gate's log. Where lintian is here (Debian's
+# package), it has to find nothing.
+set -eu
+cd "$(dirname "$0")/.."
+version=$1
+name=netrev-$version-linux-x86_64
+archive=out/$name.tar.gz deb=out/netrev_${version}_amd64.deb
+
+[ -f "$archive" ] || {
+	echo "deb.sh: there is no $archive: \`make package\` first." >&2
+	exit 1
+}
+room=$(mktemp -d)
+trap 'rm -rf "$room"' EXIT
+tar -C "$room" -xzf "$archive"
+top=$room/$name root=$room/root
+doc=$root/usr/share/doc/netrev
+mkdir -p "$root/DEBIAN" "$doc" "$root/usr/share/lintian/overrides" "$root/usr/share/netrev"
+(cd "$top" && tar -cf - bin lib share) | tar -xf - -C "$root/usr"
+mv "$top/examples" "$doc/examples"
+mv "$top/editors" "$root/usr/share/netrev/editors"
+author="the netrev authors <netrev@netrev.invalid>"
+cat > "$doc/changelog" <<END
+netrev ($version) unstable; urgency=medium
+
+  * What changed is in CHANGELOG.md beside this file.
+
+ -- $author  $(date -u -R -r "$top/gate.log")
+END
+cp CHANGELOG.md "$doc"
+cp "$top/gate.log" "$doc/gate.log"
+gzip -9n "$doc/changelog" "$doc/gate.log" "$root"/usr/share/man/man1/*.1
+
+cat > "$doc/copyright" <<END
+Format: https://www.debian.org/doc/packaging-manuals/copyright-format/1.0/
+Upstream-Name: netrev
+
+Files: *
+Copyright: $(sed -n 's/^Copyright (c) //p' LICENSE-MIT)
+License: Expat or Apache-2.0
+
+License: Expat
+$(sed -n '/^Permission is/,$p' LICENSE-MIT | sed 's/^$/./; s/^/ /')
+
+License: Apache-2.0
+ On Debian systems the text of this license is in /usr/share/common-licenses/Apache-2.0.
+END
+cat > "$root/usr/share/lintian/overrides/netrev" <<END
+# The program is the very file whose sum the gate left, so nothing is stripped from it or linked into it anew.
+netrev: unstripped-binary-or-object [usr/bin/netrev]
+END
+cat > "$root/DEBIAN/control" <<END
+Package: netrev
+Version: $version
+Architecture: amd64
+Maintainer: $author
+Section: devel
+Priority: optional
+Depends: libc6, python3 (>= 3.10)
+Recommends: golang-go
+Installed-Size: $(du -sk --apparent-size "$root/usr" | cut -f1)
+Description: record-and-replay debugger for network programs in Go
+ netrev walks a recorded run of a Go program's goroutines, sockets, deadlines
+ and network poller in both directions. netrev-go makes recordings of programs
+ and tests as they are, and nrdb is the companion at the prompt.
+ .
+ netrev itself is proved; nrdb and netrev-go aren't.
+END
+cat > "$root/DEBIAN/prerm" <<END
+#!/bin/sh
+# Takes away what Python has compiled.
+set -e
+find /usr/lib/netrev -name __pycache__ -prune -exec rm -rf {} +
+END
+find "$root" -type d -exec chmod 755 {} +
+find "$root" -type f -exec chmod u=rwX,go=rX {} +
+chmod 755 "$root/DEBIAN/prerm"
+(cd "$root" && find usr -type f -print0 | LC_ALL=C sort -z | xargs -0 md5sum > DEBIAN/md5sums)
+dpkg-deb --root-owner-group -Zxz --build "$root" "$deb" > /dev/null
+if command -v lintian > /dev/null; then
+	lintian --fail-on error,warning "$deb"
+else
+	echo "left out: lintian: it isn't on this machine (Debian: apt-get install lintian)"
+fi
+echo "$deb"

@@ -1,0 +1,192 @@
+"""docs/THEOREM.md has the reading list: the definitions that its laws rest on, by crate and file, and how many lines they are.
+
+A file stands behind those that it rests on, and a crate behind those that it imports. Lines are those of definitions with their
+comments, without imports and what else a file has. What a law is only handed, as the premise that another contract has proved,
+counts and isn't opened: the law says what follows from it, whatever it says.
+"""
+
+import re
+from collections.abc import Iterable, Iterator
+from dataclasses import dataclass
+from itertools import zip_longest
+
+from page_rules.believed import Beliefs, Place
+from page_rules.markdown import prose
+from page_rules.tree import Finding, Tree
+
+PAGE = "docs/THEOREM.md"
+HEADING = "## What to read"
+# where else the numbers are, in words
+PAGES = (PAGE, "docs/TRUSTED.md")
+IN_WORDS = re.compile(r"([\d,]+) definitions in ([\d,]+) lines")
+
+
+@dataclass(frozen=True)
+class Law:
+    """A law, by the definitions that its contract cites: CRATE/FILE:NAME. Whoever needs more lines for one says so here."""
+
+    says: str
+    cites: tuple[str, ...]
+    most_lines: int = 0
+    handed: tuple[str, ...] = ()
+
+
+LAWS = (
+    Law("what `run` writes", ("nr_programs/Transcript:RunsTranscript",), 2500),
+    Law(
+        "a shared session",
+        ("nr_programs/Serving:ServesAll", "nr_programs/Shared:AreAnswered", "nr_serving/Session:IsTheirs"),
+        2750,
+        handed=("nr_serving/Session:BeginsFresh", "nr_serving/Session:IsHistory"),
+    ),
+    Law(
+        "undoing a step",
+        (
+            "nr_rev/Reversible:Refuses",
+            "nr_machine/Fits:IsWorld",
+            "nr_machine/Step:StepTo",
+            "nr_machine/Made:parts_reason",
+            "nr_machine/Made:TakesMemory",
+        ),
+        1600,
+    ),
+)
+
+
+@dataclass(frozen=True)
+class Count:
+    """How many definitions some laws rest on, of how many lines, in how many files."""
+
+    definitions: int
+    lines: int
+    comments: int
+    files: int
+    types: int  # of Rust, that the definitions name
+
+    def row(self, says: str, most_lines: int) -> str:
+        """A row of the page's table."""
+        numbers = [f"{number:,}" for number in (self.definitions, self.lines, self.comments, self.files, self.types)]
+        numbers.insert(2, f"{most_lines:,}" if most_lines else "")
+        return f"| {says} | {' | '.join(numbers)} |"
+
+
+def placed(text: str) -> Place:
+    """A definition by its CRATE/FILE:NAME."""
+    file, _, name = text.partition(":")
+    crate, _, module = file.partition("/")
+    return Place(crate, module, name)
+
+
+class ReadingList:
+    """What some laws rest on, in a tree."""
+
+    def __init__(self, tree: Tree, laws: tuple[Law, ...]) -> None:
+        self.tree = tree
+        self.laws = laws
+        self.beliefs = Beliefs(tree)
+        self.missing = [cited for law in laws for cited in law.cites + law.handed if not self._is_there(cited)]
+        self.of_laws = [self._below(law) for law in laws]
+        self.all: set[Place] = set().union(*self.of_laws)
+
+    def _is_there(self, cited: str) -> bool:
+        return self.beliefs.definition(placed(cited)) is not None
+
+    def _below(self, law: Law) -> set[Place]:
+        return self.beliefs.below(set(map(placed, law.cites)), set(map(placed, law.handed)))
+
+    def defined(self, places: Iterable[Place]) -> list[Place]:
+        """Those of some places that are definitions, and no types of Rust."""
+        return [place for place in places if self.beliefs.definition(place)]
+
+    def lines(self, places: Iterable[Place]) -> int:
+        found = map(self.beliefs.definition, places)
+        return sum(len(definition.lines) for definition in found if definition)
+
+    def count(self, places: set[Place]) -> Count:
+        """How much some places come to."""
+        here = self.defined(places)
+        comments = sum(definition.comments for definition in map(self.beliefs.definition, here) if definition)
+        types = {(place.crate, *f"{place.module}.{place.name}".split(".")[1:3]) for place in places if _is_type(place)}
+        return Count(len(here), self.lines(here), comments, len({place.path for place in here}), len(types))
+
+    def _behind(self, path: str, by_file: dict[str, set[Place]], ordered: list[str]) -> None:
+        """Adds a file to those that are ordered, behind those of its crate that it rests on."""
+        if path in ordered:
+            return
+        named = set().union(*map(self.beliefs.named, sorted(by_file[path])))
+        for other in sorted({place.path for place in named} & set(by_file) - {path}):
+            self._behind(other, by_file, ordered)
+        ordered.append(path)
+
+    def files(self, crate: str) -> list[tuple[str, list[Place]]]:
+        """The files of a crate in the order in which they are read, each with the definitions that the laws rest on."""
+        by_file: dict[str, set[Place]] = {}
+        for place in self.defined(self.all):
+            if place.crate == crate:
+                by_file.setdefault(place.path, set()).add(place)
+        ordered: list[str] = []
+        for path in sorted(by_file):
+            self._behind(path, by_file, ordered)
+        return [(path, sorted(by_file[path])) for path in ordered]
+
+    def rows(self) -> Iterator[str]:
+        """The two tables, as the page has them."""
+        yield "| Law | Definitions | Lines | At most | Of comment | Files | Types of Rust |"
+        yield "|---|--:|--:|--:|--:|--:|--:|"
+        yield from (self.count(places).row(law.says, law.most_lines) for law, places in zip(self.laws, self.of_laws))
+        yield self.count(self.all).row("all of these", 0)
+        yield ""
+        yield "| Crate | Its files in `specs/`, and how many lines to read in each | Lines |"
+        yield "|---|---|--:|"
+        for crate in self.tree.crates:
+            if files := self.files(crate):
+                names = ", ".join(f"`{_file(path)}` {self.lines(places):,}" for path, places in files)
+                lines = self.lines(place for _, places in files for place in places)
+                yield f"| `{crate}` | {names} | {lines:,} |"
+
+
+def _is_type(place: Place) -> bool:
+    return place.module.startswith("declared.")
+
+
+def _file(path: str) -> str:
+    """A file's name, as the page has it."""
+    return path.rpartition("/")[2].removesuffix(".antt")
+
+
+def reading_list(tree: Tree) -> Iterator[Finding]:
+    """Where the page's tables aren't what the laws rest on, and where that is more than may be."""
+    if not tree.has(PAGE):
+        return
+    found = ReadingList(tree, LAWS)
+    for cited in found.missing:
+        yield Finding(PAGE, 1, f"there is no definition {cited} for the laws to rest on")
+    for law, places in zip(LAWS, found.of_laws):
+        if (lines := found.count(places).lines) > law.most_lines:
+            yield Finding(PAGE, 1, f"{law.says} rests on {lines:,} lines of definitions, and may on {law.most_lines:,}")
+    yield from _differences(tree.text(PAGE), [row for row in found.rows() if row])
+    counts = [found.count(places) for places in (*found.of_laws, found.all)]
+    yield from _in_words(tree, {(f"{count.definitions:,}", f"{count.lines:,}") for count in counts})
+
+
+def _in_words(tree: Tree, counted: set[tuple[str, str]]) -> Iterator[Finding]:
+    """Sentences that have other numbers of definitions and lines than those that were counted."""
+    for page in filter(tree.has, PAGES):
+        for block in prose(tree.text(page)):
+            for numbers in IN_WORDS.findall(block.text):
+                if numbers not in counted:
+                    yield Finding(page, block.line, f"no law rests on {' definitions in '.join(numbers)} lines")
+
+
+def _differences(page: str, wanted: list[str]) -> Iterator[Finding]:
+    """The first row of the page's tables that isn't the one that is printed, or that one lacks or has besides."""
+    _, heading, rest = page.partition(f"{HEADING}\n")
+    at = page.count("\n", 0, len(page) - len(rest)) + 1
+    section = rest.split("\n## ")[0].split("\n") if heading else []
+    here = [line for line in section if line.startswith("|")]
+    for is_there, row in zip_longest(here, wanted, fillvalue="no row"):
+        if is_there != row:
+            yield Finding(
+                PAGE, at, f"scripts/beliefs.py prints {row[:80]!r}, and {HEADING[3:]!r} has {is_there[:80]!r}"
+            )
+            return

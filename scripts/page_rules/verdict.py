@@ -1,0 +1,124 @@
+"""docs/TRUSTED.md says what the verdict on the program takes as given, and nothing that the program calls has leave to wait.
+
+The last line of a crate's check is its verdict. The gate keeps it (scripts/verdicts.py), with a sum of the files that it is of. Of a
+crate that `rt ci` took from what an earlier run proved no line is printed: then the one that is kept counts, as long as these
+files are as they were. Where there is none, a note says so, and only what the page, README.md and crates.txt say is compared.
+"""
+
+import hashlib
+import json
+import re
+from collections.abc import Iterator
+
+from page_rules.tree import Finding, Tree
+
+PAGE, README, CRATES = "docs/TRUSTED.md", "README.md", "crates.txt"
+KEPT = "out/verdicts.json"
+PROGRAM = "netrev"
+# functions that take `Wait` and that no program calls, by crate
+WRAPPERS = {"nr_lines": 1}
+# how many functions a crate has is no matter of trust
+NOT_OF_TRUST = {"functions"}
+
+SECTION = re.compile(r"^== (\w+)$")
+# on the page a line may be broken
+LINE = re.compile(r"^    (logic=proved .*(?:\n    \S.*)*)", re.MULTILINE)
+# words of lines that are no verdict on a crate: of its tests, and of a check that went on from what an earlier one left
+NO_VERDICT = re.compile(r" (?:tests|incremental)=")
+KIT = re.compile(r"rattle-kit-\w+ logic (\w+)")
+MAY_WAIT = re.compile(r"^(\w+)\b[^:\n]*\bmay_wait=(\d+)", re.MULTILINE)
+
+Words = dict[str, str]
+
+
+def words_of(line: str) -> Words:
+    """The words of a verdict's line, by what each is of."""
+    pairs = (word.partition("=") for word in line.split())
+    return {name: value for name, _, value in pairs if name not in NOT_OF_TRUST}
+
+
+def verdicts_in(log: str) -> dict[str, str]:
+    """The verdict on each crate of a log."""
+    found, crate = {}, ""
+    for line in log.split("\n"):
+        if section := SECTION.match(line):
+            crate = section.group(1)
+        elif line.startswith("logic=proved ") and not NO_VERDICT.search(line) and crate:
+            found[crate] = line
+    return found
+
+
+def below(tree: Tree, crate: str) -> list[str]:
+    """A crate and all that it imports, in the order of crates.txt."""
+    found = {crate}
+    for name in reversed(tree.crates):
+        if name in found:
+            found.update(tree.crates[name])
+    return [name for name in tree.crates if name in found]
+
+
+def _own_sum(tree: Tree, crate: str) -> str:
+    """A sum of a crate's own files."""
+    summed = hashlib.sha256()
+    for path in tree.matching(f"crates/{crate}/src/*", f"crates/{crate}/specs/*", f"crates/{crate}/proofs/*"):
+        summed.update(f"{path}\n{tree.text(path)}\n".encode())
+    return summed.hexdigest()
+
+
+def sums(tree: Tree) -> dict[str, str]:
+    """Of each crate a sum of the files that a verdict is of: its own, and those of all that it imports."""
+    found: dict[str, str] = {}
+    for name, imports in tree.crates.items():
+        summed = [_own_sum(tree, name), *(found.get(other, "") for other in imports)]
+        found[name] = hashlib.sha256(" ".join(summed).encode()).hexdigest()
+    return found
+
+
+def kept(tree: Tree) -> dict[str, str]:
+    """The verdicts that are kept of the files as they are, by crate."""
+    file = tree.root / KEPT
+    records = json.loads(file.read_text(encoding="utf-8")) if file.exists() else {}
+    now = sums(tree) if records else {}
+    return {name: one["line"] for name, one in records.items() if now.get(name) == one["sum"]}
+
+
+def _of_page(tree: Tree, page: Words) -> Iterator[str]:
+    """What the page says that README.md and crates.txt don't."""
+    if found := KIT.search(tree.text(README) if tree.has(README) else ""):
+        if found.group(1) != page.get("sum"):
+            yield f"the verdict is of logic {page.get('sum')}, and {README} names {found.group(1)}"
+    if "may-wait" in page or "Wait" in page.get("main", ""):
+        yield "the verdict has leave to wait"
+    waits = {name: int(count) for name, count in MAY_WAIT.findall(tree.text(CRATES))}
+    for name in below(tree, PROGRAM):
+        if waits.get(name, 0) != WRAPPERS.get(name, 0):
+            yield f"{CRATES} has {waits.get(name, 0)} functions of {name} that may wait, and not {WRAPPERS.get(name, 0)}"
+
+
+def _of_verdicts(tree: Tree, page: Words, lines: dict[str, str]) -> Iterator[str]:
+    """What the page says that these verdicts don't."""
+    waits = dict(MAY_WAIT.findall(tree.text(CRATES)))
+    for name, line in lines.items():
+        words = words_of(line)
+        if words.get("may-wait", "0") != waits.get(name, "0"):
+            yield f"of {name} {words.get('may-wait', '0')} functions may wait, and {CRATES} has {waits.get(name, '0')}"
+        if name == PROGRAM and words != page:
+            differ = sorted(key for key in words.keys() | page.keys() if words.get(key) != page.get(key))
+            yield f"the verdict on {name} differs in {', '.join(f'{key}={words.get(key)}' for key in differ)}"
+
+
+def verdict(tree: Tree) -> Iterator[Finding]:
+    """What the page says of the verdict that isn't so."""
+    if not tree.has(PAGE):
+        return
+    lines = LINE.findall(tree.text(PAGE))
+    if len(lines) != 1:
+        yield Finding(PAGE, 1, f"the page has {len(lines)} lines of a verdict, and not one")
+        return
+    page = words_of(lines[0])
+    at = tree.text(PAGE)[: tree.text(PAGE).index(lines[0])].count("\n") + 1
+    here = kept(tree)
+    for says in (*_of_page(tree, page), *_of_verdicts(tree, page, here)):
+        yield Finding(PAGE, at, says)
+    if PROGRAM not in here:
+        tree.notes.append(f"no verdict on these files of {PROGRAM} is kept here, so {PAGE} isn't compared with one")

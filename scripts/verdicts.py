@@ -1,0 +1,42 @@
+#!/usr/bin/env python3
+"""Keeps the verdicts that a log of `rt ci` has:  scripts/verdicts.py [LOG]
+
+Of each crate of which the log (out/gate.log) has one, with a sum of the files that it is of, in out/verdicts.json. Those of crates that
+were kept, of which a log has none, stay as they are. scripts/pages.py compares docs/TRUSTED.md and crates.txt with them.
+"""
+
+import argparse
+import json
+import sys
+from pathlib import Path
+
+from page_rules import verdict
+from page_rules.tree import Tree
+
+ROOT = Path(__file__).resolve().parent.parent
+
+
+def main(given_words: list[str] | None = None) -> int:
+    """Keeps the verdicts of the log that is named by these words or by those of the command line."""
+    given = argparse.ArgumentParser(description=__doc__, formatter_class=argparse.RawDescriptionHelpFormatter)
+    given.add_argument("--root", type=Path, default=ROOT, help=argparse.SUPPRESS)
+    given.add_argument("log", nargs="?", type=Path, metavar="LOG", help="the log (out/gate.log)")
+    asked = given.parse_args(given_words)
+    tree = Tree(asked.root)
+    log = asked.log or asked.root / "out/gate.log"
+    try:
+        found = verdict.verdicts_in(log.read_text(encoding="utf-8", errors="replace"))
+    except OSError as error:
+        given.error(f"{log}: {error.strerror}")
+    file = asked.root / verdict.KEPT
+    records = json.loads(file.read_text(encoding="utf-8")) if file.exists() else {}
+    now = verdict.sums(tree) if found else {}
+    records |= {name: {"line": line, "sum": now[name]} for name, line in found.items() if name in now}
+    file.parent.mkdir(exist_ok=True)
+    file.write_text(json.dumps(records, indent=1) + "\n", encoding="utf-8")
+    print(f"verdicts: {len(found)} in {log}, {len(records)} are kept")
+    return 0
+
+
+if __name__ == "__main__":
+    sys.exit(main())
