@@ -1,5 +1,5 @@
 -- Fronts that were served shared the session.
-use Rattle.std.proofs.Common.{◌≡◌, ◌||◌, Bool, ℕ, suc, ◌+◌, List, [], ◌∷◌, ◌++◌, length, map, refl, ◌∙◌, sym, ap, ap₂, subst, Option}
+use Rattle.std.proofs.Common.{◌≡◌, ◌||◌, Bool, ℕ, suc, ◌+◌, List, [], ◌∷◌, ◌++◌, length, map, refl, ◌∙◌, sym, ap, subst, Option, append_assoc, add-one, arith}
 use Rattle.std.specs.Prelude.{IfSome}
 use Rattle.std.specs.List.{All, list_any}
 use Rattle.std.proofs.lemmas.List.{map-append}
@@ -125,11 +125,22 @@ shared table r fronts depth workers history failed starts ones room room_is coun
       passed_is = s.passed_is;
     }
 
+-- the port of the next front is opened
+pub port_more : (old mid new : FrontsLog) (number : ℕ) → new ≡ record mid { opened = mid.opened ++ number ∷ [] } → mid ≡ record old { opened = old.opened ++ numbers_below number }
+    → new ≡ record old { opened = old.opened ++ numbers_below (number + 1) }
+port_more old mid new number next was =
+    next ∙ ap (λ (l : FrontsLog). record l { opened = l.opened ++ number ∷ [] }) was
+    ∙ ap (λ (l : List ℕ). record { opened = l; ended = old.ended }) (append_assoc old.opened (numbers_below number) (number ∷ []) ∙ ap (λ (n : ℕ). old.opened ++ numbers_below n) (sym (add-one number)))
+
 -- the ports of so many fronts were opened, and then this passed with their callers, who have ended
-pub opens : (old mid new : FrontsLog) (n fronts : ℕ) (passed : List Passed) → mid ≡ record old { opened = old.opened + n } → new ≡ record mid { ended = mid.ended ++ passed } → n ≡ fronts
+pub opens : (old mid new : FrontsLog) (n fronts : ℕ) (passed : List Passed) → mid ≡ record old { opened = old.opened ++ numbers_below n } → new ≡ record mid { ended = mid.ended ++ passed } → n ≡ fronts
     → Opens fronts passed old new
 opens old mid new n fronts passed first then is =
-    then ∙ ap (λ (x : FrontsLog). record x { ended = x.ended ++ passed }) first ∙ ap (λ (k : ℕ). record { opened = old.opened + k; ended = old.ended ++ passed }) is
+    then ∙ ap (λ (x : FrontsLog). record x { ended = x.ended ++ passed }) first ∙ ap (λ (k : ℕ). record { opened = old.opened ++ numbers_below k; ended = old.ended ++ passed }) is
+
+-- as many fronts came back as were opened
+pub as_many : {none : ℕ} (fronts opened ready served done : ℕ) → opened ≡ fronts → ready ≡ opened → served ≡ none + ready → none ≡ 0 → done ≡ served → fronts ≡ done
+as_many fronts opened ready served done a b c d e = omega (arith, a, b, c, d, e)
 
 -- what came back is alone where nothing was there
 pub served_all : (starts : List FrontState) (old new : List (Done × Passed)) → Adds starts old new → old ≡ [] → AreServed starts new

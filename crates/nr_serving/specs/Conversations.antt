@@ -24,10 +24,10 @@ pub record Passed : Type 0 where
   pub arrivals : List Arrival
   pub callers : List Conversation
 
--- The fronts of a session: how many were opened, and what passed with the callers of each that has
--- ended, in their order.
+-- The fronts of a session: the numbers of those whose callers were opened, and what passed with the
+-- callers of each that has ended, in their order.
 pub record FrontsLog : Type 0 where
-  pub opened : ℕ
+  pub opened : List ℕ
   pub ended : List Passed
 
 -- ---- how the prover stores these
@@ -107,16 +107,16 @@ from_parts-to_parts c =
     ap (λ (e : Result End LineEnd). record { input = c.input; output = c.output; ending = e })
     (ending_of-ending_parts c.ending)
 
-abbrev coded_bytes : Coded (List ℕ)
-coded_bytes = coded_list coded_ℕ
+abbrev pub numbers_code : Coded (List ℕ)
+numbers_code = coded_list coded_ℕ
 
 abbrev coded_input : Coded InputParts
 coded_input =
-    coded× (coded_option coded_bytes)
-    (coded× coded_bytes (coded× coded_bool (coded× coded_bool moments_code)))
+    coded× (coded_option numbers_code)
+    (coded× numbers_code (coded× coded_bool (coded× coded_bool moments_code)))
 
 abbrev coded_output : Coded OutputParts
-coded_output = coded× (coded_option coded_bytes) (coded× coded_bytes coded_bool)
+coded_output = coded× (coded_option numbers_code) (coded× numbers_code coded_bool)
 
 abbrev coded_ending : Coded EndingParts
 coded_ending = coded_option (coded_option (coded_option (coded× coded_ℕ coded_ℕ)))

@@ -90,8 +90,11 @@ pub record IsShared (r : Recording) (room fronts depth workers : ℕ) (passed : 
   pub reported : failed ≡ list_any has_failed courses
   pub passed_is : passed ≡ map passed_in courses
 
--- So many fronts more were opened, and all of them have ended: this passed with their callers, and
--- nothing with anybody else.
+-- The callers of so many fronts were opened, of each once, by its number, and all of them have ended:
+-- this passed with them, and nothing with anybody else.
 abbrev pub Opens : ℕ → List Passed → FrontsLog → FrontsLog → Type 0
 Opens fronts passed old new =
-    new ≡ record { opened = old.opened + fronts; ended = old.ended ++ passed }
+    new ≡ record {
+      opened = old.opened ++ numbers_below fronts;
+      ended = old.ended ++ passed;
+    }

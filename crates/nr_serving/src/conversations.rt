@@ -1,9 +1,8 @@
 //! What passed between a front and its callers. Only proofs read it: at run time nothing is kept of it.
 
-ghost use Rattle.std.specs.Prelude.{◌≡◌, ◌+◌, ℕ, [], ◌∷◌, ◌++◌, List};
+ghost use Rattle.std.specs.Prelude.{◌≡◌, ℕ, [], ◌∷◌, ◌++◌, List};
 ghost use Rattle.std.specs.Borrow.{ftrue};
-ghost use Rattle.std.specs.Coded.{coded_ℕ};
-ghost use Rattle.nr_serving.specs.Conversations.{Conversation, Passed, arrivals_code, conversations_code, passed_code};
+ghost use Rattle.nr_serving.specs.Conversations.{Conversation, Passed, arrivals_code, conversations_code, numbers_code, passed_code};
 ghost use Rattle.nr_serving.specs.declared.conversations.Arrival.{Arrival as DeclaredArrival};
 
 use nr_lines::{End, LineEnd};
@@ -68,10 +67,10 @@ impl Conversations {
     }
 }
 
-/// The fronts of a session: how many were opened, and what passed between each that has ended and its callers.
+/// The fronts of a session: the numbers of those that were opened, and what passed between each that has ended and its callers.
 #[derive(Drop)]
 pub(crate) struct Fronts {
-    pub ghost opened: { ℕ } by { coded_ℕ },
+    pub ghost opened: { List ℕ } by { numbers_code },
     pub ghost ended: { List Passed } by { passed_code },
 }
 
@@ -85,15 +84,15 @@ unsafe impl Send for Fronts {}
 impl Fronts {
     // None yet.
     pub(crate) fn new() -> Fronts
-        ensures { (result.opened ≡ 0) × (result.ended ≡ []) }
+        ensures { (result.opened ≡ []) × (result.ended ≡ []) }
     {
         Fronts {}
     }
 
-    // One was opened more.
+    // That of this number was opened.
     #[inline(always)]
-    pub(crate) fn opened(&self) -> Fronts
-        ensures { (result.opened ≡ self.now.opened + 1) × (result.ended ≡ self.now.ended) }
+    pub(crate) fn opened(&self, _number: &usize) -> Fronts
+        ensures { (result.opened ≡ self.now.opened ++ _number.now ∷ []) × (result.ended ≡ self.now.ended) }
     {
         Fronts {}
     }

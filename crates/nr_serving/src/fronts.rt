@@ -33,7 +33,7 @@ where
     W::Delta: Drop,
     W::Snapshot: Drop + Sync,
     F: Finder + Drop,
-    C: Connections,
+    C: Connections + Drop,
     requires table { front.table ≡ journal.now }
     requires none { callers.old ≡ none_passed }
     ensures { IsServed front.entry result callers.new }
@@ -74,7 +74,7 @@ where
     W::Delta: Drop,
     W::Snapshot: Drop + Sync,
     F: Finder + Drop,
-    C: Connections,
+    C: Connections + Drop,
     requires table { front.table ≡ journal.now }
     requires none { callers ≡ none_passed }
     ensures { IsServed front.entry result.0 result.1 }

@@ -1,7 +1,7 @@
 //! Ports and callers that are logged. This file alone gets at a caller: who comes has its reader and its writer wrapped at once,
 //! and what passed is noted when it is let go.
 
-ghost use Rattle.std.specs.Prelude.{◌≡◌, ◌+◌, ◌∷◌, ◌++◌, []};
+ghost use Rattle.std.specs.Prelude.{◌≡◌, ◌∷◌, ◌++◌, []};
 ghost use Rattle.nr_serving.specs.Fronts.{arrival_of, none_passed};
 ghost use Rattle.nr_serving.specs.Logged.{IsNewCaller, WaitsOnce, with_arrival, with_conversation};
 
@@ -29,7 +29,8 @@ pub(crate) enum Came {
 /// The callers of a front, one after the other. Contracts see what came of waiting for each, and the conversation with each.
 #[derive(Drop)]
 pub(crate) struct LoggedCallers<C: Connections> {
-    connections: C,
+    /// None once no caller comes any more: a front that has ended holds no port while others go on.
+    connections: Option<C>,
     conversations: Conversations,
 }
 
@@ -41,32 +42,39 @@ impl<C: Connections> Model for LoggedCallers<C> {
     ghost view = { λ c. record { arrivals = c.conversations.arrivals; callers = c.conversations.callers } };
 }
 
-impl<C: Connections> LoggedCallers<C> {
+impl<C: Connections + Drop> LoggedCallers<C> {
     // Nobody has come yet.
     fn new(connections: C) -> LoggedCallers<C>
         ensures { result ≡ none_passed }
     {
         LoggedCallers {
-            connections,
+            connections: Some(connections),
             conversations: Conversations::new(),
         }
     }
 
-    // Waits for the next caller, notes what came of that, and wraps the caller's reader and writer at once.
+    // Waits for the next caller, notes what came of that, and wraps the caller's reader and writer at once. Where none comes the
+    // connections are dropped.
     fn next(&mut self) -> Next<Source<C::Reader>, Sink<C::Writer>>
         ensures arrived { self.new ≡ with_arrival (arrival_of result) self.old }
         ensures fresh { IsNewCaller result }
     {
-        match self.connections.next() {
+        let next = match &mut self.connections {
+            Some(connections) => connections.next(),
+            None => Next::Failed,
+        };
+        match next {
             Next::Serve(reader, writer) => {
                 self.conversations = self.conversations.arrived(&Arrival::Came);
                 Next::Serve(Source::new(reader), Sink::new(writer))
             }
             Next::Ended => {
+                self.connections = None;
                 self.conversations = self.conversations.arrived(&Arrival::Ended);
                 Next::Ended
             }
             Next::Failed => {
+                self.connections = None;
                 self.conversations = self.conversations.arrived(&Arrival::Failed);
                 Next::Failed
             }
@@ -124,8 +132,8 @@ impl<C: Connections> LoggedCallers<C> {
     }
 }
 
-/// Ports whose callers are logged. Contracts see how many fronts' callers were opened, and what passed with those of each front
-/// that has ended.
+/// Ports whose callers are logged. Contracts see the numbers of the fronts whose callers were opened, and what passed with those of
+/// each front that has ended.
 #[derive(Drop)]
 pub struct LoggedPorts<P: Ports> {
     ports: P,
@@ -143,7 +151,7 @@ impl<P: Ports> Model for LoggedPorts<P> {
 impl<P: Ports> LoggedPorts<P> {
     /// The ports, of which none is opened.
     pub fn new(ports: P) -> LoggedPorts<P>
-        ensures { result ≡ record { opened = 0; ended = [] } }
+        ensures { result ≡ record { opened = []; ended = [] } }
     {
         LoggedPorts {
             ports,
@@ -153,10 +161,10 @@ impl<P: Ports> LoggedPorts<P> {
 
     // The callers of the front of this number.
     pub(crate) fn open(&mut self, front: usize) -> LoggedCallers<P::Callers>
-        ensures opened { self.new ≡ record self.old { opened = self.old.opened + 1 } }
+        ensures opened { self.new ≡ record self.old { opened = self.old.opened ++ front ∷ [] } }
         ensures none { result ≡ none_passed }
     {
-        self.fronts = self.fronts.opened();
+        self.fronts = self.fronts.opened(&front);
         LoggedCallers::new(self.ports.open(front))
     }
 

@@ -138,7 +138,7 @@ where
     Ok(fronts)
 }
 
-// Opens the port of each front, in their order.
+// Opens the port of each front by its number, in their order.
 fn open_ports<'f, W: Worlds + Drop + Sync, F: Finder + Drop, P: Ports>(
     ports: &mut LoggedPorts<P>,
     fronts: Vec<Front<'f, W, F>>,
@@ -152,7 +152,7 @@ where
     ensures fronts { map (λ f. f.0) result.items ≡ fronts.entry.items }
     ensures none { All (λ f. f.1 ≡ none_passed) result.items }
     ensures len { vec_len result ≡ vec_len fronts.entry }
-    ensures opened { ports.new ≡ record ports.old { opened = ports.old.opened + vec_len fronts.entry } }
+    ensures opened { ports.new ≡ record ports.old { opened = ports.old.opened ++ numbers_below (vec_len result) } }
 {
     let mut opened = room;
     let mut number = 0;
@@ -235,8 +235,8 @@ fn take_done(journal: &Journal, done: &mut Vec<Done>) -> Option<Done>
 }
 
 /// Opens the fronts, each with a debugger of its own over the film. Serves each in a thread of its own until its callers
-/// end, and returns the history that they placed. What passed with the callers of the ports is theirs: as many fronts were opened
-/// as were asked for, and all of them have ended.
+/// end, and returns the history that they placed. What passed with the callers of the ports is theirs: the ports of as many fronts
+/// as were asked for were opened, of each once, by its number from 0, and all of them have ended.
 ///
 /// An error comes before any port is opened: no caller was sent a byte. `NoTag` means that these are more fronts than a journal has
 /// tags for, `MOST_PASSES`. The contract doesn't say when an error comes. Where the history runs out of memory, after the last

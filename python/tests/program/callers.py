@@ -12,6 +12,7 @@ def callers():
     yield Function("callers: two reset in the middle of replies", play_reset)
     yield Function("callers: silent, slow and resetting ones at 64 fronts", play_crowd)
     yield Function("callers: one for whom there is no descriptor", play_no_descriptor)
+    yield Function("callers: who come when their front has ended, and another goes on", play_ended_front)
     yield Function("callers: whose only port is somebody else's", play_only_port_taken)
     yield Function("callers: who join late, behind the searches of others", play_late)
     yield Function("callers: gone before they are answered, with lines to read", play_gone_with_lines)
@@ -74,6 +75,31 @@ def answered(port):
         except ConnectionError:
             return None
     return None
+
+
+def play_ended_front(_folder):
+    """A front that has ended has no port any more: who comes then is refused, and doesn't wait for the other front's end."""
+    with Server(FIRST, fronts=2) as server:
+        with server.call(1) as other:
+            expect("the replies", ["at 1", "bye"], talk(server.call(0), ["stepi", "quit"]))
+            expect("who comes at its port", "refused", what_comes_of_calling(server.port))
+            expect("the replies to the other", ["at 1 of 10 forward", "bye"], talk(other, ["info position", "quit"]))
+        server.expect_end(0, "placed 1\n")
+
+
+def what_comes_of_calling(port):
+    """Whether callers are refused at last, where some may be let in before the port is closed."""
+    limit = time.monotonic() + PATIENCE
+    while time.monotonic() < limit:
+        with socket.socket() as caller:
+            try:
+                caller.connect((LOOPBACK, port))
+            except ConnectionRefusedError:
+                return "refused"
+            except ConnectionError:
+                pass  # let in, and reset when the port was closed
+        time.sleep(0.02)
+    return "let in"
 
 
 def play_only_port_taken(_folder):

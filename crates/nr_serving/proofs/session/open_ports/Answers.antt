@@ -1,7 +1,7 @@
 use Rattle.std.proofs.Common.{◌≡◌, ◌∙◌, ◌+◌, ◌∷◌, ◌++◌, [], ℕ, ap, append_assoc, arith, length, length-append, rules, sym}
 use Rattle.std.specs.Vec.Iter.{into_iter_items}
-use Rattle.nr_serving.specs.Conversations.{FrontsLog}
-use Rattle.nr_serving.proofs.SessionLemmas.{fronts_more, none_more}
+use Rattle.nr_serving.specs.Session.{numbers_below}
+use Rattle.nr_serving.proofs.SessionLemmas.{fronts_more, none_more, port_more}
 use Rattle.nr_serving.proofs.session.open_ports.Goals as goal
 
 -- the port of one front more is opened
@@ -20,6 +20,12 @@ loop-front-preserved g c =
       count = (let was = i.count in omega (arith, more));
       held = (let was = i.held in let len = c.push_reserved.ensures.len in omega (arith, more));
       room = search rules;
-      opened = c.open.ensures.opened ∙ ap (λ (l : FrontsLog). record l { opened = l.opened + 1 }) i.opened
-          ∙ ap (λ (n : ℕ). record { opened = n; ended = c.args.ports.now.ended }) (let k = c.args.ports.now.opened in omega (arith, more));
+      opened = port_more _ _ _ at.number c.open.ensures.opened i.opened;
     }
+
+-- as many as there were fronts
+pub returns-clause-opened : goal.returns-clause-opened
+returns-clause-opened g c =
+    let at = c.loop-front in
+    let i = at.invariant in
+    i.opened ∙ ap (λ (n : ℕ). record { opened = c.args.ports.now.opened ++ numbers_below n; ended = c.args.ports.now.ended }) (i.count ∙ sym i.held)

@@ -1,7 +1,8 @@
-use Rattle.std.proofs.Common.{◌≡◌, ◌+◌, ◌++◌, ◌≤◌, length, map, vec_len, vec_capacity}
+use Rattle.std.proofs.Common.{◌≡◌, ◌++◌, ◌≤◌, length, vec_len, vec_capacity}
 use Rattle.std.specs.List.{All}
 use Rattle.std.specs.Vec.Iter.{into_iter_items, into_iter_len}
 use Rattle.nr_serving.specs.Fronts.{none_passed}
+use Rattle.nr_serving.specs.Session.{numbers_below}
 use Rattle.nr_serving.proofs.SessionLemmas.{fronts_of}
 use Rattle.nr_serving.proofs.session.open_ports.Given as goal
 
@@ -15,5 +16,5 @@ invariant-loop-front g l = record {
   count : l.number ≡ length l.yielded;
   held : vec_len l.opened ≡ length l.yielded;
   room : length (into_iter_items l.initial.front-iterator) ≤ vec_capacity l.opened;
-  opened : l.ports ≡ record l.initial.ports { opened = l.initial.ports.opened + length l.yielded };
+  opened : l.ports ≡ record l.initial.ports { opened = l.initial.ports.opened ++ numbers_below l.number };
 }

@@ -1,5 +1,5 @@
 -- `opened` makes a struct of no fields, and picks what passed that its clause names.
-use Rattle.std.proofs.Common.{◌+◌, [], ◌∷◌, refl}
+use Rattle.std.proofs.Common.{[], ◌∷◌, ◌++◌, refl}
 use Rattle.std.proofs.raw_atomic.Walks.{proved}
 use Rattle.nr_text.proofs.CallWalks.{nothing_made, of_no_fields}
 use contract.Running.{tables}
@@ -7,7 +7,7 @@ use types.Kit.{‵, raw, ◌⊛◌, ◌$◌, ◌∵◌, !, qed, keep, split, mov
 use types.Part.{agg}
 use types.Run.{enter, no_more, returns}
 use types.ByLocal.{alloc_all, pass_all, free_all, look_at, sets}
-use denote.Builtin.{RefOf}
+use denote.Builtin.{RefOf, usize}
 use denote.Exit.{yes}
 use denote.RattleType.{owns}
 use denote.Ref.{shr_vals}
@@ -21,20 +21,21 @@ use Rattle.nr_serving.proofs.conversations.Fronts.opened.Statement.{statement}
 use Rattle.nr_serving.proofs.conversations.Fronts.opened.Code as code
 
 abbrev stayed : Stays f.ended.signature.params f.ended.kept
-stayed = (stay_dropped _ yes, tt)
+stayed = (stay_dropped _ yes, (stay_dropped _ yes, tt))
 
 pub opened_spec : {M : Type 1} → statement M
 opened_spec 𝓤 𝓛 𝓜 𝓡 wired =
     let c = f.clauses 𝓛 𝓜.mem 𝓡.returns in let 𝓣 = tables 𝓤 𝓛.H 𝓜 𝓡 𝓡.env in
-    let self_goes = Goes-dropped 𝓛 1 (RefOf (0 ∷ []) tt (plain (λ _. Fronts.the_row)) (λ _. tt)) yes (λ κs x r. refl) in
-    proved 𝓛 f.ended stayed c 𝓜 𝓡 (self_goes, tt) f.Key.name code.function (code.unfolded 𝓤 𝓛.H 𝓜 𝓡 wired)
-    (λ κs. (shr_vals, tt)) (λ κs. ((λ r vs is. is.0), tt)) (λ κs qs bounds a g are.
-    let y : (walk_of 𝓛 f.ended stayed c).Ghost = ((κs, qs, bounds, a, (shr_vals a.0, tt)), g) in
-    let longer : Fronts.the_row.Denot = record { opened = a.0.now.opened + 1; ended = a.0.now.ended } in
+    let self_goes = Goes-dropped 𝓛 2 (RefOf (0 ∷ []) tt (plain (λ _. Fronts.the_row)) (λ _. tt)) yes (λ κs x r. refl) in
+    let number_goes = Goes-dropped 𝓛 2 (RefOf (1 ∷ []) tt (plain (λ _. usize)) (λ _. tt)) yes (λ κs x r. refl) in
+    proved 𝓛 f.ended stayed c 𝓜 𝓡 (self_goes, (number_goes, tt)) f.Key.name code.function (code.unfolded 𝓤 𝓛.H 𝓜 𝓡 wired)
+    (λ κs. (shr_vals, (shr_vals, tt))) (λ κs. ((λ r vs is. is.0), ((λ r vs is. is.0), tt))) (λ κs qs bounds a g are.
+    let y : (walk_of 𝓛 f.ended stayed c).Ghost = ((κs, qs, bounds, a, (shr_vals a.0, (shr_vals a.1.0, tt))), g) in
+    let longer : Fronts.the_row.Denot = record { opened = a.0.now.opened ++ a.1.0.now ∷ []; ended = a.0.now.ended } in
     qed 𝓛 ((raw (alive 𝓛 f.signature κs qs) ⊛ ‵ (owns (types_at f.signature.params κs) a y.0.4)) ∷ raw ((c κs a).requires g) ∷ []) ∵
     keep ! (0 ∷ []) $ split ! $ move ! (1 ∷ []) $ drop ! $
-    enter ! _ _ _ _ _ $ alloc_all ! (λ l. pass_all ! refl ((tt, tt), tt) $
+    enter ! _ _ _ _ _ $ alloc_all ! (λ l. pass_all ! refl ((tt, tt), ((tt, tt), tt)) $
     sets ! (agg ! (no_more !)) refl (tt, tt) $
     returns ! (look_at ! 0 refl) $ free_all ! refl $
-    suffices ! _ (ends_at 𝓛 f.ended stayed c y of_no_fields longer (tt, tt) (tt, tt)) $ says ! (refl, refl) $
-    nothing ! $ nothing_made ! $ fjoin ! $ nothing ! $ nothing ! $ fjoin ! $ move ! (2 ∷ 0 ∷ 1 ∷ []) $ done !))
+    suffices ! _ (ends_at 𝓛 f.ended stayed c y of_no_fields longer (tt, (tt, tt)) (tt, (tt, tt))) $ says ! (refl, refl) $
+    nothing ! $ nothing_made ! $ fjoin ! $ nothing ! $ nothing ! $ fjoin ! $ nothing ! $ fjoin ! $ move ! (2 ∷ 0 ∷ 1 ∷ []) $ done !))
