@@ -1,7 +1,7 @@
 """`make real`: records Go's own tests, those of other projects and the samples, each in a process of its own, on one processor
 and on four, and compares every answer and every lock word with netrev's.
 
-    python3 python netrev_go.real [--go 1.27 | --go all] [--processors 1,4] [--seconds N] [--only TEXT] [--small]
+    python3 python netrev_go.real [--go 1.27 | --go all] [--processors 1,4] [--seconds N] [--only TEXT,..] [--small]
                                   [--record | --check]
     python3 python netrev_go.real --gate
 
@@ -32,9 +32,9 @@ from .logfile import NoLog, read_log
 from .making import NoSocket, Nothing, Unconvertible, make, write, write_words
 from .results import Result, keep, read_results, say, summary, table
 from .running import LOG, logs_folder
+from .standing import Standing, read_standing, standing_of
 from .suites import ROOT, SAMPLES, Sample, Suite
 from .toolchain import Go, Trouble, find_go, is_tried
-from .trying import trial
 
 GATE = ("1.19", "1.27")
 TEST_SECONDS = 40
@@ -152,17 +152,18 @@ class Recorder:
                 result.is_healthy = sample.is_healthy
                 self.run([str(program), *words], SAMPLES, result)
 
+    def is_wanted(self, name: str) -> bool:
+        """Whether a word of --only is in the name."""
+        return any(word in name for word in self.options.only.split(","))
+
     def all(self) -> None:
         """What is wanted: the samples, and then the packages."""
-        only, small = self.options.only, self.options.small
+        small = self.options.small
         for sample in suites.SMALL_SAMPLES if small else suites.OF_SAMPLES:
-            if only in f"samples/{sample.name}":
+            if self.is_wanted(f"samples/{sample.name}"):
                 self.sample(sample)
-        for suite in suites.SMALL_TESTS if small else suites.OF_GO:
-            if only in suite.package:
-                self.suite(suite)
-        for suite in () if small else suites.OF_OTHERS:
-            if only in suite.package:
+        for suite in suites.SMALL_TESTS if small else (*suites.OF_GO, *suites.OF_OTHERS):
+            if self.is_wanted(suite.package):
                 self.suite(suite)
         if self.missing:
             say(f"{self.name}: not here: {', '.join(self.missing)} (apt-get install {suites.WANTED})")
@@ -179,11 +180,12 @@ def of_release(name: str, options: argparse.Namespace, netrev: str | None) -> li
     else:
         go = chosen(name)
         said = "tried before" if is_tried(go.version) else "never tried before"
-        came = trial(go)
-        say(f"{go.version} ({said}): {came.said}")
-        if not came.good:
+        stands = standing_of(go)
+        say(f"{go.version} ({said}): {stands.trial}")
+        if not stands.is_good:
             raise Trouble(f"{go.version} isn't recorded")
         recorder = Recorder(go, name or go.version, options)
+        stands.keep(recorder.out)
         recorder.all()
         results = recorder.results
     if netrev and not options.record:
@@ -228,18 +230,20 @@ def main(arguments: list[str] | None = None) -> int:
         say("no Go is on this machine, so recording was left out (python3 python netrev_go.fetching 1.27)")
         return 0
     results: list[Result] = []
+    standings: dict[str, Standing | None] = {}
     path = os.environ["PATH"]
     try:
         for name in names:
             os.environ["PATH"] = path
-            results += of_release(name, options, netrev)
+            results += (some := of_release(name, options, netrev))
+            standings |= {one.release: read_standing(options.out / one.release) for one in some[:1]}
     except (Trouble, OSError) as trouble:
         say(str(trouble))
         return 3
     if options.record:
         return 0
     good = table(results)
-    summary(results)
+    summary(results, standings)
     return 0 if good else 1
 
 

@@ -5,10 +5,12 @@ from __future__ import annotations
 import collections
 import json
 import pathlib
-from collections.abc import Iterable
+from collections.abc import Iterable, Mapping
 from dataclasses import asdict, dataclass, field, replace
 
 from netrev_model.plain import plain
+
+from .standing import Standing
 
 # Steps whose answer is nothing of Go's: made up, or numbers that the converter gives.
 MADE_UP = frozenset(
@@ -75,6 +77,17 @@ HEADINGS = (
 )  # fmt: skip
 
 
+OF_RELEASES = (
+    "rules that fit", "compiled", "the doctor's program", "of samples", "of tests", *HEADINGS[1:]
+)  # fmt: skip
+
+
+def of_release(row: list[Result], stands: Standing | None) -> list[str]:
+    """The figures of a release: how it stood, the recordings of samples and of tests, and what became of them."""
+    samples = sum(result.suite.startswith("samples/") for result in row)
+    return [*(stands.cells() if stands else "???"), f"{samples:,}", f"{len(row) - samples:,}", *counted(row)[1:]]
+
+
 def counted(row: list[Result]) -> list[str]:
     """The figures of a row."""
     taken = [result for result in row if result.is_taken]
@@ -110,12 +123,12 @@ def table(results: list[Result]) -> bool:
     return not bad
 
 
-def summary(results: list[Result]) -> None:
+def summary(results: list[Result], standings: Mapping[str, Standing | None]) -> None:
     """Prints a row a release."""
-    say(f"\n| Go | {' | '.join(HEADINGS)} |")
-    say("|---|" + "--:|" * len(HEADINGS))
+    say(f"\n| Go | {' | '.join(OF_RELEASES)} |")
+    say("|---|" + "--:|" * len(OF_RELEASES))
     for name, row in rows(results, True):
-        say(f"| {name} | {' | '.join(counted(row))} |")
+        say(f"| {name} | {' | '.join(of_release(row, standings.get(name)))} |")
     failed = collections.Counter(
         (result.release, result.suite, result.test) for result in results if result.went in ("failed", "timeout")
     )

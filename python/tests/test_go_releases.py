@@ -10,13 +10,14 @@ from dataclasses import replace
 from unittest import mock
 
 from netrev_fuzz.logs import from_text
-from netrev_go import fetching, real, results, trying
+from netrev_go import fetching, real, results, standing, trying
 from netrev_go.calls_of_go import known_calls, table
 from netrev_go.compare import DIFFERS, REFUSES, by_the_model
 from netrev_go.logfile import read_log
 from netrev_go.making import Recording, make, write, write_words
 from netrev_go.points import Kind
 from netrev_go.results import Result
+from netrev_go.standing import Standing, read_standing, standing_of
 from netrev_go.suites import OF_OTHERS, OF_SAMPLES, SAMPLES, Suite
 from netrev_go.toolchain import TRIED, Go, Trouble, is_tried, release_of, tried
 from netrev_go.trying import Trial, incomplete, ready, unchained
@@ -209,6 +210,36 @@ class Trials(unittest.TestCase):
             self.assertIn("step 43: fault 109 answer", str(raised.exception))
 
 
+class Standings(unittest.TestCase):
+    """How a release stands, and what is kept of that."""
+
+    GO = Go("go", pathlib.Path("/nowhere"), "go1.28.0", "linux/amd64", "")
+    RULES = (True, ["fits runtime/proc.go newproc (as in 1.19)", "without the program's orders: none"])
+
+    def of(self, **put: object) -> Standing:
+        with contextlib.ExitStack() as stack:
+            for name, value in {"fit": lambda _: self.RULES, "overlay": lambda _: None, **put}.items():
+                stack.enter_context(mock.patch.object(standing, name, value))
+            return standing_of(self.GO)
+
+    def test_a_release_that_is_recorded(self) -> None:
+        one = self.of(trial=lambda _: Trial(True, "5 steps, 2 lock words with GOMAXPROCS=1"))
+        self.assertEqual(one.cells(), ["1 of 2", "yes", "5"])
+        with tempfile.TemporaryDirectory() as name:
+            folder = pathlib.Path(name)
+            self.assertIsNone(read_standing(folder))
+            one.keep(folder)
+            self.assertEqual(read_standing(folder), one)
+
+    def test_one_that_is_not(self) -> None:
+        refused = self.of(trial=lambda _: Trial(False, "netrev refuses the recording: step 43"))
+        self.assertEqual(refused.cells(), ["1 of 2", "yes", "no"])
+        self.assertIn("step 43", refused.trial)
+        other = self.of(overlay=mock.Mock(side_effect=Trouble("the changed files aren't compiled")))
+        self.assertEqual((other.cells(), other.is_good), (["1 of 2", "no", "no"], False))
+        self.assertIn("aren't compiled", other.trial)
+
+
 class OfOthers(unittest.TestCase):
     """The tests of other projects, with a release that is named."""
 
@@ -220,6 +251,13 @@ class OfOthers(unittest.TestCase):
         words = ["--go", "1.27", "--only", "golang.org/x/net", "--out", folder.name]
         go = Go("go", pathlib.Path("/nowhere"), "go1.27.3", "linux/amd64", "")
         self.recorder = real.Recorder(go, "1.27", real.options_of(words))
+
+    def test_several_words_may_name_what_is_wanted(self) -> None:
+        self.recorder.options.only = "samples/,net/rpc"
+        wanted = ["samples/load", "net/rpc", "net/rpc/jsonrpc"]
+        self.assertEqual([name for name in (*wanted, "net", "os") if self.recorder.is_wanted(name)], wanted)
+        self.recorder.options.only = ""
+        self.assertTrue(self.recorder.is_wanted("os"))
 
     def test_they_are_recorded_too(self) -> None:
         with mock.patch.object(real.Recorder, "suite") as suite:
@@ -266,7 +304,9 @@ class Counting(unittest.TestCase):
         said = io.StringIO()
         with contextlib.redirect_stdout(said):
             good = results.table(list(rows))
-            results.summary(list(rows))
+            results.summary(
+                list(rows), {"1.27": Standing("go1.27.3", 60, 59, True, "7 steps, 3 lock words, 8 steps", True)}
+            )
         return good, said.getvalue().splitlines()
 
     def test_what_is_wrong_is_named(self) -> None:
@@ -286,6 +326,12 @@ class Counting(unittest.TestCase):
             good, said = self.table(one, bad)
             self.assertFalse(good)
             self.assertIn(told, said)
+
+    def test_a_release_has_a_row_with_how_it_stands(self) -> None:
+        one, sample = replace(self.result("1.27"), steps=4), replace(self.result("1.27"), suite="samples/small")
+        _, said = self.table(one, one, sample, self.result("1.19"))
+        self.assertIn("| 1.27 | 59 of 60 | yes | 7, 8 | 1 | 2 | 3 | 0 | 0 | 8 | 6 | 0 | 3, 3 | 0 | - |", said)
+        self.assertIn("| 1.19 | ? | ? | ? | 0 | 1 | 1 | 0 | 0 | 0 | 1 | 0 | 1, 1 | 0 | - |", said)
 
     def test_results_are_kept_and_read(self) -> None:
         with tempfile.TemporaryDirectory() as folder:
