@@ -1,12 +1,12 @@
 """`make real`: records Go's own tests, those of other projects and the samples, each in a process of its own, on one processor
 and on four, and compares every answer and every lock word with netrev's.
 
-    python3 python netrev_go.real [--go 1.27 | --go all] [--processors 1,4] [--seconds N] [--only TEXT,..] [--small]
-                                  [--record | --check]
+    python3 python netrev_go.real [--go 1.27 | --go all] [--processors 1,4] [--seconds N] [--only WORD,..]
+                                  [--tests WORD] [--small] [--record | --check]
     python3 python netrev_go.real --gate
 
 Without --go it is the `go` on the PATH; a release that Debian has is fetched where it isn't here (netrev_go.fetching). --seconds
-are a release's. The recordings are left in out/real/RELEASE, with a line of JSON for each test's process in results.jsonl;
+are a release's. The words of --only and --tests are regular expressions: `--only '^net$' --tests '^TestUnix'`. The recordings are left in out/real/RELEASE, with a line of JSON for each test's process in results.jsonl;
 --check asks netrev about those that are there, and makes none. --small leaves most tests out. --gate is --small with the releases
 of GATE, or with the `go` on the PATH where neither is here, and says so where there is none."""
 
@@ -16,10 +16,12 @@ import argparse
 import gc
 import os
 import pathlib
+import re
 import shutil
 import subprocess
 import sys
 import time
+from dataclasses import replace
 
 from netrev_model.built import netrev_program
 
@@ -131,7 +133,7 @@ class Recorder:
             self.unbegun.append(suite.package)
             return
         program = built(self.go, suite, self.programs)
-        tests = tests_of(program, folder, suite) if program else []
+        tests = tests_of(program, folder, replace(suite, tests=self.options.tests or suite.tests)) if program else []
         for processors in self.processors:
             for test in tests:
                 flags = [
@@ -154,7 +156,7 @@ class Recorder:
 
     def is_wanted(self, name: str) -> bool:
         """Whether a word of --only is in the name."""
-        return any(word in name for word in self.options.only.split(","))
+        return any(re.search(word, name) for word in self.options.only.split(","))
 
     def all(self) -> None:
         """What is wanted: the samples, and then the packages."""
@@ -202,7 +204,8 @@ def options_of(arguments: list[str] | None) -> argparse.Namespace:
     parser.add_argument("--processors", default="1,4")
     parser.add_argument("--out", type=pathlib.Path, default=ROOT / "out/real", help="where the recordings are left")
     parser.add_argument("--seconds", type=float, default=3600.0)
-    parser.add_argument("--only", default="")
+    parser.add_argument("--only", default="", help="which samples and packages")
+    parser.add_argument("--tests", default="", help="which tests of them")
     parser.add_argument("--small", action="store_true")
     parser.add_argument("--gate", action="store_true")
     parser.add_argument("--check", action="store_true")

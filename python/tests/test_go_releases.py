@@ -256,6 +256,8 @@ class OfOthers(unittest.TestCase):
         self.recorder.options.only = "samples/,net/rpc"
         wanted = ["samples/load", "net/rpc", "net/rpc/jsonrpc"]
         self.assertEqual([name for name in (*wanted, "net", "os") if self.recorder.is_wanted(name)], wanted)
+        self.recorder.options.only = "^net$"
+        self.assertEqual([name for name in (*wanted, "net", "os") if self.recorder.is_wanted(name)], ["net"])
         self.recorder.options.only = ""
         self.assertTrue(self.recorder.is_wanted("os"))
 
@@ -263,6 +265,14 @@ class OfOthers(unittest.TestCase):
         with mock.patch.object(real.Recorder, "suite") as suite:
             self.recorder.all()
         self.assertEqual([call.args[0] for call in suite.call_args_list], self.WANTED)
+
+    def test_tests_may_be_named(self) -> None:
+        for word, wanted in (("", "."), ("^TestUnix", "^TestUnix")):
+            self.recorder.options.tests = word
+            with mock.patch.object(real, "source_folder", return_value=ROOT), mock.patch.object(real, "built"):
+                with mock.patch.object(real, "tests_of", return_value=[]) as listed:
+                    self.recorder.suite(Suite("net"))
+            self.assertEqual(listed.call_args.args[2].tests, wanted)
 
     def test_those_that_are_not_here_are_named(self) -> None:
         said = io.StringIO()
