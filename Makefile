@@ -180,10 +180,11 @@ try-deb:
 
 # Records Go's own tests, those of other projects and the samples, and compares all answers and lock words: `make real` with the
 # `go` on the PATH, `make real GO=1.27` or `make real GO=all` with releases of Debian's, fetched where they aren't here and not
-# installed. An hour or so a release; `make real ONLY=net/rpc` for some. Not in the gate but for a small part.
+# installed. An hour or so a release; `make real ONLY=net/rpc` for some, `ONLY='^net$$' TESTS='^TestUnix'` for some
+# of a package. Not in the gate but for a small part.
 real: ready
 	@python3 python unittest tests.go_tool tests.go_kept tests.go_planted tests.go_tests
-	@python3 python netrev_go.real --only "$(ONLY)" --go "$(GO)"
+	@python3 python netrev_go.real --only '$(ONLY)' --tests '$(TESTS)' --go "$(GO)"
 
 # Removes all that was built and checked here. What `make test` keeps on this machine stays.
 clean:

@@ -1,12 +1,13 @@
-"""What recording costs:  python3 python netrev_go.costs [RELEASE ..]
+"""What recording costs:  python3 python netrev_go.costs [RELEASE ..] [--times N]
 
 It builds samples/cost and samples/load of tools/go without and with the overlay, and prints what a call costs and how many
 round trips a second there are: without the overlay, with it and no log, with a log, with the program's orders, with lines, and with
 both. RELEASE is one of Debian's (netrev_go.fetching), as 1.27; without any it is the `go` on the PATH. They are measured by
-turns."""
+turns, so many times each, and the machine's load is said."""
 
 from __future__ import annotations
 
+import argparse
 import os
 import pathlib
 import statistics
@@ -34,7 +35,6 @@ WAYS: dict[str, dict[str, str] | None] = {
     "with all three": {"NETREV_LINES": "1", "NETREV_ORDERS": "1"},
 }
 ROUND_POINTS, DEADLINE_POINTS = 8, 3
-TIMES = 5
 
 
 def built_both(go: Go, name: str, folder: pathlib.Path) -> tuple[pathlib.Path, pathlib.Path]:
@@ -93,11 +93,21 @@ class Measured:
             )
 
 
-def main(releases: list[str]) -> int:
+def loads() -> str:
+    """The machine's load in the last minute."""
+    return f"{os.getloadavg()[0]:.1f}"
+
+
+def main(arguments: list[str]) -> int:
+    parser = argparse.ArgumentParser(description=__doc__, formatter_class=argparse.RawDescriptionHelpFormatter)
+    parser.add_argument("releases", nargs="*", metavar="RELEASE")
+    parser.add_argument("--times", type=int, default=5)
+    options = parser.parse_args(arguments)
     measured: dict[str, Measured] = {}
+    load = []
     with tempfile.TemporaryDirectory() as name:
         try:
-            for release in releases or [""]:
+            for release in options.releases or [""]:
                 go = chosen(release)
                 folder = pathlib.Path(name, release or "own")
                 folder.mkdir()
@@ -106,10 +116,12 @@ def main(releases: list[str]) -> int:
         except Trouble as trouble:
             print(plain(str(trouble)), file=sys.stderr)
             return 3
-        for _ in range(TIMES):
+        for _ in range(options.times):
+            load.append(loads())
             for one in measured.values():
                 one.measure(logs)
     logs.rmdir()
+    print(f"{options.times} times by turns, each begun at a load of {', '.join(load)}")
     print("| Go | | write and read | a point | SetReadDeadline | a point | round trips a second |")
     print("|---|---|--:|--:|--:|--:|--:|")
     for version, one in measured.items():

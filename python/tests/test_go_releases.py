@@ -103,6 +103,42 @@ class Calls(unittest.TestCase):
         self.assertEqual(len(calls), len(set(calls)))
 
 
+class Page(unittest.TestCase):
+    """The table of releases on docs/MEASUREMENTS.md."""
+
+    HEADING = f"| Go | {' | '.join(results.OF_RELEASES)} |"
+
+    def setUp(self) -> None:
+        lines = (ROOT / "docs/MEASUREMENTS.md").read_text().splitlines()
+        begin = lines.index(self.HEADING)
+        rows = [
+            [cell.strip() for cell in line.strip("|").split("|")] for line in lines[begin + 2 : lines.index("", begin)]
+        ]
+        names = ["Go", *results.OF_RELEASES]
+        self.rows = {row[0]: dict(zip(names, row, strict=True)) for row in rows}
+        self.sums = self.rows.pop("**all**")
+
+    def number(self, release: str, name: str) -> int:
+        return int(self.rows[release][name].replace(",", ""))
+
+    def test_each_release_that_was_tried_has_a_row(self) -> None:
+        self.assertEqual(set(self.rows), set(TRIED))
+
+    def test_a_row_adds_up_and_has_as_many_recordings_as_are_wanted(self) -> None:
+        for release in self.rows:
+            made = self.number(release, "of samples") + self.number(release, "of tests")
+            came = [self.number(release, name) for name in ("accepted", "refused", "not made")]
+            self.assertEqual(made, sum(came), release)
+            self.assertGreaterEqual(came[0], 200 if release in ("1.19", "1.24", "1.27") else 60, release)
+            self.assertEqual((came[1], self.number(release, "differ")), (0, 0), release)
+
+    def test_the_last_row_is_the_sum(self) -> None:
+        for name, told in self.sums.items():
+            if name in results.OF_RELEASES[3:] and name not in ("events, stale", "suspects"):
+                total = sum(self.number(release, name) for release in self.rows)
+                self.assertEqual(f"{total:,}", told, name)
+
+
 class Tags(unittest.TestCase):
     def used_twice(self) -> Points:
         """Two sockets at one descriptor, whose events have tags 5 and 7."""
@@ -217,10 +253,12 @@ class Standings(unittest.TestCase):
     RULES = (True, ["fits runtime/proc.go newproc (as in 1.19)", "without the program's orders: none"])
 
     def of(self, **put: object) -> Standing:
+        names: dict[str, object] = {"fit": lambda _: self.RULES, "overlay": lambda _: None, **put}
         with contextlib.ExitStack() as stack:
-            for name, value in {"fit": lambda _: self.RULES, "overlay": lambda _: None, **put}.items():
+            for name, value in names.items():
                 stack.enter_context(mock.patch.object(standing, name, value))
-            return standing_of(self.GO)
+            came = standing_of(self.GO)
+        return came
 
     def test_a_release_that_is_recorded(self) -> None:
         one = self.of(trial=lambda _: Trial(True, "5 steps, 2 lock words with GOMAXPROCS=1"))
