@@ -12,7 +12,7 @@ from collections.abc import Iterator
 from .toolchain import Go
 
 PART = 4  # of the room that is free, one in so many is taken at most
-FLAGS = ("toolexec", "x", "n")  # with these it isn't done: the first is the user's own, and the others print each command
+FLAGS = ("toolexec", "x", "n")  # with these each run links: the first is the user's own, the others print each command
 # Go runs each tool by it:  sh keep FOLDER KILOBYTES TOOL WORDS
 KEEP = r"""kept=$1 most=$2
 shift 2
