@@ -22,7 +22,7 @@ from .keeping import complain, say, unwritten
 from .logfile import NoLog, read_log
 from .outputs import LONGEST_ENDING, numbered
 from .ran import Ran, Tests, of_log
-from .running import logs_in
+from .running import as_a_shell_has_it, logs_in
 from .toolchain import Go
 
 MAJOR = re.compile(r"v\d+\Z")
@@ -30,7 +30,7 @@ UNFIT = re.compile(r"[^A-Za-z0-9_.-]+")
 LONGEST_NAME = 255 - len(LONGEST_ENDING)
 OTHER = "process"  # the recording of a process that has no tests
 FOUND = 4  # nrdb's status where a schedule ends badly
-GRACE = 10
+GRACE = 60  # seconds for reducing what was found
 
 
 def short_name(package: str) -> str:
@@ -177,7 +177,8 @@ def nrdb_environment() -> dict[str, str]:
 
 
 def findings(recording: str, seconds: float) -> list[str]:
-    """What nrdb finds by other schedules in so many seconds, line by line."""
+    """What nrdb finds by other schedules in so many seconds, line by line. Where it couldn't look, or doesn't come to tell, that is
+    said."""
     words = [sys.executable, str(PACKAGES), "nrdb", "--explore", recording]
     with subprocess.Popen(
         words, env=nrdb_environment(), text=True, stdin=subprocess.DEVNULL, stdout=subprocess.PIPE,
@@ -191,5 +192,9 @@ def findings(recording: str, seconds: float) -> list[str]:
                 said, _ = running.communicate(timeout=GRACE)
             except subprocess.TimeoutExpired:
                 running.kill()
-                return []
-    return [line.removeprefix("| ") for line in said.splitlines()[2:]] if running.returncode == FOUND else []
+                said, _ = running.communicate()
+    told = [line.removeprefix("| ") for line in said.splitlines()[2:]]
+    if running.returncode not in (0, FOUND):
+        why = told[-1] if told else f"nrdb ended with {as_a_shell_has_it(running.returncode)}"
+        complain(f"{recording}: what other schedules end with isn't known: {why}")
+    return told if running.returncode == FOUND else []

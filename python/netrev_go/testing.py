@@ -18,6 +18,7 @@ from netrev_model.plain import plain
 from . import forms
 from .converting import Wish
 from .keeping import Making, complain, say
+from .linking import kept
 from .outputs import base_name, look_folder
 from .running import LOGS, Runner, as_a_shell_has_it, limits_of, logs_folder, logs_in
 from .tested import Recordings
@@ -54,10 +55,14 @@ class Round:
         return f"run {self.number + 1}" + (f" ({', '.join(how)})" if how else "")
 
 
+def most_runs(options: argparse.Namespace) -> int | None:
+    """How many runs are wanted at most, where that is said."""
+    return options.runs or (None if options.until_failure or options.seconds is not None else 1)
+
+
 def rounds(options: argparse.Namespace) -> Iterator[Round]:
     """The runs that are wanted, at most."""
-    is_again = options.until_failure or options.seconds is not None
-    most = options.runs or (None if is_again else 1)
+    most = most_runs(options)
     end = time.monotonic() + options.seconds if options.seconds is not None else None
     processors = (None, *sorted({1, 2, os.cpu_count() or 1, 2 * (os.cpu_count() or 1)}))
     for number in itertools.count():
@@ -73,6 +78,21 @@ def record_tests(options: argparse.Namespace, go: Go, command: list[str], wish: 
     look_folder(base)
     recordings = Recordings(base, go, wish, options.all or options.explore is not None, options.html)
     came = Came()
+    with kept(go, options.words_of_go, most_runs(options) != 1) as more:
+        program, test, *words = command
+        run_all(options, go, [program, test, *more, *words], wish, recordings, came)
+    came.all_recorded = came.all_recorded and recordings.all_recorded
+    came.suspected = recordings.suspected
+    if options.explore is not None and not came.status:
+        came.possible = recordings.explore(options.explore)
+    tell(options, recordings, came)
+    return came
+
+
+def run_all(
+    options: argparse.Namespace, go: Go, command: list[str], wish: Wish, recordings: Recordings, came: Came
+) -> None:
+    """All runs of Go's command."""
     for one in rounds(options):
         run = Run(options, go, command, wish, recordings)
         status = run.once(one)
@@ -81,12 +101,6 @@ def record_tests(options: argparse.Namespace, go: Go, command: list[str], wish: 
         came.all_recorded = came.all_recorded and run.has_recorded
         if run.is_last or status and options.until_failure:
             break
-    came.all_recorded = came.all_recorded and recordings.all_recorded
-    came.suspected = recordings.suspected
-    if options.explore is not None and not came.status:
-        came.possible = recordings.explore(options.explore)
-    tell(options, recordings, came)
-    return came
 
 
 class Run:

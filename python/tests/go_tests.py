@@ -3,6 +3,7 @@ netrev, and is run by `make real`:  python3 python unittest tests.go_tests"""
 
 import json
 import os
+import re
 import signal
 import subprocess
 import unittest
@@ -64,6 +65,35 @@ func TestEnds(t *testing.T) {
         "@", WAITS
     )
 )
+
+
+# tells what netrev-go keeps of what was linked
+LOOKS = """package p
+
+import (
+	"fmt"
+	"os"
+	"path/filepath"
+	"testing"
+)
+
+func TestLooks(t *testing.T) {
+	made, _ := filepath.Glob(filepath.Join(os.TempDir(), "netrev-link-*/made.*"))
+	if len(made) == 0 {
+		return
+	}
+	file, _ := os.OpenFile("seen", os.O_APPEND|os.O_CREATE|os.O_WRONLY, 0o600)
+	for _, name := range made {
+		at, _ := os.Stat(name)
+		fmt.Fprint(file, name, " ", at.ModTime().UnixNano(), "\\n")
+	}
+}
+"""
+
+
+def timeless(said: str) -> list[str]:
+    """What is said, without the times."""
+    return re.sub(r"\d+\.\d+s", "", said).splitlines()
 
 
 class Tested(Tool):
@@ -143,6 +173,19 @@ class Tested(Tool):
         told = [json.loads(line) for line in run.stdout.splitlines()]
         self.assertIn(("fail", "TestRed"), [(line["Action"], line.get("Test")) for line in told])
         self.assertIn("FAILED example.org/p TestRed", run.stderr)
+
+    def test_runs_that_are_the_same_are_linked_once_and_print_what_go_prints(self) -> None:
+        self.written(LOOKS, "look_test.go")
+        for more in ((), ("-race",)):
+            words = ("test", *more, "-v", "-run", "Good|Looks", ".")
+            plainly = timeless(self.called(*words)[1])
+            (self.folder / "seen").unlink(missing_ok=True)
+            status, said = self.called("--runs", "3", *words)
+            self.assertEqual(status, 0, said)
+            self.assertEqual(timeless(said), plainly * 3 + ["netrev-go: 2 tests, 3 runs; 0 failed"])
+            seen = (self.folder / "seen").read_text().splitlines()
+            self.assertEqual((len(seen), len(set(seen))), (3, 1))
+            self.assertRegex(seen[0], r"netrev-link-\w+/made\.\S+ \d+$")
 
     def test_cancelled_it_ends_as_go_does(self) -> None:
         for number, status in ((signal.SIGTERM, 128 + signal.SIGTERM), (signal.SIGINT, 1)):

@@ -130,8 +130,8 @@ class Cutting(unittest.TestCase):
         self.assertEqual(len(sockets_of(test, Log(points.points), found, [test])), 1)
 
 
-class Kept(Run):
-    """What `netrev-go test` leaves and tells, where a stand-in for Go leaves a log with tests."""
+class Tested(Run):
+    """`netrev-go test`, where a stand-in for Go leaves a log with tests."""
 
     def setUp(self) -> None:
         super().setUp()
@@ -154,6 +154,10 @@ class Kept(Run):
 
     def made(self, folder: str = "recordings") -> list[str]:
         return sorted(path.name for path in (self.folder / folder).glob("*.jsonl"))
+
+
+class Kept(Tested):
+    """What it leaves and tells."""
 
     def test_the_recording_of_the_test_that_failed_is_kept(self) -> None:
         returned, out, error = self.told("test", "./...")

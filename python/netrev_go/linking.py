@@ -1,0 +1,51 @@
+"""The same tests run again aren't linked again: what Go's linker made is kept by the ID that Go gives it, which is of all that it is
+made from, and copied where the linker would make it. All else stays Go's, and what it prints."""
+
+from __future__ import annotations
+
+import contextlib
+import pathlib
+import shutil
+import tempfile
+from collections.abc import Iterator
+
+from .toolchain import Go
+
+PART = 4  # of the room that is free, one in so many is taken at most
+FLAGS = ("toolexec", "x", "n")  # with these each run links: the first is the user's own, the others print each command
+# Go runs each tool by it:  sh keep FOLDER KILOBYTES TOOL WORDS
+KEEP = r"""kept=$1 most=$2
+shift 2
+case ${1##*/} in link) ;; *) exec "$@" ;; esac
+id= out= last=
+for word; do
+	case $word in -buildid=*) id=${word#*=} ;; esac
+	[ "$last" = -o ] && out=$word
+	last=$word
+done
+[ "$id" ] && [ "$out" ] || exec "$@"
+name=$kept/made.$(printf %s "$id" | tr / .)
+[ -f "$name" ] && cp "$name" "$out" && exit
+"$@" || exit
+[ "$(du -sk "$kept" | cut -f1)" -lt "$most" ] || exit 0
+cp "$out" "$name-$$" && mv "$name-$$" "$name" || rm -f "$name-$$"
+"""
+
+
+def is_in_the_way(word: str) -> bool:
+    """Whether with this word of Go's nothing is kept."""
+    name = word.partition("=")[0]
+    return name.startswith("-") and name.lstrip("-") in FLAGS
+
+
+@contextlib.contextmanager
+def kept(go: Go, words: list[str], is_again: bool) -> Iterator[list[str]]:
+    """The flags with which Go's linker is asked once. There are none where the tests run once alone."""
+    if not is_again or any(map(is_in_the_way, [*words, *go.flags.split()])):
+        yield []
+        return
+    with tempfile.TemporaryDirectory(prefix="netrev-link-", ignore_cleanup_errors=True) as folder:
+        script = pathlib.Path(folder, "keep")
+        script.write_text(KEEP)
+        room = shutil.disk_usage(folder).free // 1024 // PART
+        yield [] if "'" in folder else [f"-toolexec=sh '{script}' '{folder}' {room}"]
