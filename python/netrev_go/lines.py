@@ -90,7 +90,7 @@ class Roots:
                 return Call(function, file.removeprefix(root), line, OF_GO)
         if self.is_replaced(function):
             return Call(function, replaced_file(file), line, OF_GO)
-        if not file.startswith("/") and (self.plain / file).exists():  # built with -trimpath
+        if not file.startswith("/") and os.path.exists(self.plain / file):  # built with -trimpath
             return Call(function, file, line, OF_GO)
         of = OF_A_LIBRARY if any(part in file for part in LIBRARIES) or "@v" in file else OF_THE_PROGRAM
         return Call(function, file.removeprefix(self.here), line, of)

@@ -13,6 +13,7 @@ from nrdb.dap.marks import Unset, wish_of
 from nrdb.interrupts import Interrupts
 from nrdb.output import TextPrinter
 from nrdb.program.index import is_place, places_of
+from nrdb.program.source import source_of, text_round
 from nrdb.recording import Recording
 from nrdb.scout import Scout
 from nrdb.session import Session
@@ -67,6 +68,11 @@ class Prompt(unittest.TestCase):
         self.told("delete p1")
         self.assertNotIn("p1", self.told("continue"))
         self.assertEqual(self.session.stood, self.session.length)
+
+    def test_a_name_that_no_file_can_have_is_no_source(self) -> None:
+        for name in ("x" * 5000 + ".go", "/" + "y" * 5000, "nul\0.go"):
+            path = source_of(name, str(FILE))
+            self.assertEqual(text_round(self.session.text(), path, 1), [], name[:8])
 
     def test_netrev_s_own_marks_stop_before_one_that_is_farther(self) -> None:
         self.told(f"break {READS}")

@@ -1,5 +1,6 @@
 """What an editor looks at: goroutines as threads, their stacks, and cells as variables."""
 
+import os
 from dataclasses import dataclass
 from pathlib import Path
 from typing import Optional, Sequence
@@ -148,7 +149,7 @@ class Looks:
     def _call_frame(self, frame: Frame, call: Call) -> Body:
         """The frame of a call of the program's, of a library's or of Go's."""
         path = self._root / call.file
-        where = {"path": str(path)} if path.is_file() else {"origin": plain(call.file)}
+        where = {"path": str(path)} if os.path.isfile(path) else {"origin": plain(call.file)}
         return {
             "id": self.handles.give(frame),
             "name": plain(call.function),

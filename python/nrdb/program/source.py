@@ -11,8 +11,7 @@ ROUND = 5
 
 def source_of(file: str, beside: str) -> Path:
     """Where a file of NAME.where may be: from the folder that nrdb is called in, else from the recording's."""
-    here = Path(file)
-    return here if here.is_file() or os.path.isabs(file) else Path(beside).parent / file
+    return Path(file) if os.path.isfile(file) or os.path.isabs(file) else Path(beside).parent / file
 
 
 def text_round(recording: Recording, path: Path, line: int) -> list[str]:
