@@ -1,5 +1,5 @@
 -- What a session leaves that several people shared.
-use Rattle.std.specs.Prelude.{◌≡◌, ◌⊎◌, ℕ, ◌+◌, zero, suc, Bool, List, [], ◌∷◌, ◌++◌, length, map, Option, Some, None, Result, Ok, Err, IfSome}
+use Rattle.std.specs.Prelude.{◌≡◌, ◌⊎◌, ℕ, zero, suc, Bool, List, [], ◌∷◌, ◌++◌, length, map, Option, Some, None, Result, Ok, Err, IfSome}
 use Rattle.std.specs.List.{All, Contains, list_any}
 use Rattle.std.specs.Global.{Vec}
 use Rattle.nr_rev.specs.declared.memory.Memory.{Memory}
@@ -90,7 +90,7 @@ pub record IsShared (r : Recording) (room fronts depth workers : ℕ) (passed : 
   pub reported : failed ≡ list_any has_failed courses
   pub passed_is : passed ≡ map passed_in courses
 
--- The callers of so many fronts were opened, of each once, by its number, and all of them have ended:
+-- The callers of so many fronts were opened, of each once, by its number. All of them have ended:
 -- this passed with them, and nothing with anybody else.
 abbrev pub Opens : ℕ → List Passed → FrontsLog → FrontsLog → Type 0
 Opens fronts passed old new =
