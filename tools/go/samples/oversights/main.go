@@ -118,20 +118,21 @@ func earlier(bad bool) error {
 
 // unread: an end of a connection is sent a report that it never reads, and waits until its writer is through.
 func unread(bad bool) error {
+	const size = 2 << 20 // more than what both ends keep
 	near, far := pair()
-	must(near.(*net.TCPConn).SetReadBuffer(4096))
-	must(far.(*net.TCPConn).SetWriteBuffer(4096))
+	must(near.(*net.TCPConn).SetReadBuffer(64 << 10))
+	must(far.(*net.TCPConn).SetWriteBuffer(64 << 10))
 	through := make(chan bool)
 	go func() {
 		io.Copy(io.Discard, far)
-		far.Write(make([]byte, 4<<20))
+		far.Write(make([]byte, size))
 		close(through)
 	}()
 	near.Write([]byte("upload"))
 	near.(*net.TCPConn).CloseWrite()
 	return within(func() error {
 		if !bad {
-			io.Copy(io.Discard, io.LimitReader(near, 4<<20))
+			io.Copy(io.Discard, io.LimitReader(near, size))
 		}
 		<-through // BUG unread
 		return near.Close()
@@ -217,7 +218,8 @@ func waiting(bad bool) error {
 			near.Close()
 		}
 		readers.Wait() // BUG waiting
-		return near.Close()
+		near.Close()
+		return nil
 	})
 }
 
