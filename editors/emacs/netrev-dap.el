@@ -5,6 +5,9 @@
 
 (require 'dap-mode)
 
+(defvar dap-exception-breakpoints nil
+  "As dap-ui has it: dap-mode reads it where a file has breakpoints, also where dap-ui isn't loaded.")
+
 (defvar netrev-nrdb "nrdb" "The command by which nrdb is called.")
 
 (dap-register-debug-provider

@@ -1,5 +1,5 @@
-"""Records the programs of tools/go/samples/causes with the `go` on the PATH, bad and good, and says whether the line of each bug stands
-in what is printed first:
+"""Records the programs of tools/go/samples/causes and oversights with the `go` on the PATH, bad and good, and says whether the line of
+each bug stands in what is printed first:
 
     python3 python tests.go_caused [FOLDER]    keeps the recordings in FOLDER, as in python/tests/caused"""
 
@@ -21,54 +21,73 @@ from nrdb.causes import first_words
 from nrdb.recording import Recording
 from nrdb.suspects.of_calls import all_suspects_of
 
-SOURCE = SAMPLES / "causes/main.go"
-NAMES = ("idleClose", "half", "stale", "left", "once", "pool", "piece", "both", "body")
+SOURCE, OVERSIGHTS = SAMPLES / "causes/main.go", SAMPLES / "oversights/main.go"
+NAMES = {
+    SOURCE: ("idleClose", "half", "stale", "left", "once", "pool", "piece", "both", "body"),
+    OVERSIGHTS: (
+        "forgotten", "earlier", "unread", "dead", "mutex", "waiting", "writers", "dialBack", "shutdown",
+    ),
+}  # fmt: skip
+
+
+def source_of(name: str) -> pathlib.Path:
+    """The program that has a bug."""
+    return next(source for source, names in NAMES.items() if name in names)
 
 
 def bug_line(name: str) -> str:
     """The place of a program's bug."""
-    lines = SOURCE.read_text(encoding="utf-8").split("\n")
+    lines = source_of(name).read_text(encoding="utf-8").split("\n")
     number = next(number for number, line in enumerate(lines, 1) if f"// BUG {name}" in line)
     return f"main.go:{number}"
 
 
-def build(go: Go, program: pathlib.Path) -> None:
+def build(go: Go, source: pathlib.Path, program: pathlib.Path) -> None:
     words = [go.program, "build", "-overlay", str(ready(go)), "-gcflags=-l", "-o", str(program), "main.go"]
-    subprocess.run(words, cwd=SOURCE.parent, env=os.environ | {"GOFLAGS": "-p=2"}, check=True)
+    subprocess.run(words, cwd=source.parent, env=os.environ | {"GOFLAGS": "-p=2"}, check=True)
 
 
 def recorded(go: Go, program: pathlib.Path, words: list[str], name: pathlib.Path) -> int:
-    """Records a run as NAME.jsonl, with its lines; the program's status."""
+    """Records a run as NAME.jsonl, with its lines; the program's status. It is called in the folder of its source."""
     with tempfile.TemporaryDirectory() as folder:
         settings = {"NETREV_LOG": f"{folder}/log", "NETREV_POINTS": "65536"}
         run = subprocess.run([program, *words], env=os.environ | settings, capture_output=True, check=False)
         log = next(path for path in pathlib.Path(folder).iterdir() if ".program" not in path.name)
         read = read_log(log)
-        made = make(read)
-        roots = Roots(go.sources(), SOURCE.parent)
+        made = make(read, all_bytes=False)
+        roots = Roots(go.sources(), pathlib.Path.cwd())
         used = set(made.stacks) | {wait.stack for wait in made.beside.waits}
         calls = lines_of(read, used, program_of(log, read.program), go.program, roots)
     write(made, name)
-    write_where(name.with_suffix(".where"), made.stacks, calls, made.orders, made.beside)
+    more = [{"bytes": made.bytes}] if made.bytes else []
+    write_where(name.with_suffix(".where"), made.stacks, calls, made.orders, made.beside, more)
     return run.returncode
 
 
+def of_one(go: Go, program: pathlib.Path, name: str, folder: pathlib.Path) -> tuple[bool, int]:
+    """Records a program bad and good, and prints a line; whether its bug is named, and how many suspects the good run has."""
+    bad, good = (folder / f"{name}-{kind}.jsonl" for kind in ("bad", "good"))
+    ended = recorded(go, program, [name, "bad"], bad), recorded(go, program, [name, "good"], good)
+    is_named = bug_line(name) in "\n".join(first_words(Recording.read(str(bad)), name))
+    of_good = [one for one in all_suspects_of(Recording.read(str(good))).suspects if one.is_shown]
+    print(
+        f"{name}: ended with {ended}; {'named' if is_named else 'missing'}; good: {len(of_good)} suspects", flush=True
+    )
+    return is_named, len(of_good)
+
+
 def main(folder: pathlib.Path) -> int:
-    """Records all, and prints a line for each; 1 where a good run has a suspect, or more than one bug's line isn't there."""
-    go, missing, suspected = find_go(), 0, 0
+    """Records all; 1 where a good run has a suspect, or where more than one bug of a source isn't named."""
+    go, status = find_go(), 0
     with tempfile.TemporaryDirectory() as built:
-        program = pathlib.Path(built) / "causes"
-        build(go, program)
-        os.chdir(SOURCE.parent)
-        for name in NAMES:
-            bad, good = (folder / f"{name}-{kind}.jsonl" for kind in ("bad", "good"))
-            failed = recorded(go, program, [name, "bad"], bad), recorded(go, program, [name, "good"], good)
-            is_there = bug_line(name) in "\n".join(first_words(Recording.read(str(bad)), name))
-            of_good = [one for one in all_suspects_of(Recording.read(str(good))).suspects if one.is_shown]
-            missing += not is_there
-            suspected += bool(of_good)
-            print(f"{name}: ended with {failed}; {'named' if is_there else 'missing'}; good: {len(of_good)} suspects")
-    return int(suspected > 0 or missing > 1)
+        for source, names in NAMES.items():
+            program = pathlib.Path(built) / source.parent.name
+            build(go, source, program)
+            os.chdir(source.parent)
+            came = [of_one(go, program, name, folder) for name in names]
+            missing, suspected = (sum(not is_named for is_named, _ in came), sum(count for _, count in came))
+            status |= suspected > 0 or missing > 1
+    return status
 
 
 if __name__ == "__main__":

@@ -1,5 +1,5 @@
-"""What is said first of programs that failed, by recordings of tools/go/samples/causes (tests.go_caused made them): the line of the bug
-stands in it. And the rules that look at calls: each finds its bug, and not what is nearly that."""
+"""What is said first of programs that failed, by recordings of tools/go/samples/causes and oversights (tests.go_caused made them): the
+line of the bug stands in it. And the rules that look at calls: each finds its bug, and not what is nearly that."""
 
 import contextlib
 import json
@@ -19,10 +19,11 @@ from nrdb.suspects.left_open import SINCE
 from nrdb.suspects.of_calls import all_suspects_of
 from nrdb.suspects.spinning import MANY
 from nrdb.where import Lines
-from tests.go_caused import NAMES, SOURCE, bug_line
+from tests.go_caused import NAMES, SOURCE, bug_line, source_of
 from tests.test_suspects import OPEN, Steps, recording_of
 
 CAUSED = Path(__file__).parent / "caused"
+ALL = [name for names in NAMES.values() for name in names]
 WITHOUT_A_LINE = ("body",)  # nobody is at the line where a Close is missing
 TWO_ENDS: Steps = [*OPEN, ["sockopen", 16, 16], ["pollopen", 0, 1]]
 SETS: Steps = [["incref", 0, 0], ["setdeadline", 0, 0, "r", 5], ["decref", 0, 0]]
@@ -31,6 +32,8 @@ GETS: Steps = [["arrive", 0, "6869"], ["rwlock", 1, 0, "r"], ["pollreset", 1, 0,
 UNLOCKS: Steps = [["rwunlock", 1, 0, "r"]]
 LATE: Steps = [["rwlock", 1, 0, "r"], ["pollreset", 1, 0, "r"], *UNLOCKS]
 FILLS = "00" * 16
+WAITS: Steps = [["rwlock", 1, 1, "r"], ["pollreset", 1, 1, "r"], ["sysread", 1, 1, 16], ["waitbegin", 1, 1, "r"]]
+READS_ON: Steps = [*WAITS, ["blockarm", 1], ["blockcheck", 1], ["parkcommit", 1]]
 
 
 def writes(g: int) -> Steps:
@@ -89,9 +92,9 @@ def rules_of(recording: Recording) -> list[object]:
 
 
 @contextlib.contextmanager
-def in_the_folder_of_the_source() -> Iterator[None]:
+def in_the_folder_of_the_source(source: Path = SOURCE) -> Iterator[None]:
     here = os.getcwd()
-    os.chdir(SOURCE.parent)
+    os.chdir(source.parent)
     try:
         yield
     finally:
@@ -100,15 +103,15 @@ def in_the_folder_of_the_source() -> Iterator[None]:
 
 class Causes(unittest.TestCase):
     def test_the_line_of_each_bug_is_said_first(self) -> None:
-        for name in NAMES:
+        for name in ALL:
             recording = Recording.read(str(CAUSED / f"{name}-bad.jsonl"))
             recording.lines.written = float("inf")  # (a clone's files are newer than the recording)
-            with self.subTest(name), in_the_folder_of_the_source():
+            with self.subTest(name), in_the_folder_of_the_source(source_of(name)):
                 told = "\n".join(first_words(recording, name))
                 self.assertEqual(f"{bug_line(name)} " in told, name not in WITHOUT_A_LINE, told)
 
     def test_good_runs_have_no_suspect(self) -> None:
-        for name in NAMES:
+        for name in ALL:
             with self.subTest(name):
                 self.assertEqual(rules_of(Recording.read(str(CAUSED / f"{name}-good.jsonl"))), [])
 
@@ -129,6 +132,26 @@ class Causes(unittest.TestCase):
         self.assertEqual(rows[0].text, "Two calls wait for one another.")
         self.assertEqual(rules_of(recording), [RuleOfCalls.BOTH_WRITE])
         self.assertEqual(hangs_table(recording, 10).rows, [])
+
+    def test_who_reads_what_another_writes_is_in_no_ring(self) -> None:
+        recording = with_lines(TWO_ENDS + writes(0) + READS_ON)
+        told = "\n".join(row.text for row in hangs_table(recording, recording.length).rows)
+        self.assertIn("There Write at a.go:1 in main (goroutine 0) is itself under way", told)
+        self.assertNotIn("wait for one another", told)
+        self.assertEqual(rules_of(recording), [])
+
+    def test_a_write_needs_room_also_where_its_reader_has_shut_its_own_writing(self) -> None:
+        told = "\n".join(first_words(Recording.read(str(CAUSED / "unread-bad.jsonl")), "unread"))
+        self.assertRegex(told, r"Write at main.go:\d+ in unread.func1 .* waits on socket 3")
+        self.assertIn("It needs room, which a read makes at its other end, socket 2.", told)
+        self.assertNotIn("closed for writing", told)
+
+    def test_pieces_of_two_messages_that_are_mixed(self) -> None:
+        told = "\n".join(first_words(Recording.read(str(CAUSED / "writers-bad.jsonl")), "writers"))
+        self.assertRegex(
+            told, r"Perhaps: writes of two goroutines are mixed at socket \d\.\n +Write at main.go:\d+ in writers.func1"
+        )
+        self.assertEqual(first_words(Recording.read(str(CAUSED / "writers-good.jsonl")), "writers"), [])
 
     def test_a_wait_that_go_ended_itself_is_no_failed_call(self) -> None:
         recording = Recording.read(str(CAUSED / "body-good.jsonl"))

@@ -15,7 +15,7 @@ from nrdb.exploring.telling import Telling
 from nrdb.recording import Recording
 from nrdb.session import Misused
 from nrdb.where import Lines
-from tests.go_caused import NAMES
+from tests.go_caused import NAMES, SOURCE
 from tests.test_exploring import NOBODYS
 from tests.test_suspects import OPEN, Steps, recording_of
 
@@ -101,7 +101,7 @@ class Failures(unittest.TestCase):
         self.assertEqual(explored(recording).found, {})
 
     def test_of_the_programs_with_bugs(self) -> None:
-        for name in NAMES:
+        for name in NAMES[SOURCE]:
             with self.subTest(name):
                 found = explored(caused(name)).found
                 self.assertEqual({key[1] for key in found}, FOUND.get(name, set()))

@@ -54,10 +54,18 @@ def chain_of(index: Index, call: Call, position: int) -> list[Call]:
         following = could.call if could else None
         if following is None or following.last or not is_waiting(index, following):
             break
+        if is_served(index, chain[-1], following):
+            break
         chain.append(following)
         if following in chain[:-1]:
             break
     return chain
+
+
+def is_served(index: Index, call: Call, other: Call) -> bool:
+    """Whether a call reads what another is writing: bytes are under way then, and who waits for room has filled what is between them."""
+    is_at_the_other_end = index.other_end(call.socket) == other.socket and not other.is_asking
+    return call.name in READING and other.name in WRITING and is_at_the_other_end and not call.is_asking
 
 
 def of_hang(index: Index, call: Call, position: int) -> Cause:
@@ -93,7 +101,7 @@ def who_could(index: Index, call: Call, position: int) -> Optional[Could]:
     wanted = "Write" if call.name in READING else "Read"
     need = "bytes from its other end" if wanted == "Write" else "room, which a read makes at its other end"
     says = [f"It needs {need}, socket {other}."]
-    if by := index.closing(other, position):
+    if by := index.closing(other, position, whole=wanted == "Read"):  # who shut its writing alone reads on
         how = "closed" if by.name == "Close" else "closed for writing"
         return Could(
             [f"Its other end, socket {other}, was {how}{place_of_step(index.recording, by.first, by.goroutine)}."]

@@ -1,20 +1,29 @@
 """What may be the matter where no call failed and none hangs: bytes that nobody read before their connection was closed, the end of
-a stream that came early, and sockets that are left open. None of it is a fault by itself, so each is said with `Perhaps`."""
+a stream that came early, sockets that are left open, and writes that came between two of another goroutine's. None of it is a fault by
+itself, so each is said with `Perhaps`."""
 
-from typing import Iterator, Optional
+from typing import Iterator, NamedTuple, Optional
 
 from ..one_call import CLOSE, Call, Outcome
 from ..recording import Recording
+from ..where import OF_THE_PROGRAM
 from ..words import counted
 from .failing import cause_of
-from .index import Cause, Index, index_of
+from .index import Cause, Index, index_of, went_well
 from .words import is_of_go, place_of_step, told
+
+
+class Place(NamedTuple):
+    """A function of the program, and a line of it; 0 where none is known."""
+
+    function: str
+    line: int
 
 
 def leftovers_of(recording: Recording) -> list[Cause]:
     """All that is left over at the end of a recording, of each sort in the order of its steps. Of Go's own code alone nothing is."""
     index = index_of(recording)
-    found = [*never_read(index), *left_open(index), *early_ends(index)]
+    found = [*never_read(index), *left_open(index), *early_ends(index), *mixed_writes(index)]
     return [one._replace(says=[f"Perhaps: {one.says[0]}", *one.says[1:]]) for one in found]
 
 
@@ -80,3 +89,31 @@ def early_ends(index: Index) -> Iterator[Cause]:
         by = index.closing(other, call.last)
         if by and by.name == CLOSE:
             yield cause_of(index, call)
+
+
+def mixed_writes(index: Index) -> Iterator[Cause]:
+    """A Write of one goroutine between two of another's to the same socket, where all three are made by one function of the program,
+    and the two by different lines of it: they may be pieces of one message."""
+    recording = index.recording
+    for calls in index.by_socket.values():
+        writes = [(one, place_of_function(recording, one)) for one in calls if one.name == "Write" and went_well(one)]
+        latest: dict[int, int] = {}  # of each goroutine, which one was its last
+        for at, (last, place) in enumerate(writes):
+            before = latest.get(last.goroutine, at)
+            latest[last.goroutine] = at
+            first, earlier = writes[before]
+            others = [one for one, its in writes[before + 1 : at] if its.function == place.function]
+            if not others or earlier.function != place.function or not 0 < earlier.line < place.line:
+                continue
+            says = [
+                f"writes of two goroutines are mixed at socket {first.socket}.",
+                f"{told(recording, others[0])} came between {told(recording, first)} and {told(recording, last)}.",
+            ]
+            steps = [first.first, others[0].first, last.first]
+            yield Cause(others[0], says, steps, [f"goto {others[0].first}", f"calls sock {first.socket}"])
+
+
+def place_of_function(recording: Recording, call: Call) -> Place:
+    """The function of the program that a call is made by, and its line there."""
+    found = recording.lines.of(call.first).own()
+    return Place(found[0].function, found[0].line) if found and found[0].of == OF_THE_PROGRAM else Place("", 0)

@@ -14,7 +14,7 @@ from ..reducing.reduced import Reducing, Wanted, answered_recording, reduced_of
 from ..reducing.writing import answered_by, text_of, write_recording
 from ..session import Misused, Session
 from ..suspects.ranking import suspects_of
-from .failing import watched
+from .failing import stays_of, watched
 from .finding import Exploring, Finding
 from .hanging import moved_by
 from .making import script_of
@@ -121,8 +121,7 @@ class Keeping:
         accepted = said.decode("utf-8", "replace").strip()
         *lines, unless = self.telling.finding(at, finding, times, file)
         lines.append(f"   netrev: {file}: {accepted}, so it is a run of the machine")
-        if not finding.reason:
-            lines.append(f"   short:  {self._shortened(file, finding)}")
+        lines.append(f"   short:  {self._shortened(file, finding)}")
         return [*lines, unless]
 
     def _shortened(self, file: str, finding: Finding) -> str:
@@ -136,12 +135,15 @@ class Keeping:
             return str(wrong)
 
     def _wanted(self, whole: Recording, finding: Finding) -> Wanted:
-        """What has to show in the short one: its suspect, or who hangs, behind both deadlines."""
+        """What has to show in the short one: its suspect; who hangs, behind both deadlines; or the call that fails, and by what."""
         if finding.suspect:
             shown = [one for one in suspects_of(whole).suspects if one.is_shown]
             subjects = [one.subject for one in shown]
             number = subjects.index(finding.suspect.subject) + 1 if finding.suspect.subject in subjects else 1
             return Wanted(number, "", "", whole.length)
         played = finding.played
+        if played.failed and finding.reason:
+            stays = stays_of(self.telling.script, played.failed, finding.reason, played.steps)
+            return Wanted(0, "", "", whole.length, behind=stays)
         behind = moved_by(self.telling.script, finding.hangs, played.places[finding.hangs], played.steps)
         return Wanted(0, "", "", whole.length, finding.hangs, behind)

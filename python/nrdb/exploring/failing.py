@@ -142,6 +142,15 @@ def reason_of(script: Script, failed: Failed, steps: list[Made]) -> Optional[Rea
     return Reason(at, served) if served else None
 
 
+def stays_of(script: Script, failed: Failed, reason: Reason, steps: list[Made]) -> tuple[int, ...]:
+    """The steps of a schedule that tell of a call that fails: what it fails by, the end of the last call that went well under that
+    deadline, and its failure."""
+    call = script.goroutines[failed.goroutine][failed.begins]
+    ends = ends_of(script).get((call.socket, call.side), set()) if reason.served else set()
+    well = [at for at in range(reason.step + 1, failed.step) if steps[at - 1].number in ends]
+    return tuple(sorted({reason.step, *well[-1:], failed.step}))
+
+
 def _numbers(script: Script, sort: Sort, call: Operation) -> set[int]:
     """The steps that set a deadline, or close a socket, by which a call may fail."""
     return {

@@ -14,14 +14,14 @@ from ..suspects.ranking import suspects_of
 from .events import Events
 from .playing import Player
 from .shrinking import NotReproduced, Shrinking
-from .targets import CellTarget, HangTarget, SuspectTarget, Target
+from .targets import CellTarget, HangTarget, StepsTarget, SuspectTarget, Target
 from .units import Sort, units_of
 from .writing import answered_by, taken, write_recording
 
 
 class Wanted(NamedTuple):
     """What has to show: the suspect of this number, or a cell with a value; and the steps up to which it is looked for. Or a
-    goroutine that hangs, behind steps that have to stay."""
+    goroutine that hangs, behind steps that have to stay; or these steps alone."""
 
     suspect: int
     cell: str
@@ -94,6 +94,8 @@ def answered_recording(program: str, recording: Recording, until: int) -> Record
 def _target(events: Events, recording: Recording, wanted: Wanted) -> Target:
     if wanted.hangs >= 0:
         return HangTarget(events, wanted.hangs, wanted.behind, wanted.until)
+    if wanted.behind:
+        return StepsTarget(events, wanted.behind)
     if wanted.cell:
         return CellTarget(events, wanted.cell, wanted.value, wanted.until)
     found = [suspect for suspect in suspects_of(recording).suspects if suspect.is_shown]

@@ -1,4 +1,4 @@
-"""What still has to show in a reduced recording: a suspect, or a cell with a value at the end."""
+"""What still has to show in a reduced recording: a suspect, a cell with a value at the end, or some steps."""
 
 from abc import ABC, abstractmethod
 from fnmatch import fnmatchcase
@@ -125,6 +125,18 @@ class HangTarget(CellTarget):
             return False
         status = player.world.goroutines[player.numbers["g"][self.which or 0]]
         return not player.world.descs[status[1]].deadlines["rw".index(status[2])]
+
+
+class StepsTarget(Target):
+    """Steps that have to stay, as they answered: a call that fails, and what it fails by."""
+
+    def __init__(self, events: Events, steps: Sequence[int]) -> None:
+        self.steps, self.until = list(steps), len(events.all)
+        self.stays = {number - 1 for number in steps}
+        self.socket = events.socket_of(events.all[steps[-1] - 1])
+
+    def shows(self, player: Player) -> bool:
+        return self.stays.issubset(player.chosen)
 
 
 def _back(numbers: dict[int, int], number: int) -> int:

@@ -1,4 +1,5 @@
-"""A hunt in Emacs with dap-mode, both as Debian has them. Where they aren't here it is skipped, by name."""
+"""A hunt in Emacs with dap-mode, both as Debian has them, and a breakpoint at a line of Go. Where they aren't here they are skipped, by
+name."""
 
 import json
 import os
@@ -8,13 +9,17 @@ import tempfile
 import unittest
 from pathlib import Path
 
+from nrdb.program.index import places_of
+from nrdb.recording import Recording
+from tests.go_caused import SOURCE
 from tests.program.nrdb.support import EXAMPLES, NRDB, ROOT
 from tests.program.sharing import NETREV
 
 INSTALLED = Path("/usr/share/emacs/site-lisp")
 FOLDERS = [*INSTALLED.glob("elpa/*"), *INSTALLED.glob("elpa-src/*")]
 PATIENCE = 300  # seconds
-HUNT = """
+CAUSED = ROOT / "python/tests/caused/once-bad.jsonl"
+BEGINNING = """
 (setq native-comp-deferred-compilation nil native-comp-speed -1 make-backup-files nil ring-bell-function 'ignore
       dap-auto-configure-features nil dap-breakpoints-file {breakpoints})
 (dolist (folder '{folders}) (add-to-list 'load-path folder))
@@ -22,6 +27,7 @@ HUNT = """
 (load {ours})
 (setq netrev-nrdb {nrdb})
 (defun line-shown () (with-current-buffer (window-buffer) (line-number-at-pos (window-point))))
+(defun file-shown () (file-name-nondirectory (or (buffer-file-name (window-buffer)) "")))
 (defun wait-for (wanted)
   (let ((tries 0))
     (while (and (< tries 300) (not (funcall wanted)))
@@ -31,6 +37,8 @@ HUNT = """
 (defun go-and-tell (what line)
   (wait-for (lambda () (= (line-shown) line)))
   (princ (format "%s %d\\n" what (line-shown))))
+"""
+HUNT = """
 (find-file {recording})
 (netrev-debug)
 (go-and-tell "end" 23)
@@ -46,39 +54,77 @@ HUNT = """
 (go-and-tell "step-in" 20)
 (dap-disconnect (dap--cur-session))
 """
+GO_LINE = """
+(defun stands-at (what line)
+  (wait-for (lambda () (and (equal (file-shown) "main.go") (= (line-shown) line))))
+  (let ((said nil))
+    (dap--send-message (dap--make-request "evaluate" '(:expression "info position" :context "repl"))
+                       (lambda (response) (setq said (gethash "result" (gethash "body" response)))) (dap--cur-session))
+    (wait-for (lambda () said))
+    (princ (format "%s %s %d, %s\\n" what (file-shown) (line-shown) (car (split-string said "\\n")))))
+  (with-current-buffer (window-buffer) (goto-char (point-min)) (set-window-point nil (point-min))))
+(find-file {source})
+(forward-line 45)
+(dap-breakpoint-add)
+(goto-char (point-min))
+(find-file {recording})
+(netrev-debug t)
+(wait-for (lambda () (equal (file-shown) "main.go")))
+(netrev-reverse-continue)
+(stands-at "reverse-continue" 46)
+(netrev-reverse-continue)
+(stands-at "reverse-continue" 46)
+(dap-continue (dap--cur-session) (or (dap--debug-session-thread-id (dap--cur-session)) 1))
+(stands-at "continue" 46)
+(dap-disconnect (dap--cur-session))
+"""
 
 
+@unittest.skipUnless(shutil.which("emacs"), "emacs isn't on this machine (Debian: emacs-nox)")
+@unittest.skipUnless(any(path.name.startswith("dap-mode") for path in FOLDERS), "dap-mode isn't here (elpa-dap-mode)")
 class Emacs(unittest.TestCase):
-    """The lost wake-up, found from Emacs."""
+    def told(self, script: str, home: Path, recording: Path, **more: str) -> list[str]:
+        """What Emacs prints while it plays a script."""
+        folders = " ".join(json.dumps(str(path)) for path in FOLDERS if path.is_dir())
+        named = {
+            "breakpoints": str(home / "breakpoints"),
+            "ours": str(ROOT / "editors/emacs/netrev-dap.el"),
+            "nrdb": NRDB,
+            "recording": str(recording),
+        }
+        words = {name: json.dumps(text) for name, text in (named | more).items()}
+        played = home / "played.el"
+        played.write_text((BEGINNING + script).format(folders=f"({folders})", **words))
+        ended = subprocess.run(
+            ["emacs", "-Q", "--batch", "-l", str(played)],
+            env=os.environ | {"HOME": str(home), "NETREV": NETREV},
+            capture_output=True,
+            text=True,
+            timeout=PATIENCE,
+            check=False,
+        )
+        self.assertEqual(ended.returncode, 0, ended.stderr[:1500])
+        return [line for line in ended.stdout.splitlines() if line]
 
-    @unittest.skipUnless(shutil.which("emacs"), "emacs isn't on this machine (Debian: emacs-nox)")
-    @unittest.skipUnless(
-        any(path.name.startswith("dap-mode") for path in FOLDERS), "dap-mode isn't here (elpa-dap-mode)"
-    )
     def test_a_hunt(self):
+        """The lost wake-up."""
         with tempfile.TemporaryDirectory() as home:
-            script = Path(home, "hunt.el")
-            folders = " ".join(json.dumps(str(path)) for path in FOLDERS if path.is_dir())
-            named = {
-                "breakpoints": str(Path(home, "breakpoints")),
-                "ours": str(ROOT / "editors/emacs/netrev-dap.el"),
-                "nrdb": NRDB,
-                "recording": str(EXAMPLES / "lost-wakeup.jsonl"),
-            }
-            script.write_text(
-                HUNT.format(folders=f"({folders})", **{name: json.dumps(text) for name, text in named.items()})
-            )
-            ended = subprocess.run(
-                ["emacs", "-Q", "--batch", "-l", str(script)],
-                env=os.environ | {"HOME": home, "NETREV": NETREV},
-                capture_output=True,
-                text=True,
-                timeout=PATIENCE,
-                check=False,
-            )
-        told = [line for line in ended.stdout.splitlines() if line]
+            told = self.told(HUNT, Path(home), EXAMPLES / "lost-wakeup.jsonl")
         wanted = ["end 23", "reverse-continue 22", "reverse-continue 20", "step-back 19", "step-in 20"]
-        self.assertEqual(told, wanted, ended.stderr[:1500])
+        self.assertEqual(told, wanted)
+
+    def test_a_breakpoint_at_a_line_of_go_stops_both_ways(self):
+        place = places_of(Recording.read(str(CAUSED))).place("main.go:46")
+        assert place
+        with tempfile.TemporaryDirectory() as home:
+            for path in (CAUSED, CAUSED.with_suffix(".where"), SOURCE):
+                shutil.copy(path, home)
+            told = self.told(GO_LINE, Path(home), Path(home, CAUSED.name), source=str(Path(home, SOURCE.name)))
+        *_, before, last = place.positions
+        came = [("reverse-continue", last), ("reverse-continue", before), ("continue", last)]
+        self.assertEqual(
+            [line.rpartition(" of ")[0] for line in told], [f"{way} main.go 46, at {at}" for way, at in came]
+        )
 
 
 if __name__ == "__main__":

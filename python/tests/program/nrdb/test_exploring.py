@@ -9,11 +9,14 @@ import tempfile
 import unittest
 from pathlib import Path
 
+from nrdb.causes import causes_of
 from nrdb.exploring.telling import UNLESS
+from nrdb.one_call import Outcome
 from nrdb.recording import Recording
 from nrdb.reducing.writing import answered_by
 from nrdb.suspects.ranking import suspects_of
 from nrdb.suspects.found import Rule
+from tests.go_caused import bug_line
 from tests.program.sharing import NETREV
 
 from .support import EXAMPLES, nrdb
@@ -23,6 +26,7 @@ SOME = 4
 SCHEDULES = 100  # of each race
 TIMED = re.compile(r" in [\d.]+ s")
 GOOD = EXAMPLES / "cancelled-read.jsonl"
+CAUSED = EXAMPLES.parent / "python/tests/caused"
 
 
 class Exploring(unittest.TestCase):
@@ -44,6 +48,20 @@ class Exploring(unittest.TestCase):
         self.assertLess(Recording.read("cancelled-read-other-1-short.jsonl").length, Recording.read(files[0][0]).length)
         self.assertEqual(said.count(UNLESS), said.count("short: "))
         self.assertEqual(len(re.findall(r"^\| \d\. ", said, re.MULTILINE)), said.count(UNLESS))
+
+    def test_a_call_that_fails_is_kept_and_reduced_with_what_it_fails_by(self) -> None:
+        said = nrdb("--batch", "-ex", "explore failures 100", CAUSED / "pool-good.jsonl")
+        self.assertIn("| 1. a call that fails, in pool-good-other-1.jsonl: goroutine 0's Read on socket 2", said)
+        names = "pool-good-other-1.jsonl", "pool-good-other-1-short.jsonl"
+        whole, short = map(Recording.read, names)
+        for name, recording in zip(names, (whole, short)):
+            self.assertEqual(checked(Path(name)), f"ok {recording.length} steps\n")
+            (cause,) = causes_of(recording, recording.length)
+            self.assertEqual((cause.call.name, cause.call.outcome), ("Read", Outcome.TIMED_OUT))
+            self.assertIn("; 1 Read went well under it, and nobody has moved it since.", cause.says[1])
+            self.assertIn(f"set at {bug_line('pool')} ", cause.says[1])
+        self.assertLess(short.length, whole.length // 4)
+        self.assertIn(f"short:  pool-good-other-1-short.jsonl: {short.length} of {whole.length} steps, accepted", said)
 
     def test_nothing_is_written_where_nothing_is_found(self) -> None:
         said = nrdb("--batch", "-ex", "explore 300", EXAMPLES / "temporary-break.jsonl")
