@@ -120,8 +120,8 @@ def wish_of(what: str, condition: object) -> "Wish | Unset":
 
 def kind_wish(name: object, condition: object) -> "Wish | Unset":
     """The wish for a breakpoint at each step of a kind."""
-    if name in KINDS:
-        return wish_of(str(name), condition)
+    if isinstance(name, str) and name in KINDS:
+        return wish_of(name, condition)
     return Unset(f"{name} is no kind of step, and no function that steps come from; the kinds are {' '.join(KINDS)}")
 
 

@@ -279,6 +279,9 @@ class Ends(unittest.TestCase):
             for command, arguments in wrong:
                 with self.assertRaises(Refusal, msg=command):
                     editor(command, **arguments)
+            named = [{"name": {}}, {"name": []}, {"name": None}, {}]
+            made = editor("setFunctionBreakpoints", breakpoints=named)["breakpoints"]
+            self.assertEqual([one["verified"] for one in made], [False] * len(named))
             self.assertEqual(editor.line(), 23)
 
     def test_what_is_no_message_ends_it(self):
