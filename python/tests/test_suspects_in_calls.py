@@ -11,7 +11,8 @@ from nrdb.where import Lines
 from tests.test_suspects import COMES, OPEN, PARK, READ, WHILE, Steps, recording_of
 
 TAKES: Steps = [["rwlock", 1, 0, "w"]]
-WRITES: Steps = [*TAKES, ["pollreset", 1, 0, "w"], ["syswrite", 1, 0, "00"]]
+RESETS: Steps = [*TAKES, ["pollreset", 1, 0, "w"]]
+WRITES: Steps = [*RESETS, ["syswrite", 1, 0, "00"]]
 SLEEPS: Steps = [["rwlock", 0, 0, "w"], ["acquire", 0]]
 OTHERS: Steps = [["increfclose", 1, 0]]
 POLL = "internal/poll."
@@ -51,8 +52,16 @@ class InCalls(unittest.TestCase):
         self.assertEqual(found(TAKES + SLEEPS, ["(*FD).Write"]), [])
 
     def test_without_lines_it_is(self) -> None:
-        self.assertEqual(found(TAKES, None), [Rule.LEAKED_REFERENCE])
+        for steps in (TAKES, WRITES):
+            self.assertEqual(found(steps, None), [Rule.LEAKED_REFERENCE])
         self.assertEqual(found(TAKES + SLEEPS, None), [Rule.LOCK_HELD])
+
+    def test_without_lines_it_is_not_behind_a_pollreset(self) -> None:
+        for steps in (RESETS, RESETS + SLEEPS):
+            self.assertEqual(found(steps, None), [])
+            self.assertNotEqual(found(steps, ["(*FD).RawWrite"]), [])
+        for before in ([["incref", 1, 0]], [["rwlock", 1, 0, "r"]]):
+            self.assertEqual(found(before + RESETS, None), [Rule.LEAKED_REFERENCE])
 
     def test_one_in_which_the_program_runs_is(self) -> None:
         for name in ("(*FD).RawWrite", "(*FD).RawControl", "(*FD).Fsync"):

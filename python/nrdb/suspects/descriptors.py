@@ -27,7 +27,7 @@ def pollreset(state: State, g: int, d: int, side: str) -> None:
         return ends(state, g, d, place, code)
     if descriptor.words[place] == "ready":
         descriptor.thrown[place] = descriptor.takings[place] = Taking(state.step, g, descriptor.events[place])
-    descriptor.words[place] = "nil"
+    descriptor.words[place], state.goroutines[g].reset = "nil", state.step
 
 
 def waitbegin(state: State, g: int, d: int, side: str) -> None:

@@ -47,13 +47,25 @@ def suspects_of(recording: Recording) -> Ranked:
 
 def is_in_a_system_call(recording: Recording, state: State, suspect: Suspect) -> bool:
     """Whether the recording ended while who holds a lock or a reference was in a call of Go's own, which gives it up behind its system call: by the
-    program's lines, it took the lock in that call and has left it at no step since."""
+    program's lines, it took the lock in that call and has left it at no step since. Where no lines are known, its last step was the
+    `pollreset`, behind which Go's own calls try."""
     g = suspect.goroutine
-    if not recording.lines or g is None:
+    if g is None:
         return False
+    if not recording.lines:
+        return is_about_to_try(state, suspect.step, g)
     holding = {"rwlock": OF_GO, "incref": CONTROLS}.get(recording.step(suspect.step).kind, frozenset[str]())
     took, last = (call_of_poll(recording, step) for step in (suspect.step, state.goroutines[g].moved))
     return took == last and took in holding
+
+
+def is_about_to_try(state: State, took: int, g: int) -> bool:
+    """Whether a goroutine's last step is the `pollreset` of the call that took a lock at that step."""
+    row = state.goroutines[g]
+    locks = (
+        hold.step for socket in state.sockets for hold in socket.holds if hold.goroutine == g and hold.side is not None
+    )
+    return row.moved == row.reset and max(locks, default=0) == took
 
 
 def is_accepting(recording: Recording, suspect: Suspect) -> bool:

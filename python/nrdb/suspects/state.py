@@ -58,12 +58,12 @@ class Hold:
 
 
 class Goroutine:
-    """A goroutine: its status and since when, its last step, its last read or write, and how much it holds."""
+    """A goroutine: its status and since when, its last step, its last read or write and `pollreset`, and how much it holds."""
 
     def __init__(self, step: int):
         self.status: Status = IDLE
         self.since = self.moved = step
-        self.tried = self.entered = self.holds = 0
+        self.tried = self.reset = self.entered = self.holds = 0
         self.woken_by = ""
 
     def words(self) -> str:
