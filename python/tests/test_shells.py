@@ -78,7 +78,7 @@ class Shells(unittest.TestCase):
         for shell in SHELLS:
             (self.folder / f"of_{shell}").mkdir()
             for name in NAMES:
-                words = [sys.executable, ROOT / "scripts/completion.py", shell, name]
+                words = [sys.executable, str(ROOT / "scripts/completion.py"), shell, name]
                 made = subprocess.run(words, capture_output=True, check=True).stdout
                 (self.folder / f"of_{shell}" / f"_{name}").write_bytes(made)
 
