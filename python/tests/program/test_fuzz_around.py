@@ -19,6 +19,7 @@ from .sharing import NETREV, ROOT
 FEW = {"logs": 30, "views": 3, "editors": 12, "browsers": 20}
 SEED = "gate"
 IMPOSSIBLE = "gate-views-28"  # a case whose run isn't made of Go's calls
+LONG = "h65-views-11"  # a file of the program whose name is longer than a name can be
 HALF = "62103-editors-950"  # an editor whose line has half a character
 
 
@@ -48,6 +49,9 @@ class Around(unittest.TestCase):
             found, said = played("logs", 20)
         self.assertGreater(found, 0)
         self.assertIn("invalid literal for int()", said)
+
+    def test_a_file_whose_name_is_too_long_is_not_here(self) -> None:
+        self.assertEqual(around.fault_of(LONG, str(NETREV)), "")
 
     def test_lines_that_are_not_used_are_found(self) -> None:
         with mock.patch("nrdb.where.MOST_BYTES", 10):
