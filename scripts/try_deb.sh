@@ -16,21 +16,56 @@ debootstrap --variant=minbase --include=python3 bookworm "$root" > "$room/log" |
 	tail -n 5 "$room/log" >&2
 	exit 1
 }
-mkdir -p "$root/usr/lib" "$root/usr/share" "$root/root/toy"
+mkdir -p "$root/usr/lib" "$root/usr/share" "$root/root/toy" "$root/root/hijacked"
 cp -a "$usr/lib/$release" "$root/usr/lib/"
 cp -a "$usr/share/$release" "$root/usr/share/"
-cp "$deb" "$root/root/netrev.deb"
-cp tools/go/samples/hijacked/main.go "$root/root/toy/main.go"
+cp "$deb" "$root/root/toy/"
+cp tools/go/samples/hijacked/main.go "$root/root/hijacked/main.go"
+echo 'module example.org/toy' > "$root/root/toy/go.mod"
+cat > "$root/root/toy/toy_test.go" << 'END'
+package toy
+
+import (
+	"net"
+	"testing"
+	"time"
+)
+
+func TestRed(t *testing.T) {
+	l, err := net.Listen("tcp", "127.0.0.1:0")
+	if err != nil {
+		t.Fatal(err)
+	}
+	c, err := net.Dial("tcp", l.Addr().String())
+	if err != nil {
+		t.Fatal(err)
+	}
+	c.SetReadDeadline(time.Now().Add(10 * time.Millisecond))
+	if _, err := c.Read(make([]byte, 1)); err != nil {
+		t.Fatal("read:", err)
+	}
+}
+END
 inside() {
 	chroot "$root" env -i PATH="/usr/lib/$release/bin:/usr/bin:/bin:/usr/sbin:/sbin" HOME=/root LANG=C.UTF-8 GO111MODULE=off "$@"
+}
+# Does one of README's three lines as it stands there, but for sudo.
+readme() {
+	line=$(sed -n '/^\*\*Get it, record, look/,/^`netrev-go test`/s/^    \$ //p' README.md | sed -n "$1p")
+	echo "README: $line"
+	inside env GO111MODULE=on sh -c "cd /root/toy && ${line#sudo } < /dev/null"
 }
 mount -t proc proc "$root/proc"
 trap 'umount "$root/proc"; rm -rf "$room"' EXIT
 begun=$(date +%s)
-inside dpkg -i /root/netrev.deb
+readme 1
+status=0
+readme 2 || status=$?
+[ "$status" = 1 ] # (as go test: TestRed fails)
+readme 3
 inside netrev-go doctor
-inside sh -c 'cd /root/toy && netrev-go -o hijacked run main.go once && [ -s hijacked.jsonl ]'
-inside sh -c 'cd /root/toy && nrdb --suspects hijacked.jsonl' || [ $? = 4 ] # (4: there are some)
+inside sh -c 'cd /root/hijacked && netrev-go -o hijacked run main.go once && [ -s hijacked.jsonl ]'
+inside sh -c 'cd /root/hijacked && nrdb --suspects hijacked.jsonl' || [ $? = 4 ] # (4: there are some)
 echo "From dpkg -i to the first suspect: $(($(date +%s) - begun)) s"
 hunt=/usr/share/doc/netrev/examples/hunts/missed-release
 inside sh -c "nrdb --batch -x $hunt.nrdb $hunt.jsonl | cmp - $hunt.session"

@@ -1,8 +1,10 @@
 """Cases for the recorder's reading of logs: a log of a real program with other fields, in another order, mixed with another's, or with
-damaged bytes. Whatever it is becomes a recording or a sentence, in a process that has little memory and time."""
+damaged bytes; beside it lines of tests that may be anything. Whatever it is becomes a recording or a sentence, in a process that has
+little memory and time."""
 
 import contextlib
 import io
+import json
 import os
 import random
 import resource
@@ -11,12 +13,17 @@ import struct
 import tempfile
 from functools import lru_cache
 from pathlib import Path
+from xml.etree import ElementTree
 
-from netrev_go import report
-from netrev_go.converting import Wish, convert
-from netrev_go.logfile import HEADER_BYTES, read_log
+from netrev_go import forms, report
+from netrev_go.converting import Outcome, ReadLog, Wish, convert, converted
+from netrev_go.forms import Told
+from netrev_go.logfile import HEADER_BYTES, NoLog, read_log
 from netrev_go.points import KINDS, Log, Point
+from netrev_go.ran import ENDING, Tests, of_log
+from nrdb.where import Lines
 
+from .damage import damaged
 from .logs import STACKS, binary, from_text
 
 EXAMPLES = Path(__file__).resolve().parents[2] / "examples"
@@ -46,6 +53,24 @@ LIMITS = (
     *SIDES,
 )
 HEADER_WORDS = (*(value % 2**64 for value in LIMITS), 2**64 - 1, 2**14, 2**24 + 1, 2**20 + 1, 100)
+
+WHAT = ("package", "runs", "runs", "ends", "fails", "fails", "skips", "sleeps", "")
+NAMES = (
+    "TestA",
+    "TestA/part",
+    "TestA/part/1",
+    "TestB",
+    "",
+    "\x1b[2J",
+    "\u202e",
+    "</failure>",
+    "::error::%0A",
+    "a b",
+    "\t",
+    "x" * 300,
+)
+PLACES = ("a_test.go:7", "/else/a_test.go:31", "", ":", "a:b", "a,b:1.go:2", "\x1b:5", "a.go:99999999999")
+TESTS = 3  # of a case, of which recordings are made
 
 Points = list[Point]
 
@@ -152,6 +177,19 @@ def log_of(seed: str) -> bytes:
     return bytes(made)
 
 
+def tests_of(seed: str) -> bytes:
+    """The lines of the tests of a seed: of their form, or with damaged bytes."""
+    dice = random.Random(f"{seed} tests")
+    numbers = ("0", "1", "9", "20", "100", "1000", str(2**63), "9" * 30, "-1", "")
+    lines = ["1 1 5 package example.org/p"] * dice.randrange(2)
+    for _ in range(dice.choice([0, 1, 4, 30])):
+        numbered = " ".join(dice.choice(numbers[: dice.choice([5, 5, 5, len(numbers)])]) for _ in range(3))
+        place = f"\t{dice.choice(PLACES)}" * dice.randrange(2)
+        lines.append(f"{numbered} {dice.choice(WHAT)} {dice.choice(NAMES)}{place}")
+    data = "".join(f"{line}\n" for line in lines).encode()
+    return damaged(dice, data) if lines and dice.random() < 0.3 else data
+
+
 def wrong(seed: str, folder: Path) -> str:
     """What is wrong with what becomes of the log of a seed; nothing where all is well."""
     reading, writing = os.pipe()
@@ -181,12 +219,49 @@ def confined(seed: str, folder: Path) -> str:
     log, name = folder / "log.1", folder / "made.jsonl"
     try:
         log.write_bytes(log_of(seed))
+        log.with_name(log.name + ENDING).write_bytes(tests_of(seed))
         with contextlib.redirect_stdout(io.StringIO()), contextlib.redirect_stderr(io.StringIO()):
-            outcome = convert(log, name, None, Wish())
+            said = made_wrong(convert(log, name, None, Wish()), name)
+            return said or tests_wrong(log, of_log(log), folder)
     except BaseException as failed:
         return repr(failed) or "it failed"
+
+
+def made_wrong(outcome: Outcome, name: Path) -> str:
+    """What is wrong with a recording that was made, its lines, and what is said of it."""
     if name.exists() and name.stat().st_size > GREATEST:
         return f"the recording has {name.stat().st_size} bytes"
     if not all(line.isprintable() for line in outcome.lines):
         return f"a terminal may obey what is said: {outcome.lines!r}"
+    if name.exists() and (fault := Lines.beside(str(name), name.read_bytes().count(b"\n") - 1).fault):
+        return f"nrdb doesn't take its lines: {fault}"
     return "" if outcome.lines else "nothing is said"
+
+
+def tests_wrong(log: Path, tests: Tests, folder: Path) -> str:
+    """What is wrong with the recordings of a log's tests, and with what machines are told of them."""
+    told = [Told(test.package, test.name) for test in tests.ran]
+    for one, test in zip(told, tests.ran):
+        one.add(test)
+    try:
+        read = ReadLog(log, read_log(log), tests)
+    except NoLog:
+        return ""
+    for at, test in enumerate(tests.ran[:TESTS]):
+        name = folder / f"test-{at}.jsonl"
+        outcome = converted(read, name, None, Wish(), test)
+        told[at].say(outcome.lines)
+        if said := made_wrong(outcome, name):
+            return f"test {at}: {said}"
+    return forms_wrong(told)
+
+
+def forms_wrong(told: list[Told]) -> str:
+    """What is wrong with the forms for machines: a test that one of them lacks, or more than one line of it."""
+    if [json.loads(line)["test"] for line in forms.json_lines(told).splitlines()] != [one.test for one in told]:
+        return "the lines of JSON aren't the tests"
+    if sum(1 for _ in ElementTree.fromstring(forms.junit(told)).iter("testcase")) != len(told):
+        return "the cases of JUnit aren't the tests"
+    if not all(line.startswith("::error ") and line.isprintable() for line in forms.github_lines(told)):
+        return "an annotation of GitHub's has more than a line, or is none"
+    return ""

@@ -10,6 +10,7 @@ from typing import Any
 
 from netrev_model.writing import write_plain
 from nrdb.output import TextPrinter
+from nrdb.where import Lines
 
 from .damage import damaged
 from .randomsteps import Author
@@ -48,11 +49,14 @@ def lines_of(dice: random.Random, steps: int) -> list[Any]:
         found.append({"errors": [[dice.choice(ends), dice.choice(STRANGE)], [dice.randint(1, steps + 1), "EPIPE"]]})
         words = dice.choice(STRANGE), dice.choice(ends), dice.choice([-1, 0, 1])
         found.append({"waits": [[dice.choice(ends), 0, dice.randrange(3), *words]]})
+        found.append({"bytes": dice.choice(ends)})
+        names = {name: dice.choice(STRANGE) for name in ("test", "package")}
+        found.append({**names, "steps": [dice.choice(ends), dice.choice(ends)]})
     return found
 
 
-def file_of(dice: random.Random, steps: int) -> bytes:
-    """The file: of its form, with other values in some places, or with damaged bytes."""
+def file_of(dice: random.Random, steps: int) -> tuple[bytes, bool]:
+    """The file: of its form, with other values in some places, or with damaged bytes; and whether it is of its form."""
     lines = lines_of(dice, steps)
     sort = dice.randrange(4)
     for _ in range(dice.choice([1, 2, 5]) if sort == 1 else 0):
@@ -62,7 +66,7 @@ def file_of(dice: random.Random, steps: int) -> bytes:
     if sort == 2:
         texts[dice.randrange(len(texts))] = dice.choice(NESTED)
     data = b"".join(text + b"\n" for text in texts)
-    return damaged(dice, data) if sort == 3 else data
+    return damaged(dice, data) if sort == 3 else data, sort == 0
 
 
 def wrong(seed: str, folder: Path, program: str) -> str:
@@ -71,7 +75,10 @@ def wrong(seed: str, folder: Path, program: str) -> str:
     recording, _ = Author(dice).recording(dice.choice([4, 20, 60]))
     path = folder / "recording.jsonl"
     path.write_bytes(write_plain(recording))
-    path.with_suffix(".where").write_bytes(file_of(dice, len(recording.steps)))
+    data, is_good = file_of(dice, len(recording.steps))
+    path.with_suffix(".where").write_bytes(data)
+    if is_good and (fault := Lines.beside(str(path), len(recording.steps)).fault):
+        return f"a file of lines that is of its form isn't used: {fault}"
     before = {name: (folder / name).read_bytes() for name in ("recording.jsonl", "recording.where")}
     out, here = io.StringIO(), os.getcwd()
     os.chdir(folder)

@@ -27,7 +27,7 @@ LOCK_STEPS: dict[int, str] = {
     Kind.RW_LOCK: "rwlock",
     Kind.RW_UNLOCK: "rwunlock",
 }
-CHECK, WAIT_CHECK = int(Kind.CHECK), int(Kind.WAIT_CHECK)
+CHECK, WAIT_CHECK, FIRE = int(Kind.CHECK), int(Kind.WAIT_CHECK), int(Kind.FIRE)
 SIDED = {int(Kind.RW_LOCK), int(Kind.RW_UNLOCK)}
 CHECKS: dict[int, str] = {
     Kind.RESET: "pollreset",
@@ -62,7 +62,7 @@ class Converter:
         self.tags: list[int] = []
         self.clock = 0
         self.deadlines = Deadlines()
-        self.later_fires = {(socket, *self.firing(point)) for point, socket in points if point.kind == Kind.FIRE}
+        self.later_fires = {(socket, *self.firing(point)) for point, socket in points if point[1] == FIRE}
         self.put_off: dict[Socket, tuple[int, int]] = {}  # closewrites that a write overtook, with their stacks
         self.beside = Beside()
 

@@ -8,9 +8,10 @@ import stat
 import struct
 import sys
 from array import array
-from collections.abc import Iterable
+from collections.abc import Callable, Iterable
+from functools import partial
 from itertools import compress
-from typing import BinaryIO
+from typing import BinaryIO, cast
 from operator import xor
 
 from .points import KINDS, Log, Point, Stack
@@ -85,6 +86,10 @@ def whole_points(file: BinaryIO, header: Header) -> tuple[list[Point], int]:
     return points, held
 
 
+# As Point._make, without a look at how many values there are.
+made = cast(Callable[[tuple[int, ...]], Point], partial(tuple.__new__, Point))
+
+
 def points_of(text: bytes, first: int) -> list[Point]:
     """The whole points of a part of the ring, in which the first has this number. (A column at a time, as there may be
     millions.)"""
@@ -93,7 +98,7 @@ def points_of(text: bytes, first: int) -> list[Point]:
     numbers = range(first, first + len(heads))
     kinds, stacks = [head & 255 for head in heads], [last & LOW for last in lasts]
     columns = [signed[column::POINT_WORDS] for column in range(1, 7)]
-    points = map(Point._make, zip(numbers, kinds, *columns, stacks))
+    points = map(made, zip(numbers, kinds, *columns, stacks))
     if are_whole(numbers, heads, [words[column::POINT_WORDS] for column in range(1, 7)], lasts):
         return list(points) if KINDS.issuperset(kinds) else [point for point in points if point.kind in KINDS]
     sums: Iterable[int] = numbers
@@ -126,6 +131,8 @@ def as_one(column: array[int]) -> int:
 
 def behind_the_last_gap(points: list[Point]) -> list[Point]:
     """The points behind the last place where more are missing than may have been under way."""
+    if points and points[-1].number - points[0].number < len(points) - 1 + UNDER_WAY:
+        return points  # not so many are missing in all
     for index in range(len(points) - 1, 0, -1):
         if points[index].number - points[index - 1].number > UNDER_WAY:
             return points[index:]

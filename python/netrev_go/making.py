@@ -69,7 +69,7 @@ def make(
     wanted = found.sockets if part is None else part(log, found)
     if not wanted:
         raise NoSocket("no socket is of it")
-    fitted = Fitted(points, all_bytes, found, wanted)
+    fitted = Fitted(found, wanted)
     converter = fitted.converted(log.begin, most, megabytes)
     if fitted.kept < len(wanted):
         notes.append(f"it has {fitted.kept} of {len(wanted)} sockets: those still open first, and the newest")
@@ -87,9 +87,10 @@ def make(
 class Fitted:
     """As many sockets as there is room for: it is counted how many steps they have, where that can't be reckoned."""
 
-    def __init__(self, points: list[Point], all_bytes: bool, found: Owned, wanted: list[Socket]) -> None:
-        self.points, self.all_bytes, self.found = points, all_bytes, found
+    def __init__(self, found: Owned, wanted: list[Socket]) -> None:
+        self.found = found
         self.wanted = {socket.opening for socket in wanted}
+        self.before = [dict(vars(socket)) for socket in found.sockets]
         self.kept = 0
 
     def converted(self, begin: int, most: int, megabytes: int) -> Converter:
@@ -102,8 +103,8 @@ class Fitted:
             if over <= 0:
                 return converter
             steps = converter.made_of()
-            self.found = owned(self.points, self.all_bytes)  # (a converter leaves its marks there)
-            for socket in self.found.sockets:
+            for socket, before in zip(self.found.sockets, self.before):
+                vars(socket).update(before)  # (a converter leaves its marks there)
                 socket.steps = max(socket.steps, steps.get(socket.opening, 0))
             room -= over if counted else 0
             counted = True
@@ -117,7 +118,7 @@ class Fitted:
                 f"than {megabytes} MB of text: record for less long, as by -n, or give --megabytes N"
             )
         self.kept = len(kept)
-        return [(point, socket) for point, socket in self.found.points if socket in kept]
+        return [pair for pair in self.found.points if pair[1] in kept]
 
 
 def write(recording: Recording, name: pathlib.Path) -> None:

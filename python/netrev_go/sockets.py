@@ -14,6 +14,8 @@ OUTPUT = 4_096
 CLOSED = 1
 AGAIN = 1
 READ, WRITE, NAMED = int(Kind.READ), int(Kind.WRITE), int(Kind.NAMED)
+INIT, OPEN, OPEN_FAILED, CLOSE = int(Kind.INIT), int(Kind.OPEN), int(Kind.OPEN_FAILED), int(Kind.CLOSE)
+EVENT, FIRE = int(Kind.EVENT), int(Kind.FIRE)
 MOST_SOCKETS, MOST_GOROUTINES, MOST_STEPS = 256, 4_096, 1_000_000
 MEGABYTE, MOST_MEGABYTES = 2**20, 1_024  # of a recording's text for the bytes that are moved
 FEW_BYTES = 64  # as which a read or a write counts that moved more, unless all are wanted
@@ -64,25 +66,25 @@ class Owners:
         kind = point.kind
         if kind in AT_A_WORD:
             return self.at_a_word(point)
-        if kind == Kind.INIT:
+        if kind == INIT:
             socket = Socket(len(self.sockets), point.goroutine)
             self.sockets.append(socket)
             self.words[point.at] = self.opening[point.goroutine] = socket
             return socket
-        if kind == Kind.OPEN:
+        if kind == OPEN:
             return self.opened(point)
-        if kind == Kind.FIRE:
+        if kind == FIRE:
             return self.fired(point)
-        if kind == Kind.EVENT and point.c:
+        if kind == EVENT and point.c:
             return self.tagged(point)
         uses = self.uses.get(point.at)
         if not uses:
             return None
-        if kind == Kind.CLOSE:
+        if kind == CLOSE:
             if uses[-1].closed:  # a descriptor is freed that couldn't be opened
                 return None
             uses[-1].closed = True
-        elif kind == Kind.OPEN_FAILED:
+        elif kind == OPEN_FAILED:
             uses[-1].failed = True
             return uses.pop()
         return uses[-1]

@@ -59,7 +59,8 @@ def write_where(
     besides; and more lines."""
     numbered = Numbered(calls)
     numbered.add({"where": 1, "steps": len(stacks)})
-    numbers = [numbered.stack(key) for key in stacks]
+    given = {key: numbered.stack(key) for key in dict.fromkeys(stacks)}
+    numbers = [given[key] for key in stacks]
     for first in range(0, len(stacks), STEPS_A_LINE):
         numbered.add({"step": first + 1, "stacks": numbers[first : first + STEPS_A_LINE]})
     for part in parts(orders, STEPS_A_LINE) if orders is not None else ():

@@ -117,7 +117,7 @@ class Programs(Tool):
         self.assertRegex(
             said, rf"  main\.go:{READ_LINE}: net\.\(\*conn\)\.Read waits to read \(goroutine 0, since step \d+\)"
         )
-        self.assertIn("recording.jsonl -ex continue -ex 'info goroutines'", said)
+        self.assertRegex(said, r"look: .* recording\.jsonl -ex 'goto \d+' -ex 'calls sock 3'\n")
 
     def test_a_test_that_hangs_ends_with_its_line(self) -> None:
         self.written(TEST, "p_test.go")

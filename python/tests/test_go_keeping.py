@@ -315,6 +315,19 @@ class Sizes(unittest.TestCase):
                 recording = make(Log(log.points))
             self.assertEqual((recording.sockets, len(recording.lines)), (sockets, steps))
 
+    def test_what_is_converted_again_is_as_at_first(self) -> None:
+        log, alone = Points().opened(), Points()
+        for time in range(10):  # each has a tick besides
+            log.add(Kind.SET_DEADLINE, 1, 900, ord("r"), 10**9, 0, 100 * (time + 1))
+        for points in (log, alone):
+            points.opened(701, 901).add(Kind.WRITE, 1, 701, 9, 5).add(Kind.WRITE, 1, 701, 9, -1, 1)
+            points.add(Kind.SET_DEADLINE, 1, 901, ord("r"), 10**9, 0, 10_000).add(Kind.READ, 1, 701, 8, 0)
+        whole = make(Log(alone.points))
+        with mock.patch.object(making, "MOST_STEPS", len(whole.lines) + 13):
+            recording = make(Log(log.points))
+        self.assertEqual((recording.sockets, recording.header), (1, whole.header))
+        self.assertEqual(list(map(str, recording.lines)), list(map(str, whole.lines)))
+
 
 class Names(unittest.TestCase):
     def test_a_name_may_end_as_recordings_do(self) -> None:

@@ -100,6 +100,15 @@ class Reading(unittest.TestCase):
         self.assertEqual(len(log.points), 39)
         self.assertIn("1 points were under way when the log ended, and are left out", log.notes)
 
+    def test_so_many_may_be_missing_together_as_were_under_way(self) -> None:
+        points = opened(100)
+        for kept, first in (
+            (points[:30] + points[30 + 63 :], 0),
+            (points[:30] + points[30 + 64 :], 30 + 64),
+            (points[:30] + points[30 + 40 : 90] + points[90 + 40 :], 0),
+        ):
+            self.assertEqual(read(binary(kept)).points[0].number, first)
+
     def test_a_ring_keeps_the_newest_and_the_sockets_that_were_opened_since(self) -> None:
         log = read(binary(opened(100), room=65))
         self.assertEqual([point.number for point in log.points], list(range(135, 200)))

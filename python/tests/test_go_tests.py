@@ -219,6 +219,7 @@ class Kept(Tested):
         with mock.patch.object(converting, "report", lambda *_: said):
             _, out, _ = self.told("--json", "a.json", "--junit", "a.xml", "--github", "test", ".")
         lines = [json.loads(line) for line in (self.folder / "a.json").read_text().splitlines()]
+        self.assertEqual([sorted(line) for line in lines], [sorted(keys_of_the_page())] * 4)
         part = next(line for line in lines if line["test"] == "TestRed/a_part")
         self.assertEqual((part["status"], part["runs"], part["failed"], part["seconds"]), ("failed", 1, 1, 0.5))
         self.assertEqual(part["recording"], "recordings/toy.TestRed.a_part.jsonl")
@@ -259,18 +260,27 @@ class Kept(Tested):
 
 
 def as_github_reads(line: str) -> tuple[dict[str, str], str]:
-    """The properties and the message of an annotation, as GitHub's runner takes them apart."""
+    """The properties and the message of an annotation, as GitHub's runner takes them apart: it undoes less in the message."""
     head, _, message = line.removeprefix("::").partition("::")
     command, _, rest = head.partition(" ")
     assert command == "error", line
 
-    def back(text: str) -> str:
-        for code, sign in (("%3A", ":"), ("%2C", ","), ("%0D", "\r"), ("%0A", "\n"), ("%25", "%")):
+    def back(text: str, codes: dict[str, str]) -> str:
+        for code, sign in codes.items():
             text = text.replace(code, sign)
         return text
 
+    of_data, of_properties = {"%0D": "\r", "%0A": "\n"}, {"%3A": ":", "%2C": ","}
     properties = dict(part.split("=", 1) for part in rest.split(","))
-    return {name: back(value) for name, value in properties.items()}, back(message)
+    read = {name: back(value, of_data | of_properties | {"%25": "%"}) for name, value in properties.items()}
+    return read, back(message, of_data | {"%25": "%"})
+
+
+def keys_of_the_page() -> list[str]:
+    """The keys of a line of JSON, as docs/CI.md has them."""
+    page = (PYTHON.parent / "docs/CI.md").read_text()
+    table = page[page.index("| Key | Says |") : page.index("`--github` prints")]
+    return [word for row in table.splitlines()[2:] for word in re.findall(r"`(\w+)`", row.split("|")[1] if row else "")]
 
 
 class Forms(unittest.TestCase):
@@ -282,6 +292,17 @@ class Forms(unittest.TestCase):
         )
         case = ElementTree.fromstring(forms.junit([one]))[0][0]
         self.assertEqual(case.get("name"), "T\\x1b[31m")
+
+    def test_whatever_is_said_is_read_again_as_it_was(self) -> None:
+        strange = '100%, 50%25: a::b, c=d %0A %2C %3A </failure> & <!-- ]]> "x" ::error::'
+        one = Told("p", strange, "failed", 1, 1, file=strange, line=3, says=[strange, "b"], suspects=[strange])
+        properties, message = as_github_reads(forms.annotation(one))
+        self.assertEqual(properties, {"file": strange, "line": "3", "title": f"p {strange}"})
+        self.assertEqual(message, f"failed in 1 of 1 runs\n{strange}\nb")
+        (case,) = ElementTree.fromstring(forms.junit([one])).iter("testcase")
+        self.assertEqual((case.get("name"), case[0].text), (strange, f"{strange}\nb"))
+        (line,) = forms.json_lines([one]).splitlines()
+        self.assertEqual(json.loads(line), asdict(one))
 
     def test_one_that_never_ended_is_an_error(self) -> None:
         case = ElementTree.fromstring(forms.junit([Told("p", "T", "unfinished", 1, 1)]))[0][0]
@@ -295,11 +316,7 @@ class Forms(unittest.TestCase):
 
     def test_the_page_has_each_key_and_element(self) -> None:
         page = (PYTHON.parent / "docs/CI.md").read_text()
-        table = page[page.index("| Key | Says |") : page.index("`--github` prints")]
-        keys = [
-            word for row in table.splitlines()[2:] for word in re.findall(r"`(\w+)`", row.split("|")[1] if row else "")
-        ]
-        self.assertEqual(sorted(keys), sorted(asdict(Told("p", "T"))))
+        self.assertEqual(sorted(keys_of_the_page()), sorted(asdict(Told("p", "T"))))
         table = page[page.index("| Element | Has |") : page.index("`--html` writes")]
         named = set(re.findall(r"`(\w+)`", table))
         red = [Told("p", "T", status, 1, int(status != "skipped")) for status in ("failed", "unfinished", "skipped")]

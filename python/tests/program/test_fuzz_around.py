@@ -1,22 +1,25 @@
 """The fuzzers of what is round netrev: a few cases of each sort find nothing, and a fault that is planted is found."""
 
 import io
+import random
+import re
 import time
 import unittest
 from contextlib import redirect_stderr, redirect_stdout
 from typing import Any
 from unittest import mock
 
-from netrev_fuzz import around, editors
+from netrev_fuzz import around, editors, side_files
 from netrev_go.points import Point
 from nrdb.answers import ANSWERS
 from nrdb.dap import breakpoints
 
-from .sharing import NETREV
+from .sharing import NETREV, ROOT
 
 FEW = {"logs": 30, "views": 3, "editors": 12, "browsers": 20}
 SEED = "gate"
 IMPOSSIBLE = "gate-views-28"  # a case whose run isn't made of Go's calls
+LONG = "h65-views-11"  # a file of the program whose name is longer than a name can be
 HALF = "62103-editors-950"  # an editor whose line has half a character
 
 
@@ -33,6 +36,28 @@ class Around(unittest.TestCase):
         for sort, cases in FEW.items():
             with self.subTest(sort):
                 self.assertEqual(played(sort, cases), (0, ""))
+
+    def test_each_kind_of_line_beside_a_recording_is_in_the_cases(self) -> None:
+        page = (ROOT / "docs/RECORDING.md").read_text().partition("## Lines of the program")[2]
+        named = set(re.findall(r'^\| `\{"(\w+)":', page, re.MULTILINE))
+        self.assertEqual(
+            {next(iter(line)) for at in range(9) for line in side_files.lines_of(random.Random(at), 4)}, named
+        )
+
+    def test_a_line_of_a_test_that_ends_it_is_found(self) -> None:
+        with mock.patch("netrev_go.ran.place_of", lambda text: (text, int(text.rpartition(":")[2]))):
+            found, said = played("logs", 20)
+        self.assertGreater(found, 0)
+        self.assertIn("invalid literal for int()", said)
+
+    def test_a_file_whose_name_is_too_long_is_not_here(self) -> None:
+        self.assertEqual(around.fault_of(LONG, str(NETREV)), "")
+
+    def test_lines_that_are_not_used_are_found(self) -> None:
+        with mock.patch("nrdb.where.MOST_BYTES", 10):
+            for sort in ("views", "logs"):
+                found, said = played(sort, 20)
+                self.assertIn("it has more than 0 MB", said)
 
     def test_a_log_that_ends_it_is_found(self) -> None:
         def failing(points: list[Point], all_bytes: bool) -> Any:

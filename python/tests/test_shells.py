@@ -1,0 +1,108 @@
+"""The shells' completions of netrev, nrdb and netrev-go, at the prompt of a real bash and a real zsh. A shell that isn't here is left
+out, and named."""
+
+import contextlib
+import os
+import pathlib
+import pty
+import select
+import shutil
+import signal
+import subprocess
+import sys
+import tempfile
+import time
+import unittest
+
+ROOT = pathlib.Path(__file__).resolve().parents[2]
+NAMES = ("netrev", "nrdb", "netrev-go")
+PATIENCE = 60  # seconds
+SHELLS = {
+    "bash": (["bash", "--norc", "--noprofile", "-i"], "for file in of_bash/*; do . $file; done"),
+    "zsh": (["zsh", "-f", "-i"], "fpath=($PWD/of_zsh $fpath); autoload -Uz compinit; compinit -u -D"),
+}
+# what is typed before the key, and what stands there behind it
+COMPLETED = (
+    ("netrev ch", "check"),
+    ("netrev check reco", "check recording.jsonl"),
+    ("nrdb --timel", "--timeline"),
+    ("nrdb reco", "recording.jsonl"),
+    ("netrev-go doc", "doctor"),
+    ("netrev-go --until-f", "--until-failure"),
+    ("netrev-go --all --junit out --del", "--all --junit out --delays"),
+    ("netrev-go --junit reco", "--junit recording.jsonl"),
+)
+
+
+class Typed:
+    """A shell at a terminal, in a folder."""
+
+    def __init__(self, command: list[str], folder: pathlib.Path):
+        self.screen = ""
+        self.process, self.terminal = pty.fork()
+        if self.process == 0:
+            os.chdir(folder)
+            settings = {"HOME": str(folder), "PATH": os.environ["PATH"], "TERM": "dumb", "INPUTRC": "/dev/null"}
+            os.execvpe(command[0], command, settings)
+
+    def close(self) -> None:
+        os.close(self.terminal)
+        with contextlib.suppress(ProcessLookupError):
+            os.kill(self.process, signal.SIGKILL)
+        os.waitpid(self.process, 0)
+
+    def type(self, text: str) -> None:
+        os.write(self.terminal, text.encode())
+
+    def until(self, text: str) -> bool:
+        """Reads until this is on the screen; whether it comes."""
+        limit = time.monotonic() + PATIENCE
+        while text not in self.screen:
+            left = limit - time.monotonic()
+            if left < 0 or not select.select([self.terminal], [], [], left)[0]:
+                return False
+            try:
+                self.screen += os.read(self.terminal, 65536).decode(errors="replace")
+            except OSError:  # it has ended
+                return False
+        self.screen = self.screen.partition(text)[2]
+        return True
+
+
+class Shells(unittest.TestCase):
+    def setUp(self) -> None:
+        folder = tempfile.TemporaryDirectory()
+        self.addCleanup(folder.cleanup)
+        self.folder = pathlib.Path(folder.name)
+        (self.folder / "recording.jsonl").touch()
+        for shell in SHELLS:
+            (self.folder / f"of_{shell}").mkdir()
+            for name in NAMES:
+                words = [sys.executable, str(ROOT / "scripts/completion.py"), shell, name]
+                made = subprocess.run(words, capture_output=True, check=True).stdout
+                (self.folder / f"of_{shell}" / f"_{name}").write_bytes(made)
+
+    def completes(self, shell: str) -> None:
+        """What is typed becomes what it should: the programs are functions here, which tell their words."""
+        command, loads = SHELLS[shell]
+        if not shutil.which(shell):
+            self.skipTest(f"no {shell} is here (Debian: apt-get install {shell})")
+        typed = Typed(command, self.folder)
+        self.addCleanup(typed.close)
+        for name in NAMES:
+            typed.type(f'function {name} {{ echo "it was <$*>"; }}\n')
+        typed.type(f"{loads}\necho is rea''dy\n")
+        self.assertTrue(typed.until("is ready"), typed.screen)
+        for before, wanted in COMPLETED:
+            typed.type(f"{before}\t\n")
+            self.assertTrue(typed.until(f"it was <{wanted}>"), f"{before!r}: {typed.screen!r}")
+
+    def test_bash(self) -> None:
+        self.completes("bash")
+
+    def test_zsh(self) -> None:
+        self.completes("zsh")
+
+
+if __name__ == "__main__":
+    unittest.main()
