@@ -3,7 +3,8 @@ use Rattle.std.proofs.Common.{◌≡◌, ℕ, ◌+◌, ◌≤◌, List, length, 
 use Rattle.nr_rev.specs.Run.{Recording}
 use Rattle.nr_marks.specs.Hit.{hits_at}
 use Rattle.nr_marks.specs.Marks.{NumberedMark}
-use Rattle.nr_search.specs.Nearest.{IsFound, nearest_hit}
+use Rattle.nr_search.specs.Nearest.{nearest_hit}
+use Rattle.nr_search.specs.Auxiliary.Nearest.{IsFound}
 use Rattle.nr_search.specs.declared.direction.Direction.{Direction}
 use Rattle.nr_search.specs.declared.direction.Direction.TheVariants.{Forward, Backward}
 use Rattle.nr_search.specs.declared.found.Found.{Found}

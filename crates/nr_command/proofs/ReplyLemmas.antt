@@ -17,7 +17,7 @@ some_fault : (fault : Fault) → 0 < length (reply_fault_text fault)
 some_fault (faults.Line UnknownCommand) = omega arith
 some_fault (faults.Line BadArgument) = omega arith
 some_fault (faults.Line TooLong) = omega arith
-some_fault faults.Memory = omega arith
+some_fault (faults.Memory refused) = omega arith
 some_fault (faults.Placed place) = omega arith
 some_fault faults.JournalFull = omega arith
 some_fault (faults.Mark NoSuchMark) = omega arith

@@ -17,7 +17,8 @@ use Rattle.nr_search.specs.declared.found.Found.{Found}
 use Rattle.nr_search.specs.declared.found.Found.TheVariants.{Hit, Nothing}
 use Rattle.nr_command.specs.Checkpoints.{Checkpoint}
 use Rattle.nr_command.specs.Checkpoints as checkpoints
-use Rattle.nr_command.specs.Debugger.{IsWithin, Ran, after_tagged, after_words, stop_at, moved_to, checkpoint_deleted, continue, mark_deleted, mark_made, opening, position_kept, restarted, run, step, to_end}
+use Rattle.nr_command.specs.Debugger.{Ran, after_tagged, after_words, stop_at, moved_to, checkpoint_deleted, continue, mark_deleted, mark_made, opening, position_kept, restarted, run, step, to_end}
+use Rattle.nr_command.specs.Auxiliary.Debugger.{IsWithin}
 use Rattle.nr_command.specs.Word.{command_of}
 use Rattle.nr_command.specs.declared.checkpoint.CheckpointFault.{CheckpointFault}
 use Rattle.nr_command.specs.declared.command.Command.{Command}

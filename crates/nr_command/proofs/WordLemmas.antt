@@ -17,7 +17,8 @@ use Rattle.nr_search.specs.declared.direction.Direction.TheVariants.{Forward, Ba
 use Rattle.nr_command.specs.declared.command.Command.{Command}
 use Rattle.nr_command.specs.declared.command.Command.TheVariants.{Step, ReverseStep, Continue, ReverseContinue, SetDirection, Watch, Delete, Checkpoint, Restart, DeleteCheckpoint, TemporaryBreak}
 use Rattle.nr_command.specs.declared.command.Command.TheVariants as commands
-use Rattle.nr_command.specs.Word.{HasTypedNumbers, HasTypedStep, ◌>>=◌, argument_of, break_number, break_numbered, cell_at, command_of, command_with, direction_numbered, from_one_below, index_or_0, only_without, opcode_of, small, watch_at, word_of}
+use Rattle.nr_command.specs.Word.{◌>>=◌, argument_of, break_number, break_numbered, cell_at, command_of, command_with, direction_numbered, from_one_below, index_or_0, only_without, opcode_of, small, watch_at, word_of}
+use Rattle.nr_command.specs.Auxiliary.Word.{HasTypedNumbers, HasTypedStep}
 use Rattle.nr_command.proofs.CountLemmas.{from_one_is}
 
 -- a word's lowest byte, its next one, and the rest

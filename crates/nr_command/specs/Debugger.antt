@@ -1,8 +1,7 @@
 -- The debugger as a machine: what each command is answered, and what it leaves.
-use Rattle.std.specs.Prelude.{◌≡◌, true, ℕ, ◌+◌, ◌-◌, ◌≤◌, ◌==◌, nat_lt, All, List, [], ◌∷◌, length, Option, Some, None, Result, Ok, Err, if◌then◌else◌}
+use Rattle.std.specs.Prelude.{◌≡◌, true, ℕ, ◌+◌, ◌-◌, ◌==◌, nat_lt, List, [], ◌∷◌, length, Option, Some, None, Result, Ok, Err, if◌then◌else◌}
 use Rattle.nr_rev.specs.Cell.{cell, bytes_of, queue_of}
 use Rattle.nr_rev.specs.Run.{Recording, world_at}
-use Rattle.nr_rev.specs.Worlds.{HasItems}
 use Rattle.nr_marks.specs.Marks.{after_stop, any_watch, mark_deletion, next_number}
 use Rattle.nr_marks.specs.Numbered.{empty, item_of, with_item, without_item}
 use Rattle.nr_marks.specs.declared.mark.Mark.{Mark}
@@ -131,11 +130,6 @@ run r commands.Checkpoint d = keep_position d
 run r (commands.Restart number) d = restart number d
 run r (commands.DeleteCheckpoint number) d = delete_checkpoint number d
 
--- its position is in the recording, and so are the positions that it keeps
-pub record IsWithin (last : ℕ) (d : Debugger) : Type 0 where
-  pub position : d.position ≤ last
-  pub kept : All (λ c. c.item ≤ last) d.checkpoints.present
-
 -- a search this way goes over worlds: there is a watch, and a copy of the world is needed
 abbrev pub NeedsWorlds : Direction → Recording → Debugger → Type 0
 NeedsWorlds way r d = (any_watch d.marks.present ≡ true) × NeedsCopy way r d.position
@@ -157,10 +151,6 @@ abbrev pub after_words : Recording → Debugger → List ℕ → Debugger
 after_words r d [] = d
 after_words r d (word ∷ words) = after_words r (after_tagged r d (command_of word)) words
 
--- what a command is answered behind a history
-abbrev pub reply_behind : Recording → List ℕ → Command → Reply
-reply_behind r words command = (run r command (after_words r opening words)).0
-
 -- what a look shows: the world of the position, or what the debugger keeps
 abbrev pub query_reply : Recording → Debugger → Query → Reply
 query_reply r d (queries.Print c) = replies.Printed c (cell (world_at r d.position) c)
@@ -171,10 +161,3 @@ query_reply r d (queries.DumpQueue side s) =
 query_reply r d queries.Position = replies.Position d.position (length r.steps) d.direction
 query_reply r d queries.Breakpoints = replies.Marks (record { items = d.marks.present })
 query_reply r d queries.Checkpoints = replies.Checkpoints (record { items = d.checkpoints.present })
-
--- a look copies what it shows of the world: a dump does, where there are bytes or goroutines to
--- show
-abbrev pub Copies : Recording → Debugger → Query → Type 0
-Copies r d (queries.DumpBytes side s) = HasItems (bytes_of (world_at r d.position) s side)
-Copies r d (queries.DumpQueue side s) = HasItems (queue_of (world_at r d.position) s side)
-Copies r d _ = ⊥

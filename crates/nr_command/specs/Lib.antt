@@ -1,4 +1,4 @@
--- what callers need
+-- what the laws of docs/THEOREM.md rest on, whole files
 pub mod Checkpoints
 pub mod Command
 pub mod Count
@@ -7,4 +7,7 @@ pub mod Reply
 pub mod Value
 pub mod Word
 pub mod Debugger
+-- what callers need besides
 pub mod Looking
+-- what goes on with the files that the laws rest on
+pub mod Auxiliary

@@ -8,8 +8,6 @@ use Rattle.nr_marks.specs.declared.mark.Break.TheVariants as breaks
 use Rattle.nr_marks.specs.declared.mark.Mark.{Mark}
 use Rattle.nr_marks.specs.declared.mark.Mark.TheVariants as marks
 use Rattle.nr_marks.specs.Marks.{NumberedMark}
-use Rattle.nr_command.specs.declared.listing.Listing.{Listing}
-use Rattle.nr_command.specs.declared.listing.Listing.TheVariants.{Heading, Marks, Checkpoints}
 
 -- where a break hits: the kind of the steps, or the number of the step
 abbrev pub break_text : Break → List ℕ
@@ -39,9 +37,3 @@ marks_text marks =
 abbrev pub checkpoints_text : List Checkpoint → List ℕ
 checkpoints_text checkpoints = codes "checkpoints " ++ decimal (length checkpoints) ++ codes "\n"
     ++ flat_map checkpoint_line checkpoints
-
--- a part of a list
-abbrev pub listing_text : Listing → List ℕ
-listing_text (Heading name count) = name.now ++ decimal count ++ codes "\n"
-listing_text (Marks marks) = flat_map mark_line marks.now
-listing_text (Checkpoints checkpoints) = flat_map checkpoint_line checkpoints.now

@@ -20,7 +20,7 @@ abbrev pub reply_fault_text : Fault → List ℕ
 reply_fault_text (faults.Line UnknownCommand) = codes "fault 201 unknown command\n"
 reply_fault_text (faults.Line BadArgument) = codes "fault 202 bad argument\n"
 reply_fault_text (faults.Line TooLong) = codes "fault 203 line too long\n"
-reply_fault_text faults.Memory = codes "fault 301 memory\n"
+reply_fault_text (faults.Memory refused) = codes "fault 301 memory\n"
 reply_fault_text (faults.Placed place) =
     codes "fault 302 memory, placed " ++ decimal place ++ codes "\n"
 reply_fault_text faults.JournalFull = codes "fault 303 journal full\n"

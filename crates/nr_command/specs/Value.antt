@@ -9,8 +9,6 @@ use Rattle.nr_rev.specs.declared.descriptor.WaitWord.{WaitWord}
 use Rattle.nr_rev.specs.declared.descriptor.WaitWord.TheVariants.{Nil, Ready, Wait, Held}
 use Rattle.nr_rev.specs.declared.status.Status.{Status}
 use Rattle.nr_rev.specs.declared.status.Status.TheVariants.{Idle, Acquiring, Queued, Relock, Owing, Entering, Armed, Parking, Parked, Swapping, Checking, Gone}
-use Rattle.nr_command.specs.declared.value.Piece.{Piece}
-use Rattle.nr_command.specs.declared.value.Piece.TheVariants as pieces
 use Rattle.nr_rev.specs.declared.sides.Side.{Side}
 use Rattle.nr_rev.specs.declared.sides.Side.TheVariants.{Read, Write}
 
@@ -58,10 +56,3 @@ value_text (values.Number n) = decimal n
 value_text (values.Time t) = signed_decimal t
 value_text (values.WaitWord word) = wait_word_text word
 value_text (values.Status status) = status_text status
-
--- a part of a text that shows a cell
-abbrev pub piece_text : Piece → List ℕ
-piece_text (pieces.Text text) = text.now
-piece_text (pieces.Number number) = decimal number
-piece_text (pieces.Cell cell) = cell_text cell
-piece_text (pieces.Value value) = value_text value

@@ -1,5 +1,5 @@
 -- Commands as words.
-use Rattle.std.specs.Prelude.{ℕ, ◌+◌, ◌*◌, ◌/◌, ◌%◌, ◌^◌, ◌<◌, ◌==◌, nat_lt, Option, Some, None, IfSome, ⊤, option_map, if◌then◌else◌}
+use Rattle.std.specs.Prelude.{ℕ, ◌+◌, ◌*◌, ◌/◌, ◌%◌, ◌^◌, ◌==◌, nat_lt, Option, Some, None, option_map, if◌then◌else◌}
 use Rattle.std.specs.Option.{option_or}
 use Rattle.std.specs.declared.num.NonZeroU32.{NonZeroU32}
 use Rattle.nr_rev.specs.declared.cell.Cell.{Cell}
@@ -56,23 +56,6 @@ argument_of _ = 0
 -- the word of a command with a tag
 abbrev pub word_of : ℕ → Command → ℕ
 word_of tag command = opcode_of command + 256 * tag + 65536 * argument_of command
-
--- the number of a step that a break holds has 32 bits, as its type says
-abbrev pub HasTypedStep : Break → Type 0
-HasTypedStep (breaks.Kind kind) = ⊤
-HasTypedStep (breaks.Step step) = step.value < 2 ^ 32
-
--- the numbers that a command holds have 32 bits, as its type says
-abbrev pub HasTypedNumbers : Command → Type 0
-HasTypedNumbers (Step count) = count.value < 2 ^ 32
-HasTypedNumbers (ReverseStep count) = count.value < 2 ^ 32
-HasTypedNumbers (commands.Break at) = HasTypedStep at
-HasTypedNumbers (TemporaryBreak at) = HasTypedStep at
-HasTypedNumbers (Watch cell) = IfSome (cell_index cell) (λ index. index < 2 ^ 32)
-HasTypedNumbers (Delete number) = number < 2 ^ 32
-HasTypedNumbers (Restart number) = number < 2 ^ 32
-HasTypedNumbers (DeleteCheckpoint number) = number < 2 ^ 32
-HasTypedNumbers _ = ⊤
 
 infixl 10 ◌>>=◌
 -- what follows from a value, if there is one

@@ -1,7 +1,8 @@
 //! A debugger, a state machine: its position in a film, what it keeps, and what it answers.
 
 ghost use Rattle.std.specs.Prelude.{◌≡◌, ◌<◌, ◌≤◌, ◌^◌, length, IfOk, OnErr};
-ghost use Rattle.nr_command.specs.Debugger.{IsWithin, NeedsWorlds, Searches, stop_at, continue, delete_checkpoint, delete_mark, keep_position, make_mark, opening, restart, run, step, to_end};
+ghost use Rattle.nr_command.specs.Debugger.{NeedsWorlds, Searches, stop_at, continue, delete_checkpoint, delete_mark, keep_position, make_mark, opening, restart, run, step, to_end};
+ghost use Rattle.nr_command.specs.Auxiliary.Debugger.{IsWithin};
 
 use crate::checkpoint::{CheckpointFault, Checkpoints};
 use crate::command::Command;

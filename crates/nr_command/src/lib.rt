@@ -18,4 +18,4 @@ pub use command::{Command, Line, LineFault, Query};
 pub use count::from_one;
 pub use debugger::Debugger;
 pub use parsing::{MAX_LINE, number};
-pub use reply::{Fault, Reply};
+pub use reply::{Fault, Reply, send_printed};

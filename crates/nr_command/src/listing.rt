@@ -1,7 +1,8 @@
 //! Sends the lines of the lists of marks and checkpoints.
 
 ghost use Rattle.std.specs.Prelude.{ℕ, List, ◌++◌, codes, decimal, flat_map};
-ghost use Rattle.nr_command.specs.Listing.{break_text, checkpoint_line, checkpoints_text, listing_text, mark_line, marks_text};
+ghost use Rattle.nr_command.specs.Listing.{break_text, checkpoint_line, checkpoints_text, mark_line, marks_text};
+ghost use Rattle.nr_command.specs.Auxiliary.Listing.{listing_text};
 ghost use Rattle.nr_text.specs.Buffered.{Writes};
 
 use crate::checkpoint::Checkpoint;

@@ -1,8 +1,9 @@
 //! What a look shows.
 
 ghost use Rattle.std.specs.Prelude.{◌≡◌, ◌≤◌, length, true, false, IfNone, IfOk, IfSome, OnErr, OnSome};
-ghost use Rattle.nr_rev.specs.Run.{IsWorldAt};
-ghost use Rattle.nr_command.specs.Debugger.{Copies, query_reply};
+ghost use Rattle.nr_rev.specs.Auxiliary.Run.{IsWorldAt};
+ghost use Rattle.nr_command.specs.Debugger.{query_reply};
+ghost use Rattle.nr_command.specs.Auxiliary.Debugger.{Copies};
 ghost use Rattle.nr_command.specs.Looking.{is_at_world};
 
 use crate::command::Query;

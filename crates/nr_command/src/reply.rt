@@ -5,7 +5,7 @@ ghost use Rattle.nr_command.specs.declared.reply.Fault.TheVariants as faults;
 ghost use Rattle.nr_command.specs.declared.reply.Reply.TheVariants as replies;
 ghost use Rattle.nr_command.specs.Reply.{direction_text, reply_fault_text, text_of};
 ghost use Rattle.nr_text.specs.Buffered.{Writes};
-ghost use Rattle.nr_text.specs.Text.{token_text};
+ghost use Rattle.nr_text.specs.Auxiliary.Text.{token_text};
 
 use crate::checkpoint::{Checkpoint, CheckpointFault, MOST_CHECKPOINTS};
 use crate::command::LineFault;
@@ -13,7 +13,7 @@ use crate::listing::{send_checkpoints, send_marks};
 use crate::value::Piece;
 use arrayvec::ArrayVec;
 use nr_marks::{MOST_MARKS, MarkFault, NumberedMark};
-use nr_rev::{Bytes, Cell, CellValue, Queue, Side};
+use nr_rev::{Bytes, Cell, CellValue, Memory, Queue, Side};
 use nr_search::Direction;
 use nr_text::{Buffered, Part, Sink, Text, Token, WriteFailed, send_all};
 use std::io::Write;
@@ -83,7 +83,7 @@ pub enum Fault {
     /// It asks for nothing.
     Line(LineFault),
     /// There was no memory for it.
-    Memory,
+    Memory(Memory),
     /// A command at this index of the journal, from 1, ran out of memory. Its reply is owed.
     Placed(usize),
     /// The journal is full.
@@ -93,7 +93,7 @@ pub enum Fault {
 }
 
 impl Reply {
-    ghost use Rattle.nr_text.specs.Streams.{Prints};
+    ghost use Rattle.nr_text.specs.Auxiliary.Streams.{Prints};
 
     /// Writes the reply's text. Where a write fails or takes nothing, `Part(k)` says that exactly its first k bytes are
     /// out, and no more are written. It takes no memory.
@@ -218,7 +218,8 @@ fn send_checkpoint<W: Write>(checkpoint: Checkpoint, w: &mut Buffered<W>) -> Res
     send_all(&tokens, w)
 }
 
-fn send_printed<W: Write>(
+/// Writes the line that shows a cell with its value, as `print` is answered.
+pub fn send_printed<W: Write>(
     cell: Cell,
     value: CellValue,
     w: &mut Buffered<W>,
@@ -323,7 +324,7 @@ fn send_fault<W: Write>(fault: Fault, w: &mut Buffered<W>) -> Result<(), WriteFa
 {
     match fault {
         Fault::Line(fault) => w.send(line_fault(fault)),
-        Fault::Memory => w.send(b"fault 301 memory\n"),
+        Fault::Memory(_) => w.send(b"fault 301 memory\n"),
         Fault::Placed(place) => send_placed(place, w),
         Fault::JournalFull => w.send(b"fault 303 journal full\n"),
         Fault::Mark(fault) => w.send(mark_fault(fault)),

@@ -3,7 +3,8 @@
 ghost use Rattle.std.specs.Prelude.{◌++◌, decimal};
 ghost use Rattle.nr_rev.specs.declared.status.Status.TheVariants.{Owing};
 ghost use Rattle.nr_text.specs.Buffered.{Writes};
-ghost use Rattle.nr_command.specs.Value.{cell_text, piece_text, side_text, status_text, value_text, wait_word_text};
+ghost use Rattle.nr_command.specs.Value.{cell_text, side_text, status_text, value_text, wait_word_text};
+ghost use Rattle.nr_command.specs.Auxiliary.Value.{piece_text};
 
 use nr_rev::{Cell, CellValue, Side, Status, WaitWord};
 use nr_text::{Buffered, Text, Token, WriteFailed, send_all};

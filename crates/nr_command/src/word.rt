@@ -2,8 +2,9 @@
 
 ghost use Rattle.std.specs.Prelude.{◌≡◌, ◌<◌, ◌/◌, ◌%◌, ◌^◌, Some};
 ghost use Rattle.nr_rev.specs.Kind.{kind_numbered};
-ghost use Rattle.nr_journal.specs.Rule.{HasOpcode};
-ghost use Rattle.nr_command.specs.Word.{HasTypedNumbers, HasTypedStep, argument_of, break_number, break_numbered, cell_at, command_of, command_with, direction_numbered, from_one_below, only_without, opcode_of, small, watch_at, word_of};
+ghost use Rattle.nr_journal.specs.Auxiliary.Rule.{HasOpcode};
+ghost use Rattle.nr_command.specs.Word.{argument_of, break_number, break_numbered, cell_at, command_of, command_with, direction_numbered, from_one_below, only_without, opcode_of, small, watch_at, word_of};
+ghost use Rattle.nr_command.specs.Auxiliary.Word.{HasTypedNumbers, HasTypedStep};
 
 use crate::command::Command;
 use crate::count::from_one;

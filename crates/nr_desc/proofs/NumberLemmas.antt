@@ -4,7 +4,7 @@ use Rattle.std.proofs.lemmas.Bool.Decides.{nat_tests}
 use Rattle.nr_rev.specs.declared.descriptor.WaitWord.{WaitWord}
 use Rattle.nr_rev.specs.declared.descriptor.WaitWord.TheVariants.{Nil, Ready, Wait, Held}
 use Rattle.nr_rev.proofs.BitLemmas.{bit_small, test_of}
-use Rattle.nr_desc.specs.Code.{code_of, wait_word_of}
+use Rattle.nr_desc.specs.Auxiliary.Code.{code_of, wait_word_of}
 use Rattle.nr_desc.specs.Marks.{DescMarks, marks_number, marks_of}
 
 pub wait_word_of-code_of : (word : WaitWord) → wait_word_of (code_of word) ≡ word

@@ -8,8 +8,8 @@ use Rattle.nr_rev.specs.declared.sides.Side.{Side}
 use Rattle.nr_rev.specs.declared.sides.Side.TheVariants.{Read, Write}
 use Rattle.nr_rev.specs.declared.sides.Sides.{Sides}
 use Rattle.nr_rev.specs.Sides.{of_side, twice}
-use Rattle.nr_desc.specs.Change.{both_let_go, let_go}
-use Rattle.nr_desc.specs.Op.{StepTo, woken_by}
+use Rattle.nr_desc.specs.Auxiliary.Change.{both_let_go, let_go}
+use Rattle.nr_desc.specs.Auxiliary.Op.{StepTo, woken_by}
 use Rattle.nr_desc.specs.declared.op.DescAnswer.{DescAnswer}
 use Rattle.nr_desc.specs.declared.op.DescOp.{DescOp}
 use Rattle.nr_desc.specs.declared.op.DescOp.TheVariants as op

@@ -22,7 +22,8 @@ use Rattle.nr_desc.specs.declared.reversible.DescDelta.{DescDelta}
 use Rattle.nr_desc.specs.declared.reversible.TheConstants.{MOST_WORDS}
 use Rattle.nr_desc.specs.Delta.{DescBack}
 use Rattle.nr_desc.specs.Desc.{DescFits}
-use Rattle.nr_desc.specs.Op.{Outcome, StepTo, armed_by, close, closed_by_words, desc_reason, left, opened, outcome, refusal_of, reset, woken_by}
+use Rattle.nr_desc.specs.Op.{Outcome, armed_by, close, closed_by_words, left, opened, outcome, reset}
+use Rattle.nr_desc.specs.Auxiliary.Op.{StepTo, desc_reason, refusal_of, woken_by}
 
 -- a delta leads back to one descriptor
 pub DescBack-unique : (delta : DescDelta) (new a b : Descriptor) → DescBack delta new a

@@ -1,5 +1,5 @@
 -- What an operation on a descriptor comes to.
-use Rattle.std.specs.Prelude.{◌≡◌, ℕ, ◌&&◌, ◌||◌, ◌==◌, if◌then◌else◌, Option, Some, None, Result, Ok, Err}
+use Rattle.std.specs.Prelude.{ℕ, ◌&&◌, ◌||◌, ◌==◌, if◌then◌else◌, Option, Some, None, Result, Ok, Err}
 use Rattle.nr_rev.specs.declared.answer.Answer.{Answer}
 use Rattle.nr_rev.specs.declared.answer.Answer.TheVariants.{Code, Done, Stale, Yes, No}
 use Rattle.nr_rev.specs.declared.descriptor.Descriptor.{Descriptor}
@@ -10,9 +10,8 @@ use Rattle.nr_rev.specs.declared.refusal.Refusal.TheVariants.{CloseWithoutUnbloc
 use Rattle.nr_rev.specs.declared.sides.Side.{Side}
 use Rattle.nr_rev.specs.Descriptor.{Change, quiet, check, opened_for, closed, with_wait_word, change_by_deadline, change_by_evict, change_by_event, change_by_firing}
 use Rattle.nr_rev.specs.Refusing.{◌>>=◌, ◌>>◌, refused_if, refused_unless}
-use Rattle.nr_rev.specs.Sides.{of_side, twice}
-use Rattle.nr_rev.specs.declared.sides.Sides.{Sides}
-use Rattle.nr_desc.specs.Change.{both_let_go, listed}
+use Rattle.nr_rev.specs.Sides.{of_side}
+use Rattle.nr_desc.specs.Change.{listed}
 use Rattle.nr_desc.specs.Code.{is_awaited}
 use Rattle.nr_desc.specs.declared.op.DescAnswer.{DescAnswer}
 use Rattle.nr_desc.specs.declared.op.DescOp.{DescOp}
@@ -100,26 +99,3 @@ outcome d (op.Event tag mode error) =
 abbrev pub left : DescAnswer → Descriptor → Answer × Change
 left answer d =
     (answer.answer, record { descriptor = d; orders = answer.orders; woken = listed answer.woken })
-
--- who is woken of each side: whom its word held before, where the operation unblocks words
-abbrev pub woken_by : DescOp → Descriptor → Descriptor → Sides (Option ℕ)
-woken_by (op.SetDeadline clock mode t) old new = both_let_go old.words new.words
-woken_by op.Evict old new = both_let_go old.words new.words
-woken_by (op.Fire function sequence) old new = both_let_go old.words new.words
-woken_by (op.Event tag mode error) old new = both_let_go old.words new.words
-woken_by _ old new = twice None
-
--- an operation that applies, by its answer and the descriptor afterwards
-pub record StepTo (old : Descriptor) (op : DescOp) (answer : DescAnswer) (new : Descriptor) : Type 0
-  where
-    pub defined : outcome old op ≡ Ok (left answer new)
-    pub woken : answer.woken ≡ woken_by op old new
-
--- the reason, where it does not apply
-abbrev pub refusal_of : Outcome → Option Refusal
-refusal_of (Ok left) = None
-refusal_of (Err reason) = Some reason
-
--- why an operation does not apply
-abbrev pub desc_reason : Descriptor → DescOp → Option Refusal
-desc_reason d op = refusal_of (outcome d op)

@@ -4,7 +4,7 @@
 ghost use Rattle.std.specs.Prelude.{◌≡◌, IsTrue, None};
 ghost use Rattle.nr_rev.specs.Descriptor as spec;
 ghost use Rattle.nr_rev.specs.Sides as sides;
-ghost use Rattle.nr_desc.specs.Change.{both_let_go, change_view, let_go};
+ghost use Rattle.nr_desc.specs.Auxiliary.Change.{both_let_go, change_view, let_go};
 
 use crate::desc::Desc;
 use nr_rev::{Mode, Side, Sides, TimerOrder};

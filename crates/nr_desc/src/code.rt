@@ -3,8 +3,9 @@
 ghost use Rattle.std.specs.Prelude.{◌≡◌, ◌+◌, ◌<◌, ◌^◌, option_to_list};
 ghost use Rattle.nr_rev.specs.Descriptor as spec;
 ghost use Rattle.nr_rev.specs.declared.descriptor.WaitWord.TheVariants.{Nil, Ready, Wait, Held};
-ghost use Rattle.nr_desc.specs.Change.{let_go, unblocked_view};
-ghost use Rattle.nr_desc.specs.Code.{code_of, is_awaited};
+ghost use Rattle.nr_desc.specs.Auxiliary.Change.{let_go, unblocked_view};
+ghost use Rattle.nr_desc.specs.Code.{is_awaited};
+ghost use Rattle.nr_desc.specs.Auxiliary.Code.{code_of};
 
 use nr_rev::WaitWord;
 use std::marker::Model;
@@ -18,7 +19,7 @@ impl Model for WordCode {
 
     ghost Value = { WaitWord };
 
-    ghost use Rattle.nr_desc.specs.Code.{code_of, code_of-wait_word_of, wait_word_of};
+    ghost use Rattle.nr_desc.specs.Auxiliary.Code.{code_of, code_of-wait_word_of, wait_word_of};
 
     ghost view = { λ c. wait_word_of c.0 };
 

@@ -3,9 +3,10 @@
 ghost use Rattle.std.specs.Prelude.{◌≡◌, ◌&&◌, IfOk, None};
 ghost use Rattle.std.specs.Ordering.{int_eq};
 ghost use Rattle.nr_rev.specs.Descriptor as spec;
+ghost use Rattle.nr_rev.specs.Auxiliary.Descriptor as auxiliary;
 ghost use Rattle.nr_rev.specs.Sides as sides;
-ghost use Rattle.nr_rev.specs.Refusing.{Gives};
-ghost use Rattle.nr_desc.specs.Change.{both_let_go, change_view, followed_view};
+ghost use Rattle.nr_rev.specs.Auxiliary.Refusing.{Gives};
+ghost use Rattle.nr_desc.specs.Auxiliary.Change.{both_let_go, change_view, followed_view};
 
 use crate::change::{DescChange, Followed, quiet};
 use crate::desc::Desc;
@@ -162,7 +163,7 @@ impl DescChange {
 /// Both timers after the deadlines of `old` became those of the descriptor, reading first.
 #[inline(always)]
 fn both_follow(old: Desc, desc: Desc) -> Result<DescChange, Refusal>
-    ensures viewed { Gives change_view result (spec.both_follow old desc) }
+    ensures viewed { Gives change_view result (auxiliary.both_follow old desc) }
     ensures woken { IfOk result (λ change. change.woken ≡ sides.twice None) }
     ensures words { IfOk result (λ change. change.desc.words ≡ desc.words) }
 {

@@ -3,8 +3,9 @@
 ghost use Rattle.std.specs.Prelude.{◌≡◌, ◌==◌, ◌<◌, ◌^◌, pos};
 ghost use Rattle.nr_rev.specs.Descriptor as spec;
 ghost use Rattle.nr_rev.specs.Sides as sides;
-ghost use Rattle.nr_desc.specs.Code.{code_of};
-ghost use Rattle.nr_desc.specs.Desc.{DescFits, marks_number_of};
+ghost use Rattle.nr_desc.specs.Auxiliary.Code.{code_of};
+ghost use Rattle.nr_desc.specs.Desc.{DescFits};
+ghost use Rattle.nr_desc.specs.Auxiliary.Desc.{marks_number_of};
 
 use crate::code::WordCode;
 use crate::marks::Marks;

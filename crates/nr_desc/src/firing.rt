@@ -4,8 +4,8 @@ ghost use Rattle.std.specs.Prelude.{◌≡◌, IfOk, IfSome, None, negsuc, optio
 ghost use Rattle.nr_rev.specs.Descriptor as spec;
 ghost use Rattle.nr_rev.specs.Sides as sides;
 ghost use Rattle.nr_rev.specs.declared.sides.Side.TheVariants.{Read, Write};
-ghost use Rattle.nr_rev.specs.Refusing.{Gives};
-ghost use Rattle.nr_desc.specs.Change.{both_let_go, change_view};
+ghost use Rattle.nr_rev.specs.Auxiliary.Refusing.{Gives};
+ghost use Rattle.nr_desc.specs.Auxiliary.Change.{both_let_go, change_view};
 
 use crate::change::{DescChange, quiet};
 use crate::desc::Desc;

@@ -2,8 +2,8 @@
 
 ghost use Rattle.std.specs.Prelude.{◌≡◌, IfOk, option_to_list};
 ghost use Rattle.nr_rev.specs.Descriptor as spec;
-ghost use Rattle.nr_rev.specs.Refusing.{Gives};
-ghost use Rattle.nr_desc.specs.Change.{both_let_go, change_view, viewed_as_it_is};
+ghost use Rattle.nr_rev.specs.Auxiliary.Refusing.{Gives};
+ghost use Rattle.nr_desc.specs.Auxiliary.Change.{both_let_go, change_view, viewed_as_it_is};
 ghost use Rattle.nr_desc.specs.Op.{closed_by_words};
 
 use crate::change::DescChange;

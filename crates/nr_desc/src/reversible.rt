@@ -1,10 +1,11 @@
 //! Operations applied and undone.
 
 ghost use Rattle.std.specs.Prelude.{◌≡◌, IfOk, None};
-ghost use Rattle.nr_rev.specs.Refusing.{Gives};
-ghost use Rattle.nr_desc.specs.Change.{both_let_go, made_view};
+ghost use Rattle.nr_rev.specs.Auxiliary.Refusing.{Gives};
+ghost use Rattle.nr_desc.specs.Auxiliary.Change.{both_let_go, made_view};
 ghost use Rattle.nr_desc.specs.declared.op.DescOp.TheVariants as op;
-ghost use Rattle.nr_desc.specs.Op.{outcome, woken_by};
+ghost use Rattle.nr_desc.specs.Op.{outcome};
+ghost use Rattle.nr_desc.specs.Auxiliary.Op.{woken_by};
 ghost use Rattle.nr_rev.specs.Sides as sides;
 ghost use Rattle.nr_rev.specs.Descriptor as spec;
 
@@ -199,7 +200,7 @@ impl Reversible for Desc {
     ghost use Rattle.nr_desc.specs.Delta.{DescBack, delta_weight};
     ghost use Rattle.nr_desc.specs.Desc.{DescFits};
     ghost use Rattle.nr_desc.specs.Laws.{DescBack-unique, memory_is_no_reason, refused_has_no_step, steps_unique, weight_is_within};
-    ghost use Rattle.nr_desc.specs.Op.{StepTo, desc_reason};
+    ghost use Rattle.nr_desc.specs.Auxiliary.Op.{StepTo, desc_reason};
 
     type Op = DescOp;
 

@@ -2,8 +2,8 @@
 
 ghost use Rattle.std.specs.Prelude.{◌≡◌, ◌+◌, ◌<◌, ◌^◌};
 ghost use Rattle.nr_rev.specs.Sides as sides;
-ghost use Rattle.nr_rev.specs.Refusing.{Gives};
-ghost use Rattle.nr_desc.specs.Change.{answered_view};
+ghost use Rattle.nr_rev.specs.Auxiliary.Refusing.{Gives};
+ghost use Rattle.nr_desc.specs.Auxiliary.Change.{answered_view};
 ghost use Rattle.nr_desc.specs.Op as spec;
 
 use crate::code::WordCode;

@@ -3,7 +3,8 @@ use Rattle.std.proofs.Common.{◌≡◌, ℕ, refl, sym, ap, ◌∙◌, subst, i
 use Rattle.nr_journal.specs.Rule.{journal_room}
 use Rattle.nr_command.specs.declared.command.Command.{Command}
 use Rattle.nr_command.specs.declared.reply.Reply.{Reply}
-use Rattle.nr_front.specs.FrontState.{FrontState, RepliesLast, SearchIsPending, own_pending, owed_command, last_place}
+use Rattle.nr_front.specs.FrontState.{FrontState}
+use Rattle.nr_front.specs.Auxiliary.FrontState.{RepliesLast, SearchIsPending, own_pending, owed_command, last_place}
 use Rattle.nr_front.specs.Front.{Answers, CatchesAll, Executes, PlacesCommand, without_pending}
 use Rattle.nr_front.specs.Steps.{Placing}
 use Rattle.nr_front.specs.declared.fault.FrontFault.{FrontFault}
@@ -12,7 +13,7 @@ use Rattle.nr_front.proofs.StepsLemmas.{learns_then, places_then}
 
 -- it wasn't placed
 pub exec_failed : (a b d : FrontState) (command : Command) (fault : FrontFault) → CatchesAll a b → Placing command b d (Err fault) → Executes command a d (Err fault)
-exec_failed a b d command Memory x y = record { learns = learns_then a b d x.learns y.learns; wanted = y.wanted; company = y.company }
+exec_failed a b d command (Memory refused) x y = record { learns = learns_then a b d x.learns y.learns; wanted = y.wanted; company = y.company }
 exec_failed a b d command (Placed place) x y = absurd y
 exec_failed a b d command Full x y = record { learns = learns_then a b d x.learns y.learns; full = y.full ∙ ap journal_room x.learns.same.table; run = y.run }
 

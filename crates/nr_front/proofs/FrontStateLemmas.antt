@@ -2,14 +2,16 @@
 use Rattle.std.proofs.Common.{◌≡◌, ◌≢◌, ℕ, List, [], ◌∷◌, ◌++◌, refl, sym, ap, subst, ◌∙◌, ◌/◌, ◌%◌, Option, Some, None}
 use Rattle.std.specs.Prelude.{option_map}
 use Rattle.nr_rev.specs.Run.{Recording}
-use Rattle.nr_journal.specs.Rule.{having_seen, tag_of}
+use Rattle.nr_journal.specs.Rule.{tag_of}
+use Rattle.nr_journal.specs.Auxiliary.Rule.{having_seen}
 use Rattle.nr_journal.specs.declared.view.PassState.{PassState}
 use Rattle.nr_command.specs.Debugger.{Ran, Searches, after_tagged, after_words, opening, run}
 use Rattle.nr_command.specs.Word.{command_of, command_with}
 use Rattle.nr_command.specs.declared.command.Command.{Command}
 use Rattle.nr_command.specs.declared.debugger.Debugger.{Debugger}
 use Rattle.nr_command.specs.declared.reply.Reply.{Reply}
-use Rattle.nr_front.specs.FrontState.{FrontState, HasCompany, IsAt, IsBehind, RepliesLast, SearchIsPending, pending_command}
+use Rattle.nr_front.specs.FrontState.{FrontState, IsAt, IsBehind}
+use Rattle.nr_front.specs.Auxiliary.FrontState.{HasCompany, RepliesLast, SearchIsPending, pending_command}
 use Rattle.nr_front.specs.Steps.{pending_after}
 use Rattle.nr_front.specs.declared.pending.Pending.{Pending}
 use Rattle.nr_front.specs.declared.pending.Pending.TheVariants.{Nothing}

@@ -4,12 +4,14 @@ use Rattle.std.specs.List.{All}
 use Rattle.std.proofs.lemmas.List.Elements.{All-append, All-cons, All-nil}
 use Rattle.atomic_table.specs.Seated.{TableId}
 use Rattle.nr_journal.specs.declared.view.PassState.{PassState}
-use Rattle.nr_journal.specs.Rule.{IsOthers, having_seen, looked, StartsWith, journal_room}
+use Rattle.nr_journal.specs.Rule.{IsOthers, StartsWith, journal_room}
+use Rattle.nr_journal.specs.Auxiliary.Rule.{having_seen, looked}
 use Rattle.nr_journal.specs.Pass.{SeesOthers, CatchesUp}
 use Rattle.nr_journal.specs.declared.pass.Offered.TheVariants as offered
 use Rattle.nr_command.specs.declared.command.Command.{Command}
 use Rattle.nr_command.specs.Word.{command_of, word_of}
-use Rattle.nr_front.specs.FrontState.{FrontState, HasCompany, SearchIsPending, own_pending, owed_command, pending_command}
+use Rattle.nr_front.specs.FrontState.{FrontState}
+use Rattle.nr_front.specs.Auxiliary.FrontState.{HasCompany, SearchIsPending, own_pending, owed_command, pending_command}
 use Rattle.nr_front.specs.declared.pending.Pending.{Pending}
 use Rattle.nr_front.specs.declared.pending.Pending.TheVariants.{Nothing, Others, Own}
 use Rattle.nr_front.specs.Front.{CatchesAll, FindsFull, IsRefusedMemory, IsUnmoved, Learns, PlacesCommand, without_pending}

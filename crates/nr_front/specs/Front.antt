@@ -8,8 +8,10 @@ use Rattle.nr_command.specs.Word.{word_of}
 use Rattle.nr_command.specs.declared.command.Command.{Command}
 use Rattle.nr_command.specs.declared.command.Query.{Query}
 use Rattle.nr_command.specs.declared.reply.Reply.{Reply}
-use Rattle.nr_front.specs.FrontState.{FrontState, RepliesLast, SearchIsPending, replica_of, owed_command, last_place}
-use Rattle.nr_front.specs.Replica.{WalkerState, LookIsRefused, after_look}
+use Rattle.nr_front.specs.FrontState.{FrontState}
+use Rattle.nr_front.specs.Auxiliary.FrontState.{RepliesLast, SearchIsPending, replica_of, owed_command, last_place}
+use Rattle.nr_front.specs.Replica.{WalkerState}
+use Rattle.nr_front.specs.Auxiliary.Replica.{LookIsRefused, after_look}
 use Rattle.nr_front.specs.declared.pending.Pending.TheVariants.{Nothing}
 use Rattle.nr_front.specs.declared.fault.FrontFault.{FrontFault}
 use Rattle.nr_front.specs.declared.fault.FrontFault.TheVariants.{Memory, Placed, Full}
@@ -97,7 +99,7 @@ pub record StaysOwed (old new : FrontState) (place : ℕ) : Type 0 where
 -- what `exec` of a command does
 abbrev pub Executes : Command → FrontState → FrontState → Result Reply FrontFault → Type 0
 Executes command old new (Ok reply) = Answers command old new reply
-Executes command old new (Err Memory) = IsRefusedMemory old new
+Executes command old new (Err (Memory refused)) = IsRefusedMemory old new
 Executes command old new (Err (Placed place)) =
     IsLeftOwed command old new place ⊎ StaysOwed old new place
 Executes command old new (Err Full) = FindsFull old new
@@ -126,7 +128,7 @@ pub record IsRefusedLook (query : Query) (old new : FrontState) : Type 0 where
 -- all is seen and run.
 abbrev pub Looks : Query → FrontState → FrontState → Result Reply FrontFault → Type 0
 Looks query old new (Ok reply) = RepliesToLook query old new reply
-Looks query old new (Err Memory) = IsRefusedMemory old new ⊎ IsRefusedLook query old new
+Looks query old new (Err (Memory refused)) = IsRefusedMemory old new ⊎ IsRefusedLook query old new
 Looks query old new (Err (Placed place)) = StaysOwed old new place
 Looks query old new (Err Full) = ⊥
 
@@ -155,6 +157,6 @@ pub record IsStillOwed (old new : FrontState) (place : ℕ) : Type 0 where
 abbrev pub Resumes : FrontState → FrontState → Result (Option Reply) FrontFault → Type 0
 Resumes old new (Ok None) = OwesNothing old new
 Resumes old new (Ok (Some reply)) = AnswersOwed old new reply
-Resumes old new (Err Memory) = ⊥
+Resumes old new (Err (Memory refused)) = ⊥
 Resumes old new (Err (Placed place)) = IsStillOwed old new place
 Resumes old new (Err Full) = ⊥

@@ -1,19 +1,16 @@
 -- What contracts see of a front: a pass of the journal, and a debugger that runs the words that the
 -- pass sees.
-use Rattle.std.specs.Prelude.{◌≡◌, ◌≢◌, ℕ, List, [], ◌∷◌, ◌++◌, length, Option, Some, None}
+use Rattle.std.specs.Prelude.{◌≡◌, ℕ, List, [], ◌∷◌, ◌++◌, Option, Some, None}
 use Rattle.atomic_table.specs.Seated.{TableId}
 use Rattle.nr_rev.specs.Run.{Recording}
 use Rattle.nr_journal.specs.declared.view.PassState.{PassState}
-use Rattle.nr_journal.specs.Pass.{Entered}
 use Rattle.nr_journal.specs.Rule.{tag_of}
-use Rattle.nr_command.specs.Debugger.{Searches, after_words, opening, run}
+use Rattle.nr_command.specs.Debugger.{after_words, opening}
 use Rattle.nr_command.specs.Word.{command_of}
 use Rattle.nr_command.specs.declared.command.Command.{Command}
 use Rattle.nr_command.specs.declared.debugger.Debugger.{Debugger}
-use Rattle.nr_command.specs.declared.reply.Reply.{Reply}
-use Rattle.nr_front.specs.Replica.{WalkerState, ReplicaState}
+use Rattle.nr_front.specs.Replica.{WalkerState}
 use Rattle.nr_front.specs.declared.pending.Pending.{Pending}
-use Rattle.nr_front.specs.declared.pending.Pending.TheVariants.{Nothing, Others, Own}
 
 -- What is seen of a front: its journal, its recording, how many workers search, its walker, what
 -- its pass knows, and the command of the last word seen, where that isn't run yet.
@@ -24,58 +21,6 @@ pub record FrontState : Type 0 where
   pub walker_state : WalkerState
   pub pass_state : PassState
   pub pending : Pending
-
--- its pass
-abbrev pub pass_of : FrontState → Entered
-pass_of front_state = record { table = front_state.table; pass_state = front_state.pass_state }
-
--- a front whose debugger has run no word, with so many workers and this of its walker
-abbrev pub opened_front : Entered → Recording → ℕ → WalkerState → FrontState
-opened_front pass recording workers walker_state =
-    record {
-      table = pass.table;
-      recording = recording;
-      workers = workers;
-      walker_state = walker_state;
-      pass_state = pass.pass_state;
-      pending = Nothing;
-    }
-
--- its machine, where nothing is due: the debugger is that of the words that the pass has seen
-abbrev pub replica_of : FrontState → ReplicaState
-replica_of front_state =
-    record {
-      recording = front_state.recording;
-      workers = front_state.workers;
-      debugger = after_words front_state.recording opening front_state.pass_state.seen;
-      walker_state = front_state.walker_state;
-    }
-
--- the command that is due
-abbrev pub pending_command : Pending → Option Command
-pending_command Nothing = None
-pending_command (Others command) = Some command
-pending_command (Own command) = Some command
-
--- the front's own command, if that is what is due
-abbrev pub own_pending : Pending → Option Command
-own_pending Nothing = None
-own_pending (Others command) = None
-own_pending (Own command) = Some command
-
--- another's command is due only where the journal has more than one pass
-abbrev pub HasCompany : Pending → ℕ → Type 0
-HasCompany Nothing passes = Unit {0}
-HasCompany (Others command) passes = passes ≢ 1
-HasCompany (Own command) passes = Unit {0}
-
--- the command whose reply is owed: the front's own, placed and not run yet
-abbrev pub owed_command : FrontState → Option Command
-owed_command front_state = own_pending front_state.pending
-
--- the index of the last word seen, from 1
-abbrev pub last_place : FrontState → ℕ
-last_place front_state = length front_state.pass_state.seen
 
 -- the words end with one of this command, and the debugger is that of the words before it
 pub record IsBehind (r : Recording) (words : List ℕ) (command : Command) (debugger : Debugger) :
@@ -90,19 +35,3 @@ pub record IsBehind (r : Recording) (words : List ℕ) (command : Command) (debu
 abbrev pub IsAt : Recording → List ℕ → Option Command → Debugger → Type 0
 IsAt r words None debugger = debugger ≡ after_words r opening words
 IsAt r words (Some command) debugger = IsBehind r words command debugger
-
--- the last word seen is one of this command, and this is its reply: that of the debugger that the
--- words before it lead to
-pub record RepliesLast (front_state : FrontState) (command : Command) (reply : Reply) : Type 0 where
-  pub debugger : Debugger
-  pub behind : IsBehind front_state.recording front_state.pass_state.seen command debugger
-  pub answer : reply ≡ (run front_state.recording command debugger).0
-
--- the command that is due searches, from where the words before its own lead: so it may be refused
--- memory
-pub record SearchIsPending (front_state : FrontState) : Type 0 where
-  pub command : Command
-  pub debugger : Debugger
-  pub pending : pending_command front_state.pending ≡ Some command
-  pub behind : IsBehind front_state.recording front_state.pass_state.seen command debugger
-  pub searches : Searches front_state.recording command debugger

@@ -1,11 +1,13 @@
 -- What the steps do that the calls of a front are made of.
 use Rattle.std.specs.Prelude.{◌≡◌, ◌≢◌, ℕ, ◌<◌, ◌⊎◌, Bool, true, false, length, Option, Some, None, Result, Ok, Err}
-use Rattle.nr_journal.specs.Rule.{IsOthers, StartsWith, looked, journal_room, having_seen}
+use Rattle.nr_journal.specs.Rule.{IsOthers, StartsWith, journal_room}
+use Rattle.nr_journal.specs.Auxiliary.Rule.{looked, having_seen}
 use Rattle.nr_journal.specs.declared.pass.Offered.{Offered}
 use Rattle.nr_journal.specs.declared.pass.Offered.TheVariants as offered
 use Rattle.nr_command.specs.Word.{word_of}
 use Rattle.nr_command.specs.declared.command.Command.{Command}
-use Rattle.nr_front.specs.FrontState.{FrontState, owed_command}
+use Rattle.nr_front.specs.FrontState.{FrontState}
+use Rattle.nr_front.specs.Auxiliary.FrontState.{owed_command}
 use Rattle.nr_front.specs.Front.{FindsFull, IsRefusedMemory, IsUnmoved, PlacesCommand}
 use Rattle.nr_front.specs.declared.pending.Pending.{Pending}
 use Rattle.nr_front.specs.declared.pending.Pending.TheVariants.{Nothing, Others, Own}
@@ -58,6 +60,6 @@ HasSeenAll front_state = StartsWith front_state.pass_state.seen front_state.pass
 -- a command was offered until it was placed, and is due
 abbrev pub Placing : Command → FrontState → FrontState → Result (Unit {0}) FrontFault → Type 0
 Placing command old new (Ok _) = PlacesCommand command old new × (new.pending ≡ Own command)
-Placing command old new (Err Memory) = IsRefusedMemory old new
+Placing command old new (Err (Memory refused)) = IsRefusedMemory old new
 Placing command old new (Err (Placed place)) = ⊥
 Placing command old new (Err Full) = FindsFull old new

@@ -1,6 +1,7 @@
 //! Why a call has no reply.
 
 ghost use Rattle.std.specs.Prelude.{◌≡◌};
+ghost use Rattle.nr_rev.specs.Refusing.{refused_memory};
 ghost use Rattle.nr_front.specs.declared.fault.FrontFault.TheVariants as faults;
 
 use nr_rev::Memory;
@@ -9,7 +10,7 @@ use nr_rev::Memory;
 #[derive(Clone, Copy, Debug, PartialEq, Eq)]
 pub enum FrontFault {
     /// There was no memory for another's command that comes first, or for the look. The call's command isn't placed.
-    Memory,
+    Memory(Memory),
     /// A command at this index of the journal, from 1, ran out of memory. Its reply is owed.
     Placed(usize),
     /// The journal is full. The call's command isn't placed.
@@ -17,9 +18,9 @@ pub enum FrontFault {
 }
 
 impl From<Memory> for FrontFault {
-    ghost from_gives = { λ _ fault. fault ≡ faults.Memory };
+    ghost from_gives = { λ _ fault. fault ≡ faults.Memory refused_memory };
 
-    fn from(_refused: Memory) -> FrontFault {
-        FrontFault::Memory
+    fn from(refused: Memory) -> FrontFault {
+        FrontFault::Memory(refused)
     }
 }

@@ -2,9 +2,9 @@
 
 ghost use Rattle.std.specs.Prelude.{◌≡◌, ◌≤◌, [], IfOk, IfErr};
 ghost use Rattle.nr_walker.specs.declared.walker.TheConstants.{LEAST_DEPTH, MOST_DEPTH};
-ghost use Rattle.nr_front.specs.FrontState.{opened_front, pass_of};
+ghost use Rattle.nr_front.specs.Auxiliary.FrontState.{opened_front, pass_of};
 ghost use Rattle.nr_front.specs.Front.{Executes, IsSame, IsUnmoved, Looks, Resumes};
-ghost use Rattle.nr_front.specs.Replica.{at_start};
+ghost use Rattle.nr_front.specs.Auxiliary.Replica.{at_start};
 
 use crate::fault::FrontFault;
 use crate::pending::Pending;
@@ -36,7 +36,8 @@ where
     W::Delta: Drop,
     W::Snapshot: Drop + Sync,
 {
-    ghost use Rattle.nr_front.specs.FrontState.{FrontState, HasCompany, IsAt, pending_command};
+    ghost use Rattle.nr_front.specs.FrontState.{FrontState, IsAt};
+    ghost use Rattle.nr_front.specs.Auxiliary.FrontState.{HasCompany, pending_command};
 
     ghost Value = { FrontState };
 

@@ -2,7 +2,7 @@
 
 ghost use Rattle.std.specs.Prelude.{◌≡◌};
 ghost use Rattle.nr_command.specs.Word.{command_of};
-ghost use Rattle.nr_front.specs.FrontState.{pending_command, own_pending};
+ghost use Rattle.nr_front.specs.Auxiliary.FrontState.{pending_command, own_pending};
 ghost use Rattle.nr_front.specs.Steps.{pending_after};
 
 use nr_command::Command;

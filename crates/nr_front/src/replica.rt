@@ -2,7 +2,7 @@
 
 ghost use Rattle.std.specs.Prelude.{◌≡◌, ◌≤◌, IfOk, OnErr, OnOk};
 ghost use Rattle.nr_command.specs.Debugger.{Searches, opening, run, query_reply};
-ghost use Rattle.nr_front.specs.Replica.{LookIsRefused, after_look, at_start};
+ghost use Rattle.nr_front.specs.Auxiliary.Replica.{LookIsRefused, after_look, at_start};
 ghost use Rattle.nr_walker.specs.declared.walker.TheConstants.{LEAST_DEPTH, MOST_DEPTH};
 
 use nr_command::{Command, Debugger, Query, Reply};
@@ -32,8 +32,8 @@ where
     W::Snapshot: Drop + Sync,
 {
     ghost use Rattle.std.specs.Prelude.{length};
-    ghost use Rattle.nr_command.specs.Debugger.{IsWithin};
-    ghost use Rattle.nr_front.specs.Replica.{ReplicaState, walker_state_of};
+    ghost use Rattle.nr_command.specs.Auxiliary.Debugger.{IsWithin};
+    ghost use Rattle.nr_front.specs.Auxiliary.Replica.{ReplicaState, walker_state_of};
 
     ghost Value = { ReplicaState };
 

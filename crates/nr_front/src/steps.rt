@@ -2,9 +2,9 @@
 
 ghost use Rattle.std.specs.Prelude.{◌≡◌, Some, None, IfOk, OnOk, OnErr};
 ghost use Rattle.nr_command.specs.Debugger.{query_reply};
-ghost use Rattle.nr_front.specs.FrontState.{HasCompany, RepliesLast, SearchIsPending, pending_command, replica_of, owed_command, last_place};
+ghost use Rattle.nr_front.specs.Auxiliary.FrontState.{HasCompany, RepliesLast, SearchIsPending, pending_command, replica_of, owed_command, last_place};
 ghost use Rattle.nr_front.specs.Front.{CatchesAll, IsRefusedMemory, without_pending, with_walker_state};
-ghost use Rattle.nr_front.specs.Replica.{LookIsRefused, after_look};
+ghost use Rattle.nr_front.specs.Auxiliary.Replica.{LookIsRefused, after_look};
 ghost use Rattle.nr_front.specs.Steps.{HasSeenAll, OffersCommand, Placing, Sees};
 ghost use Rattle.nr_front.specs.declared.pending.Pending.TheVariants.{Nothing};
 

@@ -23,13 +23,15 @@ use Rattle.nr_rev.specs.Weight.{number_weight, option_weight, status_weight}
 use Rattle.nr_rev.proofs.ListUpdateLemmas.{slice_get-set_cases, slice_get-set_here}
 use Rattle.nr_gsema.specs.declared.operation.GOperation.TheVariants as operation
 use Rattle.nr_gsema.specs.declared.delta.GUndo.TheVariants as undo
-use Rattle.nr_gsema.specs.Applying.{AppliesBy, IsQueuedUp}
+use Rattle.nr_gsema.specs.Applying.{IsQueuedUp}
+use Rattle.nr_gsema.specs.Auxiliary.Applying.{AppliesBy}
 use Rattle.nr_gsema.specs.Delta.{CanRequeue, HasSemaphore, IsOutside, Reverses, released_back}
 use Rattle.nr_gsema.specs.SemaphoreChange.{released_once, unacquired, unreleased, with_count, with_last, without_last}
 use Rattle.nr_gsema.proofs.TableLemmas.{on_semaphore_is}
 use Rattle.nr_gsema.specs.Links.{is_waiting}
 use Rattle.nr_gsema.specs.Step.{is_movable, names_within, same_status, side_owed, tries_again}
-use Rattle.nr_gsema.specs.Table.{GoroutineTable, count_at, on_semaphore, queue_at, queue_found, with_semaphore, with_status}
+use Rattle.nr_gsema.specs.Table.{GoroutineTable}
+use Rattle.nr_gsema.specs.Auxiliary.Table.{count_at, on_semaphore, queue_at, queue_found, with_semaphore, with_status}
 
 lt_true : (a b : ℕ) → a < b → nat_lt a b ≡ true
 lt_true a b h = grind (arith, h)

@@ -13,7 +13,8 @@ use Rattle.nr_gsema.specs.declared.node.SemaphoreHead.{SemaphoreHead}
 use Rattle.nr_rev.specs.World.{is_wait_at, is_waited, wait_of}
 use Rattle.std.specs.List.{list_any}
 use Rattle.nr_gsema.specs.Links.{IsLinked, is_waiting, queues_from, semaphores_from, statuses}
-use Rattle.nr_gsema.specs.Table.{GoroutineTable, before, behind, in_queue, back_of, next_in_queue, previous_of, queue_at, queue_found}
+use Rattle.nr_gsema.specs.Table.{GoroutineTable}
+use Rattle.nr_gsema.specs.Auxiliary.Table.{before, behind, in_queue, back_of, next_in_queue, previous_of, queue_at, queue_found}
 use Rattle.nr_rev.specs.WellFormed.{is_queued}
 use Rattle.nr_rev.specs.Lock.{bit}
 use Rattle.nr_rev.proofs.DistinctNumberLemmas.{times}

@@ -12,7 +12,8 @@ use Rattle.nr_rev.specs.Sides.{of_side, twice, with_side}
 use Rattle.nr_gsema.specs.declared.node.GoroutineNode.{GoroutineNode}
 use Rattle.nr_gsema.specs.declared.node.SemaphoreHead.{SemaphoreHead}
 use Rattle.nr_gsema.specs.Links.{AreQueues, IsLinked, is_waiting, queue_from, queues_from, semaphores_from, statuses}
-use Rattle.nr_gsema.specs.Table.{GoroutineTable, back_of, on_found, on_semaphore, with_semaphore, with_status}
+use Rattle.nr_gsema.specs.Table.{GoroutineTable}
+use Rattle.nr_gsema.specs.Auxiliary.Table.{back_of, on_found, on_semaphore, with_semaphore, with_status}
 use Rattle.nr_gsema.specs.SemaphoreChange.{with_count}
 use Rattle.nr_gsema.specs.Links.{chain}
 use Rattle.std.specs.Option.{IfSome}

@@ -16,7 +16,8 @@ use Rattle.nr_gsema.specs.declared.node.GoroutineNode.{GoroutineNode}
 use Rattle.nr_gsema.specs.declared.node.SemaphoreHead.{SemaphoreHead}
 use Rattle.nr_rev.specs.Semaphore.{Semaphore}
 use Rattle.nr_gsema.specs.Links.{statuses}
-use Rattle.nr_gsema.specs.Table.{GoroutineTable, on_found, on_semaphore, with_status}
+use Rattle.nr_gsema.specs.Table.{GoroutineTable}
+use Rattle.nr_gsema.specs.Auxiliary.Table.{on_found, on_semaphore, with_status}
 use Rattle.nr_gsema.specs.Waits.{AreCounts, CanJoin, waiting_of, left, moved_between, on_count, on_wait, waiting_at}
 use Rattle.nr_gsema.proofs.ListLemmas.{each_alike}
 use Rattle.nr_gsema.proofs.PlaceLemmas.{Apart, place_apart, place_cases, place_same}

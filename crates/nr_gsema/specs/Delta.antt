@@ -14,7 +14,8 @@ use Rattle.nr_gsema.specs.declared.operation.GOperation.TheVariants as operation
 use Rattle.nr_gsema.specs.Links.{is_waiting}
 use Rattle.nr_gsema.specs.SemaphoreChange.{unacquired, unreleased, without_last}
 use Rattle.nr_gsema.specs.Step.{side_owed}
-use Rattle.nr_gsema.specs.Table.{GoroutineTable, with_status, on_semaphore}
+use Rattle.nr_gsema.specs.Table.{GoroutineTable}
+use Rattle.nr_gsema.specs.Auxiliary.Table.{with_status, on_semaphore}
 
 -- who left the queue is queued again
 abbrev pub queued_again : ℕ → Side → Option ℕ → GoroutineTable → GoroutineTable

@@ -1,8 +1,9 @@
--- what callers need
+-- what the laws of docs/THEOREM.md rest on, whole files
 pub mod Table
+pub mod Applying
+-- what callers need besides
 pub mod Step
 pub mod Delta
-pub mod Applying
 pub mod Worked
 pub mod ReversibleLaws
 pub mod Links
@@ -10,3 +11,5 @@ pub mod Links
 pub mod SemaphoreChange
 pub mod Relinking
 pub mod Waits
+-- what goes on with the files that the laws rest on
+pub mod Auxiliary

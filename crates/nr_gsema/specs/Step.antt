@@ -16,7 +16,8 @@ use Rattle.nr_rev.specs.Step.{alive, is_idle, owing, acquiring_of, owing_of}
 use Rattle.nr_rev.specs.WellFormed.{socket_named}
 use Rattle.nr_gsema.specs.declared.operation.GOperation.{GOperation}
 use Rattle.nr_gsema.specs.declared.operation.GOperation.TheVariants as operation
-use Rattle.nr_gsema.specs.Table.{GoroutineTable, with_status, with_semaphore}
+use Rattle.nr_gsema.specs.Table.{GoroutineTable}
+use Rattle.nr_gsema.specs.Auxiliary.Table.{with_status, with_semaphore}
 
 -- the answer and the next table, or the reason why it doesn't apply
 abbrev pub Outcome : Type 0

@@ -1,6 +1,7 @@
 //! Operations applied and undone.
 
-ghost use Rattle.nr_gsema.specs.Applying.{Applies, IsQueuedUp};
+ghost use Rattle.nr_gsema.specs.Applying.{IsQueuedUp};
+ghost use Rattle.nr_gsema.specs.Auxiliary.Applying.{Applies};
 
 use crate::delta::{GDelta, GUndo};
 use crate::operation::GOperation;

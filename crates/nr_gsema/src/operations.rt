@@ -4,11 +4,11 @@ ghost use Rattle.std.specs.Prelude.{◌≡◌, ◌+◌, ◌^◌, ◌<◌, ◌&&�
 ghost use Rattle.std.specs.Bool.{OnTrue};
 ghost use Rattle.nr_rev.specs.Step as step;
 ghost use Rattle.nr_rev.specs.WellFormed.{socket_named};
-ghost use Rattle.nr_gsema.specs.Applying.{Applies};
+ghost use Rattle.nr_gsema.specs.Auxiliary.Applying.{Applies};
 ghost use Rattle.nr_gsema.specs.Delta.{HasSemaphore};
 ghost use Rattle.nr_gsema.specs.SemaphoreChange.{released_once};
 ghost use Rattle.nr_gsema.specs.Step.{is_movable, names_within, same_status, side_owed, tries_again};
-ghost use Rattle.nr_gsema.specs.Table.{on_semaphore, queue_at};
+ghost use Rattle.nr_gsema.specs.Auxiliary.Table.{on_semaphore, queue_at};
 ghost use Rattle.nr_gsema.specs.declared.operation.GOperation.TheVariants as operation;
 
 use crate::delta::GUndo;

@@ -7,7 +7,7 @@ ghost use Rattle.nr_gsema.specs.Links.{is_waiting};
 ghost use Rattle.nr_gsema.specs.Relinking.{or_else, end_left};
 ghost use Rattle.nr_gsema.specs.SemaphoreChange.{released_once, unreleased, with_count, with_last, without_last};
 ghost use Rattle.nr_gsema.specs.Step.{tries_again};
-ghost use Rattle.nr_gsema.specs.Table.{on_semaphore, queue_at, with_status};
+ghost use Rattle.nr_gsema.specs.Auxiliary.Table.{on_semaphore, queue_at, with_status};
 
 use crate::links::{set_next, set_previous};
 use crate::node::{GoroutineNode, SemaphoreHead};

@@ -2,7 +2,7 @@
 
 ghost use Rattle.std.specs.Prelude.{◌≡◌, ◌≤◌, length, slice_get};
 ghost use Rattle.nr_rev.specs.World.{is_waited};
-ghost use Rattle.nr_gsema.specs.Table.{count_at, back_of, next_in_queue, previous_of, queue_at};
+ghost use Rattle.nr_gsema.specs.Auxiliary.Table.{count_at, back_of, next_in_queue, previous_of, queue_at};
 
 use crate::table::GTable;
 use nr_rev::{Side, Status};

@@ -1,7 +1,8 @@
 //! Two fronts that take turns, and words that are no commands.
 
 ghost use Rattle.std.specs.Prelude.{◌≡◌};
-ghost use Rattle.nr_journal.specs.Rule.{HasOpcode, tag_of};
+ghost use Rattle.nr_journal.specs.Rule.{tag_of};
+ghost use Rattle.nr_journal.specs.Auxiliary.Rule.{HasOpcode};
 
 use crate::sharing::{Lone, share, woken};
 use nr_command::{Command, Line, Reply};
@@ -36,7 +37,7 @@ impl Answered {
             Ok(Reply::AtHit { position, .. }) => Answered::AtHit(position),
             Ok(Reply::Position { position, last, .. }) => Answered::Position { position, last },
             Err(FrontFault::Full) => Answered::Full,
-            Err(FrontFault::Memory) => Answered::Memory,
+            Err(FrontFault::Memory(_)) => Answered::Memory,
             _ => Answered::Otherwise,
         }
     }

@@ -13,7 +13,8 @@ use Rattle.nr_journal.specs.declared.rule.Purpose.{Purpose}
 use Rattle.nr_journal.specs.declared.view.View.{View}
 use Rattle.nr_journal.specs.declared.view.View.TheVariants.{Within}
 use Rattle.nr_journal.specs.Laws.{AnOnlyPassSeesAll}
-use Rattle.nr_journal.specs.Rule.{tag_of, AreDrawn, AreFew, AreTaken, IsEntry, IsOthers, Fits, AreApart, Kept, entering_alone}
+use Rattle.nr_journal.specs.Rule.{tag_of, IsOthers}
+use Rattle.nr_journal.specs.Auxiliary.Rule.{AreDrawn, AreFew, AreTaken, IsEntry, Fits, AreApart, Kept, entering_alone}
 use Rattle.nr_journal.proofs.RowLemmas.{All-right}
 
 module _ (purpose : Purpose) (words : List ℕ) (views : List View) (k : Kept purpose words views) (id : ℕ) (pass_state : PassState) where

@@ -13,7 +13,8 @@ use Rattle.atomic_table.proofs.Lists.{at_set, set_again}
 use Rattle.nr_journal.specs.declared.rule.Purpose.{Purpose}
 use Rattle.nr_journal.specs.declared.view.View.{View}
 use Rattle.nr_journal.specs.declared.view.View.TheVariants.{Outside, Within, Note, Spent}
-use Rattle.nr_journal.specs.Rule.{tag_of, IsDrawn, AreDrawn, AreFew, AreTaken, IsEntry, IsOthers, Fits, HasTag, AreApart, Kept, entering}
+use Rattle.nr_journal.specs.Rule.{tag_of, IsOthers}
+use Rattle.nr_journal.specs.Auxiliary.Rule.{IsDrawn, AreDrawn, AreFew, AreTaken, IsEntry, Fits, HasTag, AreApart, Kept, entering}
 use Rattle.nr_journal.specs.Step.{Seat, Draws, DrawsFrom}
 use Rattle.nr_journal.proofs.RuleLemmas.{each_set, apart_set, taken_set, set_there, Rule, Picks, allowed, snoc_view, drawn_by}
 

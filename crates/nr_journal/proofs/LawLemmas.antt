@@ -8,7 +8,8 @@ use lib.ListN.{get_elem?}
 use Rattle.nr_journal.specs.declared.view.PassState.{PassState}
 use Rattle.nr_journal.specs.declared.view.View.{View}
 use Rattle.nr_journal.specs.declared.view.View.TheVariants.{Outside, Within, Note, Spent}
-use Rattle.nr_journal.specs.Rule.{newcomer, tag_of, IsDrawn, IsEntry, IsOthers, HasTag}
+use Rattle.nr_journal.specs.Rule.{tag_of, IsOthers}
+use Rattle.nr_journal.specs.Auxiliary.Rule.{newcomer, IsDrawn, IsEntry, HasTag}
 use Rattle.nr_journal.specs.Laws.{BeginsEmpty, EachWordHasItsPass, EmptyLookSeesAll}
 use Rattle.nr_journal.proofs.RuleLemmas.{is_word, before_end, found_opcode}
 

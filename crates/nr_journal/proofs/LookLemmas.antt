@@ -10,7 +10,8 @@ use Rattle.nr_journal.specs.declared.view.PassState.{PassState}
 use Rattle.nr_journal.specs.declared.rule.Purpose.{Purpose}
 use Rattle.nr_journal.specs.declared.view.View.{View}
 use Rattle.nr_journal.specs.declared.view.View.TheVariants.{Within}
-use Rattle.nr_journal.specs.Rule.{IsOthers, StartsWith, Kept, looked, having_seen}
+use Rattle.nr_journal.specs.Rule.{IsOthers, StartsWith}
+use Rattle.nr_journal.specs.Auxiliary.Rule.{Kept, looked, having_seen}
 use Rattle.nr_journal.specs.Step.{Seat, Looked, LookedFrom, Rereads, RereadsFrom}
 use Rattle.nr_journal.proofs.AloneLemmas.{not_alone}
 use Rattle.nr_journal.proofs.RowLemmas.{among}

@@ -10,7 +10,8 @@ use Rattle.nr_journal.specs.declared.view.PassState.{PassState}
 use Rattle.nr_journal.specs.declared.rule.Purpose.{Purpose}
 use Rattle.nr_journal.specs.declared.view.View.{View}
 use Rattle.nr_journal.specs.declared.view.View.TheVariants.{Within, Note, Spent}
-use Rattle.nr_journal.specs.Rule.{tag_of, Fits, HasTagBelow, IsEntry, Kept, StartsWith, informed}
+use Rattle.nr_journal.specs.Rule.{tag_of, StartsWith}
+use Rattle.nr_journal.specs.Auxiliary.Rule.{Fits, HasTagBelow, IsEntry, Kept, informed}
 use Rattle.nr_journal.specs.Step.{Seat, Compares, ComparesFrom}
 use Rattle.nr_journal.proofs.RowLemmas.{All-left}
 use Rattle.nr_journal.proofs.RuleLemmas.{are_alike, kept_view, Rule, allowed, snoc_view, stays}

@@ -12,7 +12,8 @@ use Rattle.nr_journal.specs.declared.view.PassState.{PassState}
 use Rattle.nr_journal.specs.declared.rule.Purpose.{Purpose}
 use Rattle.nr_journal.specs.declared.view.View.{View}
 use Rattle.nr_journal.specs.declared.view.View.TheVariants.{Outside, Within, Note, Spent}
-use Rattle.nr_journal.specs.Rule.{tag_of, HasOpcode, IsDrawn, IsEntry, IsOthers, StartsWith, Fits, HasTag, Kept, having_seen}
+use Rattle.nr_journal.specs.Rule.{tag_of, IsOthers, StartsWith}
+use Rattle.nr_journal.specs.Auxiliary.Rule.{HasOpcode, IsDrawn, IsEntry, Fits, HasTag, Kept, having_seen}
 use Rattle.nr_journal.specs.Step.{Seat, Offers, OffersFrom}
 use Rattle.nr_journal.proofs.AloneLemmas.{not_alone}
 use Rattle.nr_journal.proofs.RowLemmas.{placed}

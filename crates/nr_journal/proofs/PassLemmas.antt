@@ -2,7 +2,8 @@
 use Rattle.std.proofs.Common.{◌≡◌, ◌≢◌, ℕ, ◌+◌, ◌<◌, List, [], ◌∷◌, ◌++◌, length, refl, sym, ap, ◌∙◌, subst, arith, length-append, append_assoc}
 use Rattle.nr_journal.specs.declared.view.PassState.{PassState}
 use Rattle.nr_journal.specs.declared.view.View.TheVariants.{Within}
-use Rattle.nr_journal.specs.Rule.{having_seen, looked, IsOthers, StartsWith}
+use Rattle.nr_journal.specs.Rule.{IsOthers, StartsWith}
+use Rattle.nr_journal.specs.Auxiliary.Rule.{having_seen, looked}
 use Rattle.nr_journal.specs.Step.{Seat}
 use Rattle.std.proofs.lemmas.List.{append-nil}
 use Rattle.std.proofs.lemmas.List.Elements.{All-nil, All-push}

@@ -14,7 +14,8 @@ use Rattle.nr_journal.specs.declared.view.PassState.{PassState}
 use Rattle.nr_journal.specs.declared.rule.Purpose.{Purpose}
 use Rattle.nr_journal.specs.declared.view.View.{View}
 use Rattle.nr_journal.specs.declared.view.View.TheVariants.{Outside, Within, Note, Spent}
-use Rattle.nr_journal.specs.Rule.{HasOpcode, IsDrawn, AreTaken, IsEntry, IsOthers, Fits, HasTag, AreApart, Kept, having_seen, newcomer}
+use Rattle.nr_journal.specs.Rule.{IsOthers}
+use Rattle.nr_journal.specs.Auxiliary.Rule.{HasOpcode, IsDrawn, AreTaken, IsEntry, Fits, HasTag, AreApart, Kept, having_seen, newcomer}
 use Rattle.nr_journal.specs.Step.{Seat}
 use Rattle.nr_journal.proofs.RowLemmas.{All-right, behind, beside}
 

@@ -9,7 +9,8 @@ use Rattle.nr_journal.specs.declared.rule.Purpose.{Purpose}
 use Rattle.nr_journal.specs.declared.view.PassState.{PassState}
 use Rattle.nr_journal.specs.declared.view.View.{View}
 use Rattle.nr_journal.specs.declared.view.View.TheVariants.{Within}
-use Rattle.nr_journal.specs.Rule.{Kept, newcomer, tag_of}
+use Rattle.nr_journal.specs.Rule.{tag_of}
+use Rattle.nr_journal.specs.Auxiliary.Rule.{Kept, newcomer}
 
 -- where the word behind all that a pass has seen is 0, the log is exactly what it has seen
 abbrev pub EmptyLookSeesAll : Type 0

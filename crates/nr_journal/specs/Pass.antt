@@ -7,7 +7,8 @@ use Rattle.nr_journal.specs.declared.view.View.{View}
 use Rattle.nr_journal.specs.declared.view.View.TheVariants.{Outside, Within, Note, Spent}
 use Rattle.nr_journal.specs.declared.pass.Offered.{Offered}
 use Rattle.nr_journal.specs.declared.pass.Offered.TheVariants.{Placed, Lost, Full}
-use Rattle.nr_journal.specs.Rule.{entering, having_seen, HasOpcode, IsOthers, StartsWith}
+use Rattle.nr_journal.specs.Rule.{IsOthers, StartsWith}
+use Rattle.nr_journal.specs.Auxiliary.Rule.{entering, having_seen, HasOpcode}
 
 -- what contracts see of a pass: its journal, and what it knows
 pub record Entered : Type 0 where

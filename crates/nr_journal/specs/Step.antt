@@ -6,7 +6,8 @@ use Rattle.atomic_table.specs.Table.{Me, Step}
 use Rattle.nr_journal.specs.declared.view.PassState.{PassState}
 use Rattle.nr_journal.specs.declared.view.View.{View}
 use Rattle.nr_journal.specs.declared.view.View.TheVariants.{Outside, Within, Note, Spent}
-use Rattle.nr_journal.specs.Rule.{HasOpcode, HasTagBelow, IsOthers, StartsWith, entering, informed, looked, having_seen}
+use Rattle.nr_journal.specs.Rule.{IsOthers, StartsWith}
+use Rattle.nr_journal.specs.Auxiliary.Rule.{HasOpcode, HasTagBelow, entering, informed, looked, having_seen}
 
 -- a seat of the table, with no slots: what is known is its first component
 abbrev pub Seat : Type 0

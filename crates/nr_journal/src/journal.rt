@@ -3,7 +3,8 @@
 ghost use Rattle.std.specs.Prelude.{◌≡◌, ◌≢◌, ◌⊎◌, ℕ, ◌+◌, ◌^◌, ◌<◌, ◌≤◌, false, length, IfSome, IfNone, IfOk, IfErr, slice_index};
 ghost use Rattle.std.specs.Ordering.{nat_cmp};
 ghost use Rattle.std.specs.List.{All};
-ghost use Rattle.nr_journal.specs.Rule.{entering, entering_alone, informed, journal_room, StartsWith, looked, having_seen, HasOpcode, HasTagBelow, IsOthers, tag_of};
+ghost use Rattle.nr_journal.specs.Rule.{journal_room, StartsWith, IsOthers, tag_of};
+ghost use Rattle.nr_journal.specs.Auxiliary.Rule.{entering, entering_alone, informed, looked, having_seen, HasOpcode, HasTagBelow};
 ghost use Rattle.nr_journal.specs.Pass.{WasOffered, AreInLine, SeesOthers, CatchesUp};
 ghost use Rattle.nr_journal.specs.declared.rule.TheConstants.{MOST_PASSES, MOST_WORDS};
 

@@ -30,7 +30,7 @@ pub struct Purpose {
 pub struct InOneOrder;
 
 impl TableRule<(), View, Purpose> for InOneOrder {
-    ghost use Rattle.nr_journal.specs.Rule.{Kept, first_view};
+    ghost use Rattle.nr_journal.specs.Auxiliary.Rule.{Kept, first_view};
 
     ghost holds = { λ purpose s. Kept purpose s.words s.views };
 

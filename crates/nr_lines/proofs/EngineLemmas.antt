@@ -5,15 +5,18 @@ use Rattle.std.proofs.lemmas.Bool.{lt-ltb, le-ltb, eqb-false, false≢true}
 use Rattle.std.specs.List.{All, concat}
 use Rattle.std.proofs.lemmas.List.Elements.{All-append, All-nil, All-weaker}
 use Rattle.nr_text.specs.Moments.{Moment}
-use Rattle.nr_text.specs.Streams.{Incoming, IsNow, IsOver, Outgoing, Passes, ReadsNow, Receives, Sends}
+use Rattle.nr_text.specs.Streams.{Incoming, IsOver, Outgoing, Passes, Receives, Sends}
+use Rattle.nr_text.specs.Auxiliary.Streams.{IsNow, ReadsNow}
 use Rattle.nr_command.specs.Command.{meaning_of}
 use Rattle.nr_front.specs.FrontState.{FrontState}
 use Rattle.nr_text.proofs.StreamLemmas.{receives_none, receives_then, sends_none, sends_then}
 use Rattle.nr_lines.specs.declared.ending.End.TheVariants.{Closed, Quit}
 use Rattle.nr_lines.specs.declared.ending.LineEnd.{LineEnd}
 use Rattle.nr_lines.specs.declared.ending.LineEnd.TheVariants.{Read, Write}
-use Rattle.nr_lines.specs.Engine.{lines_of, Turns, has_quit, Answered, AnswersLines, ArePrompt, IsPrompt, whole_lines}
-use Rattle.nr_lines.specs.Turn.{Turn, is_quit, count_with, StopsInside}
+use Rattle.nr_lines.specs.Engine.{lines_of, has_quit}
+use Rattle.nr_lines.specs.Auxiliary.Engine.{Turns, Answered, AnswersLines, ArePrompt, IsPrompt, whole_lines}
+use Rattle.nr_lines.specs.Turn.{is_quit}
+use Rattle.nr_lines.specs.Auxiliary.Turn.{Turn, count_with, StopsInside}
 use Rattle.nr_lines.specs.LoopInvariant.{GoesOn, LoopInvariant, unfinished_line}
 use Rattle.nr_lines.proofs.LineLemmas.{whole_lines-byte, unfinished_line-byte, whole_lines-feed, unfinished_line-feed, lines_at_end, meaning_of-take, kept_more}
 use Rattle.nr_lines.proofs.TurnLemmas.{counted_more, has_quit-append, concat_more, one_text_each, turns_more, turn_asks}

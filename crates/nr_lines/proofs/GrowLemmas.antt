@@ -5,7 +5,7 @@ use Rattle.nr_command.specs.Word.{word_of}
 use Rattle.nr_command.specs.declared.command.Command.{Command}
 use Rattle.nr_front.specs.FrontState.{FrontState}
 use Rattle.nr_front.specs.Front.{PlacesCommand}
-use Rattle.nr_lines.specs.Engine.{Grows, Turns}
+use Rattle.nr_lines.specs.Auxiliary.Engine.{Grows, Turns}
 use Rattle.nr_lines.proofs.KeptLemmas.{IsKept, turns_keep}
 
 -- nothing was seen

@@ -11,8 +11,8 @@ use Rattle.nr_front.specs.FrontState.{FrontState}
 use Rattle.nr_front.specs.Front.{Executes, Learns, Looks, PlacesCommand, Resumes}
 use Rattle.nr_front.specs.declared.fault.FrontFault.{FrontFault}
 use Rattle.nr_front.specs.declared.fault.FrontFault.TheVariants.{Memory, Placed, Full}
-use Rattle.nr_lines.specs.Engine.{Turns}
-use Rattle.nr_lines.specs.Turn.{MayReply}
+use Rattle.nr_lines.specs.Auxiliary.Engine.{Turns}
+use Rattle.nr_lines.specs.Auxiliary.Turn.{MayReply}
 
 -- a relation between the states of a front before and after a call, which each of its calls keeps
 pub record IsKept (R : FrontState → FrontState → Type 0) : Type 0 where
@@ -35,13 +35,13 @@ module _ (R : FrontState → FrontState → Type 0) (kept : IsKept R) where
 
   executes : (command : Command) (d d' : FrontState) (given : Result Reply FrontFault) → Executes command d d' given → R d d'
   executes command d d' (Ok reply) e = kept.places command d d' e.places
-  executes command d d' (Err Memory) e = kept.learns d d' e.learns
+  executes command d d' (Err (Memory refused)) e = kept.learns d d' e.learns
   executes command d d' (Err (Placed place)) e = elim e as (λ _. R d d') [ inl left ↦ kept.places command d d' left.places | inr stays ↦ same d d' stays.unchanged ]
   executes command d d' (Err Full) e = kept.learns d d' e.learns
 
   looks : (query : Query) (d d' : FrontState) (given : Result Reply FrontFault) → Looks query d d' given → R d d'
   looks query d d' (Ok reply) e = learns_led d e.caught_up d' e.catches_all.learns (ap (λ (t : FrontState). t.pass_state) e.led)
-  looks query d d' (Err Memory) e = elim e as (λ _. R d d') [
+  looks query d d' (Err (Memory refused)) e = elim e as (λ _. R d d') [
     | inl refused ↦ kept.learns d d' refused.learns
     | inr look ↦ learns_led d look.caught_up d' look.catches_all.learns (ap (λ (t : FrontState). t.pass_state) look.moved)
   ]
@@ -51,7 +51,7 @@ module _ (R : FrontState → FrontState → Type 0) (kept : IsKept R) where
   resumes : (d d' : FrontState) (given : Result (Option Reply) FrontFault) → Resumes d d' given → R d d'
   resumes d d' (Ok None) e = same d d' e.unchanged
   resumes d d' (Ok (Some reply)) e = kept.stays d d' (ap (λ (t : FrontState). t.pass_state) e.now)
-  resumes d d' (Err Memory) e = absurd e
+  resumes d d' (Err (Memory refused)) e = absurd e
   resumes d d' (Err (Placed place)) e = same d d' e.stays.unchanged
   resumes d d' (Err Full) e = absurd e
 

@@ -6,7 +6,8 @@ use Rattle.std.proofs.lemmas.Bool.{lt-ltb, ltb-false, ltb-true}
 use Rattle.std.specs.List.{slice_split, onto_first}
 use Rattle.nr_command.specs.declared.command.LineFault.TheVariants.{TooLong}
 use Rattle.nr_command.specs.Command.{meaning_of, meaning_of_words, words, without_return}
-use Rattle.nr_lines.specs.Engine.{lines_in, lines_of, whole_lines}
+use Rattle.nr_lines.specs.Engine.{lines_in, lines_of}
+use Rattle.nr_lines.specs.Auxiliary.Engine.{whole_lines}
 use Rattle.nr_lines.specs.LoopInvariant.{last_part, unfinished_line}
 
 -- the parts of a text between its line feeds

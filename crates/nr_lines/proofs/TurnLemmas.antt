@@ -6,8 +6,10 @@ use Rattle.std.proofs.lemmas.List.Elements.{filter-append}
 use Rattle.nr_command.specs.Command.{meaning_of}
 use Rattle.nr_front.specs.FrontState.{FrontState}
 use Rattle.nr_text.specs.Streams.{saturating_count}
-use Rattle.nr_lines.specs.Turn.{MayReply, Turn, is_quit, count_with}
-use Rattle.nr_lines.specs.Engine.{Turns, has_quit, some_count}
+use Rattle.nr_lines.specs.Turn.{is_quit}
+use Rattle.nr_lines.specs.Auxiliary.Turn.{MayReply, Turn, count_with}
+use Rattle.nr_lines.specs.Engine.{has_quit}
+use Rattle.nr_lines.specs.Auxiliary.Engine.{Turns, some_count}
 
 abbrev some : List ℕ → Bool
 some text = nat_lt 0 (length text)

@@ -4,7 +4,8 @@ use Rattle.std.specs.List.{concat, slice_split}
 use Rattle.nr_text.specs.Moments.{Moment}
 use Rattle.nr_text.specs.Streams.{Incoming, Outgoing, Passes, Receives, Sends, saturating_count}
 use Rattle.nr_front.specs.FrontState.{FrontState}
-use Rattle.nr_lines.specs.Engine.{AnswersLines, ArePrompt, Turns, has_quit, some_count, whole_lines}
+use Rattle.nr_lines.specs.Engine.{has_quit}
+use Rattle.nr_lines.specs.Auxiliary.Engine.{AnswersLines, ArePrompt, Turns, some_count, whole_lines}
 use Rattle.nr_lines.specs.declared.ending.End.TheVariants.{Quit}
 use Rattle.nr_lines.specs.declared.ending.LineEnd.{LineEnd}
 

@@ -1,76 +1,17 @@
 -- What one line is answered.
-use Rattle.std.specs.Prelude.{◌≡◌, ℕ, ◌+◌, ◌<◌, nat_lt, Bool, true, false, List, [], length, take, Option, Some, None, Result, Ok, Err, if◌then◌else◌}
-use Rattle.nr_command.specs.Command.{meaning_of}
+use Rattle.std.specs.Prelude.{ℕ, Bool, true, false, List, [], Option, Some, None, Result, Ok}
 use Rattle.nr_command.specs.Reply.{text_of}
-use Rattle.nr_text.specs.Streams.{Outgoing, Sends, saturating_count}
 use Rattle.nr_command.specs.declared.command.Line.{Line}
-use Rattle.nr_command.specs.declared.command.Line.TheVariants.{Run, Look, Resume, Quit, Empty}
+use Rattle.nr_command.specs.declared.command.Line.TheVariants.{Quit}
 use Rattle.nr_command.specs.declared.command.LineFault.{LineFault}
-use Rattle.nr_command.specs.declared.reply.Fault.TheVariants as faults
 use Rattle.nr_command.specs.declared.reply.Reply.{Reply}
-use Rattle.nr_command.specs.declared.reply.Reply.TheVariants.{NothingOwed, Bye, Fault}
-use Rattle.nr_front.specs.FrontState.{FrontState}
-use Rattle.nr_front.specs.Front.{Executes, Looks, Resumes}
-use Rattle.nr_front.specs.declared.fault.FrontFault.{FrontFault}
-use Rattle.nr_front.specs.declared.fault.FrontFault.TheVariants.{Memory, Placed, Full}
-use Rattle.nr_lines.specs.declared.ending.LineEnd.{LineEnd}
-use Rattle.nr_lines.specs.declared.ending.LineEnd.TheVariants as ends
-
--- the reply that says why there is none
-abbrev pub fault_reply : FrontFault → Reply
-fault_reply Memory = Fault faults.Memory
-fault_reply (Placed place) = Fault (faults.Placed place)
-fault_reply Full = Fault faults.JournalFull
-
--- the reply to a command or to a look
-abbrev pub reply_given : Result Reply FrontFault → Reply
-reply_given (Ok reply) = reply
-reply_given (Err fault) = fault_reply fault
-
--- the reply where one was asked for once more
-abbrev pub resumed : Result (Option Reply) FrontFault → Reply
-resumed (Ok None) = NothingOwed
-resumed (Ok (Some reply)) = reply
-resumed (Err fault) = fault_reply fault
-
--- A front that is asked this may return this reply, and be so then: what a command does, a look or
--- a resumption, is what the front's own calls do.
-abbrev pub MayReply : Result Line LineFault → FrontState → Option Reply → FrontState → Type 0
-MayReply (Ok (Run command)) d reply d' = (given : Result Reply FrontFault)
-    × Executes command d d' given × (reply ≡ Some (reply_given given))
-MayReply (Ok (Look query)) d reply d' =
-    (given : Result Reply FrontFault) × Looks query d d' given × (reply ≡ Some (reply_given given))
-MayReply (Ok Resume) d reply d' =
-    (given : Result (Option Reply) FrontFault) × Resumes d d' given × (reply ≡ Some (resumed given))
-MayReply (Ok Quit) d reply d' = (reply ≡ Some Bye) × (d' ≡ d)
-MayReply (Ok Empty) d reply d' = (reply ≡ None) × (d' ≡ d)
-MayReply (Err fault) d reply d' = (reply ≡ Some (Fault (faults.Line fault))) × (d' ≡ d)
 
 -- The text of a reply, empty where there is none.
 abbrev pub text_or_none : Option Reply → List ℕ
 text_or_none None = []
 text_or_none (Some reply) = text_of reply
 
--- One line: its text, and the front after it.
-abbrev pub Turn : FrontState → List ℕ → List ℕ → FrontState → Type 0
-Turn d line text d' =
-    (reply : Option Reply) × MayReply (meaning_of line) d reply d' × (text ≡ text_or_none reply)
-
 -- whether it is `quit`
 abbrev pub is_quit : Result Line LineFault → Bool
 is_quit (Ok Quit) = true
 is_quit asked = false
-
--- the count with one text more, if it isn't empty
-abbrev pub count_with : ℕ → List ℕ → ℕ
-count_with n text = if nat_lt 0 (length text) then saturating_count (n + 1) else n
-
--- The first n bytes of the text are out, and not the next, and this count reports n.
-abbrev pub StopsAt : Outgoing → Outgoing → List ℕ → ℕ → Type 0
-StopsAt old new text part =
-    (n : ℕ) × (n < length text) × (part ≡ saturating_count n) × Sends old new (take n text)
-
--- A write failed inside this text, and that was reported, with the count of the whole texts before.
-abbrev pub StopsInside : LineEnd → ℕ → List ℕ → Outgoing → Outgoing → Type 0
-StopsInside ends.Read count text old new = ⊥
-StopsInside (ends.Write whole part) count text old new = (whole ≡ count) × StopsAt old new text part

@@ -2,7 +2,7 @@
 
 ghost use Rattle.std.specs.Prelude.{◌≡◌, ℕ, List, [], ◌∷◌, ◌++◌, Err, IfErr, OnOk, false, take, true};
 ghost use Rattle.nr_front.specs.FrontState.{FrontState};
-ghost use Rattle.nr_lines.specs.Engine.{AnswersLines, is_read_failure, is_write_failure};
+ghost use Rattle.nr_lines.specs.Auxiliary.Engine.{AnswersLines, is_read_failure, is_write_failure};
 ghost use Rattle.nr_lines.specs.LoopInvariant.{GoesOn, LoopInvariant};
 ghost use Rattle.nr_text.specs.Streams.{Incoming, Outgoing};
 

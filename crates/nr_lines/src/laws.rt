@@ -2,7 +2,7 @@
 
 ghost use Rattle.std.specs.Prelude.{ℕ, List};
 ghost use Rattle.nr_front.specs.FrontState.{FrontState};
-ghost use Rattle.nr_lines.specs.Engine.{Grows, Turns};
+ghost use Rattle.nr_lines.specs.Auxiliary.Engine.{Grows, Turns};
 
 /// Over a transcript the words seen only go on, and the looks that found none only grow in number. So the histories that
 /// the replies are about are prefixes of one.

@@ -3,7 +3,8 @@
 ghost use Rattle.std.specs.Prelude.{◌≡◌, ℕ, List, true, IfErr, IfOk, OnErr, OnOk};
 ghost use Rattle.nr_text.specs.Streams.{Sends};
 ghost use Rattle.nr_command.specs.Command.{meaning_of};
-ghost use Rattle.nr_lines.specs.Turn.{StopsInside, MayReply, Turn, count_with, is_quit, reply_given, resumed, fault_reply};
+ghost use Rattle.nr_lines.specs.Turn.{is_quit};
+ghost use Rattle.nr_lines.specs.Auxiliary.Turn.{StopsInside, MayReply, Turn, count_with, reply_given, resumed, fault_reply};
 
 use crate::ending::LineEnd;
 use nr_command::{Command, Fault, Line, LineFault, Reply};
@@ -117,7 +118,7 @@ fn fault_reply(fault: FrontFault) -> Reply
     ensures { result ≡ fault_reply fault }
 {
     let fault = match fault {
-        FrontFault::Memory => Fault::Memory,
+        FrontFault::Memory(refused) => Fault::Memory(refused),
         FrontFault::Placed(place) => Fault::Placed(place),
         FrontFault::Full => Fault::JournalFull,
     };

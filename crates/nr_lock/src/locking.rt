@@ -4,7 +4,7 @@ ghost use Rattle.std.specs.Prelude.{◌≡◌};
 ghost use Rattle.nr_lock.specs.Op.{left_by, outcome};
 ghost use Rattle.nr_lock.specs.declared.op.LockOp.TheVariants.{Incref, IncrefClose, Decref, RwLock, RwUnlock};
 ghost use Rattle.nr_rev.specs.Lock as spec;
-ghost use Rattle.nr_rev.specs.Refusing.{Gives};
+ghost use Rattle.nr_rev.specs.Auxiliary.Refusing.{Gives};
 
 use crate::op::LockAnswer;
 use crate::word::{FULL, LockWord};

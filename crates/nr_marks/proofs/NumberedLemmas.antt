@@ -2,7 +2,8 @@
 use Rattle.std.proofs.Common.{◌≡◌, ℕ, ◌+◌, ◌<◌, ◌≤◌, ◌==◌, Bool, true, false, not, cond, List, [], ◌∷◌, ◌++◌, filter, find, is_some, Option, Some, option_map, refl, ap, arith}
 use Rattle.std.specs.Prelude.{All}
 use Rattle.std.proofs.lemmas.List.Elements.{All-push}
-use Rattle.nr_marks.specs.Numbered.{RisesWithin, NumberedItems, is_full, newest, numbers_of, with_item}
+use Rattle.nr_marks.specs.Numbered.{NumberedItems, is_full, newest, with_item}
+use Rattle.nr_marks.specs.Auxiliary.Numbered.{RisesWithin, numbers_of}
 use Rattle.nr_marks.specs.declared.numbered.Numbered.{Numbered}
 
 -- numbers above one bound are above a lower one

@@ -1,24 +1,19 @@
 -- Where marks hit.
 use Rattle.std.specs.Prelude.{ℕ, ◌+◌, ◌-◌, ◌==◌, Bool, false, not, List, slice_get, map, filter, Option, Some, None, option_map}
 use Rattle.std.specs.Int.NonZero.{non_zero_u32_get}
-use Rattle.nr_rev.specs.Cell.{cell}
+use Rattle.nr_rev.specs.Cell.{cell, same_value}
 use Rattle.nr_rev.specs.Kind.{kind_of, same_kind}
 use Rattle.nr_rev.specs.Run.{Recording, world_at}
 use Rattle.nr_rev.specs.World.{World}
 use Rattle.nr_rev.specs.declared.cell_value.CellValue.{CellValue}
 use Rattle.nr_rev.specs.declared.cell_value.CellValue.TheVariants.{Absent}
 use Rattle.nr_rev.specs.declared.step.Step.{Step}
-use Rattle.nr_rev.specs.contracts.cell_value.CellValuePartialEq.TheImpl as value_eq
 use Rattle.nr_marks.specs.declared.mark.Break.{Break}
 use Rattle.nr_marks.specs.declared.mark.Break.TheVariants as break
 use Rattle.nr_marks.specs.declared.mark.Mark.{Mark}
 use Rattle.nr_marks.specs.declared.mark.Mark.TheVariants as mark
 use Rattle.nr_marks.specs.declared.mark.NextStep.{NextStep}
 use Rattle.nr_marks.specs.Marks.{NumberedMark}
-
--- what `==` says of two values of cells
-abbrev pub same_value : CellValue → CellValue → Bool
-same_value = (value_eq.ghosts).eq
 
 -- A break names a step by its kind, or by its number.
 abbrev pub names : Break → NextStep → Bool

@@ -1,12 +1,13 @@
 //! Laws of hits: public functions with an empty body, whose contract is the law.
 
 ghost use Rattle.std.specs.Prelude.{◌≡◌, ◌↔◌, ◌∷◌, [], ℕ, true};
+ghost use Rattle.nr_rev.specs.Cell.{same_value};
 ghost use Rattle.nr_rev.specs.Kind.{same_kind};
 ghost use Rattle.nr_rev.specs.Run.{Recording};
 ghost use Rattle.nr_rev.specs.declared.cell.Cell.{Cell};
 ghost use Rattle.nr_rev.specs.declared.cell_value.CellValue.{CellValue};
 ghost use Rattle.nr_rev.specs.declared.kind.Kind.{Kind};
-ghost use Rattle.nr_marks.specs.Hit.{hits_at, same_value};
+ghost use Rattle.nr_marks.specs.Hit.{hits_at};
 ghost use Rattle.nr_marks.specs.declared.mark.Mark.TheVariants.{Watch};
 ghost use Rattle.nr_marks.specs.declared.numbered.TheConstants.{MOST_NUMBERED};
 

@@ -52,7 +52,8 @@ impl Marks {
     ghost use Rattle.std.specs.Prelude.{◌≡◌, ◌≤◌, length, option_map, OnErr};
     ghost use Rattle.nr_marks.specs.Hit.{hits_between, step_numbered};
     ghost use Rattle.nr_marks.specs.Marks.{after_stop, any_watch, mark_deletion, next_number};
-    ghost use Rattle.nr_marks.specs.Numbered.{RisesWithin, empty, numbers_of, with_item, without_item};
+    ghost use Rattle.nr_marks.specs.Numbered.{empty, with_item, without_item};
+    ghost use Rattle.nr_marks.specs.Auxiliary.Numbered.{RisesWithin, numbers_of};
     ghost use Rattle.nr_marks.specs.declared.marks.TheConstants.{MOST_MARKS};
     ghost use Rattle.nr_marks.specs.declared.mark.Mark.TheVariants as mark;
 

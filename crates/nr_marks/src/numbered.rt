@@ -25,7 +25,8 @@ pub struct NumberedList<T> {
 }
 
 impl<T> Model for NumberedList<T> {
-    ghost use Rattle.nr_marks.specs.Numbered.{RisesWithin, NumberedItems, numbers_of};
+    ghost use Rattle.nr_marks.specs.Numbered.{NumberedItems};
+    ghost use Rattle.nr_marks.specs.Auxiliary.Numbered.{RisesWithin, numbers_of};
 
     ghost Value = { NumberedItems T };
 
@@ -35,7 +36,8 @@ impl<T> Model for NumberedList<T> {
 }
 
 impl<T: Copy + Default> NumberedList<T> {
-    ghost use Rattle.nr_marks.specs.Numbered.{RisesWithin, empty, item_of, next, numbers_of, is_present, with_item, without_item};
+    ghost use Rattle.nr_marks.specs.Numbered.{empty, item_of, is_present, with_item, without_item};
+    ghost use Rattle.nr_marks.specs.Auxiliary.Numbered.{RisesWithin, next, numbers_of};
     ghost use Rattle.nr_marks.specs.declared.numbered.TheConstants.{MOST_NUMBERED};
 
     /// No items.

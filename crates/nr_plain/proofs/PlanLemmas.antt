@@ -3,7 +3,7 @@ use Rattle.std.proofs.Common.{Result, Ok, Err, ap, inl, sym, subst}
 use Rattle.nr_rev.specs.declared.refusal.Refusal.{Refusal}
 use Rattle.nr_rev.specs.declared.step.Step.{Step}
 use Rattle.nr_rev.specs.declared.answer.Answer.{Answer}
-use Rattle.nr_rev.specs.Step.{IsTimely}
+use Rattle.nr_rev.specs.Auxiliary.Step.{IsTimely}
 use Rattle.nr_rev.specs.World.{World}
 use Rattle.nr_rev.specs.WellFormed.{WellFormed}
 use Rattle.nr_rev.proofs.StepKeepsLemmas.{step_keeps}

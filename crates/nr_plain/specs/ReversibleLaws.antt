@@ -5,7 +5,8 @@ use Rattle.nr_rev.specs.declared.answer.Answer.{Answer}
 use Rattle.nr_rev.specs.declared.refusal.Refusal.{Refusal}
 use Rattle.nr_rev.specs.Refusing.{out_of_memory}
 use Rattle.nr_rev.specs.declared.step.Step.{Step}
-use Rattle.nr_rev.specs.Step.{Outcome, StepTo, outcome}
+use Rattle.nr_rev.specs.Step.{Outcome, outcome}
+use Rattle.nr_rev.specs.Auxiliary.Step.{StepTo}
 use Rattle.nr_rev.specs.WellFormed.{WellFormed}
 use Rattle.nr_rev.specs.World.{World}
 use Rattle.nr_rev.specs.Worlds.{refusal_of}

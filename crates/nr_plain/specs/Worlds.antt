@@ -2,7 +2,8 @@
 use Rattle.std.specs.Prelude.{◌≡◌, Ok}
 use Rattle.nr_rev.specs.declared.answer.Answer.{Answer}
 use Rattle.nr_rev.specs.declared.step.Step.{Step}
-use Rattle.nr_rev.specs.Step.{StepTo, outcome}
+use Rattle.nr_rev.specs.Step.{outcome}
+use Rattle.nr_rev.specs.Auxiliary.Step.{StepTo}
 use Rattle.nr_rev.specs.WellFormed.{WellFormed}
 use Rattle.nr_rev.specs.World.{World}
 use Rattle.nr_rev.specs.Worlds.{LosesBytes, bytes_left, refusal_of}

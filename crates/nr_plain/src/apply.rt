@@ -1,7 +1,7 @@
 //! Steps applied and undone.
 
 ghost use Rattle.std.specs.Prelude.{◌≡◌, ◌≤◌, ◌+◌, length, sum_by};
-ghost use Rattle.nr_rev.specs.Step.{IsTimely};
+ghost use Rattle.nr_rev.specs.Auxiliary.Step.{IsTimely};
 ghost use Rattle.nr_rev.specs.Transaction.{LeadsBack};
 ghost use Rattle.nr_rev.specs.WellFormed.{WellFormed};
 ghost use Rattle.nr_plain.specs.Edit.{Undoes, undo_weight};
@@ -134,7 +134,7 @@ impl PlainWorld {
 /// A step is planned first, which changes nothing, and then made of primitive changes; undoing it undoes
 /// these, from the last to the first.
 impl Reversible for PlainWorld {
-    ghost use Rattle.nr_rev.specs.Step.{StepTo};
+    ghost use Rattle.nr_rev.specs.Auxiliary.Step.{StepTo};
     ghost use Rattle.nr_rev.specs.WellFormed.{WellFormed};
     ghost use Rattle.nr_rev.specs.Worlds.{LosesBytes, bytes_left};
     ghost use Rattle.nr_plain.specs.declared.delta.TheConstants.{MOST_WORDS};

@@ -4,10 +4,11 @@
 ghost use Rattle.std.specs.Prelude.{◌≡◌, ◌&&◌, IfOk, IsTrue, None, negsuc, option_map, option_to_list};
 ghost use Rattle.std.specs.Ordering.{int_eq};
 ghost use Rattle.nr_rev.specs.Descriptor as spec;
+ghost use Rattle.nr_rev.specs.Auxiliary.Descriptor as auxiliary;
 ghost use Rattle.nr_rev.specs.Sides as sides;
 ghost use Rattle.nr_rev.specs.declared.sides.Side.TheVariants.{Read, Write};
 ghost use Rattle.nr_plain.specs.Change.{change_view, followed_view, unblocked_view};
-ghost use Rattle.nr_rev.specs.Refusing.{Gives};
+ghost use Rattle.nr_rev.specs.Auxiliary.Refusing.{Gives};
 
 use crate::descriptor::{is_combo, is_expired, with_deadlines, with_wait_word};
 use nr_rev::{
@@ -190,7 +191,7 @@ impl PlainChange {
 
 /// Both timers after the deadlines of `old` became those of the descriptor, reading first.
 fn both_follow(old: Descriptor, descriptor: Descriptor) -> Result<PlainChange, Refusal>
-    ensures viewed { Gives change_view result (spec.both_follow old descriptor) }
+    ensures viewed { Gives change_view result (auxiliary.both_follow old descriptor) }
     ensures woken { IfOk result (λ change. change.woken ≡ sides.twice None) }
 {
     let read = timer_follows(Side::Read, old, descriptor)?;

@@ -20,14 +20,18 @@ use Rattle.nr_recording.specs.declared.recording.TheConstants.{MOST_BYTES}
 use Rattle.nr_recording.specs.declared.recording.RecordedStep.{RecordedStep}
 use Rattle.nr_recording.specs.declared.version.Version.{Version}
 use Rattle.nr_recording.specs.declared.version.Version.TheVariants.{One, Two}
-use Rattle.nr_recording.specs.Answer.{answer_of, answer_data, IsAnswerInType}
+use Rattle.nr_recording.specs.Answer.{answer_of}
+use Rattle.nr_recording.specs.Auxiliary.Answer.{answer_data, IsAnswerInType}
 use Rattle.nr_recording.specs.Numbers.{u32_of}
-use Rattle.nr_recording.specs.Recording.{fits, is_writable}
-use Rattle.nr_recording.specs.Version.{has_kind, kind_in, may_have, most_buffer}
+use Rattle.nr_recording.specs.Auxiliary.Recording.{fits, is_writable}
+use Rattle.nr_recording.specs.Version.{has_kind, kind_in, most_buffer}
+use Rattle.nr_recording.specs.Auxiliary.Version.{may_have}
 use Rattle.nr_recording.specs.Arguments.{none, most_digits, side_of, mode_of, bit_of, hex_of, i64_of, from_zero}
 use Rattle.nr_recording.specs.Header.{version_of, limit_of, limits_of, header_of}
-use Rattle.nr_recording.specs.Steps.{step_in, arguments_of, answer_arguments, answer_in, step_of}
-use Rattle.nr_recording.specs.Spelling.{Argument, numeral, time, side, mode, bit, digits, argument_data, arguments_data, AreInTypes, IsMoment}
+use Rattle.nr_recording.specs.Steps.{step_in, answer_in, step_of}
+use Rattle.nr_recording.specs.Auxiliary.Steps.{arguments_of, answer_arguments}
+use Rattle.nr_recording.specs.Spelling.{Argument, numeral, time, side, mode, bit, digits}
+use Rattle.nr_recording.specs.Auxiliary.Spelling.{argument_data, arguments_data, AreInTypes, IsMoment}
 use Rattle.nr_recording.specs.Writing.{step_data, HasTypedArguments, header_data}
 
 number_again : (n : ℕ) → n < 2 ^ 32 → u32_of (argument_data (numeral n)) ≡ Some n

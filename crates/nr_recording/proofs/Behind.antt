@@ -3,7 +3,8 @@ use Rattle.std.proofs.Common.{◌≡◌, ℕ, List, [], ◌∷◌, ◌++◌, ref
 use Rattle.serde_json.specs.Data.{Data, string, array, Items, no_items, item}
 use Rattle.serde_json.specs.View.{view, items_view}
 use Rattle.serde_json.specs.declared.value.Value.{Value}
-use Rattle.nr_recording.specs.Spelling.{Argument, argument_data, arguments_data, IsInType, AreInTypes, IsSpelling}
+use Rattle.nr_recording.specs.Spelling.{Argument}
+use Rattle.nr_recording.specs.Auxiliary.Spelling.{argument_data, arguments_data, IsInType, AreInTypes, IsSpelling}
 
 -- the values, and one behind them
 abbrev push : Items → Data → Items

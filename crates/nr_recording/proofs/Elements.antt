@@ -3,8 +3,10 @@ use Rattle.std.proofs.Common.{◌≡◌, Option, Some, refl}
 use Rattle.serde_json.specs.Data.{Data, null, boolean, number, string, array, object}
 use Rattle.nr_recording.specs.declared.reading.Header.{Header}
 use Rattle.nr_recording.specs.Part.{elements}
-use Rattle.nr_recording.specs.Reading.{Seen, with_value, value_takes_memory}
-use Rattle.nr_recording.specs.Steps.{step_of, step_takes_memory}
+use Rattle.nr_recording.specs.Reading.{Seen, with_value}
+use Rattle.nr_recording.specs.Auxiliary.Reading.{value_takes_memory}
+use Rattle.nr_recording.specs.Steps.{step_of}
+use Rattle.nr_recording.specs.Auxiliary.Steps.{step_takes_memory}
 
 seen_of : (seen : Seen) (header : Header) (d : Data) → with_value seen (Some header) (array (elements d)) ≡ with_value seen (Some header) d
 unfolding step_of

@@ -10,7 +10,7 @@ use Rattle.serde_json.specs.declared.error.Error.{Error}
 use Rattle.serde_json.specs.Read.{read}
 use Rattle.nr_recording.specs.declared.fault.Fault.{Fault}
 use Rattle.nr_recording.specs.declared.fault.Fault.TheVariants as fault
-use Rattle.nr_recording.specs.Faults.{Fails, of_category, of_json}
+use Rattle.nr_recording.specs.Auxiliary.Faults.{Fails, of_category, of_json}
 use Rattle.nr_recording.specs.Reading.{value_of}
 
 pub value_of_valid : (line : List ℕ) (d : Data) → IsUtf8 line × (read line ≡ Some d) → value_of line ≡ Ok d

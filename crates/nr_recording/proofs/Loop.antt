@@ -3,6 +3,7 @@ use Rattle.std.proofs.Common.{◌≡◌, ℕ, suc, ◌+◌, ◌≤◌, ◌<◌, 
 use Rattle.std.proofs.lemmas.List.{drop_more}
 use Rattle.std.proofs.lemmas.List.Folds.{list_any_at}
 use Rattle.std.proofs.Math.ListN.{drop_of_length-le}
+use Rattle.nr_rev.specs.Refusing.{refused_memory}
 use Rattle.nr_recording.specs.Recording.{Recorded}
 use Rattle.nr_recording.specs.declared.recording.RecordedStep.{RecordedStep}
 use Rattle.nr_recording.specs.declared.reading.Header.{Header}
@@ -10,8 +11,10 @@ use Rattle.nr_recording.specs.declared.fault.LineError.{LineError}
 use Rattle.nr_recording.specs.declared.fault.LineError.TheVariants as errors
 use Rattle.nr_recording.specs.declared.fault.ReadFault.{ReadFault}
 use Rattle.nr_recording.specs.declared.fault.ReadFault.TheVariants as faults
-use Rattle.nr_recording.specs.Faults.{◌>>=◌, Fails}
-use Rattle.nr_recording.specs.Reading.{Seen, at_line, read_fault_at, nothing, lines, with_line, with_lines, with_header, recording_at_end, reading, line_takes_memory, text_takes_memory, IsFaultOf, IsUnlessMemory}
+use Rattle.nr_recording.specs.Faults.{◌>>=◌}
+use Rattle.nr_recording.specs.Auxiliary.Faults.{Fails}
+use Rattle.nr_recording.specs.Reading.{Seen, at_line, nothing, lines, with_line, with_lines, with_header, recording_at_end, reading}
+use Rattle.nr_recording.specs.Auxiliary.Reading.{read_fault_at, line_takes_memory, text_takes_memory, IsFaultOf, IsUnlessMemory}
 
 at_step : (all : List (List ℕ)) (seen : Seen) (line : List ℕ) (i : ℕ) → i < length all → line ≡ get_or all i line
     → with_lines (suc i) seen (drop i all) ≡ (at_line (suc i) (with_line seen line) >>= λ next. with_lines (suc (suc i)) next (drop (i + 1) all))
@@ -28,7 +31,7 @@ goes_on all seen next line i total lt is h so_far =
 pub stops : (e : LineError) (bytes : List ℕ) (seen : Seen) (line : List ℕ) (i : ℕ) → i < length (lines bytes) → line ≡ get_or (lines bytes) i line → Fails e (with_line seen line)
     → with_lines (suc i) seen (drop i (lines bytes)) ≡ with_lines 1 nothing (lines bytes) → IsFaultOf (read_fault_at (suc i) e) (reading bytes)
 unfolding reading
-stops errors.Memory bytes seen line i lt is h so_far = tt
+stops (errors.Memory refused) bytes seen line i lt is h so_far = tt
 stops (errors.Fault f) bytes seen line i lt is h so_far =
     let one : with_lines (suc i) seen (drop i (lines bytes)) ≡ Err (faults.Line (suc i) f) = rw (at_step (lines bytes) seen line i lt is, h) refl in
     rw (sym so_far ∙ one) refl
@@ -42,17 +45,17 @@ ends bytes seen i is so_far =
     rw (sym so_far ∙ one, ← is) refl
 
 -- a line for which there was no memory takes memory
-pub wanted : (bytes line : List ℕ) (i n : ℕ) (e : LineError) → i < length (lines bytes) → line ≡ get_or (lines bytes) i line → (e ≡ errors.Memory → line_takes_memory line ≡ true)
-    → read_fault_at n e ≡ faults.Memory → text_takes_memory bytes ≡ true
-wanted bytes line i n errors.Memory lt is h reported = list_any_at line_takes_memory (lines bytes) i line lt (rw (← is) (h refl))
+pub wanted : (bytes line : List ℕ) (i n : ℕ) (e : LineError) → i < length (lines bytes) → line ≡ get_or (lines bytes) i line → (e ≡ errors.Memory refused_memory → line_takes_memory line ≡ true)
+    → read_fault_at n e ≡ faults.Memory refused_memory → text_takes_memory bytes ≡ true
+wanted bytes line i n (errors.Memory refused) lt is h reported = list_any_at line_takes_memory (lines bytes) i line lt (rw (← is) (h refl))
 wanted bytes line i n (errors.Fault f) lt is h reported = absurd cc
 
 -- what is behind the last line takes no memory
-pub never_wanted : (n : ℕ) (header : Option Header) (steps : List RecordedStep) → ¬ (with_header n header steps ≡ Err faults.Memory)
+pub never_wanted : (n : ℕ) (header : Option Header) (steps : List RecordedStep) → ¬ (with_header n header steps ≡ Err (faults.Memory refused_memory))
 never_wanted n None steps = λ e. cc
 never_wanted n (Some header) steps = λ e. cc
 
 pub itself : (r read : Result Recorded ReadFault) → r ≡ read → IsUnlessMemory r read
 itself (Ok x) read e = sym e
 itself (Err (faults.Line n f)) read e = sym e
-itself (Err faults.Memory) read e = tt
+itself (Err (faults.Memory refused)) read e = tt

@@ -20,9 +20,10 @@ use Rattle.nr_rev.specs.declared.sides.Side.TheVariants as sides
 use Rattle.nr_rev.specs.declared.sides.Mode.TheVariants as modes
 use Rattle.nr_recording.specs.Reading.{lines}
 use Rattle.nr_recording.specs.declared.reading.TheConstants.{MOST_LINE_BYTES}
-use Rattle.nr_recording.specs.Spelling.{Argument, numeral, tag, time, side, mode, bit, digits, answer, argument_data, arguments_data, IsInType, AreInTypes, line_data}
-use Rattle.nr_recording.specs.Answer.{counted_data, answer_data}
-use Rattle.nr_recording.specs.Version.{version_number}
+use Rattle.nr_recording.specs.Spelling.{Argument, numeral, tag, time, side, mode, bit, digits, answer}
+use Rattle.nr_recording.specs.Auxiliary.Spelling.{argument_data, arguments_data, IsInType, AreInTypes, line_data}
+use Rattle.nr_recording.specs.Auxiliary.Answer.{counted_data, answer_data}
+use Rattle.nr_recording.specs.Auxiliary.Version.{version_number}
 use Rattle.nr_recording.specs.Writing.{header_data, line_text}
 use Rattle.nr_recording.specs.declared.version.Version.{Version}
 use Rattle.nr_rev.specs.declared.answer.Answer.{Answer}

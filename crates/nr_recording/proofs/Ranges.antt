@@ -21,13 +21,14 @@ use Rattle.nr_recording.specs.declared.fault.Fault.{Fault}
 use Rattle.nr_recording.specs.declared.fault.Fault.TheVariants as fault
 use Rattle.nr_recording.specs.Faults.{or_fault}
 use Rattle.nr_rev.specs.Limits.{is_limit, AreInRange}
-use Rattle.nr_recording.specs.Reading.{AreOfHeader}
+use Rattle.nr_recording.specs.Auxiliary.Reading.{AreOfHeader}
 use Rattle.nr_recording.specs.declared.reading.Header.{Header}
-use Rattle.nr_recording.specs.Recording.{fits, is_writable}
+use Rattle.nr_recording.specs.Auxiliary.Recording.{fits, is_writable}
 use Rattle.nr_recording.specs.declared.recording.RecordedStep.{RecordedStep}
 use Rattle.nr_recording.specs.declared.version.Version.{Version}
 use Rattle.nr_recording.specs.declared.version.Version.TheVariants.{One, Two}
-use Rattle.nr_recording.specs.Version.{has_kind, kept_kind, kind_in, may_have, most_buffer}
+use Rattle.nr_recording.specs.Version.{has_kind, kept_kind, kind_in, most_buffer}
+use Rattle.nr_recording.specs.Auxiliary.Version.{may_have}
 use Rattle.nr_recording.specs.Arguments.{most_digits, bytes_named, hex_of, i64_of, from_zero, time_of, first_by, number, bytes, time, answer, ◌and◌}
 use Rattle.nr_recording.specs.Shapes.{step_from}
 use Rattle.nr_recording.specs.Steps.{first_of, step_in, answer_in, ends, step_of}

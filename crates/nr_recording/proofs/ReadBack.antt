@@ -14,9 +14,10 @@ use Rattle.serde_json.proofs.Numbers.{number_of-decimal, number_of-negative}
 use Rattle.serde_json.proofs.Texts.{print-outline}
 use Rattle.serde_json.proofs.OnLiterals.{serde_json_on_literals}
 use Rattle.nr_rev.specs.declared.limits.Limits.{Limits}
-use Rattle.nr_recording.specs.Spelling.{Argument, numeral, tag, time, side, mode, bit, digits, answer, argument_data, arguments_data, IsInType, AreInTypes, line_data}
-use Rattle.nr_recording.specs.Answer.{counted_data, answer_data, IsAnswerInType}
-use Rattle.nr_recording.specs.Version.{version_number}
+use Rattle.nr_recording.specs.Spelling.{Argument, numeral, tag, time, side, mode, bit, digits, answer}
+use Rattle.nr_recording.specs.Auxiliary.Spelling.{argument_data, arguments_data, IsInType, AreInTypes, line_data}
+use Rattle.nr_recording.specs.Auxiliary.Answer.{counted_data, answer_data, IsAnswerInType}
+use Rattle.nr_recording.specs.Auxiliary.Version.{version_number}
 use Rattle.nr_recording.specs.Writing.{header_data}
 use Rattle.nr_recording.specs.declared.version.Version.{Version}
 use Rattle.nr_recording.specs.declared.version.Version.TheVariants.{One, Two}

@@ -7,12 +7,14 @@ use Rattle.std.proofs.lemmas.Bool.{and_parts, eqb-true, le-ltb}
 use Rattle.std.proofs.lemmas.Option.{same_Some, slice_get_past, slice_get_read}
 use Rattle.std.proofs.lemmas.List.{length-append}
 use Rattle.nr_rev.specs.Kind.{kind_of}
-use Rattle.nr_rev.specs.Limits.{are_in_range}
+use Rattle.nr_rev.specs.Auxiliary.Limits.{are_in_range}
 use Rattle.nr_rev.specs.declared.answer.Answer.{Answer}
 use Rattle.nr_rev.specs.declared.limits.Limits.{Limits}
 use Rattle.nr_rev.specs.declared.step.Step.{Step}
-use Rattle.nr_recording.specs.Recording.{fits, has_line, have_lines, make_lines, is_writable, are_writable, recorded, recording_of}
-use Rattle.nr_recording.specs.Version.{answer_count, has_kind, may_have, most_buffer}
+use Rattle.nr_recording.specs.Recording.{recorded}
+use Rattle.nr_recording.specs.Auxiliary.Recording.{fits, has_line, have_lines, make_lines, is_writable, are_writable, recording_of}
+use Rattle.nr_recording.specs.Version.{has_kind, most_buffer}
+use Rattle.nr_recording.specs.Auxiliary.Version.{answer_count, may_have}
 use Rattle.nr_recording.specs.declared.recording.RecordedStep.{RecordedStep}
 use Rattle.nr_recording.specs.declared.recording.TheConstants.{MOST_STEPS}
 use Rattle.nr_recording.specs.declared.version.Version.{Version}

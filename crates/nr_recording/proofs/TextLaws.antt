@@ -17,7 +17,8 @@ use Rattle.nr_recording.specs.Faults.{◌>>=◌}
 use Rattle.nr_recording.proofs.Binds.{bind_ok, guard_ok, choice, same_ok}
 use Rattle.nr_recording.specs.Header.{version_of, header_of}
 use Rattle.nr_recording.specs.Steps.{step_of}
-use Rattle.nr_recording.specs.Reading.{Seen, nothing, lines, is_blank, value_of, with_value, with_line, at_line, with_lines, recording_at_end, reading, IsUnlessMemory}
+use Rattle.nr_recording.specs.Reading.{Seen, nothing, lines, is_blank, value_of, with_value, with_line, at_line, with_lines, recording_at_end, reading}
+use Rattle.nr_recording.specs.Auxiliary.Reading.{IsUnlessMemory}
 use Rattle.nr_recording.specs.Text.{IsSkipped, IsValueLine, AreSteps, AreLinesOf, IsTextOf}
 
 at_line_ok : {A : Type 0} (n : ℕ) (r : Result A Fault) (x : A) → at_line n r ≡ Ok x → r ≡ Ok x

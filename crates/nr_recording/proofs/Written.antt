@@ -12,12 +12,14 @@ use Rattle.nr_recording.specs.declared.reading.TheConstants.{MOST_LINE_BYTES}
 use Rattle.nr_recording.specs.declared.recording.TheConstants.{MOST_BYTES}
 use Rattle.nr_recording.specs.declared.recording.RecordedStep.{RecordedStep}
 use Rattle.nr_recording.specs.declared.version.Version.{Version}
-use Rattle.nr_recording.specs.Recording.{Recorded, fits, is_writable, are_writable, IsRecording}
-use Rattle.nr_recording.specs.Version.{has_kind, may_have}
+use Rattle.nr_recording.specs.Recording.{Recorded}
+use Rattle.nr_recording.specs.Auxiliary.Recording.{fits, is_writable, are_writable, IsRecording}
+use Rattle.nr_recording.specs.Version.{has_kind}
+use Rattle.nr_recording.specs.Auxiliary.Version.{may_have}
 use Rattle.nr_recording.specs.Reading.{lines, value_of, reading}
 use Rattle.nr_recording.specs.Text.{AreSteps, AreLinesOf, IsTextOf}
 use Rattle.nr_recording.specs.Spelling.{Argument}
-use Rattle.nr_recording.specs.Steps.{arguments_of, answer_arguments, spelling_of}
+use Rattle.nr_recording.specs.Auxiliary.Steps.{arguments_of, answer_arguments, spelling_of}
 use Rattle.nr_recording.specs.Writing.{step_data, HasTypedArguments, header_data, line_text, text}
 use Rattle.nr_recording.proofs.Again.{step_again, version_again, header_again}
 use Rattle.nr_recording.proofs.ReadBack.{line_read, header_read}

@@ -1,6 +1,5 @@
 -- The arguments of a step, by their shapes.
-use Rattle.std.specs.Prelude.{ℕ, ◌*◌, ◌%◌, ◌==◌, List, length, Bool, true, false, not, ◌&&◌, ℤ, pos, int_lt, Option, Some, None, option_map, option_and_then, Result, Ok, Err, nat_lt, if◌then◌else◌, codes, ⊤}
-use Rattle.std.specs.Option.{option_map_or}
+use Rattle.std.specs.Prelude.{ℕ, ◌*◌, ◌==◌, List, length, Bool, true, false, ℤ, pos, int_lt, Option, Some, None, option_map, option_and_then, Result, Ok, Err, nat_lt, if◌then◌else◌, codes, ⊤}
 use Rattle.std.specs.Str.{bytes_eq}
 use Rattle.std.specs.Result.{result_ok}
 use Rattle.hex.specs.Hex.{decode_of}
@@ -75,15 +74,6 @@ bytes_named text = if nat_lt most_digits (length text) then None else result_ok 
 abbrev pub hex_of : Data → Option (List ℕ)
 hex_of d = option_and_then bytes_named (as_str d)
 
--- the bytes of a text take memory to read where it has an even number of digits, not too many
-abbrev pub digits_take_memory : List ℕ → Bool
-digits_take_memory text = not (nat_lt most_digits (length text)) && (length text % 2 == 0)
-
--- an argument that is read as bytes takes memory, where it is a text with an even number of digits,
--- not too many
-abbrev pub argument_takes_memory : Data → Bool
-argument_takes_memory d = option_map_or digits_take_memory (as_str d) false
-
 -- ---- the arguments at the front of a list, each read with what is left behind it
 
 -- the first argument; where there is none, or it is none of these, the arguments are faulty
@@ -139,20 +129,3 @@ abbrev pub ◌and◌ : {A B : Type 0} → (Items → Result (A × Items) Fault)
   x ← first ds
   y ← second x.1
   Ok ((x.0, y.0), y.1)
-
--- what a function returned that reads arguments, and what it left
-abbrev pub with_rest : {A : Type 0} → Items → Result A Fault → Result (A × Items) Fault
-with_rest ds (Ok x) = Ok (x, ds)
-with_rest ds (Err f) = Err f
-
--- ---- what takes memory to read
-
--- the first argument does
-abbrev pub first_takes_memory : Items → Bool
-first_takes_memory no_items = false
-first_takes_memory (item d ds) = argument_takes_memory d
-
--- the argument behind these does
-abbrev pub next_takes_memory : {A : Type 0} → Result (A × Items) Fault → Bool
-next_takes_memory (Ok found) = first_takes_memory found.1
-next_takes_memory (Err f) = false

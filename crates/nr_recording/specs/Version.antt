@@ -1,17 +1,11 @@
 -- The versions of the format: which number each has, and what it allows.
 use Rattle.std.specs.Prelude.{ℕ, ◌==◌, List, Bool, true, false, Option, Some, None, option_and_then, if◌then◌else◌}
 use Rattle.nr_rev.specs.Kind.{kind_named}
-use Rattle.nr_rev.specs.declared.answer.Answer.{Answer}
 use Rattle.nr_rev.specs.declared.kind.Kind.{Kind}
 use Rattle.nr_rev.specs.declared.limits.TheConstants.{MOST_BUFFER}
 use Rattle.nr_recording.specs.declared.version.TheConstants.{MOST_BUFFER_IN_ONE}
 use Rattle.nr_recording.specs.declared.version.Version.{Version}
 use Rattle.nr_recording.specs.declared.version.Version.TheVariants.{One, Two}
-
--- the number in the header
-abbrev pub version_number : Version → ℕ
-version_number One = 1
-version_number Two = 2
 
 -- the version of this number
 abbrev pub version_numbered : ℕ → Option Version
@@ -34,15 +28,3 @@ kept_kind version kind = if has_kind version kind then Some kind else None
 -- the kind of this name
 unfoldable pub kind_in : Version → List ℕ → Option Kind
 kind_in version name = option_and_then (kept_kind version) (kind_named name)
-
--- how many answers go with so many steps: in version 2 one each, in version 1 none
-abbrev pub answer_count : Version → ℕ → ℕ
-answer_count One steps = 0
-answer_count Two steps = steps
-
--- a step has its answer in version 2, and none in version 1
-abbrev pub may_have : Version → Option Answer → Bool
-may_have One None = true
-may_have One (Some answer) = false
-may_have Two None = false
-may_have Two (Some answer) = true

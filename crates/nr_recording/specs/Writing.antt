@@ -10,9 +10,9 @@ use Rattle.nr_recording.specs.declared.fault.WriteFault.TheVariants as faults
 use Rattle.nr_recording.specs.declared.recording.RecordedStep.{RecordedStep}
 use Rattle.nr_recording.specs.declared.version.Version.{Version}
 use Rattle.nr_recording.specs.Recording.{Recorded}
-use Rattle.nr_recording.specs.Spelling.{AreInTypes, line_data}
-use Rattle.nr_recording.specs.Steps.{spelling_of}
-use Rattle.nr_recording.specs.Version.{version_number}
+use Rattle.nr_recording.specs.Auxiliary.Spelling.{AreInTypes, line_data}
+use Rattle.nr_recording.specs.Auxiliary.Steps.{spelling_of}
+use Rattle.nr_recording.specs.Auxiliary.Version.{version_number}
 
 -- the JSON of a step and of the answer that is recorded of it
 abbrev pub step_data : RecordedStep → Data

@@ -2,7 +2,8 @@
 
 ghost use Rattle.std.specs.Prelude.{◌≡◌, IfOk};
 ghost use Rattle.serde_json.specs.View.{view, items_view};
-ghost use Rattle.nr_recording.specs.Answer.{worded, counted, counted_of, answer_of, counted_data, IsAnswer};
+ghost use Rattle.nr_recording.specs.Answer.{worded, counted, counted_of, answer_of};
+ghost use Rattle.nr_recording.specs.Auxiliary.Answer.{counted_data, IsAnswer};
 
 use nr_rev::Answer;
 use serde_json::{Value, json};

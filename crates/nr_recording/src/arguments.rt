@@ -1,10 +1,12 @@
 //! The arguments of a step, each read from the front of what is left of its line.
 
 ghost use Rattle.std.specs.Prelude.{◌≡◌, true};
+ghost use Rattle.nr_rev.specs.Refusing.{refused_memory};
 ghost use Rattle.nr_recording.specs.Numbers.{u32_of};
 ghost use Rattle.nr_recording.specs.Part.{part_data, rest_of};
-ghost use Rattle.nr_recording.specs.Arguments.{side_named, side_of, mode_named, mode_of, bit_named, bit_of, time_of, with_rest, first_takes_memory, number as number_in, side as side_in, mode as mode_in, answer as answer_in, tag as tag_in, bit as bit_in, moment as moment_in, time as time_in, bytes as bytes_in};
-ghost use Rattle.nr_recording.specs.Faults.{ReadsBy};
+ghost use Rattle.nr_recording.specs.Arguments.{side_named, side_of, mode_named, mode_of, bit_named, bit_of, time_of, number as number_in, side as side_in, mode as mode_in, answer as answer_in, tag as tag_in, bit as bit_in, moment as moment_in, time as time_in, bytes as bytes_in};
+ghost use Rattle.nr_recording.specs.Auxiliary.Arguments.{with_rest, first_takes_memory};
+ghost use Rattle.nr_recording.specs.Auxiliary.Faults.{ReadsBy};
 
 use crate::fault::{Fault, LineError};
 use crate::part::{Part, Parts};
@@ -145,7 +147,7 @@ pub(crate) fn answer(arguments: &mut Parts<'_>) -> Result<Answer, Fault>
 pub(crate) fn bytes(alloc: Global, arguments: &mut Parts<'_>) -> Result<Bytes, LineError>
     ensures found { ReadsBy (λ bytes. (bytes, rest_of arguments.new)) result
         (bytes_in (rest_of arguments.old)) }
-    ensures memory { result ≡ Err LineError.Memory
+    ensures memory { result ≡ Err (LineError.Memory refused_memory)
         → first_takes_memory (rest_of arguments.old) ≡ true }
 {
     let text = arguments

@@ -1,14 +1,17 @@
 //! Why a recording could not be made, read or written.
 
 ghost use Rattle.std.specs.Prelude.{◌≡◌, Some};
+ghost use Rattle.nr_rev.specs.Refusing.{refused_memory};
 ghost use Rattle.nr_recording.specs.declared.fault.LineError.TheVariants.{Memory as LineMemory, Fault as AFault};
 ghost use Rattle.nr_recording.specs.declared.fault.WriteFault.TheVariants.{Memory as NoMemory, Device as DeviceFailed};
-ghost use Rattle.nr_recording.specs.Faults.{fault_text, memory_line, read_fault_line, of_hex, of_json};
+ghost use Rattle.nr_recording.specs.Faults.{fault_text, memory_line, read_fault_line};
+ghost use Rattle.nr_recording.specs.Auxiliary.Faults.{of_hex, of_json};
 
 use hex::FromHexError;
 use nr_rev::Memory;
 use nr_text::{Buffered, Part, Text, Token, WriteFailed, send_all};
 use serde_json::Category;
+use std::alloc::AllocError;
 use std::fmt::{Display, Formatter, Write};
 use std::{fmt, io};
 use thiserror::Error;
@@ -55,9 +58,9 @@ impl Display for Fault {
     }
 }
 
-/// There was no memory.
+/// There was no memory: a call was refused it.
 #[derive(Clone, Copy, Debug, PartialEq, Eq)]
-pub struct OutOfMemory;
+pub struct OutOfMemory(pub Memory);
 
 /// It is the line `fault 108 memory`.
 impl Text for OutOfMemory {
@@ -76,7 +79,7 @@ pub enum ReadFault {
     Line { line: usize, fault: Fault },
     /// Memory ran out.
     #[error("fault 108 memory")]
-    Memory,
+    Memory(Memory),
 }
 
 /// It is a line, as `line 6: fault 102 not JSON` or `fault 108 memory`.
@@ -95,7 +98,7 @@ impl Text for ReadFault {
                 ];
                 send_all(&parts, w)
             }
-            ReadFault::Memory => OutOfMemory.send(w),
+            ReadFault::Memory(refused) => OutOfMemory(*refused).send(w),
         }
     }
 }
@@ -118,7 +121,7 @@ pub enum MakeFault {
 /// Why a line could not be read.
 #[derive(Debug, Drop)]
 pub(crate) enum LineError {
-    Memory,
+    Memory(Memory),
     Fault(Fault),
 }
 
@@ -136,7 +139,7 @@ impl From<FromHexError> for LineError {
 
     fn from(error: FromHexError) -> LineError {
         match error {
-            FromHexError::OutOfMemory => LineError::Memory,
+            FromHexError::OutOfMemory => LineError::Memory(AllocError.into()),
             _ => LineError::Fault(Fault::Arguments),
         }
     }
@@ -148,29 +151,29 @@ impl From<serde_json::Error> for LineError {
 
     fn from(error: serde_json::Error) -> LineError {
         match error.classify() {
-            Category::Memory => LineError::Memory,
+            Category::Memory => LineError::Memory(AllocError.into()),
             _ => LineError::Fault(Fault::NotJson),
         }
     }
 }
 
 impl From<Memory> for LineError {
-    ghost from_gives = { λ _ e. e ≡ LineMemory };
+    ghost from_gives = { λ _ e. e ≡ LineMemory refused_memory };
 
-    fn from(_e: Memory) -> LineError {
-        LineError::Memory
+    fn from(refused: Memory) -> LineError {
+        LineError::Memory(refused)
     }
 }
 
 impl LineError {
-    ghost use Rattle.nr_recording.specs.Reading.{read_fault_at};
+    ghost use Rattle.nr_recording.specs.Auxiliary.Reading.{read_fault_at};
 
     /// The fault of this line of a text.
     pub(crate) fn at(self, line: usize) -> ReadFault
         ensures { result ≡ read_fault_at line self }
     {
         match self {
-            LineError::Memory => ReadFault::Memory,
+            LineError::Memory(refused) => ReadFault::Memory(refused),
             LineError::Fault(fault) => ReadFault::Line { line, fault },
         }
     }
@@ -181,17 +184,17 @@ impl LineError {
 pub enum WriteFault {
     /// Memory ran out. Just some first lines went out, whole, and not all.
     #[error("memory")]
-    Memory,
+    Memory(Memory),
     /// A write failed or took nothing. Just a prefix of the text went out, and not all.
     #[error("device")]
     Device,
 }
 
 impl From<Memory> for WriteFault {
-    ghost from_gives = { λ _ e. e ≡ NoMemory };
+    ghost from_gives = { λ _ e. e ≡ NoMemory refused_memory };
 
-    fn from(_e: Memory) -> WriteFault {
-        WriteFault::Memory
+    fn from(refused: Memory) -> WriteFault {
+        WriteFault::Memory(refused)
     }
 }
 

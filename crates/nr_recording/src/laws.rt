@@ -1,10 +1,12 @@
 //! Laws of the format, with no code.
 
 ghost use Rattle.std.specs.Prelude.{◌≡◌, All, List, ℕ};
-ghost use Rattle.nr_recording.specs.Recording.{Recorded, IsRecording};
+ghost use Rattle.nr_recording.specs.Recording.{Recorded};
+ghost use Rattle.nr_recording.specs.Auxiliary.Recording.{IsRecording};
 ghost use Rattle.nr_recording.specs.Reading.{reading};
 ghost use Rattle.nr_recording.specs.Text.{IsTextOf};
-ghost use Rattle.nr_recording.specs.Version.{version_number, most_buffer};
+ghost use Rattle.nr_recording.specs.Version.{most_buffer};
+ghost use Rattle.nr_recording.specs.Auxiliary.Version.{version_number};
 ghost use Rattle.nr_recording.specs.declared.version.Version.TheVariants.{One, Two};
 ghost use Rattle.nr_recording.specs.Writing.{HasTypedArguments, text};
 ghost use Rattle.nr_recording.specs.declared.recording.TheConstants.{MOST_BYTES, MOST_STEPS};

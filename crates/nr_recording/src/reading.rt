@@ -3,11 +3,14 @@
 ghost use Rattle.std.specs.Prelude.{◌≡◌, ◌<◌, ◌≤◌, [], ◌∷◌, ◌++◌, length, true, IfOk, OnErr, OnOk, Some, option_to_list};
 ghost use Rattle.serde_json.specs.Data.{array};
 ghost use Rattle.serde_json.specs.View.{view};
+ghost use Rattle.nr_rev.specs.Refusing.{refused_memory};
 ghost use Rattle.nr_recording.specs.Part.{rest_of};
-ghost use Rattle.nr_recording.specs.Recording.{Recorded, is_writable};
+ghost use Rattle.nr_recording.specs.Recording.{Recorded};
+ghost use Rattle.nr_recording.specs.Auxiliary.Recording.{is_writable};
 ghost use Rattle.nr_recording.specs.declared.recording.TheConstants.{MOST_STEPS};
-ghost use Rattle.nr_recording.specs.Faults.{ReadsBy};
-ghost use Rattle.nr_recording.specs.Reading.{value_of, is_space, is_blank, nothing, with_value, value_takes_memory, with_line, line_takes_memory, recording_at_end, reading, IsUnlessMemory, text_takes_memory};
+ghost use Rattle.nr_recording.specs.Auxiliary.Faults.{ReadsBy};
+ghost use Rattle.nr_recording.specs.Reading.{value_of, is_space, is_blank, nothing, with_value, with_line, recording_at_end, reading};
+ghost use Rattle.nr_recording.specs.Auxiliary.Reading.{value_takes_memory, line_takes_memory, IsUnlessMemory, text_takes_memory};
 ghost use Rattle.nr_recording.specs.Text.{IsTextOf};
 
 use crate::fault::{Fault, LineError, ReadFault};
@@ -62,7 +65,8 @@ struct RecordingReader {
 
 impl Model for RecordingReader {
     ghost use Rattle.std.specs.Prelude.{◌≤◌, length};
-    ghost use Rattle.nr_recording.specs.Reading.{Seen, IsSeen};
+    ghost use Rattle.nr_recording.specs.Reading.{Seen};
+    ghost use Rattle.nr_recording.specs.Auxiliary.Reading.{IsSeen};
     ghost use Rattle.nr_recording.specs.Recording.{recorded};
 
     ghost Value = { Seen };
@@ -131,7 +135,7 @@ impl RecordingReader {
         requires { self.old.header ≡ Some begun }
         ensures seen { ReadsBy (λ _. self.new) result
             (with_value self.old self.old.header (array (rest_of parts.entry))) }
-        ensures memory { result ≡ Err LineError.Memory
+        ensures memory { result ≡ Err (LineError.Memory refused_memory)
             → value_takes_memory self.old self.old.header (array (rest_of parts.entry)) ≡ true }
     {
         if self.len() == MOST_STEPS {
@@ -145,7 +149,7 @@ impl RecordingReader {
     fn value(&mut self, alloc: Global, value: &Value) -> Result<(), LineError>
         ensures seen { ReadsBy (λ _. self.new) result
             (with_value self.old self.old.header (view value.now)) }
-        ensures memory { result ≡ Err LineError.Memory
+        ensures memory { result ≡ Err (LineError.Memory refused_memory)
             → value_takes_memory self.old self.old.header (view value.now) ≡ true }
     {
         let Some(begun) = self.header else {
@@ -166,7 +170,7 @@ impl RecordingReader {
         parts: &mut PartList<'a>,
     ) -> Result<(), LineError>
         ensures seen { ReadsBy (λ _. self.new) result (with_line self.old line.now) }
-        ensures memory { result ≡ Err LineError.Memory → line_takes_memory line.now ≡ true }
+        ensures memory { result ≡ Err (LineError.Memory refused_memory) → line_takes_memory line.now ≡ true }
     {
         if line.len() > MOST_LINE_BYTES {
             return Err(LineError::Fault(Fault::Limit));
@@ -204,7 +208,7 @@ impl RecordingReader {
 
 fn read_lines(alloc: Global, bytes: &[u8]) -> Result<Recording, ReadFault>
     ensures exact { IsUnlessMemory result (reading bytes.now) }
-    ensures memory { result ≡ Err ReadFault.Memory → text_takes_memory bytes.now ≡ true }
+    ensures memory { result ≡ Err (ReadFault.Memory refused_memory) → text_takes_memory bytes.now ≡ true }
 {
     let mut reader = RecordingReader::new(alloc);
     let mut parts = ArrayVec::new();
@@ -233,7 +237,7 @@ pub fn read(alloc: Global, bytes: &[u8]) -> Result<Recording, ReadFault>
     ensures exact { IsUnlessMemory result (reading bytes.now) }
 
     // Memory runs out only where there is a line that isn't blank, nor too long.
-    ensures memory { result ≡ Err ReadFault.Memory → text_takes_memory bytes.now ≡ true }
+    ensures memory { result ≡ Err (ReadFault.Memory refused_memory) → text_takes_memory bytes.now ≡ true }
 {
     read_lines(alloc, bytes)
 }

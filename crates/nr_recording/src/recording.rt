@@ -1,7 +1,7 @@
 //! A recording: its version, limits and steps.
 
 ghost use Rattle.std.specs.Prelude.{◌≡◌};
-ghost use Rattle.nr_recording.specs.Recording.{fits, has_line, have_lines, make_lines};
+ghost use Rattle.nr_recording.specs.Auxiliary.Recording.{fits, has_line, have_lines, make_lines};
 
 use crate::fault::MakeFault;
 use crate::version::Version;
@@ -28,8 +28,9 @@ pub struct Recording {
 
 impl Model for Recording {
     ghost use Rattle.std.specs.Prelude.{◌≡◌, length};
-    ghost use Rattle.nr_recording.specs.Recording.{Recorded, IsRecording, recorded};
-    ghost use Rattle.nr_recording.specs.Version.{answer_count};
+    ghost use Rattle.nr_recording.specs.Recording.{Recorded, recorded};
+    ghost use Rattle.nr_recording.specs.Auxiliary.Recording.{IsRecording};
+    ghost use Rattle.nr_recording.specs.Auxiliary.Version.{answer_count};
 
     ghost Value = { Recorded };
 
@@ -85,7 +86,8 @@ impl Recording {
     ghost use Rattle.std.specs.Option.{option_copied};
     ghost use Rattle.nr_rev.specs.Limits.{AreInRange};
     ghost use Rattle.nr_recording.specs.declared.recording.TheConstants.{MOST_STEPS};
-    ghost use Rattle.nr_recording.specs.Recording.{IsRecording, are_writable, recorded, recording_of, run_of, recorded_at};
+    ghost use Rattle.nr_recording.specs.Recording.{recorded, run_of, recorded_at};
+    ghost use Rattle.nr_recording.specs.Auxiliary.Recording.{IsRecording, are_writable, recording_of};
     ghost use Rattle.nr_recording.specs.Version.{most_buffer};
 
     /// The recording of these limits and steps, and of their answers: in version 2 one for each step, in version 1

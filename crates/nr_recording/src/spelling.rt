@@ -2,7 +2,8 @@
 
 ghost use Rattle.std.specs.Prelude.{◌≡◌, IfOk, [], ◌∷◌};
 ghost use Rattle.serde_json.specs.View.{view};
-ghost use Rattle.nr_recording.specs.Spelling.{side_name, mode_name, numeral, digits, tag as tag_argument, time as time_argument, side as side_argument, mode as mode_argument, bit, IsSpelling};
+ghost use Rattle.nr_recording.specs.Spelling.{numeral, digits, tag as tag_argument, time as time_argument, side as side_argument, mode as mode_argument, bit};
+ghost use Rattle.nr_recording.specs.Auxiliary.Spelling.{side_name, mode_name, IsSpelling};
 
 use nr_rev::{Mode, Side};
 use serde_json::{Value, json};

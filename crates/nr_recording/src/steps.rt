@@ -3,11 +3,14 @@
 ghost use Rattle.std.specs.Prelude.{◌≡◌, true, IfOk, ℕ, List, [], ◌∷◌, ◌++◌};
 ghost use Rattle.serde_json.specs.Data.{array};
 ghost use Rattle.serde_json.specs.View.{view};
-ghost use Rattle.nr_recording.specs.Arguments.{with_rest};
-ghost use Rattle.nr_recording.specs.Faults.{Reads, ReadsBy};
+ghost use Rattle.nr_rev.specs.Refusing.{refused_memory};
+ghost use Rattle.nr_recording.specs.Auxiliary.Arguments.{with_rest};
+ghost use Rattle.nr_recording.specs.Auxiliary.Faults.{Reads, ReadsBy};
 ghost use Rattle.nr_recording.specs.Part.{rest_of};
-ghost use Rattle.nr_recording.specs.Spelling.{Argument, IsSpelling, answer as answer_argument};
-ghost use Rattle.nr_recording.specs.Steps.{step_in, answer_in, kind_takes_memory, step_spelling, spelling_of, step_of, step_takes_memory};
+ghost use Rattle.nr_recording.specs.Spelling.{Argument, answer as answer_argument};
+ghost use Rattle.nr_recording.specs.Auxiliary.Spelling.{IsSpelling};
+ghost use Rattle.nr_recording.specs.Steps.{step_in, answer_in, step_of};
+ghost use Rattle.nr_recording.specs.Auxiliary.Steps.{kind_takes_memory, step_spelling, spelling_of, step_takes_memory};
 
 use crate::answer::answer_value;
 use crate::arguments::{answer, bit, bytes, mode, moment, number, side, tag, time};
@@ -25,7 +28,7 @@ use std::alloc::{AllocError, Global};
 fn step_in(alloc: Global, kind: Kind, arguments: &mut Parts<'_>) -> Result<Step, LineError>
     ensures found { ReadsBy (λ step. (step, rest_of arguments.new)) result
         (step_in kind (rest_of arguments.old)) }
-    ensures memory { result ≡ Err LineError.Memory
+    ensures memory { result ≡ Err (LineError.Memory refused_memory)
         → kind_takes_memory kind (rest_of arguments.old) ≡ true }
 {
     match kind {
@@ -273,14 +276,14 @@ pub(crate) fn line_value(
 }
 
 /// The step that the parts of a line are, with the answer that was recorded of it.
-#[tactic(auto, unfolding(crate::specs::Steps::step_of, crate::specs::Steps::step_takes_memory))]
+#[tactic(auto, unfolding(crate::specs::Steps::step_of, crate::specs::Auxiliary::Steps::step_takes_memory))]
 pub(crate) fn step(
     version: Version,
     alloc: Global,
     parts: Parts<'_>,
 ) -> Result<RecordedStep, LineError>
     ensures found { Reads result (step_of version (array (rest_of parts.entry))) }
-    ensures memory { result ≡ Err LineError.Memory
+    ensures memory { result ≡ Err (LineError.Memory refused_memory)
         → step_takes_memory version (array (rest_of parts.entry)) ≡ true }
 {
     let mut parts = parts;

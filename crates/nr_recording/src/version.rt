@@ -17,7 +17,8 @@ pub enum Version {
 }
 
 impl Version {
-    ghost use Rattle.nr_recording.specs.Version.{version_number, version_numbered, most_buffer, has_kind, kind_in, answer_count};
+    ghost use Rattle.nr_recording.specs.Version.{version_numbered, most_buffer, has_kind, kind_in};
+    ghost use Rattle.nr_recording.specs.Auxiliary.Version.{version_number, answer_count};
 
     /// The version that a header of this number is of.
     pub(crate) fn numbered(number: u64) -> Option<Self>

@@ -3,6 +3,7 @@
 ghost use Rattle.std.specs.Prelude.{◌≡◌, ◌||◌, IfOk, OnOk, false};
 ghost use Rattle.serde_json.specs.View.{view};
 ghost use Rattle.serde_json.specs.Written.{has_float};
+ghost use Rattle.nr_rev.specs.Refusing.{refused_memory};
 ghost use Rattle.nr_recording.specs.Reading.{reading};
 ghost use Rattle.nr_recording.specs.Text.{IsTextOf};
 ghost use Rattle.nr_recording.specs.Writing.{header_data, line_text, line_texts, text, is_device_failure, SendsPart, SendsLines};
@@ -44,7 +45,7 @@ fn write_line<W: Write>(alloc: Global, value: &Value, out: &mut Sink<W>) -> Resu
     requires { has_float (view value.now) ≡ false }
     ensures ok { OnOk result
         (Sends out.old out.new (line_text (view value.now))) }
-    ensures memory { result ≡ Err WriteFault.Memory → out.new ≡ out.old }
+    ensures memory { result ≡ Err (WriteFault.Memory refused_memory) → out.new ≡ out.old }
     ensures device { result ≡ Err WriteFault.Device
         → SendsPart out.old out.new (line_text (view value.now)) }
     ensures failed { out.new.failed ≡ (out.old.failed || is_device_failure result) }
@@ -71,7 +72,7 @@ pub fn write<W: Write>(
     ensures read_again { OnOk result (reading (text recording.now) ≡ Ok recording.now) }
 
     // Only whole lines went out, and not all of them.
-    ensures memory { result ≡ Err WriteFault.Memory → SendsLines
+    ensures memory { result ≡ Err (WriteFault.Memory refused_memory) → SendsLines
         out.old out.new (line_texts recording.now) }
 
     // Just a prefix of the text went out, and not all of it.

@@ -91,7 +91,7 @@ fn recording_of(alloc: Global, recorded: Recorded) -> Option<Recording> {
 fn came_of_loading(recorded: Recorded, loaded: Result<Film<World>, LoadFault>) -> Came {
     match loaded {
         Ok(film) => Came::of(recorded == Recorded::Long && is_whole(&film)),
-        Err(LoadFault::Memory) => Came::Refused,
+        Err(LoadFault::Memory(_)) => Came::Refused,
         Err(
             LoadFault::Refused {
                 step: 14,

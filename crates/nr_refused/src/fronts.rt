@@ -47,7 +47,7 @@ impl Answer {
                     Answer::Other
                 }
             }
-            Err(FrontFault::Memory) => Answer::Memory,
+            Err(FrontFault::Memory(_)) => Answer::Memory,
             Err(FrontFault::Placed(number)) => Answer::Owed(number),
             Err(FrontFault::Full) => Answer::Other,
         }

@@ -1,7 +1,8 @@
 //! Journals: they are made, shared out and read to the end.
 
 ghost use Rattle.std.specs.Prelude.{◌≡◌};
-ghost use Rattle.nr_journal.specs.Rule.{HasOpcode, tag_of};
+ghost use Rattle.nr_journal.specs.Rule.{tag_of};
+ghost use Rattle.nr_journal.specs.Auxiliary.Rule.{HasOpcode};
 
 use crate::twice::{Came, Twice, grant, refuse};
 use nr_journal::{Journal, Offered, Pass, Seat};

@@ -60,7 +60,7 @@ pub(crate) fn read_twice(rt: &HostRuntime) -> Twice {
 fn came_of_reading(alloc: Global, reading: Result<Recording, ReadFault>) -> Came {
     match reading {
         Ok(recording) => written(alloc, &recording, TEXT),
-        Err(ReadFault::Memory) => Came::Refused,
+        Err(ReadFault::Memory(_)) => Came::Refused,
         Err(_) => Came::Wrong,
     }
 }
@@ -97,7 +97,7 @@ fn came_of_writing(outcome: Result<(), WriteFault>, out: Option<&[u8]>, text: &s
     };
     match outcome {
         Ok(()) => Came::of(out == text.as_bytes()),
-        Err(WriteFault::Memory) => Came::Refused.leaving(are_first_lines(out, text)),
+        Err(WriteFault::Memory(_)) => Came::Refused.leaving(are_first_lines(out, text)),
         Err(WriteFault::Device) => Came::Wrong,
     }
 }

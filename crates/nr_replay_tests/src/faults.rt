@@ -4,7 +4,7 @@ use nr_recording::{Fault, MakeFault, ReadFault, WriteFault};
 use nr_rev::Refusal;
 use nr_snaps::LoadFault;
 use nr_text::{Sink, Text};
-use std::alloc::Global;
+use std::alloc::{AllocError, Global};
 use std::fmt::Display;
 use std::test::Fail;
 
@@ -61,7 +61,10 @@ fn the_message_of_a_text_that_is_not_read_is_its_line(rt: HostRuntime) -> Result
             assert_eq!(rt; has_one_text(rt.alloc(), &fault), Some(true), "{fault:?}");
         }
     }
-    assert_eq!(rt; has_one_text(rt.alloc(), &ReadFault::Memory), Some(true));
+    assert_eq!(rt;
+        has_one_text(rt.alloc(), &ReadFault::Memory(AllocError.into())),
+        Some(true)
+    );
     let last = ReadFault::Line {
         line: usize::MAX,
         fault: Fault::TooManySteps,
@@ -83,7 +86,10 @@ fn the_message_of_a_recording_that_is_not_loaded_is_its_line(rt: HostRuntime) ->
         let fault = LoadFault::OtherAnswer { step };
         assert_eq!(rt; has_one_text(rt.alloc(), &fault), Some(true), "{fault:?}");
     }
-    assert_eq!(rt; has_one_text(rt.alloc(), &LoadFault::Memory), Some(true));
+    assert_eq!(rt;
+        has_one_text(rt.alloc(), &LoadFault::Memory(AllocError.into())),
+        Some(true)
+    );
     let last = LoadFault::Refused {
         step: usize::MAX,
         reason: Refusal::CorruptedDescriptor,
@@ -108,7 +114,7 @@ fn what_is_not_made_or_written_says_why(rt: HostRuntime) -> Result<(), Fail> {
         assert_eq!(rt; fault.to_string(rt.alloc())?.as_str(), message);
     }
     for (fault, message) in [
-        (WriteFault::Memory, "memory"),
+        (WriteFault::Memory(AllocError.into()), "memory"),
         (WriteFault::Device, "device"),
     ] {
         assert_eq!(rt; fault.to_string(rt.alloc())?.as_str(), message);

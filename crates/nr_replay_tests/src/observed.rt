@@ -62,7 +62,7 @@ impl Observed {
 }
 
 impl Reversible for Observed {
-    ghost use Rattle.nr_rev.specs.Step.{StepTo};
+    ghost use Rattle.nr_rev.specs.Auxiliary.Step.{StepTo};
     ghost use Rattle.nr_rev.specs.WellFormed.{WellFormed};
     ghost use Rattle.nr_rev.specs.Worlds.{LosesBytes, bytes_left};
     ghost use Rattle.nr_plain.specs.Delta.{PlainBack, delta_weight};

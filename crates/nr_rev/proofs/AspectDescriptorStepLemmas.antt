@@ -28,7 +28,7 @@ use Rattle.nr_rev.proofs.AspectLemmas.{ComesTo, Leaves, Changes, DescriptorLeave
 
 -- ---- what a descriptor's row keeps
 
-ComesTo-open_row_of : (d : ℕ) (w : World) → ComesTo (λ (row : DescriptorRow). slice_get w.descriptors d ≡ Some row) (open_row_of d w)
+pub ComesTo-open_row_of : (d : ℕ) (w : World) → ComesTo (λ (row : DescriptorRow). slice_get w.descriptors d ≡ Some row) (open_row_of d w)
 ComesTo-open_row_of d w = ComesTo-then (ComesTo-any (refused_if (is_free_number d w.free) _)) λ _. ComesTo-ends (Ends-row_of d w)
 
 -- a descriptor's state is new, its timers stay

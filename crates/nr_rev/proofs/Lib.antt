@@ -4,6 +4,7 @@ pub mod AspectSocketStepLemmas
 pub mod AspectStepLemmas
 pub mod BitLemmas
 pub mod BoolLemmas
+pub mod CellValueLemmas
 pub mod DescriptorChangeLemmas
 pub mod DescriptorStepLemmas
 pub mod DescriptorTakenLemmas

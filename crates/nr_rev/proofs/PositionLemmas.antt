@@ -5,7 +5,8 @@ use Rattle.std.proofs.lemmas.List.Elements.{All-take}
 use Rattle.nr_rev.specs.World.{World}
 use Rattle.nr_rev.specs.WellFormed.{WellFormed}
 use Rattle.nr_rev.specs.declared.step.Step.{Step}
-use Rattle.nr_rev.specs.Step.{IsTimely, outcome, Outcome}
+use Rattle.nr_rev.specs.Step.{outcome, Outcome}
+use Rattle.nr_rev.specs.Auxiliary.Step.{IsTimely}
 use Rattle.nr_rev.specs.Run.{Recording, world_after, world_at, next_of}
 use Rattle.nr_rev.proofs.StepKeepsLemmas.{step_keeps}
 use Rattle.nr_rev.proofs.EmptyWorldLemmas.{empty_world_fits}

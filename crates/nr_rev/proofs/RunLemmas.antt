@@ -5,7 +5,8 @@ use Rattle.std.specs.Prelude.{IsOk}
 use Rattle.std.proofs.lemmas.List.{take-take, take_more}
 use Rattle.std.proofs.lemmas.Option.{slice_get_within, get_or_from_slice_get}
 use Rattle.nr_rev.specs.Step.{outcome}
-use Rattle.nr_rev.specs.Run.{Recording, world_after, world_at, IsGood, next_of, AppliesAt, IsWorldAt}
+use Rattle.nr_rev.specs.Run.{Recording, world_after, world_at, IsGood, next_of}
+use Rattle.nr_rev.specs.Auxiliary.Run.{AppliesAt, IsWorldAt}
 use Rattle.nr_rev.specs.World.{empty_world, World}
 use Rattle.nr_rev.specs.declared.step.Step.{Step}
 use Rattle.nr_rev.specs.declared.answer.Answer.{Answer}

@@ -4,7 +4,8 @@ use Rattle.nr_rev.specs.declared.answer.Answer.{Answer}
 use Rattle.nr_rev.specs.World.{World}
 use Rattle.nr_rev.specs.WellFormed.{WellFormed}
 use Rattle.nr_rev.specs.declared.step.Step.{Step}
-use Rattle.nr_rev.specs.Step.{IsTimely, outcome, Outcome}
+use Rattle.nr_rev.specs.Step.{outcome, Outcome}
+use Rattle.nr_rev.specs.Auxiliary.Step.{IsTimely}
 use Rattle.nr_rev.specs.declared.refusal.Refusal.{Refusal}
 use Rattle.nr_rev.specs.Refusing.{out_of_memory}
 use Rattle.nr_rev.proofs.TimerStepLemmas.{tick_sound, pop_sound, fire_sound}

@@ -11,7 +11,8 @@ use Rattle.nr_rev.specs.declared.sides.Sides.{Sides}
 use Rattle.nr_rev.specs.Sides.{of_side, with_side}
 use Rattle.nr_rev.specs.declared.timer.TimerOrder.{TimerOrder}
 use Rattle.nr_rev.specs.declared.descriptor.Descriptor.{Descriptor}
-use Rattle.nr_rev.specs.Descriptor.{Change, and_then, both_follow, change_by_deadline, deadline_from, expired_unblocked, quiet, is_combo, same_bool, timer_function, wants_timer, timer_reset, timer_follows, with_deadlines}
+use Rattle.nr_rev.specs.Descriptor.{Change, and_then, change_by_deadline, deadline_from, expired_unblocked, quiet, is_combo, same_bool, timer_function, wants_timer, timer_reset, timer_follows, with_deadlines}
+use Rattle.nr_rev.specs.Auxiliary.Descriptor.{both_follow}
 use Rattle.nr_rev.proofs.OutcomeLemmas.{Ends, Ends-ok, Ends-bind, Ends-either, Ends-raised_sequence}
 use Rattle.nr_rev.proofs.BoolLemmas.{both_true, not_true}
 use Rattle.nr_rev.proofs.TimerUpdateLemmas.{TimerUpdate, Kept, Armed, Stopped, SequenceFresh, orders_of}

@@ -1,15 +1,20 @@
 -- What can be read of a world: its cells, its buffers' bytes and its queues.
-use Rattle.std.specs.Prelude.{ℕ, List, length, slice_get, Option, Some, None, option_map}
+use Rattle.std.specs.Prelude.{ℕ, Bool, List, length, slice_get, Option, Some, None, option_map}
 use Rattle.nr_rev.specs.declared.sides.Side.{Side}
 use Rattle.nr_rev.specs.declared.cell.Cell.{Cell}
 use Rattle.nr_rev.specs.declared.cell_value.CellValue.{CellValue}
 use Rattle.nr_rev.specs.declared.cell_value.CellValue.TheVariants.{Absent, Number, Time}
+use Rattle.nr_rev.specs.contracts.cell_value.CellValuePartialEq.TheImpl as value_eq
 use Rattle.nr_rev.specs.Sides.{of_side}
 use Rattle.nr_rev.specs.Lock.{bit, lock_number}
 use Rattle.nr_rev.specs.declared.descriptor.Descriptor.{Descriptor}
 use Rattle.nr_rev.specs.Descriptor.{summary}
 use Rattle.nr_rev.specs.Socket.{Socket}
 use Rattle.nr_rev.specs.World.{World, entries_of, least_entry}
+
+-- what `==` says of two values of cells
+abbrev pub same_value : CellValue → CellValue → Bool
+same_value = (value_eq.ghosts).eq
 
 -- the value, absent where there is none
 abbrev pub value_or_absent : {A : Type 0} → (A → CellValue) → Option A → CellValue

@@ -3,51 +3,36 @@ use Rattle.std.specs.Prelude.{ℕ, ◌==◌, List, [], ◌∷◌, Option, Some, 
 use Rattle.std.specs.Str.{bytes_eq}
 use Rattle.nr_rev.specs.declared.cell.Cell.{Cell}
 
+-- how a cell is spelled: its name, and the number of its goroutine, socket or descriptor
+abbrev pub spelled : Cell → List ℕ × Option ℕ
+spelled Cell.Clock = (codes "clock", None)
+spelled Cell.Waiters = (codes "waiters", None)
+spelled Cell.Timers = (codes "timers", None)
+spelled Cell.Firings = (codes "firings", None)
+spelled Cell.Least = (codes "least", None)
+spelled (Cell.Goroutine i) = (codes "gor", Some i)
+spelled (Cell.Lock i) = (codes "lock", Some i)
+spelled (Cell.ReadSemaphore i) = (codes "rsem", Some i)
+spelled (Cell.WriteSemaphore i) = (codes "wsem", Some i)
+spelled (Cell.Input i) = (codes "in", Some i)
+spelled (Cell.Output i) = (codes "out", Some i)
+spelled (Cell.ReadWord i) = (codes "rg", Some i)
+spelled (Cell.WriteWord i) = (codes "wg", Some i)
+spelled (Cell.ReadDeadline i) = (codes "rd", Some i)
+spelled (Cell.WriteDeadline i) = (codes "wd", Some i)
+spelled (Cell.ReadSequence i) = (codes "rseq", Some i)
+spelled (Cell.WriteSequence i) = (codes "wseq", Some i)
+spelled (Cell.DescriptorSequence i) = (codes "fdseq", Some i)
+spelled (Cell.Info i) = (codes "info", Some i)
+spelled (Cell.Shut i) = (codes "shut", Some i)
+
 -- how a cell is spelled, without a number
 abbrev pub cell_name : Cell → List ℕ
-cell_name Cell.Clock = codes "clock"
-cell_name Cell.Waiters = codes "waiters"
-cell_name Cell.Timers = codes "timers"
-cell_name Cell.Firings = codes "firings"
-cell_name Cell.Least = codes "least"
-cell_name (Cell.Goroutine i) = codes "gor"
-cell_name (Cell.Lock i) = codes "lock"
-cell_name (Cell.ReadSemaphore i) = codes "rsem"
-cell_name (Cell.WriteSemaphore i) = codes "wsem"
-cell_name (Cell.Input i) = codes "in"
-cell_name (Cell.Output i) = codes "out"
-cell_name (Cell.ReadWord i) = codes "rg"
-cell_name (Cell.WriteWord i) = codes "wg"
-cell_name (Cell.ReadDeadline i) = codes "rd"
-cell_name (Cell.WriteDeadline i) = codes "wd"
-cell_name (Cell.ReadSequence i) = codes "rseq"
-cell_name (Cell.WriteSequence i) = codes "wseq"
-cell_name (Cell.DescriptorSequence i) = codes "fdseq"
-cell_name (Cell.Info i) = codes "info"
-cell_name (Cell.Shut i) = codes "shut"
+cell_name cell = (spelled cell).0
 
 -- the number of a cell's goroutine, socket or descriptor
 abbrev pub cell_index : Cell → Option ℕ
-cell_index Cell.Clock = None
-cell_index Cell.Waiters = None
-cell_index Cell.Timers = None
-cell_index Cell.Firings = None
-cell_index Cell.Least = None
-cell_index (Cell.Goroutine i) = Some i
-cell_index (Cell.Lock i) = Some i
-cell_index (Cell.ReadSemaphore i) = Some i
-cell_index (Cell.WriteSemaphore i) = Some i
-cell_index (Cell.Input i) = Some i
-cell_index (Cell.Output i) = Some i
-cell_index (Cell.ReadWord i) = Some i
-cell_index (Cell.WriteWord i) = Some i
-cell_index (Cell.ReadDeadline i) = Some i
-cell_index (Cell.WriteDeadline i) = Some i
-cell_index (Cell.ReadSequence i) = Some i
-cell_index (Cell.WriteSequence i) = Some i
-cell_index (Cell.DescriptorSequence i) = Some i
-cell_index (Cell.Info i) = Some i
-cell_index (Cell.Shut i) = Some i
+cell_index cell = (spelled cell).1
 
 -- the cells without a number, or with this one
 abbrev pub cells_at : Option ℕ → List Cell

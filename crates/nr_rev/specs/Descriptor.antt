@@ -191,13 +191,6 @@ expired_unblocked change =
     then_if (then_if change (is_expired Read change.descriptor) (unblocked false Read))
     (is_expired Write change.descriptor) (unblocked false Write)
 
--- both timers after the deadlines of `old` became those of d, reading first
-abbrev pub both_follow : Descriptor → Descriptor → Result Change Refusal
-both_follow old d = do
-  read ← timer_follows Read old d
-  write ← timer_follows Write old read.descriptor
-  Ok (and_then read (λ _. write))
-
 -- setdeadline, for the time t from now: the deadlines are set, their timers follow, and a side
 -- whose deadline has passed is unblocked. A closing descriptor stays as it is
 abbrev pub change_by_deadline : ℤ → Mode → ℤ → Descriptor → Result Change Refusal

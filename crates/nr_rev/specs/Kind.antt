@@ -1,5 +1,5 @@
 -- The kinds of steps: their names, their numbers, and which kind a step is of.
-use Rattle.std.specs.Prelude.{ℕ, ◌+◌, ◌==◌, Bool, List, [], ◌∷◌, filter, length, map, Option, find, position, codes}
+use Rattle.std.specs.Prelude.{ℕ, ◌+◌, ◌==◌, Bool, List, [], ◌∷◌, map, Option, find, position, codes}
 use Rattle.std.specs.Option.{option_map_or}
 use Rattle.std.specs.Str.{bytes_eq}
 use Rattle.nr_rev.specs.declared.kind.Kind.{Kind}
@@ -57,10 +57,6 @@ kinds = map (λ row. row.0) spelled_kinds
 -- the kind of this name
 abbrev pub kind_named : List ℕ → Option Kind
 kind_named name = find (λ kind. bytes_eq (kind_name kind) name) kinds
-
--- the kinds whose names have this length
-abbrev pub kinds_of_length : ℕ → List Kind
-kinds_of_length n = filter (λ kind. length (kind_name kind) == n) kinds
 
 -- the kind's number: its place among all kinds, from 1 on
 abbrev pub kind_number : Kind → ℕ

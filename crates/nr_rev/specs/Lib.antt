@@ -1,8 +1,7 @@
--- what callers need: contracts cite it, of other crates or of this crate's public functions
+-- what the laws of docs/THEOREM.md rest on, whole files
 pub mod Kind
 pub mod Limits
 pub mod Sides
-pub mod RoomedList
 pub mod Refusing
 pub mod Lock
 pub mod Semaphore
@@ -13,11 +12,15 @@ pub mod World
 pub mod Step
 pub mod Cell
 pub mod CellName
-pub mod Aspect
 pub mod Run
 pub mod WellFormed
 pub mod Reversible
-pub mod Transaction
 pub mod Worlds
+-- what callers need besides: contracts cite it, of other crates or of this crate's public functions
+pub mod RoomedList
+pub mod Aspect
+pub mod Transaction
 pub mod Worked
 pub mod Weight
+-- what goes on with the files that the laws rest on
+pub mod Auxiliary

@@ -7,13 +7,6 @@ use Rattle.nr_rev.specs.declared.limits.Limits.{Limits}
 abbrev pub is_limit : ℕ → ℕ → Bool
 is_limit most n = nat_lt 0 n && nat_le n most
 
--- each limit is in its range
-abbrev pub are_in_range : Limits → Bool
-are_in_range l =
-    is_limit MOST_GOROUTINES l.goroutines && is_limit MOST_SOCKETS l.sockets
-    && is_limit MOST_DESCRIPTORS l.descriptors
-    && is_limit MOST_BUFFER l.buffer
-
 -- each limit is in its range, as facts
 pub record AreInRange (l : Limits) : Type 0 where
   pub goroutines : 0 < l.goroutines

@@ -1,6 +1,6 @@
 -- The thirty-one steps. Each row tests its reasons in order, and then says the answer and the next
 -- world.
-use Rattle.std.specs.Prelude.{◌≡◌, ℕ, ◌+◌, ◌-◌, ◌*◌, Bool, true, false, ◌&&◌, ◌||◌, not, ◌==◌, nat_lt, nat_le, min, ℤ, int_lt, int_le, if◌then◌else◌, List, [], ◌∷◌, ◌++◌, length, take, drop, remove, slice_get, slice_set, slice_index_or, Option, Some, None, Result, Ok, Err}
+use Rattle.std.specs.Prelude.{ℕ, ◌+◌, ◌-◌, ◌*◌, Bool, true, false, ◌&&◌, ◌||◌, not, ◌==◌, nat_lt, nat_le, min, ℤ, int_lt, int_le, if◌then◌else◌, List, [], ◌∷◌, ◌++◌, length, take, drop, remove, slice_get, slice_set, slice_index_or, Option, Some, None, Result, Ok, Err}
 use Rattle.nr_rev.specs.declared.sides.Side.{Side}
 use Rattle.nr_rev.specs.declared.sides.Side.TheVariants.{Read, Write}
 use Rattle.nr_rev.specs.declared.sides.Mode.{Mode}
@@ -19,7 +19,6 @@ use Rattle.nr_rev.specs.Lock
 use Rattle.nr_rev.specs.declared.lock.LockOutcome.{LockOutcome}
 use Rattle.nr_rev.specs.Semaphore.{Semaphore, is_free, acquired, front_of, released}
 use Rattle.nr_rev.specs.declared.timer.Timer.{Timer}
-use Rattle.nr_rev.specs.Timer.{IsTime}
 use Rattle.nr_rev.specs.declared.timer.TimerOrder.{TimerOrder}
 use Rattle.nr_rev.specs.declared.timer.TimerOrder.TheVariants.{Arm, Stop}
 use Rattle.nr_rev.specs.Descriptor.{never_opened, check, opened_for, closed, with_wait_word, Change, change_by_deadline, change_by_evict, change_by_event, change_by_firing}
@@ -32,12 +31,6 @@ use Rattle.nr_rev.specs.World.{World, is_free_number, least_entry, is_waited, wi
 -- the answer and the next world, or the reason why it doesn't apply
 abbrev pub Outcome : Type 0
 Outcome = Result (Answer × World) Refusal
-
--- the time that a step carries, if it carries one, is a time
-abbrev pub IsTimely : Step → Type 0
-IsTimely (Step.SetDeadline g d mode t) = IsTime t
-IsTimely (Step.Tick t) = IsTime t
-IsTimely _ = Unit {0}
 
 -- ---- what steps look up, and the reasons where it isn't there
 
@@ -578,7 +571,3 @@ outcome w (Step.Tick t) = tick t w
 outcome w Step.Pop = pop w
 outcome w (Step.Fire i) = fire i w
 outcome w (Step.CloseWrite g s) = closewrite g s w
-
--- a step that applies, by its answer and the next world
-abbrev pub StepTo : World → Step → Answer → World → Type 0
-StepTo w step answer next = outcome w step ≡ Ok (answer, next)

@@ -1,5 +1,5 @@
 -- What is said of a world whatever represents it.
-use Rattle.std.specs.Prelude.{◌≡◌, ℕ, ◌<◌, List, length, Option, Some, None, Ok, Err}
+use Rattle.std.specs.Prelude.{◌≡◌, ℕ, ◌<◌, Option, Some, None, Ok, Err}
 use Rattle.nr_rev.specs.declared.answer.Answer.{Answer}
 use Rattle.nr_rev.specs.declared.answer.Answer.TheVariants.{Got}
 use Rattle.nr_rev.specs.declared.refusal.Refusal.{Refusal}
@@ -30,8 +30,3 @@ pub record LosesBytes (w : World) (step : Step) : Type 0 where
   pub next : World
   pub applies : outcome w step ≡ Ok (answer, next)
   pub loses : 0 < bytes_left step answer
-
--- there is a list, and it isn't empty
-abbrev pub HasItems : {A : Type 0} → Option (List A) → Type 0
-HasItems None = ⊥
-HasItems (Some items) = 0 < length items

@@ -31,7 +31,8 @@ pub struct Limits {
 
 impl Limits {
     ghost use Rattle.std.specs.Bool.{OnTrue};
-    ghost use Rattle.nr_rev.specs.Limits.{AreInRange, are_in_range};
+    ghost use Rattle.nr_rev.specs.Limits.{AreInRange};
+    ghost use Rattle.nr_rev.specs.Auxiliary.Limits.{are_in_range};
 
     /// Whether each limit is in its range.
     pub fn are_in_range(&self) -> bool

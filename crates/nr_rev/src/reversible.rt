@@ -1,7 +1,8 @@
 //! What a machine owes whose operations can be undone.
 
 ghost use Rattle.std.specs.Prelude.{◌≡◌, ◌≤◌, ℕ, Option, Some, IfOk, IfErr, OnErr};
-ghost use Rattle.nr_rev.specs.Reversible.{IsLight, Refuses};
+ghost use Rattle.nr_rev.specs.Reversible.{Refuses};
+ghost use Rattle.nr_rev.specs.Auxiliary.Reversible.{IsLight};
 ghost use Rattle.nr_rev.specs.declared.refusal.Refusal.{Refusal};
 ghost use Rattle.nr_rev.specs.Refusing.{out_of_memory};
 

@@ -1,7 +1,8 @@
 //! All of some operations, or none.
 
 ghost use Rattle.std.specs.Prelude.{◌≡◌, ◌≤◌, [], length, OnOk, OnErr, IfErr};
-ghost use Rattle.nr_rev.specs.Reversible.{IsLight, Refuses};
+ghost use Rattle.nr_rev.specs.Reversible.{Refuses};
+ghost use Rattle.nr_rev.specs.Auxiliary.Reversible.{IsLight};
 ghost use Rattle.nr_rev.specs.Transaction.{Applied, LeadsBack, FirstRefused};
 
 use crate::refusal::Refusal;

@@ -2,12 +2,14 @@
 
 ghost use Rattle.std.specs.Prelude.{◌≡◌, Ok, Some, IfOk, IfErr, OnOk, OnErr};
 ghost use Rattle.nr_rev.specs.Cell.{cell, bytes_of, queue_of};
-ghost use Rattle.nr_rev.specs.Reversible.{IsLight, Refuses};
+ghost use Rattle.nr_rev.specs.Reversible.{Refuses};
+ghost use Rattle.nr_rev.specs.Auxiliary.Reversible.{IsLight};
 ghost use Rattle.nr_rev.specs.Step.{outcome};
 ghost use Rattle.nr_rev.specs.WellFormed.{WellFormed};
 ghost use Rattle.nr_rev.specs.World.{World, empty_world};
 ghost use Rattle.nr_rev.specs.Limits.{AreInRange};
-ghost use Rattle.nr_rev.specs.Worlds.{HasItems, LosesBytes, bytes_left, refusal_of};
+ghost use Rattle.nr_rev.specs.Worlds.{LosesBytes, bytes_left, refusal_of};
+ghost use Rattle.nr_rev.specs.Auxiliary.Worlds.{HasItems};
 ghost use Rattle.nr_rev.specs.declared.answer.Answer.{Answer};
 ghost use Rattle.nr_rev.specs.declared.step.Step.{Step};
 

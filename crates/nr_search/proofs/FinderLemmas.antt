@@ -4,9 +4,10 @@ use Rattle.std.specs.Prelude.{IfOk}
 use Rattle.nr_rev.specs.Run.{Recording, world_at}
 use Rattle.nr_marks.specs.Hit.{hits_at, mark_hits, numbered}
 use Rattle.nr_marks.specs.Marks.{NumberedMark}
-use Rattle.nr_marks.specs.Numbered.{RisesWithin, numbers_of}
+use Rattle.nr_marks.specs.Auxiliary.Numbered.{RisesWithin, numbers_of}
 use Rattle.nr_marks.proofs.NumberedLemmas.{RisesWithin-filter}
-use Rattle.nr_search.specs.Nearest.{IsFound, Rises, nearest_hit}
+use Rattle.nr_search.specs.Nearest.{nearest_hit}
+use Rattle.nr_search.specs.Auxiliary.Nearest.{IsFound, Rises}
 use Rattle.nr_search.specs.declared.direction.Direction.{Direction}
 use Rattle.nr_search.specs.declared.direction.Direction.TheVariants.{Forward, Backward}
 use Rattle.nr_search.specs.declared.found.Found.{Found}

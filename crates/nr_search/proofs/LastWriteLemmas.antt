@@ -1,24 +1,17 @@
 -- Going back over a watch leads to the last write.
-use Rattle.std.proofs.Common.{◌≡◌, ◌≢◌, ℕ, zero, suc, ◌+◌, ◌-◌, ◌<◌, ◌≤◌, Bool, true, false, not, cond, List, [], ◌∷◌, length, map, filter, rules, refl, sym, ap, ◌∙◌, subst, arith}
-use Rattle.nr_rev.specs.Cell.{cell}
+use Rattle.std.proofs.Common.{◌≡◌, ◌≢◌, ℕ, zero, suc, ◌+◌, ◌-◌, ◌<◌, ◌≤◌, Bool, true, false, not, cond, List, [], ◌∷◌, length, map, rules, refl, sym, ap, ◌∙◌, subst, arith}
+use Rattle.nr_rev.specs.Cell.{cell, same_value}
 use Rattle.nr_rev.specs.Run.{Recording, world_at}
 use Rattle.nr_rev.specs.declared.cell.Cell.{Cell}
-use Rattle.nr_rev.specs.declared.cell_value.CellValue.{CellValue}
-use Rattle.nr_marks.specs.Hit.{hits_at, same_value}
+use Rattle.nr_rev.proofs.CellValueLemmas.{same_value-equal, same_value-self}
+use Rattle.nr_marks.specs.Hit.{hits_at}
 use Rattle.nr_marks.specs.Marks.{NumberedMark}
 use Rattle.nr_marks.specs.declared.mark.Mark.TheVariants.{Watch}
-use Rattle.nr_search.specs.Nearest.{IsNearest}
+use Rattle.nr_search.specs.Auxiliary.Nearest.{IsNearest}
 use Rattle.nr_search.specs.declared.direction.Direction.TheVariants.{Backward}
 
 abbrev one : ℕ → Cell → List NumberedMark
 one number c = record { number = number; item = Watch c } ∷ []
-
--- values that compare as equal are the same
-same : (a b : CellValue) → same_value a b ≡ true → a ≡ b
-same a b is = search rules
-
-self : (a : CellValue) → same_value a a ≡ true
-self a = search rules
 
 -- what is found at a position, by whether the value there is the one before
 by_value : (r : Recording) (number q : ℕ) (c : Cell) (b : Bool)
@@ -33,7 +26,7 @@ quiet r number q c none = go (same_value (cell (world_at r (q - 1)) c) (cell (wo
   where
     go : (b : Bool) → same_value (cell (world_at r (q - 1)) c) (cell (world_at r q) c) ≡ b
         → cell (world_at r (q - 1)) c ≡ cell (world_at r q) c
-    go true is = same (cell (world_at r (q - 1)) c) (cell (world_at r q) c) is
+    go true is = same_value-equal (cell (world_at r (q - 1)) c) (cell (world_at r q) c) is
     go false is = absurd (let hit : [] ≡ number ∷ [] = sym none ∙ by_value r number q c false is in cc)
 
 steady_on : (r : Recording) (number n p : ℕ) (c : Cell) (ms : List ℕ)
@@ -61,7 +54,7 @@ pub written : (r : Recording) (number n p : ℕ) (c : Cell) (ms : List ℕ)
     → cell (world_at r (p - 1)) c ≢ cell (world_at r p) c
 written r number n p c ms h is =
     let equal : same_value (cell (world_at r (p - 1)) c) (cell (world_at r p) c) ≡ true =
-    subst (λ v. same_value (cell (world_at r (p - 1)) c) v ≡ true) is (self (cell (world_at r (p - 1)) c)) in
+    subst (λ v. same_value (cell (world_at r (p - 1)) c) v ≡ true) is (same_value-self (cell (world_at r (p - 1)) c)) in
     let none : ms ≡ [] = h.reported ∙ by_value r number p c true equal in
     let few : length ms ≡ 0 = ap length none in
     omega (arith, few, h.some)

@@ -1,6 +1,7 @@
 -- The nearest hit of more and more positions.
 use Rattle.std.proofs.Common.{◌≡◌, ◌⊎◌, inl, inr, ℕ, zero, suc, ◌+◌, ◌<◌, ◌≤◌, true, false, List, [], ◌∷◌, length, refl, sym, ap, ◌∙◌, subst, arith}
-use Rattle.nr_search.specs.Nearest.{NoneHits, IsFound, first_hit_of, found_after, last_hit_below}
+use Rattle.nr_search.specs.Nearest.{first_hit_of, found_after, last_hit_below}
+use Rattle.nr_search.specs.Auxiliary.Nearest.{NoneHits, IsFound}
 use Rattle.nr_search.specs.Search.{is_hit, is_decided}
 use Rattle.nr_search.specs.declared.direction.Direction.{Direction}
 use Rattle.nr_search.specs.declared.direction.Direction.TheVariants.{Forward, Backward}

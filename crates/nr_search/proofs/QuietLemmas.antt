@@ -1,7 +1,7 @@
 -- Where no mark can hit, none hits, and each watches what it watched.
 use Rattle.std.proofs.Common.{◌≡◌, ℕ, ◌+◌, Bool, true, false, not, ◌||◌, cond, inl, inr, ◌<◌, ◌≤◌, length, set, get_or, arith, List, [], ◌∷◌, filter, map, slice_get, rules, Option, Some, None, Ok, Err, refl, sym, ap, ◌∙◌, zero, suc}
 use Rattle.std.specs.Option.{option_and_then}
-use Rattle.nr_rev.specs.Cell.{cell}
+use Rattle.nr_rev.specs.Cell.{cell, same_value}
 use Rattle.std.proofs.lemmas.Option.{get_or_from_slice_get, slice_get-get_or}
 use Rattle.nr_rev.specs.Kind.{kind_number, kind_numbered, kind_of}
 use Rattle.nr_rev.proofs.ListUpdateLemmas.{slice_get-set_cases}
@@ -16,8 +16,9 @@ use Rattle.nr_rev.specs.declared.cell_value.CellValue.{CellValue}
 use Rattle.nr_rev.specs.declared.kind.Kind.{Kind}
 use Rattle.nr_rev.specs.declared.step.Step.{Step}
 use Rattle.nr_rev.proofs.AspectStepLemmas.{step_keeps_cell}
+use Rattle.nr_rev.proofs.CellValueLemmas.{same_value-self}
 use Rattle.nr_rev.proofs.RunLemmas.{IsWorldAt-next}
-use Rattle.nr_marks.specs.Hit.{hits_between, mark_hits, numbered, same_value, watched}
+use Rattle.nr_marks.specs.Hit.{hits_between, mark_hits, numbered, watched}
 use Rattle.nr_marks.specs.Marks.{NumberedMark, is_watch}
 use Rattle.nr_marks.specs.declared.mark.Mark.{Mark}
 use Rattle.nr_marks.specs.declared.mark.Mark.TheVariants as mark
@@ -26,9 +27,6 @@ use Rattle.nr_snaps.specs.Answers.{answer_at, answer_of}
 use Rattle.nr_search.specs.Quiet.{AreChanging, any_break, any_changed, any_stopped, is_changed_by, is_stopped_by}
 use Rattle.nr_search.specs.Search.{Remembers}
 use Rattle.nr_search.proofs.WatchedLemmas.{below-more}
-
-same_self : (v : CellValue) → same_value v v ≡ true
-same_self v = search rules
 
 -- a step that applies keeps each cell that its kind cannot change
 step-keeps : (r : Recording) (n : ℕ) (step : Step) (answer : Answer) → slice_get r.steps n ≡ Some step → answer_at r n ≡ Some answer → (c : Cell) → can_change (kind_of step) c ≡ false
@@ -69,7 +67,7 @@ missed : (made : NextStep) (next : Option NextStep) (before after : World) (m : 
     → mark_hits before after next m ≡ false
 missed made next before after (mark.Break wanted) keeps none stops = stops
 missed made next before after (mark.TemporaryBreak wanted) keeps none stops = stops
-missed made next before after (mark.Watch c) keeps none stops = ap (λ v. not (same_value (cell before c) v)) (keeps c none) ∙ ap not (same_self (cell before c))
+missed made next before after (mark.Watch c) keeps none stops = ap (λ v. not (same_value (cell before c) v)) (keeps c none) ∙ ap not (same_value-self (cell before c))
 
 neither : (a b : Bool) → (a || b) ≡ false → (a ≡ false) × (b ≡ false)
 neither true b none = cc

@@ -1,7 +1,7 @@
 -- From one segment to the next.
 use Rattle.std.proofs.Common.{◌≡◌, ◌⊎◌, inl, inr, ℕ, ◌+◌, ◌-◌, ◌*◌, ◌<◌, ◌≤◌, true, false, List, [], subst, arith}
 use Rattle.std.proofs.Math.Nat.{mul-le-mul_right}
-use Rattle.nr_search.specs.Nearest.{IsNearest, NoneHits, IsFound}
+use Rattle.nr_search.specs.Auxiliary.Nearest.{IsNearest, NoneHits, IsFound}
 use Rattle.nr_search.specs.Segments.{from_of, to_of}
 use Rattle.nr_search.specs.Known.{IsFoundIn}
 use Rattle.nr_search.specs.Search.{is_hit, nth_on_way}

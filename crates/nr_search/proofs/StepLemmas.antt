@@ -7,7 +7,7 @@ use Rattle.nr_marks.specs.Marks.{NumberedMark, any_watch, is_watch}
 use Rattle.nr_marks.specs.declared.mark.Mark.{Mark}
 use Rattle.nr_marks.specs.declared.mark.Mark.TheVariants as mark
 use Rattle.nr_marks.specs.declared.mark.NextStep.{NextStep}
-use Rattle.nr_search.specs.Nearest.{IsNearest, Nearer, NoneHits}
+use Rattle.nr_search.specs.Auxiliary.Nearest.{IsNearest, Nearer, NoneHits}
 use Rattle.nr_search.specs.Search.{nth_on_way}
 use Rattle.nr_search.specs.declared.direction.Direction.{Direction}
 use Rattle.nr_search.specs.declared.direction.Direction.TheVariants.{Forward, Backward}

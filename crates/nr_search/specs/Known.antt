@@ -1,6 +1,6 @@
 -- What is known of the segments that a search goes through.
 use Rattle.std.specs.Prelude.{◌≡◌, ℕ, ◌+◌, ◌<◌, Bool, true, false, List, slice_get, Option, None, Some}
-use Rattle.nr_search.specs.Nearest.{IsFound}
+use Rattle.nr_search.specs.Auxiliary.Nearest.{IsFound}
 use Rattle.nr_search.specs.Search.{is_hit, nth_on_way}
 use Rattle.nr_search.specs.Segments.{from_of, to_of}
 use Rattle.nr_search.specs.declared.found.Found.{Found}

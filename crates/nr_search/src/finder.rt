@@ -3,7 +3,8 @@
 ghost use Rattle.std.specs.Prelude.{◌≡◌, ℕ, ◌<◌, ◌≤◌, ◌+◌, true, length, IfNone, IfOk, IfSome, OnErr};
 ghost use Rattle.nr_marks.specs.Hit.{hits_at};
 ghost use Rattle.nr_marks.specs.Marks.{any_watch};
-ghost use Rattle.nr_search.specs.Nearest.{NeedsCopy, IsFound, Rises, nearest_hit};
+ghost use Rattle.nr_search.specs.Nearest.{NeedsCopy, nearest_hit};
+ghost use Rattle.nr_search.specs.Auxiliary.Nearest.{IsFound, Rises};
 ghost use Rattle.nr_search.specs.declared.direction.Direction.TheVariants.{Forward, Backward};
 
 use crate::direction::Direction;

@@ -7,7 +7,8 @@ ghost use Rattle.nr_marks.specs.declared.mark.Mark.TheVariants.{Watch};
 ghost use Rattle.nr_marks.specs.Hit.{hits_at};
 ghost use Rattle.nr_marks.specs.Marks.{NumberedMark};
 ghost use Rattle.nr_rev.specs.Run.{Recording, world_at};
-ghost use Rattle.nr_search.specs.Nearest.{IsFound, IsNearest, nearest_hit};
+ghost use Rattle.nr_search.specs.Nearest.{nearest_hit};
+ghost use Rattle.nr_search.specs.Auxiliary.Nearest.{IsFound, IsNearest};
 ghost use Rattle.nr_search.specs.declared.direction.Direction.TheVariants.{Forward, Backward};
 ghost use Rattle.nr_search.specs.declared.workers.TheConstants.{LEAST_WORKERS, MOST_WORKERS};
 

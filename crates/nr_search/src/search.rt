@@ -3,7 +3,7 @@
 ghost use Rattle.std.specs.Prelude.{◌≡◌, ◌<◌, ◌≤◌, ◌+◌, false, All, length, map, replicate, IfOk, IfSome, OnErr};
 ghost use Rattle.nr_marks.specs.Hit.{hits_at};
 ghost use Rattle.nr_search.specs.Known.{Agrees, AreTrue, IsFoundIn, IsLeftOpen, is_searched, slot_of};
-ghost use Rattle.nr_search.specs.Nearest.{IsFound};
+ghost use Rattle.nr_search.specs.Auxiliary.Nearest.{IsFound};
 ghost use Rattle.nr_search.specs.Reports.{IsReport, noted};
 ghost use Rattle.nr_search.specs.declared.slot.Slot.TheVariants.{Unknown};
 ghost use Rattle.nr_snaps.specs.Film.{IsFrame};

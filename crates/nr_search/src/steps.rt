@@ -4,7 +4,8 @@ ghost use Rattle.std.specs.Prelude.{◌≡◌, ◌≤◌, ◌+◌, length, false
 ghost use Rattle.nr_marks.specs.Hit.{hits_at};
 ghost use Rattle.nr_marks.specs.Marks.{any_watch};
 ghost use Rattle.nr_marks.specs.declared.marks.TheConstants.{MOST_MARKS};
-ghost use Rattle.nr_search.specs.Nearest.{IsFound, nearest_hit};
+ghost use Rattle.nr_search.specs.Nearest.{nearest_hit};
+ghost use Rattle.nr_search.specs.Auxiliary.Nearest.{IsFound};
 
 use crate::direction::Direction;
 use crate::found::{Found, Hit, Numbers};

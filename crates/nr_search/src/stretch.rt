@@ -2,7 +2,7 @@
 
 ghost use Rattle.std.specs.Prelude.{◌≡◌, ◌<◌, ◌≤◌, ◌+◌, length, slice_get, false, IfOk, IfSome};
 ghost use Rattle.nr_marks.specs.Hit.{hits_at, numbered};
-ghost use Rattle.nr_search.specs.Nearest.{IsFound};
+ghost use Rattle.nr_search.specs.Auxiliary.Nearest.{IsFound};
 ghost use Rattle.nr_search.specs.Quiet.{IsOutlook};
 ghost use Rattle.nr_search.specs.Search.{Remembers, is_decided};
 ghost use Rattle.nr_marks.specs.declared.marks.TheConstants.{MOST_MARKS};

@@ -4,7 +4,7 @@ ghost use Rattle.std.specs.Prelude.{◌≡◌, ◌<◌, ◌≤◌, ◌+◌, true
 ghost use Rattle.std.specs.Thread.{IsSync};
 ghost use Rattle.nr_marks.specs.Hit.{hits_at};
 ghost use Rattle.nr_search.specs.Known.{IsTrue, is_known};
-ghost use Rattle.nr_search.specs.Nearest.{IsFound};
+ghost use Rattle.nr_search.specs.Auxiliary.Nearest.{IsFound};
 ghost use Rattle.nr_search.specs.Reports.{IsReport};
 ghost use Rattle.nr_search.specs.declared.workers.TheConstants.{LEAST_WORKERS, MOST_WORKERS};
 ghost use Rattle.nr_snaps.specs.Film.{IsFrame};

@@ -9,9 +9,11 @@ use Rattle.std.specs.List.{All, Contains}
 use Rattle.std.proofs.lemmas.List.{append_cancel_left, map-append}
 use Rattle.std.proofs.lemmas.List.Elements.{All-append, All-cons, All-head, All-map, All-nil, All-push, All-tail, All-weaker, Contains-append_left, Contains-push}
 use Rattle.nr_journal.specs.Pass.{CatchesUp, SeesOthers}
-use Rattle.nr_journal.specs.Rule.{Covers, HasTagBelow, IsOthers, StartsWith, informed, tag_of}
+use Rattle.nr_journal.specs.Rule.{Covers, IsOthers, StartsWith, tag_of}
+use Rattle.nr_journal.specs.Auxiliary.Rule.{HasTagBelow, informed}
 use Rattle.nr_journal.specs.declared.view.PassState.{PassState}
-use Rattle.nr_serving.specs.Session.{HasOwn, IsHistory, IsSeenBy, IsTheirs, numbers_below, words_of}
+use Rattle.nr_serving.specs.Session.{IsHistory, IsTheirs, numbers_below}
+use Rattle.nr_serving.specs.Auxiliary.Session.{HasOwn, IsSeenBy, words_of}
 use Rattle.nr_serving.specs.declared.fronts.Done.{Done}
 
 -- what holds of all of a list holds of those in front

@@ -6,7 +6,8 @@ use Rattle.std.proofs.lemmas.List.Folds.{list_any-append}
 use Rattle.std.proofs.Math.Bool.{or-false}
 use Rattle.std.proofs.lemmas.List.{map-append}
 use Rattle.nr_front.specs.FrontState.{FrontState}
-use Rattle.nr_serving.specs.Fronts.{Adds, AreServed, IsServed, ServesCaller, ServesCallers, came, is_failure}
+use Rattle.nr_serving.specs.Fronts.{came, is_failure}
+use Rattle.nr_serving.specs.Auxiliary.Fronts.{Adds, AreServed, IsServed, ServesCaller, ServesCallers}
 use Rattle.nr_serving.specs.Conversations.{Conversation, Passed}
 use Rattle.nr_serving.specs.Logged.{with_arrival}
 use Rattle.nr_serving.specs.declared.conversations.Arrival.{Arrival}

@@ -11,8 +11,10 @@ use Rattle.nr_journal.specs.Pass.{Entered}
 use Rattle.nr_journal.specs.declared.view.PassState.{PassState}
 use Rattle.nr_front.specs.FrontState.{FrontState}
 use Rattle.nr_serving.specs.Conversations.{FrontsLog, Passed}
-use Rattle.nr_serving.specs.Fronts.{Adds, AreServed, Course, IsReady, has_failed, none_passed, passed_in}
-use Rattle.nr_serving.specs.Session.{BeginsFresh, IsFresh, IsHistory, IsShared, Opens, any_failed, last_pass_state, numbers_below}
+use Rattle.nr_serving.specs.Fronts.{Course, has_failed, passed_in}
+use Rattle.nr_serving.specs.Auxiliary.Fronts.{Adds, AreServed, IsReady, none_passed}
+use Rattle.nr_serving.specs.Session.{BeginsFresh, IsHistory, IsShared, Opens, last_pass_state, numbers_below}
+use Rattle.nr_serving.specs.Auxiliary.Session.{IsFresh, any_failed}
 use Rattle.nr_serving.specs.declared.fronts.Done.{Done}
 use Rattle.nr_serving.proofs.TagLemmas.{serving_keeps_tag}
 

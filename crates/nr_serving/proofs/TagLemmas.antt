@@ -3,13 +3,13 @@ use Rattle.std.proofs.Common.{◌≡◌, ℕ, Bool, ap, ◌∙◌, List, [], ◌
 use Rattle.nr_journal.specs.declared.view.PassState.{PassState}
 use Rattle.nr_command.specs.Command.{meaning_of}
 use Rattle.nr_front.specs.FrontState.{FrontState}
-use Rattle.nr_lines.specs.Engine.{Ends}
+use Rattle.nr_lines.specs.Auxiliary.Engine.{Ends}
 use Rattle.nr_lines.specs.declared.ending.End.{End}
 use Rattle.nr_lines.specs.declared.ending.End.TheVariants as ends
 use Rattle.nr_lines.specs.declared.ending.LineEnd.{LineEnd}
 use Rattle.nr_lines.specs.declared.ending.LineEnd.TheVariants.{Read, Write}
 use Rattle.nr_lines.proofs.KeptLemmas.{IsKept, turn_keeps, turns_keep}
-use Rattle.nr_serving.specs.Fronts.{ServesCallers}
+use Rattle.nr_serving.specs.Auxiliary.Fronts.{ServesCallers}
 use Rattle.nr_serving.specs.Conversations.{Conversation}
 
 -- the tag is the same, and how many passes there are

@@ -1,9 +1,10 @@
 -- Callers that are logged.
 use Rattle.std.specs.Prelude.{◌≡◌, ℕ, List, [], ◌∷◌, ◌++◌, Option}
-use Rattle.nr_text.specs.Streams.{Incoming, Outgoing, unread, unwritten}
+use Rattle.nr_text.specs.Streams.{Incoming, Outgoing}
+use Rattle.nr_text.specs.Auxiliary.Streams.{unread, unwritten}
 use Rattle.nr_front.specs.FrontState.{FrontState}
 use Rattle.nr_serving.specs.Conversations.{Conversation, Passed}
-use Rattle.nr_serving.specs.Fronts.{ServesCaller}
+use Rattle.nr_serving.specs.Auxiliary.Fronts.{ServesCaller}
 use Rattle.nr_serving.specs.declared.connection.Next.{Next}
 use Rattle.nr_serving.specs.declared.connection.Next.TheVariants as nexts
 use Rattle.nr_serving.specs.declared.conversations.Arrival.{Arrival}

@@ -2,7 +2,8 @@
 
 ghost use Rattle.std.specs.Prelude.{◌≡◌, ℕ, [], ◌∷◌, ◌++◌, List};
 ghost use Rattle.std.specs.Borrow.{ftrue};
-ghost use Rattle.nr_serving.specs.Conversations.{Conversation, Passed, arrivals_code, conversations_code, numbers_code, passed_code};
+ghost use Rattle.nr_serving.specs.Conversations.{Conversation, Passed};
+ghost use Rattle.nr_serving.specs.Auxiliary.Conversations.{arrivals_code, conversations_code, numbers_code, passed_code};
 ghost use Rattle.nr_serving.specs.declared.conversations.Arrival.{Arrival as DeclaredArrival};
 
 use nr_lines::{End, LineEnd};

@@ -2,7 +2,7 @@
 
 ghost use Rattle.std.specs.Prelude.{◌≡◌, ◌+◌, ◌≤◌, ◌∷◌, ◌++◌, [], map, vec_len, vec_capacity, IfSome, IfNone};
 ghost use Rattle.std.specs.List.{All};
-ghost use Rattle.nr_serving.specs.Fronts.{Adds, IsReady, IsServed, none_passed};
+ghost use Rattle.nr_serving.specs.Auxiliary.Fronts.{Adds, IsReady, IsServed, none_passed};
 ghost use denote.Param.Send.{IsSend, IsSync};
 
 use crate::connection::Connections;

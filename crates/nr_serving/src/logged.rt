@@ -2,7 +2,7 @@
 //! and what passed is noted when it is let go.
 
 ghost use Rattle.std.specs.Prelude.{◌≡◌, ◌∷◌, ◌++◌, []};
-ghost use Rattle.nr_serving.specs.Fronts.{arrival_of, none_passed};
+ghost use Rattle.nr_serving.specs.Auxiliary.Fronts.{arrival_of, none_passed};
 ghost use Rattle.nr_serving.specs.Logged.{IsNewCaller, WaitsOnce, with_arrival, with_conversation};
 
 use crate::connection::{Connections, Next, Ports, read_away};

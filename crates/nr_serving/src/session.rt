@@ -1,14 +1,17 @@
 //! A session that several people share.
 
-ghost use Rattle.std.specs.Prelude.{◌≡◌, ◌≤◌, ◌+◌, ◌++◌, ◌∷◌, [], map, vec_len, vec_capacity, IfOk, IfSome, IfNone, List, OnErr, OnOk};
+ghost use Rattle.std.specs.Prelude.{◌≡◌, ◌≤◌, ◌+◌, ◌++◌, ◌∷◌, [], codes, map, vec_len, vec_capacity, IfOk, IfSome, IfNone, List, OnErr, OnOk};
 ghost use Rattle.std.specs.List.{All};
+ghost use Rattle.nr_rev.specs.Refusing.{refused_memory};
 ghost use Rattle.nr_walker.specs.declared.walker.TheConstants.{LEAST_DEPTH, MOST_DEPTH};
 ghost use Rattle.nr_journal.specs.declared.rule.TheConstants.{MOST_WORDS};
 ghost use Rattle.nr_serving.specs.declared.session.Unshared.TheVariants as unshared;
-ghost use Rattle.nr_journal.specs.Rule.{entering, HasTagBelow, journal_room};
+ghost use Rattle.nr_journal.specs.Rule.{journal_room};
+ghost use Rattle.nr_journal.specs.Auxiliary.Rule.{entering, HasTagBelow};
 ghost use Rattle.nr_serving.specs.Conversations.{Passed};
-ghost use Rattle.nr_serving.specs.Fronts.{none_passed};
-ghost use Rattle.nr_serving.specs.Session.{HasOwn, IsFresh, IsHistory, IsSeenBy, IsShared, Opens, any_failed, numbers_below, words_of};
+ghost use Rattle.nr_serving.specs.Auxiliary.Fronts.{none_passed};
+ghost use Rattle.nr_serving.specs.Session.{IsHistory, IsShared, Opens, numbers_below};
+ghost use Rattle.nr_serving.specs.Auxiliary.Session.{HasOwn, IsFresh, IsSeenBy, any_failed, words_of};
 
 use crate::connection::Ports;
 use crate::fronts::{Done, serve_each};
@@ -18,7 +21,9 @@ use nr_journal::{Journal, MOST_PASSES, Pass, Seat};
 use nr_rev::{Memory, Worlds};
 use nr_search::Finder;
 use nr_snaps::Film;
+use nr_text::{Buffered, Text, WriteFailed};
 use std::alloc::{AllocError, Global};
+use std::io::Write;
 use std::thread::Threads;
 
 /// What a session leaves in the end.
@@ -45,24 +50,33 @@ pub struct Shape {
 #[derive(Clone, Copy, Debug, PartialEq, Eq)]
 pub enum Unshared {
     /// There was no memory.
-    Memory,
+    Memory(Memory),
     /// There was no tag left for a front.
     NoTag,
 }
 
 impl From<Memory> for Unshared {
-    ghost from_gives = { λ _ fault. fault ≡ unshared.Memory };
+    ghost from_gives = { λ _ fault. fault ≡ unshared.Memory refused_memory };
 
-    fn from(_refused: Memory) -> Unshared {
-        Unshared::Memory
+    fn from(refused: Memory) -> Unshared {
+        Unshared::Memory(refused)
     }
 }
 
 impl From<AllocError> for Unshared {
-    ghost from_gives = { λ _ fault. fault ≡ unshared.Memory };
+    ghost from_gives = { λ _ fault. fault ≡ unshared.Memory refused_memory };
 
-    fn from(_refused: AllocError) -> Unshared {
-        Unshared::Memory
+    fn from(refused: AllocError) -> Unshared {
+        Unshared::Memory(refused.into())
+    }
+}
+
+/// It is the line `fault 108 memory`. Of tags there are as many as fronts, so there is always one left.
+impl Text for Unshared {
+    ghost text = { λ _. codes "fault 108 memory\n" };
+
+    fn send<W: Write>(&self, w: &mut Buffered<W>) -> Result<(), WriteFailed> {
+        w.send(b"fault 108 memory\n")
     }
 }
 

@@ -1,7 +1,8 @@
 //! Words placed in one journal, by calls in turn. Threads that place them are in `nr_hostile_tests`.
 
 ghost use Rattle.std.specs.Prelude.{◌≡◌};
-ghost use Rattle.nr_journal.specs.Rule.{HasOpcode, tag_of};
+ghost use Rattle.nr_journal.specs.Rule.{tag_of};
+ghost use Rattle.nr_journal.specs.Auxiliary.Rule.{HasOpcode};
 
 use nr_journal::{Journal, NoTag, Offered, Pass, Seat};
 use std::cmp::Ordering;

@@ -6,12 +6,14 @@ use Rattle.std.proofs.lemmas.List.{take_more, length-map}
 use Rattle.std.proofs.lemmas.Option.{slice_get_within, get_or_from_slice_get}
 use Rattle.nr_recording.specs.Recording.{Recorded, run_of, recorded_at}
 use Rattle.nr_recording.specs.declared.recording.RecordedStep.{RecordedStep}
-use Rattle.nr_rev.specs.Run.{Recording, IsWorldAt, next_of, world_after, world_at}
+use Rattle.nr_rev.specs.Run.{Recording, next_of, world_after, world_at}
+use Rattle.nr_rev.specs.Auxiliary.Run.{IsWorldAt}
 use Rattle.nr_rev.specs.Step.{outcome}
 use Rattle.nr_rev.specs.World.{World, empty_world}
 use Rattle.nr_rev.specs.declared.answer.Answer.{Answer}
 use Rattle.nr_rev.specs.declared.step.Step.{Step}
-use Rattle.nr_snaps.specs.Answers.{answer_of, answer_at, Agrees, AnswersAgreeTo, AnswersAgree, answered_steps}
+use Rattle.nr_snaps.specs.Answers.{answer_of, answer_at, Agrees, AnswersAgreeTo, AnswersAgree}
+use Rattle.nr_snaps.specs.Auxiliary.Answers.{answered_steps}
 
 -- ---- the answer of a step
 

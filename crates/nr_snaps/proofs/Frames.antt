@@ -1,7 +1,8 @@
 -- A replay has one state at each position, and its steps apply.
 use Rattle.std.proofs.Common.{◌≡◌, ℕ, zero, suc, ◌+◌, Ok, Some, refl, sym, ap, ◌∙◌, subst, arith, add-one}
 use Rattle.std.specs.Prelude.{IsOk}
-use Rattle.nr_rev.specs.Run.{Recording, world_at, AppliesAt, IsWorldAt}
+use Rattle.nr_rev.specs.Run.{Recording, world_at}
+use Rattle.nr_rev.specs.Auxiliary.Run.{AppliesAt, IsWorldAt}
 use Rattle.nr_rev.specs.Step.{outcome}
 use Rattle.nr_rev.specs.World.{World}
 use Rattle.nr_rev.specs.declared.answer.Answer.{Answer}

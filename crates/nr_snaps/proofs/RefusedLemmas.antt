@@ -60,7 +60,7 @@ not_agreed r n m other agree less =
 
 -- the place of a fault, counted from 0
 abbrev place : LoadFault → ℕ
-place fault.Memory = 0
+place (fault.Memory refused) = 0
 place (fault.Refused step reason) = step - 1
 place (fault.OtherAnswer step) = step - 1
 
@@ -71,7 +71,7 @@ record StopsAt (r : Recorded) (n : ℕ) : Type 0 where
   stops : (m : ℕ) → IsGood (first m (run_of r)) → AnswersAgreeTo r m → ¬ (n < m)
 
 stops_at : (r : Recorded) (f : LoadFault) → IsStepFault r f → StopsAt r (place f)
-stops_at r fault.Memory is = absurd is
+stops_at r (fault.Memory refused) is = absurd is
 stops_at r (fault.Refused step reason) is = record {
   before = is.2.before;
   agree = is.3;
@@ -110,8 +110,8 @@ not_both r n m reason same refused other =
     refused_gives_none (run_of r) n other.given reason refused (subst (λ k. answer_at (run_of r) k ≡ Some other.given) (sym same) other.gives)
 
 pub one_fault : (r : Recorded) (f g : LoadFault) → IsStepFault r f → IsStepFault r g → f ≡ g
-one_fault r fault.Memory g is also = absurd is
-one_fault r f fault.Memory is also = absurd also
+one_fault r (fault.Memory refused) g is also = absurd is
+one_fault r f (fault.Memory refused) is also = absurd also
 one_fault r (fault.Refused step reason) (fault.Refused other why) is also =
     let same = one_place r (step - 1) (other - 1) (stops_at r (fault.Refused step reason) is) (stops_at r (fault.Refused other why) also) in
     let steps : step ≡ other = omega (arith, same, is.0, also.0) in
@@ -130,7 +130,7 @@ one_fault r (fault.OtherAnswer step) (fault.OtherAnswer other) is also =
 
 -- where all steps apply and answer as recorded, there is none
 pub fault_is_bad : (r : Recorded) (f : LoadFault) → IsStepFault r f → ¬ (IsGood (run_of r) × AnswersAgree r)
-fault_is_bad r fault.Memory is right = absurd is
+fault_is_bad r (fault.Memory refused) is right = absurd is
 fault_is_bad r (fault.Refused step reason) is right = good_is_not_refused (run_of r) (step - 1) reason is.2 right.0
 fault_is_bad r (fault.OtherAnswer step) is right =
     let other = is.1 in

@@ -1,13 +1,9 @@
 -- The answers that the steps of a run give, and those that are recorded of them.
-use Rattle.std.specs.Prelude.{◌≡◌, ◌≢◌, ℕ, ◌<◌, List, [], ◌∷◌, take, slice_get, Option, Some, None, option_and_then, Ok, Err}
+use Rattle.std.specs.Prelude.{◌≡◌, ◌≢◌, ℕ, ◌<◌, take, slice_get, Option, Some, None, option_and_then, Ok, Err}
 use Rattle.nr_recording.specs.Recording.{Recorded, run_of, recorded_at}
-use Rattle.nr_recording.specs.declared.recording.RecordedStep.{RecordedStep}
-use Rattle.nr_recording.specs.declared.version.Version.TheVariants.{Two}
-use Rattle.nr_rev.specs.Run.{IsGood, Recording, next_of, world_at}
+use Rattle.nr_rev.specs.Run.{IsGood, Recording, world_at}
 use Rattle.nr_rev.specs.Step.{Outcome, outcome}
-use Rattle.nr_rev.specs.World.{World, empty_world}
 use Rattle.nr_rev.specs.declared.answer.Answer.{Answer}
-use Rattle.nr_rev.specs.declared.step.Step.{Step}
 
 -- the answer of a step, where it applies
 abbrev pub answer_of : Outcome → Option Answer
@@ -45,17 +41,3 @@ pub record AnswersOtherwiseAt (r : Recorded) (n : ℕ) : Type 0 where
   pub given : Answer
   pub gives : answer_at (run_of r) n ≡ Some given
   pub differs : Differs (recorded_at r n) given
-
--- some steps from a world on, each with the answer that it gives
-abbrev pub answered_steps : World → List Step → List RecordedStep
-answered_steps w [] = []
-answered_steps w (step ∷ steps) = record { step = step; answer = answer_of (outcome w step) }
-    ∷ answered_steps (next_of w (outcome w step)) steps
-
--- the recording of a run in version 2: its steps, each with the answer that it gives
-abbrev pub answered : Recording → Recorded
-answered r = record {
-  version = Two;
-  limits = r.limits;
-  steps = answered_steps (empty_world r.limits) r.steps;
-}

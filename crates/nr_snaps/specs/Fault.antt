@@ -12,15 +12,10 @@ use Rattle.nr_snaps.specs.declared.fault.LoadFault.TheVariants as fault
 -- recorded of them. It is refused for the reason, which is not being out of memory; or it applies
 -- and gives another answer.
 abbrev pub IsStepFault : Recorded → LoadFault → Type 0
-IsStepFault r fault.Memory = ⊥
+IsStepFault r (fault.Memory refused) = ⊥
 IsStepFault r (fault.Refused step reason) = (0 < step) × (reason ≢ out_of_memory)
     × IsRefusedAt (run_of r) (step - 1) reason × AnswersAgreeTo r (step - 1)
 IsStepFault r (fault.OtherAnswer step) = (0 < step) × AnswersOtherwiseAt r (step - 1)
-
--- a step's fault, or there was no memory
-abbrev pub IsLoadFault : Recorded → LoadFault → Type 0
-IsLoadFault r fault.Memory = Unit {0}
-IsLoadFault r f = IsStepFault r f
 
 -- the text that a fault is printed as
 abbrev pub load_fault_text : LoadFault → List ℕ
@@ -28,7 +23,7 @@ load_fault_text (fault.Refused step reason) =
     codes "step " ++ decimal step ++ codes ": fault 107 reason " ++ decimal (refusal_number reason)
 load_fault_text (fault.OtherAnswer step) =
     codes "step " ++ decimal step ++ codes ": fault 109 answer"
-load_fault_text fault.Memory = memory_text
+load_fault_text (fault.Memory refused) = memory_text
 
 -- the line that is printed for a fault
 abbrev pub load_fault_line : LoadFault → List ℕ

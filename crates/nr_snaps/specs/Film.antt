@@ -1,6 +1,7 @@
 -- A film: a recording whose steps all apply, with copies of its replay.
 use Rattle.std.specs.Prelude.{◌≡◌, ℕ, ◌+◌, ◌*◌, ◌/◌, ◌≤◌, List, length, slice_get, Some}
-use Rattle.nr_rev.specs.Run.{IsGood, Recording, IsWorldAt}
+use Rattle.nr_rev.specs.Run.{IsGood, Recording}
+use Rattle.nr_rev.specs.Auxiliary.Run.{IsWorldAt}
 use Rattle.nr_rev.specs.World.{World}
 use Rattle.nr_rev.specs.declared.answer.Answer.{Answer}
 use Rattle.nr_rev.specs.declared.step.Step.{Step}

@@ -1,7 +1,10 @@
--- what callers need
-pub mod Film
+-- what the laws of docs/THEOREM.md rest on, whole files
 pub mod Answers
 pub mod Fault
+-- what callers need besides
+pub mod Film
 pub mod Snap
 -- inner: what only definitions and proofs of this crate use
 pub mod Replay
+-- what goes on with the files that the laws rest on
+pub mod Auxiliary

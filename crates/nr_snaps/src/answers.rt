@@ -1,7 +1,7 @@
 //! The recording of a film with the answers of its steps.
 
 ghost use Rattle.std.specs.Prelude.{◌≡◌, IfOk};
-ghost use Rattle.nr_snaps.specs.Answers.{answered};
+ghost use Rattle.nr_snaps.specs.Auxiliary.Answers.{answered};
 
 use crate::film::Film;
 use nr_recording::{Recording, Version, step_copy};

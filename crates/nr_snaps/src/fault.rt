@@ -1,6 +1,7 @@
 //! Why a recording is not loaded.
 
 ghost use Rattle.std.specs.Prelude.{◌≡◌};
+ghost use Rattle.nr_rev.specs.Refusing.{refused_memory};
 ghost use Rattle.nr_snaps.specs.Fault.{load_fault_line};
 ghost use Rattle.nr_snaps.specs.declared.fault.LoadFault.TheVariants as faults;
 
@@ -24,7 +25,7 @@ pub enum LoadFault {
     /// No memory for the world that the steps are tried on, for a copy of it or for the list of
     /// copies.
     #[error("fault 108 memory")]
-    Memory,
+    Memory(Memory),
 }
 
 /// It is a line, as `step 5: fault 107 reason 2`, where the reason is the number of the refusal, `step 5: fault 109
@@ -52,23 +53,23 @@ impl Text for LoadFault {
                 ];
                 send_all(&parts, w)
             }
-            LoadFault::Memory => OutOfMemory.send(w),
+            LoadFault::Memory(refused) => OutOfMemory(*refused).send(w),
         }
     }
 }
 
 impl From<Memory> for LoadFault {
-    ghost from_gives = { λ _ fault. fault ≡ faults.Memory };
+    ghost from_gives = { λ _ fault. fault ≡ faults.Memory refused_memory };
 
-    fn from(_refused: Memory) -> LoadFault {
-        LoadFault::Memory
+    fn from(refused: Memory) -> LoadFault {
+        LoadFault::Memory(refused)
     }
 }
 
 impl From<AllocError> for LoadFault {
-    ghost from_gives = { λ _ fault. fault ≡ faults.Memory };
+    ghost from_gives = { λ _ fault. fault ≡ faults.Memory refused_memory };
 
-    fn from(_refused: AllocError) -> LoadFault {
-        LoadFault::Memory
+    fn from(refused: AllocError) -> LoadFault {
+        LoadFault::Memory(refused.into())
     }
 }

@@ -3,7 +3,8 @@
 ghost use Rattle.std.specs.Prelude.{◌≡◌, ◌<◌, ◌≤◌, ◌+◌, ◌*◌, ◌/◌, length, slice_get, IfOk, OnOk, OnErr, Some};
 ghost use Rattle.std.specs.Option.{option_copied};
 ghost use Rattle.nr_recording.specs.declared.recording.TheConstants.{MOST_STEPS};
-ghost use Rattle.nr_rev.specs.Run.{IsGood, LosesBytesAt};
+ghost use Rattle.nr_rev.specs.Run.{IsGood};
+ghost use Rattle.nr_rev.specs.Auxiliary.Run.{LosesBytesAt};
 ghost use Rattle.nr_snaps.specs.Answers.{answer_at};
 ghost use Rattle.nr_snaps.specs.Film.{IsFrame};
 ghost use Rattle.nr_snaps.specs.Snap.{snap_world};

@@ -3,7 +3,8 @@
 ghost use Rattle.std.specs.Prelude.{◌≡◌, ℕ};
 ghost use Rattle.nr_rev.specs.Run.{IsGood, Recording};
 ghost use Rattle.nr_recording.specs.Recording.{Recorded, run_of};
-ghost use Rattle.nr_snaps.specs.Answers.{AnswersAgree, answered};
+ghost use Rattle.nr_snaps.specs.Answers.{AnswersAgree};
+ghost use Rattle.nr_snaps.specs.Auxiliary.Answers.{answered};
 ghost use Rattle.nr_snaps.specs.Fault.{IsStepFault};
 ghost use Rattle.nr_snaps.specs.declared.fault.LoadFault.{LoadFault};
 ghost use Rattle.nr_snaps.specs.Film.{IsFrame, Reel};

@@ -13,5 +13,5 @@ mod snap;
 
 pub use fault::LoadFault;
 pub use film::{Film, LEAST_EVERY, MOST_EVERY};
-pub use loading::Snaps;
+pub use loading::{Snaps, differs};
 pub use snap::Snap;

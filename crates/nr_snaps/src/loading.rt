@@ -2,10 +2,12 @@
 
 ghost use Rattle.std.specs.Prelude.{◌≡◌, ◌≢◌, ◌≤◌, ◌<◌, ◌+◌, length, IfOk, IfErr, OnOk, OnErr, MatchBool, Some};
 ghost use Rattle.nr_recording.specs.Recording.{run_of};
-ghost use Rattle.nr_rev.specs.Run.{IsGood, IsRefusedFor, IsWorldAt};
+ghost use Rattle.nr_rev.specs.Run.{IsGood};
+ghost use Rattle.nr_rev.specs.Auxiliary.Run.{IsRefusedFor, IsWorldAt};
 ghost use Rattle.nr_rev.specs.Refusing.{out_of_memory};
 ghost use Rattle.nr_snaps.specs.Answers.{Agrees, AnswersAgree, AnswersAgreeTo, Differs, answer_at};
-ghost use Rattle.nr_snaps.specs.Fault.{IsLoadFault, IsStepFault};
+ghost use Rattle.nr_snaps.specs.Fault.{IsStepFault};
+ghost use Rattle.nr_snaps.specs.Auxiliary.Fault.{IsLoadFault};
 ghost use Rattle.nr_snaps.specs.Film.{HasCopies, IsFrame, Reel};
 ghost use Rattle.nr_snaps.specs.Replay.{LeadsOn};
 ghost use Rattle.nr_snaps.specs.declared.film.TheConstants.{LEAST_EVERY, MOST_EVERY};
@@ -120,8 +122,8 @@ fn play<W: Worlds>(
     Ok(())
 }
 
-// Whether another answer is recorded of a step than the one that it gave.
-fn differs(recorded: Option<Answer>, given: Answer) -> bool
+/// Whether another answer is recorded of a step than the one that it gave.
+pub fn differs(recorded: Option<Answer>, given: Answer) -> bool
     ensures { MatchBool result (Differs recorded given) (Agrees recorded given) }
 {
     match recorded {

@@ -22,7 +22,8 @@ pub struct SockSnapshot {
 
 impl Model for SockSnapshot {
     ghost use Rattle.std.specs.Prelude.{◌≡◌};
-    ghost use Rattle.nr_sockbuf.specs.Sock.{SockParts, open_of, opened_when};
+    ghost use Rattle.nr_sockbuf.specs.Sock.{SockParts};
+    ghost use Rattle.nr_sockbuf.specs.Auxiliary.Sock.{open_of, opened_when};
 
     ghost Value = { SockParts };
 

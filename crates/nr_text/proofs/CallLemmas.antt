@@ -8,7 +8,8 @@ use Rattle.std.specs.declared.io.ErrorKind.{ErrorKind}
 use Rattle.std.specs.declared.io.ErrorKind.TheVariants as kind
 use Rattle.nr_text.specs.Calls.{Call, a_read_failed, bytes_of, finds_end, moved, moves_none, outcome_of_kind}
 use Rattle.nr_text.specs.Moments.{Moment}
-use Rattle.nr_text.specs.Streams.{Incoming, Reads, Receives}
+use Rattle.nr_text.specs.Streams.{Incoming, Receives}
+use Rattle.nr_text.specs.Auxiliary.Streams.{Reads}
 use Rattle.nr_text.specs.declared.calls.Outcome.{Outcome}
 use Rattle.nr_text.specs.declared.calls.Outcome.TheVariants.{Moved, Interrupted, Failed}
 

@@ -3,7 +3,7 @@ use Rattle.std.proofs.Common.{◌≡◌, ℕ, suc, ◌<◌, ◌≤◌, List, [],
 use Rattle.std.proofs.lemmas.Grind.{flat_map-append, get_or_default_zero}
 use Rattle.std.specs.Result.{IsErr}
 use Rattle.nr_text.specs.Buffered.{Buffering, Writes}
-use Rattle.nr_text.specs.Text.{text_of_parts}
+use Rattle.nr_text.specs.Auxiliary.Text.{text_of_parts}
 use Rattle.nr_text.specs.declared.buffered.WriteFailed.{WriteFailed}
 use Rattle.nr_text.proofs.BufferedLemmas.{writes_cut, writes_then}
 

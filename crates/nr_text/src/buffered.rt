@@ -3,7 +3,7 @@
 ghost use Rattle.std.specs.Prelude.{◌≡◌, ◌+◌, ◌≤◌, ◌++◌, [], length, false, OnErr, OnOk};
 ghost use Rattle.nr_text.specs.Buffered.{PutsOut, PutsOutSome, SentOrCut, Writes};
 ghost use Rattle.nr_text.specs.Calls.{bytes_of};
-ghost use Rattle.nr_text.specs.Streams.{TakesSome, unwritten};
+ghost use Rattle.nr_text.specs.Auxiliary.Streams.{TakesSome, unwritten};
 ghost use Rattle.nr_text.specs.declared.buffered.TheConstants.{ROOM};
 
 use crate::calls::{Calls, Outcome};

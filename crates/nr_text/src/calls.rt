@@ -5,7 +5,8 @@ ghost use Rattle.std.specs.Prelude.{◌≡◌, ℕ, List, [], ◌∷◌, ◌++�
 ghost use Rattle.std.specs.Borrow.{ftrue};
 ghost use Rattle.std.specs.declared.io.ErrorKind.{ErrorKind as CallErrorKind};
 ghost use Rattle.nr_text.specs.Calls.{bytes_of, calls_code, outcome_of_kind};
-ghost use Rattle.nr_text.specs.Moments.{Moment, moments_code};
+ghost use Rattle.nr_text.specs.Moments.{Moment};
+ghost use Rattle.nr_text.specs.Auxiliary.Moments.{moments_code};
 ghost use Rattle.nr_text.specs.declared.calls.Outcome.{Outcome as CallOutcome};
 
 use std::io::ErrorKind;

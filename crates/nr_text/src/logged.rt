@@ -2,7 +2,8 @@
 
 ghost use Rattle.std.specs.Prelude.{◌≡◌, [], ◌∷◌, false, true};
 ghost use Rattle.nr_text.specs.Calls.{bytes_of};
-ghost use Rattle.nr_text.specs.Streams.{Passes, Reads, Takes, unread, unwritten};
+ghost use Rattle.nr_text.specs.Streams.{Passes};
+ghost use Rattle.nr_text.specs.Auxiliary.Streams.{Reads, Takes, unread, unwritten};
 
 use crate::calls::{Call, Calls, Moments, Outcome};
 use std::io::{Read, Write};

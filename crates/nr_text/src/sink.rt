@@ -2,7 +2,7 @@
 
 ghost use Rattle.std.specs.Prelude.{◌≡◌, [], false};
 ghost use Rattle.nr_text.specs.Calls.{bytes_of};
-ghost use Rattle.nr_text.specs.Streams.{Prints, unwritten};
+ghost use Rattle.nr_text.specs.Auxiliary.Streams.{Prints, unwritten};
 
 use crate::buffered::{Buffered, WriteFailed};
 use crate::calls::Calls;

@@ -1,7 +1,8 @@
 //! A reader that remembers what it gave and whether a read failed.
 
 ghost use Rattle.std.specs.Prelude.{◌≡◌, []};
-ghost use Rattle.nr_text.specs.Streams.{Passes, Reads, ReadsNow, ReadsSome, unread};
+ghost use Rattle.nr_text.specs.Streams.{Passes};
+ghost use Rattle.nr_text.specs.Auxiliary.Streams.{Reads, ReadsNow, ReadsSome, unread};
 
 use crate::calls::Outcome;
 use crate::logged::LoggedReader;

@@ -2,7 +2,8 @@
 
 ghost use Rattle.std.specs.Prelude.{ℕ, List};
 ghost use Rattle.nr_text.specs.Buffered.{Writes};
-ghost use Rattle.nr_text.specs.Text.{hex_pair, spaced_number, text_of_parts};
+ghost use Rattle.nr_text.specs.Text.{hex_pair, spaced_number};
+ghost use Rattle.nr_text.specs.Auxiliary.Text.{text_of_parts};
 
 use crate::buffered::{Buffered, WriteFailed};
 use itoa::Buffer;

@@ -2,7 +2,8 @@
 
 ghost use Rattle.std.specs.Prelude.{flat_map};
 ghost use Rattle.nr_text.specs.Buffered.{Writes};
-ghost use Rattle.nr_text.specs.Text.{hex_pair, spaced_number, token_text};
+ghost use Rattle.nr_text.specs.Text.{hex_pair, spaced_number};
+ghost use Rattle.nr_text.specs.Auxiliary.Text.{token_text};
 
 use crate::buffered::{Buffered, WriteFailed};
 use crate::text::{HexPair, Spaced, Text};

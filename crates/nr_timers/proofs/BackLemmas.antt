@@ -6,7 +6,7 @@ use Rattle.std.proofs.lemmas.List.Edits.{Swapped, length-swap}
 use Rattle.std.proofs.lemmas.Bool.{cases_eq}
 use Rattle.nr_rev.specs.declared.timer.Entry.{Entry}
 use Rattle.nr_timers.specs.Order.{at, blank}
-use Rattle.nr_timers.specs.Change.{TakenBack, RemovedBack}
+use Rattle.nr_timers.specs.Auxiliary.Change.{TakenBack, RemovedBack}
 use Rattle.nr_timers.specs.BackLaws.{TakenBack-unique}
 use Rattle.nr_timers.specs.Index.{key, Absent, Keyed}
 use Rattle.nr_timers.proofs.LineLemmas.{at-swap}

@@ -6,9 +6,11 @@ use Rattle.std.proofs.lemmas.List.Edits.{Swapped, length-swap}
 use Rattle.std.proofs.lemmas.Bool.{cases_eq}
 use Rattle.nr_rev.specs.declared.timer.Entry.{Entry}
 use Rattle.nr_timers.specs.Order.{at, blank, is_less}
-use Rattle.nr_timers.specs.Line.{parent, Leads, OnLine, moved_up, moved_down, Ordered, OrderedAbove, OrderedBelow, OrderedAround, Raised, Sunk, Sifted}
+use Rattle.nr_timers.specs.Line.{parent, Leads, OnLine, Ordered, Raised, Sunk}
+use Rattle.nr_timers.specs.Auxiliary.Line.{moved_up, moved_down, OrderedAbove, OrderedBelow, OrderedAround, Sifted}
 use Rattle.nr_timers.specs.LineLaws.{Leads-le, Leads-lt, OnLine-le, OnLine-cases}
-use Rattle.nr_timers.specs.Change.{Inserted, Removed, refilled, TakenBack, InsertedBack, RemovedBack}
+use Rattle.nr_timers.specs.Change.{Inserted, Removed}
+use Rattle.nr_timers.specs.Auxiliary.Change.{refilled, TakenBack, InsertedBack, RemovedBack}
 use Rattle.nr_timers.proofs.OrderLemmas.{less_once, not_less-trans, same_less}
 use Rattle.nr_timers.proofs.LineLemmas.{Leads-between, at-swap, swap-swap, moved_down-moved_up, moved_up-moved_down, length-moved_up, length-moved_down}
 use Rattle.nr_timers.proofs.SiftLemmas.{line_end, size_of, size_of_up}

@@ -15,7 +15,8 @@ use Rattle.nr_timers.specs.Order.{at, is_less, Apart}
 use Rattle.nr_timers.specs.Index.{key, key_of}
 use Rattle.nr_timers.specs.ReversibleLaws.{same_number}
 use Rattle.nr_timers.specs.State.{State, IsTimers}
-use Rattle.nr_timers.specs.TimersOf.{timer_of, AreTimers}
+use Rattle.nr_timers.specs.TimersOf.{timer_of}
+use Rattle.nr_timers.specs.Auxiliary.TimersOf.{AreTimers}
 use Rattle.nr_timers.proofs.OrderLemmas.{least_first, less_once}
 use Rattle.nr_timers.proofs.DrawnLemmas.{Has}
 use Rattle.nr_timers.proofs.LookupLemmas.{key_is, one_side, timer_found, timer_none, has_or_absent, Apart-tail}

@@ -4,7 +4,8 @@ use Rattle.std.proofs.lemmas.List.Edits.{Swapped}
 use Rattle.std.proofs.lemmas.Bool.{cases_eq, cases_lt}
 use Rattle.nr_rev.specs.declared.timer.Entry.{Entry}
 use Rattle.nr_timers.specs.Order.{at, is_less}
-use Rattle.nr_timers.specs.Line.{parent, Leads, OnLine, OrderedAbove, OrderedBelow, Raised, Sunk}
+use Rattle.nr_timers.specs.Line.{parent, Leads, OnLine, Raised, Sunk}
+use Rattle.nr_timers.specs.Auxiliary.Line.{OrderedAbove, OrderedBelow}
 use Rattle.nr_timers.specs.LineLaws.{Leads-more, OnLine-cases, OnLine-more, OnLine-le}
 use Rattle.nr_timers.proofs.OrderLemmas.{less_once, not_less-trans, same_less}
 use Rattle.nr_timers.proofs.LineLemmas.{Leads-between}

@@ -7,7 +7,8 @@ use Rattle.std.proofs.lemmas.List.Edits.{Swapped, length-swap}
 use Rattle.std.proofs.lemmas.Bool.{cases_eq, cases_lt}
 use Rattle.nr_rev.specs.declared.timer.Entry.{Entry}
 use Rattle.nr_timers.specs.Order.{at, blank}
-use Rattle.nr_timers.specs.Index.{key, Absent, Keyed, free, IsIndexed}
+use Rattle.nr_timers.specs.Index.{key, Absent, Keyed}
+use Rattle.nr_timers.specs.Auxiliary.Index.{free, IsIndexed}
 use Rattle.nr_timers.proofs.LineLemmas.{at-swap}
 
 -- what the index holds

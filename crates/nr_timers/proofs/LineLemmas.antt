@@ -6,7 +6,8 @@ use Rattle.std.proofs.lemmas.List.Edits.{Swapped, swapped_from_swap, length-swap
 use Rattle.std.proofs.lemmas.Bool.{cases_eq}
 use Rattle.nr_rev.specs.declared.timer.Entry.{Entry}
 use Rattle.nr_timers.specs.Order.{at, blank}
-use Rattle.nr_timers.specs.Line.{parent, Leads, OnLine, moved_up, moved_down}
+use Rattle.nr_timers.specs.Line.{parent, Leads, OnLine}
+use Rattle.nr_timers.specs.Auxiliary.Line.{moved_up, moved_down}
 use Rattle.nr_timers.specs.LineLaws.{Leads-lt}
 
 -- of two places on a line the lower number is on the line of the other

@@ -15,7 +15,8 @@ use Rattle.nr_timers.specs.declared.op.TimersOp.TheVariants.{Arm, Stop, Pop, Tak
 use Rattle.nr_timers.specs.Order.{at, blank, number}
 use Rattle.nr_timers.specs.Line.{Ordered}
 use Rattle.nr_timers.specs.Index.{key, key_of, Absent}
-use Rattle.nr_timers.specs.Change.{Inserted, InsertedBack, Removed, RemovedBack}
+use Rattle.nr_timers.specs.Change.{Inserted, Removed}
+use Rattle.nr_timers.specs.Auxiliary.Change.{InsertedBack, RemovedBack}
 use Rattle.nr_timers.specs.Clearing.{Takes, Cleared, ClearedBack, armed_undo, stopped_undo}
 use Rattle.nr_timers.specs.State.{State, IsTimers}
 use Rattle.nr_timers.specs.Step.{armed_entry, Arms}

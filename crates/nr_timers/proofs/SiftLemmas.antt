@@ -5,7 +5,8 @@ use Rattle.std.proofs.lemmas.List.Edits.{Swapped, length-swap}
 use Rattle.std.proofs.lemmas.Bool.{cases_eq, cases_lt}
 use Rattle.nr_rev.specs.declared.timer.Entry.{Entry}
 use Rattle.nr_timers.specs.Order.{at, is_less}
-use Rattle.nr_timers.specs.Line.{parent, Leads, OnLine, moved_up, moved_down, Ordered, OrderedAbove, OrderedBelow, Raised, Sunk}
+use Rattle.nr_timers.specs.Line.{parent, Leads, OnLine, Ordered, Raised, Sunk}
+use Rattle.nr_timers.specs.Auxiliary.Line.{moved_up, moved_down, OrderedAbove, OrderedBelow}
 use Rattle.nr_timers.proofs.OrderLemmas.{less_self, less_once, not_less-trans}
 use Rattle.nr_timers.specs.LineLaws.{Leads-more, OnLine-le}
 use Rattle.nr_timers.proofs.LineLemmas.{at-swap, moved_down-more, length-moved_up, length-moved_down}

@@ -14,7 +14,8 @@ use Rattle.nr_timers.specs.declared.heap.Gone.{Gone}
 use Rattle.nr_timers.specs.Order.{at, blank, number, Apart}
 use Rattle.nr_timers.specs.Line.{Ordered}
 use Rattle.nr_timers.specs.Index.{key, key_of, Absent, Keyed}
-use Rattle.nr_timers.specs.Change.{Inserted, InsertedBack, Removed, RemovedBack}
+use Rattle.nr_timers.specs.Change.{Inserted, Removed}
+use Rattle.nr_timers.specs.Auxiliary.Change.{InsertedBack, RemovedBack}
 use Rattle.nr_timers.specs.Clearing.{Cleared, ClearedBack}
 use Rattle.nr_timers.specs.TimersOf.{SetsTimer}
 use Rattle.nr_timers.specs.State.{State, Numbered, IsTimers}

@@ -6,7 +6,7 @@ use Rattle.std.proofs.lemmas.Option.{get_or_from_slice_get}
 use Rattle.nr_rev.specs.declared.timer.Entry.{Entry}
 use Rattle.nr_rev.specs.declared.timer.Timer.{Timer}
 use Rattle.nr_timers.specs.Order.{at, blank}
-use Rattle.nr_timers.specs.Change.{InsertedBack, RemovedBack}
+use Rattle.nr_timers.specs.Auxiliary.Change.{InsertedBack, RemovedBack}
 use Rattle.nr_timers.specs.BackLaws.{InsertedBack-unique, RemovedBack-unique}
 use Rattle.nr_timers.specs.Index.{Keyed}
 use Rattle.nr_timers.specs.State.{State}

@@ -9,7 +9,7 @@ use Rattle.nr_timers.specs.declared.delta.TimersUndo.TheVariants.{Armed, Rearmed
 use Rattle.nr_timers.specs.declared.op.TimersOp.{TimersOp}
 use Rattle.nr_timers.specs.declared.op.TimersOp.TheVariants.{Arm, Stop, Pop, TakeFiring}
 use Rattle.nr_timers.specs.Order.{at}
-use Rattle.nr_timers.specs.Change.{InsertedBack, RemovedBack}
+use Rattle.nr_timers.specs.Auxiliary.Change.{InsertedBack, RemovedBack}
 use Rattle.nr_timers.specs.Index.{Keyed}
 use Rattle.nr_timers.specs.State.{State}
 

@@ -5,7 +5,8 @@ use Rattle.nr_timers.specs.declared.heap.Gone.{Gone}
 use Rattle.nr_timers.specs.declared.delta.TimersUndo.{TimersUndo}
 use Rattle.nr_timers.specs.declared.delta.TimersUndo.TheVariants.{Armed, Rearmed, Stopped, Still}
 use Rattle.nr_timers.specs.Order.{at}
-use Rattle.nr_timers.specs.Change.{Removed, RemovedBack}
+use Rattle.nr_timers.specs.Change.{Removed}
+use Rattle.nr_timers.specs.Auxiliary.Change.{RemovedBack}
 use Rattle.nr_timers.specs.Index.{key, Absent}
 
 -- the entry is that of the key, and it was removed

@@ -1,6 +1,5 @@
 -- Lines of parents, and entries that move along them.
-use Rattle.std.specs.Prelude.{◌≡◌, ◌⊎◌, ℕ, zero, suc, ◌<◌, ◌≤◌, ◌-◌, ◌/◌, true, false, List, length}
-use Rattle.std.specs.List.{swap}
+use Rattle.std.specs.Prelude.{◌≡◌, ℕ, zero, suc, ◌<◌, ◌≤◌, ◌-◌, ◌/◌, true, false, List, length}
 use Rattle.nr_rev.specs.declared.timer.Entry.{Entry}
 use Rattle.nr_timers.specs.Order.{is_less, at}
 
@@ -17,16 +16,6 @@ Leads (suc n) p q = (0 < p) × Leads n (parent p) q
 abbrev pub OnLine : ℕ → ℕ → Type 0
 OnLine p q = (n : ℕ) × Leads n p q
 
--- the entry at p, n places of the line up
-abbrev pub moved_up : ℕ → List Entry → ℕ → List Entry
-moved_up zero places p = places
-moved_up (suc n) places p = moved_up n (swap places p (parent p)) (parent p)
-
--- the entry n places of the line above p, down at p
-abbrev pub moved_down : ℕ → List Entry → ℕ → List Entry
-moved_down zero places p = places
-moved_down (suc n) places p = swap (moved_down n places (parent p)) p (parent p)
-
 -- the entry is not less than the one at its place's parent
 abbrev pub InOrder : List Entry → ℕ → Type 0
 InOrder places p = is_less (at places p) (at places (parent p)) ≡ false
@@ -34,30 +23,6 @@ InOrder places p = is_less (at places p) (at places (parent p)) ≡ false
 -- no entry is less than the one at its place's parent
 abbrev pub Ordered : List Entry → Type 0
 Ordered places = (p : ℕ) → 0 < p → p < length places → InOrder places p
-
--- the children of p are in order towards p's parent
-abbrev pub InOrderAcross : List Entry → ℕ → Type 0
-InOrderAcross places p =
-    (i : ℕ) → 0 < i → i < length places → parent i ≡ p → 0 < p
-    → is_less (at places i) (at places (parent p)) ≡ false
-
--- all but the entry at p are in order towards their parents, and those below p also towards p's
--- parent
-pub record OrderedAbove (places : List Entry) (p : ℕ) : Type 0 where
-  pub others : (i : ℕ) → 0 < i → i < length places → (i ≡ p → ⊥) → InOrder places i
-  pub across : InOrderAcross places p
-
--- all but the children of p are in order towards their parents, and these towards p's parent
-pub record OrderedBelow (places : List Entry) (p : ℕ) : Type 0 where
-  pub others : (i : ℕ) → 0 < i → i < length places → (parent i ≡ p → ⊥) → InOrder places i
-  pub across : InOrderAcross places p
-
--- all but the entry at p and those below it are in order towards their parents, and those below it
--- towards p's parent
-pub record OrderedAround (places : List Entry) (p : ℕ) : Type 0 where
-  pub others : (i : ℕ) → 0 < i → i < length places → (i ≡ p → ⊥) → (parent i ≡ p → ⊥)
-      → InOrder places i
-  pub across : InOrderAcross places p
 
 -- With p taken as empty, the entry is at q, the highest place of the line of parents from p, p
 -- included, such that all entries between were greater. These are one place of the line lower, and
@@ -84,9 +49,3 @@ pub record Sunk (old : List Entry) (p : ℕ) (entry : Entry) (q : ℕ) (new : Li
       → is_less (at old i) (at old k) ≡ false
   pub lowest : (i : ℕ) → 0 < i → i < length new → parent i ≡ q → is_less (at old i) entry ≡ false
   pub others : (k : ℕ) → k < length new → (OnLine q k → p ≤ k → ⊥) → at new k ≡ at old k
-
--- the entry at p went up to q, or, not less than the one at p's parent, down to it
-abbrev pub Sifted : List Entry → ℕ → ℕ → List Entry → Type 0
-Sifted old p q new =
-    ((q < p) × Raised old p (at old p) q new)
-    ⊎ ((0 < p → is_less (at old p) (at old (parent p)) ≡ false) × Sunk old p (at old p) q new)

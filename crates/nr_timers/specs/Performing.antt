@@ -4,7 +4,8 @@ use Rattle.nr_rev.specs.declared.refusal.Refusal.{Refusal}
 use Rattle.nr_timers.specs.declared.delta.TimersUndo.{TimersUndo}
 use Rattle.nr_timers.specs.declared.op.TimersOp.{TimersOp}
 use Rattle.nr_timers.specs.State.{State, IsTimers}
-use Rattle.nr_timers.specs.Step.{Makes, timers_reason}
+use Rattle.nr_timers.specs.Step.{Makes}
+use Rattle.nr_timers.specs.Auxiliary.Step.{timers_reason}
 use Rattle.nr_timers.specs.Back.{UndoBack, undo_weight, op_allowance}
 
 -- the operation was made, and the delta leads back over it

@@ -11,12 +11,14 @@ use Rattle.nr_timers.specs.declared.delta.TimersUndo.TheVariants.{Armed, Rearmed
 use Rattle.nr_timers.specs.declared.op.TimersOp.{TimersOp}
 use Rattle.nr_timers.specs.declared.op.TimersOp.TheVariants.{Arm, Stop, Pop, TakeFiring}
 use Rattle.nr_timers.specs.Order.{at, is_less, number}
-use Rattle.nr_timers.specs.Change.{Inserted, Removed, RemovedBack}
+use Rattle.nr_timers.specs.Change.{Inserted, Removed}
+use Rattle.nr_timers.specs.Auxiliary.Change.{RemovedBack}
 use Rattle.nr_timers.specs.ChangeLaws.{Distinct, Inserted-unique, Removed-unique}
 use Rattle.nr_timers.specs.BackLaws.{InsertedBack-unique, RemovedBack-unique}
 use Rattle.nr_timers.specs.Index.{key, key_of}
 use Rattle.nr_timers.specs.State.{State, IsTimers}
-use Rattle.nr_timers.specs.Step.{Clears, Makes, TimersStep, timers_reason}
+use Rattle.nr_timers.specs.Step.{Clears, Makes, TimersStep}
+use Rattle.nr_timers.specs.Auxiliary.Step.{timers_reason}
 use Rattle.nr_timers.specs.Back.{TimersBack, UndoBack, with_timer, op_allowance}
 
 -- where neither of two entries is less their numbers are equal

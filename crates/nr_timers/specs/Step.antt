@@ -1,7 +1,5 @@
 -- What timers do, and why not.
-use Rattle.std.specs.Prelude.{◌≡◌, ◌⊎◌, ℕ, ℤ, ◌^◌, ◌+◌, ◌-◌, ◌*◌, ◌<◌, nat_lt, int_le, true, List, [], ◌∷◌, ◌++◌, length, remove, if◌then◌else◌, Option, Some, None}
-use Rattle.nr_rev.specs.declared.refusal.Refusal.{Refusal}
-use Rattle.nr_rev.specs.declared.refusal.Refusal.TheVariants.{NoSuchDescriptor, NoTimerDue, FiringsFull, NoSuchFiring, LastNumber}
+use Rattle.std.specs.Prelude.{◌≡◌, ◌⊎◌, ℕ, ℤ, ◌^◌, ◌+◌, ◌-◌, ◌*◌, ◌<◌, int_le, true, List, [], ◌∷◌, ◌++◌, length, remove, Some, None}
 use Rattle.nr_rev.specs.declared.sides.Side.{Side}
 use Rattle.nr_rev.specs.declared.timer.Entry.{Entry}
 use Rattle.nr_rev.specs.declared.timer.TimerFunction.{TimerFunction}
@@ -73,23 +71,3 @@ Makes old (TakeFiring place) new = TakesFiring old place new
 -- an operation leads from well-formed timers to the new ones; none returns anything
 abbrev pub TimersStep : State → TimersOp → Unit {0} → State → Type 0
 TimersStep old op answer new = IsTimers old × Makes old op new
-
--- why an operation doesn't apply: the first reason that holds
-abbrev pub timers_reason : State → TimersOp → Option Refusal
-timers_reason old (Arm d side due function sequence) =
-    if nat_lt d old.descriptors
-    then (if nat_lt old.next (2 ^ 64 - 1) then None else Some LastNumber)
-    else Some NoSuchDescriptor
-timers_reason old (Stop d side) = if nat_lt d old.descriptors then None else Some NoSuchDescriptor
-timers_reason old (Pop now) =
-    if nat_lt 0 (length old.entries)
-    then (if int_le (at old.entries 0).timer.due now
-    then (if nat_lt (length old.firings) (2 * old.descriptors) then None else Some FiringsFull)
-    else Some NoTimerDue)
-    else Some NoTimerDue
-timers_reason old (TakeFiring place) =
-    if nat_lt place (length old.firings) then None else Some NoSuchFiring
-
--- no operation takes memory
-abbrev pub TakesMemory : State → TimersOp → Type 0
-TakesMemory old op = ⊥

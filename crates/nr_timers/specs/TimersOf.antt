@@ -1,11 +1,11 @@
 -- The timers of a descriptor, looked up among the entries.
-use Rattle.std.specs.Prelude.{◌≡◌, ◌≢◌, ℕ, Bool, ◌&&◌, ◌==◌, List, slice_index_or, find, Option, None, option_map}
+use Rattle.std.specs.Prelude.{◌≡◌, ◌≢◌, ℕ, Bool, ◌&&◌, ◌==◌, List, find, Option, option_map}
 use Rattle.nr_rev.specs.declared.sides.Side.{Side}
 use Rattle.nr_rev.specs.declared.sides.Side.TheVariants.{Read, Write}
 use Rattle.nr_rev.specs.declared.sides.Sides.{Sides}
 use Rattle.nr_rev.specs.declared.timer.Entry.{Entry}
 use Rattle.nr_rev.specs.declared.timer.Timer.{Timer}
-use Rattle.nr_rev.specs.Sides.{with_side, same_side, twice}
+use Rattle.nr_rev.specs.Sides.{with_side, same_side}
 
 -- whether the entry is that of descriptor d's side
 abbrev pub is_for : ℕ → Side → Entry → Bool
@@ -24,7 +24,3 @@ pub record SetsTimer (d : ℕ) (side : Side) (timer : Option Timer) (old new : L
   where
     pub here : timers_of new d ≡ with_side side timer (timers_of old d)
     pub others : (k : ℕ) → k ≢ d → timers_of new k ≡ timers_of old k
-
--- these are the timers of the descriptors from number 0 on, and all others have none
-abbrev pub AreTimers : List Entry → List (Sides (Option Timer)) → Type 0
-AreTimers entries timers = (d : ℕ) → timers_of entries d ≡ slice_index_or timers d (twice None)

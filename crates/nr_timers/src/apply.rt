@@ -10,7 +10,8 @@ impl Reversible for Timers {
     ghost use Rattle.nr_timers.specs.Back.{TimersBack, delta_weight, op_allowance};
     ghost use Rattle.nr_timers.specs.ReversibleLaws.{TimersBack-unique, memory_is_no_reason, refused_has_no_step, steps_unique, weight_is_within};
     ghost use Rattle.nr_timers.specs.State.{IsTimers};
-    ghost use Rattle.nr_timers.specs.Step.{TakesMemory, TimersStep, timers_reason};
+    ghost use Rattle.nr_timers.specs.Step.{TimersStep};
+    ghost use Rattle.nr_timers.specs.Auxiliary.Step.{TakesMemory, timers_reason};
 
     type Op = TimersOp;
 

@@ -2,10 +2,12 @@
 
 ghost use Rattle.std.specs.Prelude.{◌≡◌, ◌≢◌, ◌⊎◌, ℕ, ◌-◌, ◌<◌, ◌≤◌, List, length, IfSome};
 ghost use Rattle.nr_rev.specs.declared.timer.Entry.{Entry};
-ghost use Rattle.nr_timers.specs.Change.{Inserted, InsertedBack, Removed, RemovedBack, TakenBack, refilled};
+ghost use Rattle.nr_timers.specs.Change.{Inserted, Removed};
+ghost use Rattle.nr_timers.specs.Auxiliary.Change.{InsertedBack, RemovedBack, TakenBack, refilled};
 ghost use Rattle.nr_timers.specs.Clearing.{Cleared, ClearedBack};
 ghost use Rattle.nr_timers.specs.Index.{Absent, Keyed, key};
-ghost use Rattle.nr_timers.specs.Line.{Leads, Ordered, OrderedAround, Sifted};
+ghost use Rattle.nr_timers.specs.Line.{Leads, Ordered};
+ghost use Rattle.nr_timers.specs.Auxiliary.Line.{OrderedAround, Sifted};
 ghost use Rattle.nr_timers.specs.Order.{at};
 
 use crate::heap::{Gone, Heap};

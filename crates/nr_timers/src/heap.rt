@@ -33,7 +33,7 @@ pub(crate) struct Gone {
 impl Model for Heap {
     ghost use Rattle.std.specs.Prelude.{◌<◌, ◌≤◌, ◌^◌, length, vec_capacity};
     ghost use Rattle.nr_timers.specs.Places.{Places};
-    ghost use Rattle.nr_timers.specs.Index.{IsIndexed};
+    ghost use Rattle.nr_timers.specs.Auxiliary.Index.{IsIndexed};
 
     ghost Value = { Places };
 

@@ -12,7 +12,7 @@ ghost use Rattle.nr_timers.specs.Back.{delta_weight, op_allowance};
 ghost use Rattle.nr_timers.specs.Line.{parent};
 ghost use Rattle.nr_timers.specs.Order.{at, is_less};
 ghost use Rattle.nr_timers.specs.State.{IsTimers, State};
-ghost use Rattle.nr_timers.specs.TimersOf.{AreTimers};
+ghost use Rattle.nr_timers.specs.Auxiliary.TimersOf.{AreTimers};
 
 /// Where a heap has the timers of descriptors, it has as many entries as they have timers, and the least of these at
 /// place 0.

@@ -1,7 +1,8 @@
 //! Entries that move up and down along their lines of parents.
 
 ghost use Rattle.std.specs.Prelude.{◌≡◌, ℕ, ◌+◌, ◌*◌, ◌<◌, false, length};
-ghost use Rattle.nr_timers.specs.Line.{parent, Leads, moved_up, moved_down, Ordered, OrderedAbove, OrderedBelow, Raised, Sunk};
+ghost use Rattle.nr_timers.specs.Line.{parent, Leads, Ordered, Raised, Sunk};
+ghost use Rattle.nr_timers.specs.Auxiliary.Line.{moved_up, moved_down, OrderedAbove, OrderedBelow};
 ghost use Rattle.nr_timers.specs.Order.{at, is_less};
 
 use crate::heap::Heap;

@@ -1,6 +1,6 @@
 -- How a walker goes from position to position, and what that takes.
 use Rattle.std.specs.Prelude.{◌≡◌, ◌⊎◌, ℕ, ◌+◌, ◌-◌, ◌*◌, ◌/◌, ◌<◌, ◌≤◌, ◌&&◌, nat_lt, nat_le, min, if◌then◌else◌}
-use Rattle.nr_rev.specs.Run.{LosesBytesAt}
+use Rattle.nr_rev.specs.Auxiliary.Run.{LosesBytesAt}
 use Rattle.nr_snaps.specs.Film.{Reel}
 use Rattle.nr_walker.specs.declared.moved.Moved.{Moved}
 use Rattle.nr_walker.specs.declared.route.Route.{Route}

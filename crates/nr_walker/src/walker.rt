@@ -1,7 +1,7 @@
 //! A walker: a world that goes to any position of a film, with a ring of deltas.
 
 ghost use Rattle.std.specs.Prelude.{◌≡◌, ◌<◌, ◌≤◌, ◌+◌, ◌-◌, length, IfOk, OnOk, OnErr};
-ghost use Rattle.nr_rev.specs.Run.{LosesBytesAt};
+ghost use Rattle.nr_rev.specs.Auxiliary.Run.{LosesBytesAt};
 ghost use Rattle.nr_snaps.specs.Film.{IsFrame};
 ghost use Rattle.nr_walker.specs.Walk.{IsRefusedBy, StopsShort, at_copy, backwards, forwards, moved_by, route, walk_by};
 ghost use Rattle.nr_walker.specs.declared.walker.TheConstants.{LEAST_DEPTH, MOST_DEPTH};

@@ -1,7 +1,7 @@
 use Rattle.std.proofs.Common.{◌+◌, [], refl, ap, sym, subst, ◌∙◌, cond, rules, None, Some}
 use Rattle.nr_command.specs.Reply.{text_of}
 use Rattle.nr_text.specs.Streams.{saturating_count}
-use Rattle.nr_lines.specs.Turn.{MayReply}
+use Rattle.nr_lines.specs.Auxiliary.Turn.{MayReply}
 use Rattle.nr_command.proofs.ReplyLemmas.{has_text}
 use Rattle.nr_text.proofs.StreamLemmas.{sends_none}
 use Rattle.nr_lines.proofs.turn.turn.Goals as goal

@@ -2,7 +2,8 @@ use Rattle.std.proofs.Common.{◌≡◌, Ok, Err, subst}
 use Rattle.std.proofs.lemmas.Int.{to_z-of_z}
 use Rattle.std.proofs.lemmas.Result.{err_from_is_err_and}
 use Rattle.nr_rev.specs.declared.descriptor.Descriptor.{Descriptor}
-use Rattle.nr_rev.specs.Descriptor.{both_follow, deadline_from, with_deadlines}
+use Rattle.nr_rev.specs.Descriptor.{deadline_from, with_deadlines}
+use Rattle.nr_rev.specs.Auxiliary.Descriptor.{both_follow}
 use Rattle.nr_plain.specs.Change.{change_view}
 use Rattle.nr_rev.proofs.TimerFollowsLemmas.{refused_by_following, set_by_following}
 use Rattle.nr_plain.proofs.change.change_by_deadline.Goals as goal

@@ -1,5 +1,5 @@
 use Rattle.std.proofs.Common.{subst}
-use Rattle.nr_recording.specs.Reading.{IsUnlessMemory}
+use Rattle.nr_recording.specs.Auxiliary.Reading.{IsUnlessMemory}
 use Rattle.nr_recording.proofs.TextLaws.{reading_again, answer_found}
 use Rattle.nr_recording.proofs.reading.read.Goals as goal
 

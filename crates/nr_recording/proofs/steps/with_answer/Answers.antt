@@ -3,7 +3,8 @@ use Rattle.serde_json.specs.Data.{Data, array}
 use Rattle.serde_json.specs.View.{view, items_view}
 use Rattle.serde_json.specs.declared.value.Value.{Value}
 use Rattle.serde_json.proofs.Views.{view-Array}
-use Rattle.nr_recording.specs.Spelling.{answer, IsSpelling}
+use Rattle.nr_recording.specs.Spelling.{answer}
+use Rattle.nr_recording.specs.Auxiliary.Spelling.{IsSpelling}
 use Rattle.nr_recording.proofs.Behind.{spelling_pushed}
 use Rattle.nr_recording.proofs.steps.with_answer.Goals as goal
 

@@ -5,7 +5,8 @@ use Rattle.std.proofs.lemmas.List.Elements.{All-more}
 use Rattle.std.proofs.lemmas.Option.{get_or_from_slice_get, slice_get_within}
 use Rattle.nr_rev.specs.declared.answer.Answer.{Answer}
 use Rattle.nr_rev.specs.declared.step.Step.{Step}
-use Rattle.nr_recording.specs.Recording.{IsRecording, Recorded, recorded_at, run_of}
+use Rattle.nr_recording.specs.Recording.{Recorded, recorded_at, run_of}
+use Rattle.nr_recording.specs.Auxiliary.Recording.{IsRecording}
 use Rattle.nr_recording.specs.Writing.{HasTypedArguments}
 use Rattle.nr_recording.specs.declared.recording.RecordedStep.{RecordedStep}
 use Rattle.nr_recording.proofs.RecordedLemmas.{both_there}

@@ -1,5 +1,6 @@
 use Rattle.std.proofs.Common.{rules, ◌≡◌, ◌∷◌, length, take, drop, suc, sym, subst, inl, arith, length-take-le}
-use Rattle.nr_rev.specs.Reversible.{IsLight, Refuses}
+use Rattle.nr_rev.specs.Reversible.{Refuses}
+use Rattle.nr_rev.specs.Auxiliary.Reversible.{IsLight}
 use Rattle.nr_rev.specs.Transaction.{FirstRefused}
 use Rattle.nr_rev.proofs.LeadsBackLemmas.{Applied-push, length-Applied, LeadsBack-Applied, LeadsBack-unchanged, FirstRefused-after, take-next, append-next}
 use Rattle.nr_rev.proofs.transaction.transact.Goals as goal

@@ -1,5 +1,5 @@
 use Rattle.std.proofs.Common.{take}
-use Rattle.nr_rev.specs.Reversible.{IsLight}
+use Rattle.nr_rev.specs.Auxiliary.Reversible.{IsLight}
 use Rattle.nr_rev.specs.Transaction.{Applied}
 use Rattle.nr_rev.proofs.transaction.transact.Given as goal
 

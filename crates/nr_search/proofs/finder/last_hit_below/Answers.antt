@@ -1,6 +1,7 @@
 use Rattle.std.proofs.Common.{◌≡◌, ◌+◌, ◌-◌, ◌<◌, refl, sym, ap, ◌∙◌, subst, arith}
 use Rattle.nr_marks.specs.Hit.{hits_at}
-use Rattle.nr_search.specs.Nearest.{IsFound, found_after}
+use Rattle.nr_search.specs.Nearest.{found_after}
+use Rattle.nr_search.specs.Auxiliary.Nearest.{IsFound}
 use Rattle.nr_search.specs.declared.direction.Direction.TheVariants.{Backward}
 use Rattle.nr_search.proofs.NearestLemmas.{found-before-start, found-to-start}
 use Rattle.nr_search.proofs.finder.last_hit_below.Goals as goal

@@ -1,8 +1,8 @@
 use Rattle.std.proofs.Common.{◌+◌, sym, subst, rules}
 use Rattle.std.specs.Prelude.{IfOk}
 use Rattle.nr_marks.specs.Hit.{hits_at}
-use Rattle.nr_marks.specs.Numbered.{RisesWithin, numbers_of}
-use Rattle.nr_search.specs.Nearest.{IsFound, Rises}
+use Rattle.nr_marks.specs.Auxiliary.Numbered.{RisesWithin, numbers_of}
+use Rattle.nr_search.specs.Auxiliary.Nearest.{IsFound, Rises}
 use Rattle.nr_search.specs.declared.direction.Direction.TheVariants.{Forward}
 use Rattle.nr_search.proofs.FinderLemmas.{if-found-backward, if-found-forward, if-rises, nearest-rises, nothing-found}
 use Rattle.nr_search.proofs.finder.nearest_hit.Goals as goal

@@ -1,6 +1,7 @@
 use Rattle.std.proofs.Common.{◌+◌, sym, ap, ◌∙◌, subst}
 use Rattle.nr_marks.specs.Hit.{hits_at}
-use Rattle.nr_search.specs.Nearest.{IsFound, nearest_hit}
+use Rattle.nr_search.specs.Nearest.{nearest_hit}
+use Rattle.nr_search.specs.Auxiliary.Nearest.{IsFound}
 use Rattle.nr_search.specs.declared.direction.Direction.TheVariants.{Forward}
 use Rattle.nr_search.proofs.FinderLemmas.{forward-found}
 use Rattle.nr_search.proofs.NearestLemmas.{last_hit_below-found}

@@ -1,6 +1,6 @@
 use Rattle.std.proofs.Common.{◌-◌, subst, arith}
 use Rattle.nr_marks.specs.Hit.{hits_at}
-use Rattle.nr_search.specs.Nearest.{IsNearest, NoneHits}
+use Rattle.nr_search.specs.Auxiliary.Nearest.{IsNearest, NoneHits}
 use Rattle.nr_search.proofs.SegmentLemmas.{nth-within}
 use Rattle.nr_search.proofs.StepLemmas.{missed-all, missed-more, nearest-is}
 use Rattle.nr_search.proofs.steps.search_steps.Goals as goal

@@ -1,6 +1,6 @@
 use Rattle.std.proofs.Common.{◌+◌, sym, ◌∙◌, subst, arith}
 use Rattle.nr_marks.specs.Hit.{hits_at}
-use Rattle.nr_search.specs.Nearest.{IsFound}
+use Rattle.nr_search.specs.Auxiliary.Nearest.{IsFound}
 use Rattle.nr_search.proofs.NearestLemmas.{found-decided, found-then, found-whole}
 use Rattle.nr_search.proofs.stretch.search_stretch.Goals as goal
 

@@ -1,6 +1,6 @@
 use Rattle.std.proofs.Common.{◌≡◌, ◌+◌, false}
 use Rattle.nr_marks.specs.Hit.{hits_at}
-use Rattle.nr_search.specs.Nearest.{IsFound}
+use Rattle.nr_search.specs.Auxiliary.Nearest.{IsFound}
 use Rattle.nr_search.specs.Search.{Remembers, is_decided}
 use Rattle.nr_snaps.specs.Film.{IsFrame}
 use Rattle.nr_search.proofs.stretch.search_stretch.Given as goal

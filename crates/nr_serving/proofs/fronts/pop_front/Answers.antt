@@ -1,5 +1,5 @@
 use Rattle.std.proofs.lemmas.List.Elements.{All-pop}
-use Rattle.nr_serving.specs.Fronts.{IsReady}
+use Rattle.nr_serving.specs.Auxiliary.Fronts.{IsReady}
 use Rattle.nr_serving.proofs.ServingLemmas.{last_taken}
 use Rattle.nr_serving.proofs.fronts.pop_front.Goals as goal
 

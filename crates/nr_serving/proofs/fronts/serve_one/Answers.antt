@@ -1,9 +1,10 @@
-use Rattle.std.proofs.Common.{◌≡◌, ◌||◌, ◌∙◌, ◌∷◌, ◌++◌, List, [], Bool, false, true, sym, ap, subst, rules}
+use Rattle.std.proofs.Common.{◌≡◌, ◌||◌, ◌∙◌, ◌∷◌, ◌++◌, [], false, true, sym, ap, subst, rules}
 use Rattle.std.specs.List.{list_any}
 use Rattle.std.specs.Prelude.{is_err}
-use Rattle.nr_front.specs.FrontState.{pass_of}
+use Rattle.nr_front.specs.Auxiliary.FrontState.{pass_of}
 use Rattle.nr_serving.specs.Conversations.{Passed}
-use Rattle.nr_serving.specs.Fronts.{ServesCallers, came, is_failure}
+use Rattle.nr_serving.specs.Fronts.{came, is_failure}
+use Rattle.nr_serving.specs.Auxiliary.Fronts.{ServesCallers}
 use Rattle.nr_serving.specs.declared.conversations.Arrival.TheVariants as arrivals
 use Rattle.nr_serving.proofs.ServingLemmas.{came_more, ended_with, reported_more, serving_more}
 use Rattle.nr_serving.proofs.fronts.serve_one.Goals as goal

@@ -1,6 +1,7 @@
 use Rattle.std.proofs.Common.{◌≡◌}
 use Rattle.std.specs.List.{list_any}
-use Rattle.nr_serving.specs.Fronts.{ServesCallers, came, is_failure}
+use Rattle.nr_serving.specs.Fronts.{came, is_failure}
+use Rattle.nr_serving.specs.Auxiliary.Fronts.{ServesCallers}
 use Rattle.nr_serving.proofs.fronts.serve_one.Given as goal
 
 -- the callers so far came and were served

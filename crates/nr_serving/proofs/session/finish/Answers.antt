@@ -3,7 +3,8 @@ use Rattle.std.specs.Prelude.{IfSome, vec_len}
 use Rattle.std.specs.Global.{Vec}
 use Rattle.nr_rev.specs.declared.memory.Memory.{Memory}
 use Rattle.nr_journal.specs.Rule.{journal_room}
-use Rattle.nr_serving.specs.Session.{IsHistory, words_of}
+use Rattle.nr_serving.specs.Session.{IsHistory}
+use Rattle.nr_serving.specs.Auxiliary.Session.{words_of}
 use Rattle.nr_serving.proofs.HistoryLemmas.{history_of, no_history}
 use Rattle.nr_serving.proofs.session.finish.Goals as goal
 use Rattle.nr_serving.proofs.session.finish.Goals.{in-Some, in-None}

@@ -2,7 +2,7 @@ use Rattle.std.proofs.Common.{◌≤◌, ◌∙◌, ap, sym, subst, arith, rules
 use Rattle.std.specs.List.{All}
 use Rattle.std.proofs.lemmas.List.Elements.{All-push}
 use Rattle.nr_journal.specs.Seat.{Waiting}
-use Rattle.nr_serving.specs.Session.{IsFresh}
+use Rattle.nr_serving.specs.Auxiliary.Session.{IsFresh}
 use Rattle.nr_serving.proofs.HistoryLemmas.{numbers_more}
 use Rattle.nr_serving.proofs.session.open_fronts.Goals as goal
 

@@ -1,6 +1,7 @@
 use Rattle.std.proofs.Common.{◌≡◌, ◌≤◌, map, vec_len, vec_capacity}
 use Rattle.std.specs.List.{All}
-use Rattle.nr_serving.specs.Session.{IsFresh, numbers_below}
+use Rattle.nr_serving.specs.Session.{numbers_below}
+use Rattle.nr_serving.specs.Auxiliary.Session.{IsFresh}
 use Rattle.nr_serving.proofs.session.open_fronts.Given as goal
 
 -- each front so far is fresh, and its tag is its number

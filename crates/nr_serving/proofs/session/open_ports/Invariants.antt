@@ -1,7 +1,7 @@
 use Rattle.std.proofs.Common.{◌≡◌, ◌++◌, ◌≤◌, length, vec_len, vec_capacity}
 use Rattle.std.specs.List.{All}
 use Rattle.std.specs.Vec.Iter.{into_iter_items, into_iter_len}
-use Rattle.nr_serving.specs.Fronts.{none_passed}
+use Rattle.nr_serving.specs.Auxiliary.Fronts.{none_passed}
 use Rattle.nr_serving.specs.Session.{numbers_below}
 use Rattle.nr_serving.proofs.SessionLemmas.{fronts_of}
 use Rattle.nr_serving.proofs.session.open_ports.Given as goal

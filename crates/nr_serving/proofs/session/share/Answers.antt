@@ -1,10 +1,11 @@
-use Rattle.std.proofs.Common.{◌≡◌, ◌∙◌, ℕ, List, ap, length, map, subst, sym}
+use Rattle.std.proofs.Common.{◌≡◌, ◌∙◌, ℕ, List, ap, map, subst, sym}
 use Rattle.std.specs.Prelude.{IfSome, vec_len}
 use Rattle.std.specs.List.{All}
 use Rattle.nr_front.specs.FrontState.{FrontState}
 use Rattle.nr_journal.specs.Rule.{journal_room}
-use Rattle.nr_serving.specs.Fronts.{AreServed}
-use Rattle.nr_serving.specs.Session.{IsFresh, IsHistory, any_failed, numbers_below, words_of}
+use Rattle.nr_serving.specs.Auxiliary.Fronts.{AreServed}
+use Rattle.nr_serving.specs.Session.{IsHistory, numbers_below}
+use Rattle.nr_serving.specs.Auxiliary.Session.{IsFresh, any_failed, words_of}
 use Rattle.nr_serving.specs.declared.fronts.Done.{Done}
 use Rattle.nr_serving.proofs.SessionLemmas.{as_many, dones_of, opens, passed_of, ready, same_journal, same_passes, same_tags, served_all, shared}
 use Rattle.nr_serving.proofs.session.share.Goals as goal

@@ -1,6 +1,7 @@
 use Rattle.std.proofs.Common.{◌≡◌, ◌+◌, ◌-◌, sym, subst, arith}
 use Rattle.nr_recording.specs.Recording.{run_of}
-use Rattle.nr_rev.specs.Run.{IsRefusedAt, IsWorldAt}
+use Rattle.nr_rev.specs.Run.{IsRefusedAt}
+use Rattle.nr_rev.specs.Auxiliary.Run.{IsWorldAt}
 use Rattle.nr_rev.proofs.RunLemmas.{IsGoodTo-prefix}
 use Rattle.nr_snaps.specs.Answers.{Agrees, AnswersAgreeTo, AnswersOtherwiseAt, Differs}
 use Rattle.nr_snaps.specs.Replay.{LeadsOn}

@@ -1,7 +1,8 @@
 use Rattle.std.proofs.Common.{◌≡◌, ◌+◌, ◌*◌, ◌/◌, ◌≤◌, length, Some, sym, ap, ◌∙◌, subst, arith}
 use Rattle.std.specs.List.{slice_get}
 use Rattle.std.proofs.lemmas.List.{length_push}
-use Rattle.nr_rev.specs.Run.{IsWorldAt, world_at}
+use Rattle.nr_rev.specs.Run.{world_at}
+use Rattle.nr_rev.specs.Auxiliary.Run.{IsWorldAt}
 use Rattle.nr_rev.proofs.RunLemmas.{IsGoodTo-whole}
 use Rattle.nr_snaps.specs.Film.{IsFrame}
 use Rattle.nr_snaps.specs.Replay.{Replays}

@@ -2,7 +2,7 @@ use Rattle.std.proofs.Common.{ℕ, ◌<◌, ◌^◌, sym, ap, ◌∙◌, arith}
 use Rattle.std.proofs.lemmas.Option.{slice_get_within}
 use Rattle.nr_rev.specs.Step.{alive}
 use Rattle.nr_gsema.specs.SemaphoreChange.{with_count}
-use Rattle.nr_gsema.specs.Table.{on_semaphore}
+use Rattle.nr_gsema.specs.Auxiliary.Table.{on_semaphore}
 use Rattle.nr_gsema.proofs.OperationLemmas.{count_found, queues_up, takes}
 use Rattle.nr_gsema.proofs.table.GTable.acquire.Goals as goal
 

@@ -10,7 +10,7 @@ use Rattle.nr_gsema.specs.declared.node.SemaphoreHead.{SemaphoreHead}
 use Rattle.nr_gsema.specs.Links.{node_with}
 use Rattle.nr_gsema.specs.Relinking.{with_next}
 use Rattle.nr_gsema.specs.SemaphoreChange.{with_last}
-use Rattle.nr_gsema.specs.Table.{on_semaphore, with_status}
+use Rattle.nr_gsema.specs.Auxiliary.Table.{on_semaphore, with_status}
 use Rattle.nr_gsema.proofs.QueueLemmas.{status_at}
 use Rattle.nr_gsema.proofs.TableLemmas.{AreTable, back_within, head_read, joined_back, outside_node}
 use Rattle.nr_gsema.proofs.WaitLemmas.{counts_kept, statuses_requeued}

@@ -11,7 +11,7 @@ use Rattle.nr_gsema.specs.declared.node.SemaphoreHead.{SemaphoreHead}
 use Rattle.nr_gsema.specs.Links.{node_with, queue_from}
 use Rattle.nr_gsema.specs.Relinking.{with_previous}
 use Rattle.nr_gsema.specs.SemaphoreChange.{unreleased}
-use Rattle.nr_gsema.specs.Table.{on_semaphore, with_status}
+use Rattle.nr_gsema.specs.Auxiliary.Table.{on_semaphore, with_status}
 use Rattle.nr_gsema.proofs.QueueLemmas.{status_at}
 use Rattle.nr_gsema.proofs.TableLemmas.{AreTable, front_within, has_within, head_has, head_read, joined_front, outside_node}
 use Rattle.nr_gsema.proofs.WaitLemmas.{counts_kept, statuses_requeued}

@@ -11,7 +11,7 @@ use Rattle.nr_gsema.specs.declared.node.SemaphoreHead.{SemaphoreHead}
 use Rattle.nr_gsema.specs.Links.{queue_from}
 use Rattle.nr_gsema.specs.Relinking.{with_previous}
 use Rattle.nr_gsema.specs.SemaphoreChange.{released_once}
-use Rattle.nr_gsema.specs.Table.{on_semaphore, with_status}
+use Rattle.nr_gsema.specs.Auxiliary.Table.{on_semaphore, with_status}
 use Rattle.nr_gsema.proofs.QueueLemmas.{status_at}
 use Rattle.nr_gsema.proofs.TableLemmas.{AreTable, has_within, head_has, head_read, left_front, member_queued, member_within, next_within}
 use Rattle.nr_gsema.proofs.WaitLemmas.{counts_kept, statuses_requeued}

@@ -5,7 +5,7 @@ use Rattle.nr_rev.specs.Sides.{of_side, with_side}
 use Rattle.nr_rev.specs.Step.{alive, owing}
 use Rattle.nr_gsema.specs.SemaphoreChange.{released_once}
 use Rattle.nr_gsema.specs.Step.{side_owed, tries_again}
-use Rattle.nr_gsema.specs.Table.{count_at, on_semaphore, queue_at}
+use Rattle.nr_gsema.specs.Auxiliary.Table.{count_at, on_semaphore, queue_at}
 use Rattle.nr_gsema.proofs.OperationLemmas.{releases}
 use Rattle.nr_gsema.proofs.table.GTable.release.Goals as goal
 

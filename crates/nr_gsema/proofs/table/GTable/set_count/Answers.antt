@@ -2,7 +2,7 @@ use Rattle.std.proofs.Common.{◌≡◌, set, refl, ap, ◌∙◌}
 use Rattle.nr_rev.specs.Sides.{of_side, with_side}
 use Rattle.nr_gsema.specs.declared.node.SemaphoreHead.{SemaphoreHead}
 use Rattle.nr_gsema.specs.SemaphoreChange.{with_count}
-use Rattle.nr_gsema.specs.Table.{on_semaphore}
+use Rattle.nr_gsema.specs.Auxiliary.Table.{on_semaphore}
 use Rattle.nr_gsema.proofs.TableLemmas.{AreTable, AreTable-same, count_set, head_read}
 use Rattle.nr_gsema.proofs.table.GTable.set_count.Goals as goal
 use Rattle.nr_gsema.proofs.table.GTable.set_count.Goals.{After-with}

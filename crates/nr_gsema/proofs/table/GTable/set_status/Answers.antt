@@ -3,7 +3,7 @@ use Rattle.std.proofs.lemmas.List.{length-map, map-set}
 use Rattle.std.proofs.lemmas.Option.{slice_get_read, slice_get_within}
 use Rattle.std.specs.Prelude.{slice_get}
 use Rattle.nr_gsema.specs.declared.node.GoroutineNode.{GoroutineNode}
-use Rattle.nr_gsema.specs.Table.{with_status}
+use Rattle.nr_gsema.specs.Auxiliary.Table.{with_status}
 use Rattle.nr_gsema.proofs.QueueLemmas.{status_at}
 use Rattle.nr_gsema.proofs.TableLemmas.{AreTable, outside_node, status_set}
 use Rattle.nr_gsema.proofs.WaitLemmas.{counts_kept, room_for}

@@ -1,6 +1,7 @@
 use Rattle.std.proofs.Common.{◌≡◌, ℕ, ◌+◌, ◌<◌, List, [], ◌∷◌, length, refl, sym, ap, ◌∙◌, subst, inl, inr, ⊎_elim, arith, length-append}
 use Rattle.nr_journal.specs.declared.view.PassState.{PassState}
-use Rattle.nr_journal.specs.Rule.{looked, StartsWith}
+use Rattle.nr_journal.specs.Rule.{StartsWith}
+use Rattle.nr_journal.specs.Auxiliary.Rule.{looked}
 use Rattle.nr_journal.specs.Pass.{SeesOthers}
 use Rattle.nr_journal.specs.Rule.{journal_room}
 use Rattle.nr_journal.proofs.PassLemmas.{sees_others_none, sees_others_one, sees_others_look}

@@ -1,6 +1,6 @@
 use Rattle.std.proofs.Common.{sym, ap, ◌∙◌, subst, arith}
 use Rattle.std.specs.List.{All}
-use Rattle.nr_journal.specs.Rule.{HasTagBelow}
+use Rattle.nr_journal.specs.Auxiliary.Rule.{HasTagBelow}
 use Rattle.nr_journal.specs.Step.{Seat, ComparesFrom}
 use Rattle.nr_journal.specs.Pass.{Entered, AreInLine}
 use Rattle.nr_journal.proofs.MeetLemmas.{compares}

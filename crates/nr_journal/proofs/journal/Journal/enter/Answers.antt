@@ -2,7 +2,7 @@ use Rattle.std.proofs.Common.{◌≡◌, ℕ, [], refl, sym, ap, ◌∙◌, subs
 use Rattle.std.proofs.lemmas.Nat.{one_shl}
 use Rattle.atomic_table.specs.Seated.{TableId}
 use Rattle.nr_journal.specs.declared.view.View.TheVariants.{Outside}
-use Rattle.nr_journal.specs.Rule.{entering}
+use Rattle.nr_journal.specs.Auxiliary.Rule.{entering}
 use Rattle.nr_journal.specs.Step.{Seat, DrawsFrom}
 use Rattle.nr_journal.specs.Pass.{pass_state_of}
 use Rattle.nr_journal.specs.Seat.{Waiting, passes_of, tried_of}

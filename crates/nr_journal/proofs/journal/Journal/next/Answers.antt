@@ -1,6 +1,7 @@
 use Rattle.std.proofs.Common.{◌≡◌, ◌≢◌, ◌<◌, sym, ap, ◌∙◌, subst, inl, arith}
 use Rattle.atomic_table.specs.Seated.{TableId}
-use Rattle.nr_journal.specs.Rule.{StartsWith, looked, having_seen, tag_of}
+use Rattle.nr_journal.specs.Rule.{StartsWith, tag_of}
+use Rattle.nr_journal.specs.Auxiliary.Rule.{looked, having_seen}
 use Rattle.nr_journal.specs.Step.{Seat, LookedFrom}
 use Rattle.nr_journal.specs.Pass.{Entered}
 use Rattle.nr_journal.proofs.LookLemmas.{looks}

@@ -1,7 +1,7 @@
 use Rattle.std.proofs.Common.{◌≡◌, ◌≤◌, length, take, sym, subst}
 use Rattle.std.proofs.lemmas.List.{take_all}
 use Rattle.nr_marks.specs.Hit.{hits_between, mark_hits}
-use Rattle.nr_marks.specs.Numbered.{RisesWithin, numbers_of}
+use Rattle.nr_marks.specs.Auxiliary.Numbered.{RisesWithin, numbers_of}
 use Rattle.nr_marks.proofs.NumberedLemmas.{RisesWithin-filter}
 use Rattle.nr_marks.proofs.marks.Marks.hits_before.Goals as goal
 

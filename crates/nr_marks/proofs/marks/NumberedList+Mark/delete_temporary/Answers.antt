@@ -1,7 +1,7 @@
 use Rattle.std.proofs.Common.{◌≡◌, Bool, not, filter, sym, ap, subst, rules}
 use Rattle.arrayvec.proofs.ArrayVecLemmas.{filter-from_retain}
 use Rattle.nr_marks.specs.Marks.{MarkList, NumberedMark, after_stop, goes}
-use Rattle.nr_marks.specs.Numbered.{RisesWithin, numbers_of}
+use Rattle.nr_marks.specs.Auxiliary.Numbered.{RisesWithin, numbers_of}
 use Rattle.nr_marks.proofs.NumberedLemmas.{RisesWithin-filter}
 use Rattle.nr_marks.proofs.marks.NumberedList+Mark.delete_temporary.Goals as goal
 

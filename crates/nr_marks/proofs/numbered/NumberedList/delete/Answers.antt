@@ -1,6 +1,7 @@
 use Rattle.std.proofs.Common.{◌≡◌, ◌==◌, not, filter, sym, ap, subst, rules}
 use Rattle.arrayvec.proofs.ArrayVecLemmas.{filter-from_retain}
-use Rattle.nr_marks.specs.Numbered.{RisesWithin, NumberedItems, numbers_of, without_item}
+use Rattle.nr_marks.specs.Numbered.{NumberedItems, without_item}
+use Rattle.nr_marks.specs.Auxiliary.Numbered.{RisesWithin, numbers_of}
 use Rattle.nr_marks.proofs.NumberedLemmas.{RisesWithin-filter, filter-others}
 use Rattle.nr_marks.proofs.numbered.NumberedList.delete.Goals as goal
 

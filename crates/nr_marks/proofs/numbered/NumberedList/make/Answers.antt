@@ -1,5 +1,5 @@
 use Rattle.std.proofs.Common.{◌+◌, refl, sym, subst}
-use Rattle.nr_marks.specs.Numbered.{RisesWithin, numbers_of}
+use Rattle.nr_marks.specs.Auxiliary.Numbered.{RisesWithin, numbers_of}
 use Rattle.nr_marks.specs.declared.numbered.Numbered.{Numbered}
 use Rattle.nr_marks.proofs.NumberedLemmas.{RisesWithin-push}
 use Rattle.nr_marks.proofs.numbered.NumberedList.make.Goals as goal

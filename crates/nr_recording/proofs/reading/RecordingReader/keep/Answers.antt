@@ -1,9 +1,11 @@
 use Rattle.std.proofs.Common.{◌≡◌, ◌∷◌, ◌++◌, [], Some, true, length, ap, subst, ◌∙◌, arith}
 use Rattle.std.proofs.lemmas.Bool.{and_parts}
 use Rattle.std.proofs.lemmas.List.{length-append}
-use Rattle.nr_recording.specs.Reading.{AreOfHeader, Seen}
-use Rattle.nr_recording.specs.Recording.{are_writable, has_line, recorded}
-use Rattle.nr_recording.specs.Version.{may_have}
+use Rattle.nr_recording.specs.Reading.{Seen}
+use Rattle.nr_recording.specs.Auxiliary.Reading.{AreOfHeader}
+use Rattle.nr_recording.specs.Recording.{recorded}
+use Rattle.nr_recording.specs.Auxiliary.Recording.{are_writable, has_line}
+use Rattle.nr_recording.specs.Auxiliary.Version.{may_have}
 use Rattle.nr_recording.proofs.Ranges.{one_more_of}
 use Rattle.nr_recording.proofs.RecordedLemmas.{count_wanted, one_more, one_more_few}
 use Rattle.nr_recording.proofs.reading.RecordingReader.keep.Goals as goal

@@ -2,10 +2,11 @@ use Rattle.std.proofs.Common.{◌≡◌, Some, sym, refl, ap, subst, ◌∙◌, 
 use Rattle.std.specs.Slice.Iter.{iter_rest}
 use Rattle.serde_json.specs.Data.{array}
 use Rattle.serde_json.specs.View.{view, items_view}
-use Rattle.nr_recording.specs.Faults.{ReadsBy}
+use Rattle.nr_recording.specs.Auxiliary.Faults.{ReadsBy}
 use Rattle.nr_recording.specs.Part.{elements}
 use Rattle.nr_recording.specs.Recording.{recorded}
-use Rattle.nr_recording.specs.Reading.{with_value, value_takes_memory}
+use Rattle.nr_recording.specs.Reading.{with_value}
+use Rattle.nr_recording.specs.Auxiliary.Reading.{value_takes_memory}
 use Rattle.nr_recording.proofs.Elements.{seen_by_elements, memory_by_elements}
 use Rattle.nr_recording.proofs.Ranges.{header_fits, none_before}
 use Rattle.nr_recording.proofs.reading.RecordingReader.value.Goals as goal

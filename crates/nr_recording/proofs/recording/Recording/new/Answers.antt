@@ -1,5 +1,5 @@
 use Rattle.std.proofs.Common.{◌≡◌, ◌≤◌, length, true, sym, ◌∙◌, arith, rules}
-use Rattle.nr_recording.specs.Recording.{make_lines}
+use Rattle.nr_recording.specs.Auxiliary.Recording.{make_lines}
 use Rattle.nr_recording.specs.Version.{most_buffer}
 use Rattle.nr_recording.specs.declared.recording.TheConstants.{MOST_STEPS}
 use Rattle.nr_recording.proofs.RecordedLemmas.{are_written, count_is, recording_made}

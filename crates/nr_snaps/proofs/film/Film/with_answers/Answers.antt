@@ -3,7 +3,8 @@ use Rattle.std.specs.List.{slice_get, list_all}
 use Rattle.std.specs.Prelude.{Some}
 use Rattle.std.proofs.lemmas.List.{length_push}
 use Rattle.std.proofs.lemmas.List.Folds.{list_all-append}
-use Rattle.nr_recording.specs.Recording.{run_of, has_line}
+use Rattle.nr_recording.specs.Recording.{run_of}
+use Rattle.nr_recording.specs.Auxiliary.Recording.{has_line}
 use Rattle.nr_recording.specs.declared.recording.RecordedStep.{RecordedStep}
 use Rattle.nr_recording.specs.declared.version.Version.TheVariants.{Two}
 use Rattle.nr_recording.proofs.RecordedLemmas.{one_more_answered}

@@ -1,9 +1,10 @@
 use Rattle.std.proofs.Common.{◌≡◌, ◌≤◌, length, take, true}
 use Rattle.std.specs.Vec.{vec_capacity}
-use Rattle.nr_recording.specs.Recording.{have_lines, recorded}
+use Rattle.nr_recording.specs.Recording.{recorded}
+use Rattle.nr_recording.specs.Auxiliary.Recording.{have_lines}
 use Rattle.nr_recording.specs.declared.version.Version.TheVariants.{Two}
 use Rattle.nr_rev.specs.World.{empty_world}
-use Rattle.nr_snaps.specs.Answers.{answered_steps}
+use Rattle.nr_snaps.specs.Auxiliary.Answers.{answered_steps}
 use Rattle.nr_snaps.specs.Film.{IsFrame}
 use Rattle.nr_snaps.proofs.film.Film.with_answers.Given as goal
 

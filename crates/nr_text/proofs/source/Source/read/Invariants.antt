@@ -1,6 +1,7 @@
 -- Each try so far was interrupted, and nothing was received.
 use Rattle.std.proofs.Common.{◌≡◌, []}
-use Rattle.nr_text.specs.Streams.{ReadsNow, Receives}
+use Rattle.nr_text.specs.Streams.{Receives}
+use Rattle.nr_text.specs.Auxiliary.Streams.{ReadsNow}
 use Rattle.nr_text.proofs.source.Source.read.Given as goal
 
 abbrev pub invariant-loop : goal.invariant-loop

@@ -2,7 +2,7 @@ use Rattle.std.proofs.Common.{◌≡◌, ◌-◌, List, refl, sym, ap, ◌∙◌
 use Rattle.std.proofs.Common.{Some}
 use Rattle.nr_rev.specs.declared.timer.Entry.{Entry}
 use Rattle.nr_timers.specs.Index.{Keyed}
-use Rattle.nr_timers.specs.Change.{RemovedBack}
+use Rattle.nr_timers.specs.Auxiliary.Change.{RemovedBack}
 use Rattle.nr_timers.specs.declared.delta.TimersUndo.{TimersUndo}
 use Rattle.nr_timers.specs.State.{State}
 use Rattle.nr_timers.specs.Back.{UndoBack}

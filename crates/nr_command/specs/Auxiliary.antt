@@ -1,0 +1,5 @@
+-- Auxiliary definitions. Each file goes on with that of its name, which has what the laws rest on.
+pub mod Debugger
+pub mod Listing
+pub mod Value
+pub mod Word

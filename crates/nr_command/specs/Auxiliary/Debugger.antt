@@ -1,0 +1,28 @@
+-- Beside `Debugger`: what contracts and proofs cite, and no law of docs/THEOREM.md rests on.
+use Rattle.std.specs.Prelude.{ℕ, ◌≤◌, All, List}
+use Rattle.nr_rev.specs.Cell.{bytes_of, queue_of}
+use Rattle.nr_rev.specs.Run.{Recording, world_at}
+use Rattle.nr_rev.specs.Auxiliary.Worlds.{HasItems}
+use Rattle.nr_command.specs.Checkpoints as checkpoints
+use Rattle.nr_command.specs.declared.command.Command.{Command}
+use Rattle.nr_command.specs.declared.command.Query.{Query}
+use Rattle.nr_command.specs.declared.command.Query.TheVariants as queries
+use Rattle.nr_command.specs.declared.debugger.Debugger.{Debugger}
+use Rattle.nr_command.specs.declared.reply.Reply.{Reply}
+use Rattle.nr_command.specs.Debugger.{after_words, opening, run}
+
+-- its position is in the recording, and so are the positions that it keeps
+pub record IsWithin (last : ℕ) (d : Debugger) : Type 0 where
+  pub position : d.position ≤ last
+  pub kept : All (λ c. c.item ≤ last) d.checkpoints.present
+
+-- what a command is answered behind a history
+abbrev pub reply_behind : Recording → List ℕ → Command → Reply
+reply_behind r words command = (run r command (after_words r opening words)).0
+
+-- a look copies what it shows of the world: a dump does, where there are bytes or goroutines to
+-- show
+abbrev pub Copies : Recording → Debugger → Query → Type 0
+Copies r d (queries.DumpBytes side s) = HasItems (bytes_of (world_at r d.position) s side)
+Copies r d (queries.DumpQueue side s) = HasItems (queue_of (world_at r d.position) s side)
+Copies r d _ = ⊥

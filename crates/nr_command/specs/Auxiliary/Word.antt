@@ -1,0 +1,25 @@
+-- Beside `Word`: what contracts and proofs cite, and no law of docs/THEOREM.md rests on.
+use Rattle.std.specs.Prelude.{◌^◌, ◌<◌, IfSome, ⊤}
+use Rattle.nr_rev.specs.CellName.{cell_index}
+use Rattle.nr_marks.specs.declared.mark.Break.{Break}
+use Rattle.nr_marks.specs.declared.mark.Break.TheVariants as breaks
+use Rattle.nr_command.specs.declared.command.Command.{Command}
+use Rattle.nr_command.specs.declared.command.Command.TheVariants.{Step, ReverseStep, Watch, Delete, Restart, DeleteCheckpoint, TemporaryBreak}
+use Rattle.nr_command.specs.declared.command.Command.TheVariants as commands
+
+-- the number of a step that a break holds has 32 bits, as its type says
+abbrev pub HasTypedStep : Break → Type 0
+HasTypedStep (breaks.Kind kind) = ⊤
+HasTypedStep (breaks.Step step) = step.value < 2 ^ 32
+
+-- the numbers that a command holds have 32 bits, as its type says
+abbrev pub HasTypedNumbers : Command → Type 0
+HasTypedNumbers (Step count) = count.value < 2 ^ 32
+HasTypedNumbers (ReverseStep count) = count.value < 2 ^ 32
+HasTypedNumbers (commands.Break at) = HasTypedStep at
+HasTypedNumbers (TemporaryBreak at) = HasTypedStep at
+HasTypedNumbers (Watch cell) = IfSome (cell_index cell) (λ index. index < 2 ^ 32)
+HasTypedNumbers (Delete number) = number < 2 ^ 32
+HasTypedNumbers (Restart number) = number < 2 ^ 32
+HasTypedNumbers (DeleteCheckpoint number) = number < 2 ^ 32
+HasTypedNumbers _ = ⊤

@@ -1,0 +1,54 @@
+-- Beside `Change`: what contracts and proofs cite, and no law of docs/THEOREM.md rests on.
+use Rattle.std.specs.Prelude.{ℕ, List, [], Option, Some, None, option_to_list}
+use Rattle.nr_rev.specs.declared.descriptor.Descriptor.{Descriptor}
+use Rattle.nr_rev.specs.declared.descriptor.WaitWord.{WaitWord}
+use Rattle.nr_rev.specs.declared.descriptor.WaitWord.TheVariants.{Held}
+use Rattle.nr_rev.specs.declared.sides.Sides.{Sides}
+use Rattle.nr_rev.specs.declared.answer.Answer.{Answer}
+use Rattle.nr_rev.specs.Descriptor.{Change, quiet}
+use Rattle.nr_desc.specs.declared.change.DescChange.{DescChange}
+use Rattle.nr_desc.specs.declared.change.Followed.{Followed}
+use Rattle.nr_desc.specs.declared.code.Unblocked.{Unblocked}
+use Rattle.nr_desc.specs.declared.waiting.Answered.{Answered}
+use Rattle.nr_desc.specs.declared.reversible.Made.{Made}
+use Rattle.nr_desc.specs.Change.{listed}
+
+-- the goroutine that a word held and holds no longer
+abbrev pub let_go : WaitWord → WaitWord → Option ℕ
+let_go (Held g) (Held h) = None
+let_go (Held g) after = Some g
+let_go before after = None
+
+-- those whom the words of either side held and hold no longer
+abbrev pub both_let_go : Sides WaitWord → Sides WaitWord → Sides (Option ℕ)
+both_let_go before after =
+    record { read = let_go before.read after.read; write = let_go before.write after.write }
+
+-- the change that a packed one means
+abbrev pub change_view : DescChange → Change
+change_view c =
+    record {
+      descriptor = c.desc;
+      orders = listed c.orders;
+      woken = listed c.woken;
+    }
+
+-- the change that a packed one with one order at most means, which wakes none
+abbrev pub followed_view : Followed → Change
+followed_view f = record { descriptor = f.desc; orders = option_to_list f.order; woken = [] }
+
+-- the new word and who is woken
+abbrev pub unblocked_view : Unblocked → WaitWord × List ℕ
+unblocked_view u = (u.word, option_to_list u.woken)
+
+-- the answer, and a change of the descriptor alone
+abbrev pub answered_view : Answered → Answer × Change
+answered_view a = (a.answer, quiet a.desc)
+
+-- the answer and the change
+abbrev pub made_view : Made → Answer × Change
+made_view m = (m.answer, change_view m.change)
+
+-- a descriptor as it is
+abbrev pub viewed_as_it_is : Descriptor → Descriptor
+viewed_as_it_is d = d

@@ -1,0 +1,34 @@
+-- Beside `Op`: what contracts and proofs cite, and no law of docs/THEOREM.md rests on.
+use Rattle.std.specs.Prelude.{◌≡◌, ℕ, Option, Some, None, Ok, Err}
+use Rattle.nr_rev.specs.declared.descriptor.Descriptor.{Descriptor}
+use Rattle.nr_rev.specs.declared.refusal.Refusal.{Refusal}
+use Rattle.nr_rev.specs.Sides.{twice}
+use Rattle.nr_rev.specs.declared.sides.Sides.{Sides}
+use Rattle.nr_desc.specs.Auxiliary.Change.{both_let_go}
+use Rattle.nr_desc.specs.declared.op.DescAnswer.{DescAnswer}
+use Rattle.nr_desc.specs.declared.op.DescOp.{DescOp}
+use Rattle.nr_desc.specs.declared.op.DescOp.TheVariants as op
+use Rattle.nr_desc.specs.Op.{Outcome, left, outcome}
+
+-- who is woken of each side: whom its word held before, where the operation unblocks words
+abbrev pub woken_by : DescOp → Descriptor → Descriptor → Sides (Option ℕ)
+woken_by (op.SetDeadline clock mode t) old new = both_let_go old.words new.words
+woken_by op.Evict old new = both_let_go old.words new.words
+woken_by (op.Fire function sequence) old new = both_let_go old.words new.words
+woken_by (op.Event tag mode error) old new = both_let_go old.words new.words
+woken_by _ old new = twice None
+
+-- an operation that applies, by its answer and the descriptor afterwards
+pub record StepTo (old : Descriptor) (op : DescOp) (answer : DescAnswer) (new : Descriptor) : Type 0
+  where
+    pub defined : outcome old op ≡ Ok (left answer new)
+    pub woken : answer.woken ≡ woken_by op old new
+
+-- the reason, where it does not apply
+abbrev pub refusal_of : Outcome → Option Refusal
+refusal_of (Ok left) = None
+refusal_of (Err reason) = Some reason
+
+-- why an operation does not apply
+abbrev pub desc_reason : Descriptor → DescOp → Option Refusal
+desc_reason d op = refusal_of (outcome d op)

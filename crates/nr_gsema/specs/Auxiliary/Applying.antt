@@ -1,0 +1,22 @@
+-- Beside `Applying`: what contracts and proofs cite, and no law of docs/THEOREM.md rests on.
+use Rattle.std.specs.Prelude.{◌≡◌, ◌≤◌, Result, Ok, Err}
+use Rattle.nr_rev.specs.declared.answer.Answer.{Answer}
+use Rattle.nr_rev.specs.declared.refusal.Refusal.{Refusal}
+use Rattle.nr_gsema.specs.declared.operation.GOperation.{GOperation}
+use Rattle.nr_gsema.specs.declared.delta.GUndo.{GUndo}
+use Rattle.nr_gsema.specs.Delta.{Reverses, undo_weight, weight_allowed}
+use Rattle.nr_gsema.specs.Step.{outcome}
+use Rattle.nr_gsema.specs.Table.{GoroutineTable}
+
+-- it applies so, undoing leads back, and what is kept for that is little
+pub record AppliesBy (op : GOperation) (old : GoroutineTable) (answer : Answer) (undo : GUndo)
+    (new : GoroutineTable) : Type 0 where
+  pub step : outcome old op ≡ Ok (answer, new)
+  pub back : Reverses undo new old
+  pub light : undo_weight undo ≤ weight_allowed op
+
+-- so it applies, or it is refused and leaves all as it was
+abbrev pub Applies : GOperation → GoroutineTable → Result (Answer × GUndo) Refusal
+    → GoroutineTable → Type 0
+Applies op old (Ok (answer, undo)) new = AppliesBy op old answer undo new
+Applies op old (Err reason) new = (outcome old op ≡ Err reason) × (new ≡ old)

@@ -1,0 +1,134 @@
+-- Beside `Engine`: what contracts and proofs cite, and no law of docs/THEOREM.md rests on.
+use Rattle.std.specs.Prelude.{◌≡◌, ℕ, ◌<◌, ◌≤◌, nat_lt, Bool, true, false, List, [], ◌∷◌, ◌++◌, length, take, filter, Result, Ok, Err}
+use Rattle.std.specs.List.{All, concat}
+use Rattle.nr_text.specs.Moments.{Moment}
+use Rattle.nr_text.specs.Streams.{Incoming, IsOver, Outgoing, Passes, Receives, Sends, saturating_count}
+use Rattle.nr_command.specs.Command.{meaning_of}
+use Rattle.nr_journal.specs.Rule.{StartsWith}
+use Rattle.nr_front.specs.FrontState.{FrontState}
+use Rattle.nr_lines.specs.Turn.{is_quit}
+use Rattle.nr_lines.specs.Auxiliary.Turn.{Turn}
+use Rattle.nr_lines.specs.declared.ending.End.{End}
+use Rattle.nr_lines.specs.declared.ending.End.TheVariants.{Closed, Quit}
+use Rattle.nr_lines.specs.declared.ending.LineEnd.{LineEnd}
+use Rattle.nr_lines.specs.declared.ending.LineEnd.TheVariants.{Read, Write}
+use Rattle.nr_lines.specs.Engine.{has_quit, lines_of}
+
+-- the lines of a text that end by a line feed
+abbrev pub whole_lines : List ℕ → List (List ℕ)
+whole_lines text = lines_of false text
+
+-- Lines and their texts, one turn after the other.
+abbrev pub Turns : FrontState → List (List ℕ) → List (List ℕ) → FrontState → Type 0
+Turns d [] [] d' = d' ≡ d
+Turns d (line ∷ lines) (text ∷ texts) d' =
+    (mid : FrontState) × Turn d line text mid × Turns mid lines texts d'
+Turns d [] (text ∷ texts) d' = ⊥
+Turns d (line ∷ lines) [] d' = ⊥
+
+-- the words seen begin those seen then, and no look that found none is taken back
+pub record Grows (d d' : FrontState) : Type 0 where
+  pub words : StartsWith d'.pass_state.seen d.pass_state.seen
+  pub looks : d.pass_state.looks ≤ d'.pass_state.looks
+
+-- How many texts aren't empty.
+abbrev pub some_count : List (List ℕ) → ℕ
+some_count texts = length (filter (λ text. nat_lt 0 (length text)) texts)
+
+-- When a read was made, each whole line that had been received was answered, one text each, and
+-- nothing else had been sent: the first of these lines, and of their texts.
+pub record IsPrompt (from : Incoming) (old : Outgoing) (lines texts : List (List ℕ)) (m : Moment) :
+    Type 0 where
+  pub read : List ℕ
+  pub answers : List (List ℕ)
+  pub lines_behind : List (List ℕ)
+  pub texts_behind : List (List ℕ)
+  pub received : m.received ≡ from.received ++ read
+  pub sent : m.sent ≡ old.sent ++ concat answers
+  pub one_each : length answers ≡ length (whole_lines read)
+  pub of_lines : lines ≡ whole_lines read ++ lines_behind
+  pub of_texts : texts ≡ answers ++ texts_behind
+
+-- Each of the reads was prompt, where these lines had these texts.
+abbrev pub ArePrompt : Incoming → Outgoing → List Moment → List (List ℕ) → List (List ℕ) → Type 0
+ArePrompt from old moments lines texts = All (IsPrompt from old lines texts) moments
+
+-- These lines were answered whole, none of them quit, and `out` is their texts. The front was d
+-- before, and is d' then. The reads were prompt.
+pub record Answered (Prompt : List (List ℕ) → List (List ℕ) → Type 0) (d : FrontState)
+    (lines : List (List ℕ)) (out : List ℕ) (d' : FrontState) : Type 0 where
+  pub texts : List (List ℕ)
+  pub prompt : Prompt lines texts
+  pub turns : Turns d lines texts d'
+  pub no_quit : has_quit lines ≡ false
+  pub written : out ≡ concat texts
+
+-- One of the lines is the first quit, and `out` is the texts up to its own.
+pub record Quitted (Prompt : List (List ℕ) → List (List ℕ) → Type 0) (d : FrontState)
+    (lines : List (List ℕ)) (out : List ℕ) (d' : FrontState) : Type 0 where
+  pub front : List (List ℕ)
+  pub line : List ℕ
+  pub back : List (List ℕ)
+  pub texts : List (List ℕ)
+  pub prompt : Prompt (front ++ line ∷ []) texts
+  pub split : lines ≡ front ++ line ∷ back
+  pub no_quit : has_quit front ≡ false
+  pub quit : is_quit (meaning_of line) ≡ true
+  pub turns : Turns d (front ++ line ∷ []) texts d'
+  pub written : out ≡ concat texts
+
+-- The lines before one were answered whole, `whole` texts of them not empty; of that line's text
+-- the first n bytes were written, and not all of it. The line was run.
+pub record WrittenInPart (Prompt : List (List ℕ) → List (List ℕ) → Type 0) (d : FrontState)
+    (lines : List (List ℕ)) (whole part : ℕ) (out : List ℕ) (d' : FrontState) : Type 0 where
+  pub front : List (List ℕ)
+  pub line : List ℕ
+  pub back : List (List ℕ)
+  pub texts : List (List ℕ)
+  pub prompt : Prompt front texts
+  pub text : List ℕ
+  pub mid : FrontState
+  pub n : ℕ
+  pub split : lines ≡ front ++ line ∷ back
+  pub no_quit : has_quit front ≡ false
+  pub turns : Turns d front texts mid
+  pub turn : Turn mid line text d'
+  pub count : whole ≡ saturating_count (some_count texts)
+  pub part_is : part ≡ saturating_count n
+  pub within : n < length text
+  pub written : out ≡ concat texts ++ take n text
+
+-- What was written for the lines that were read, by how it ended. `ended`: the source was at its
+-- end.
+abbrev pub Ends : (List (List ℕ) → List (List ℕ) → Type 0) → Result End LineEnd → Bool → FrontState
+    → List (List ℕ) → List ℕ → FrontState → Type 0
+Ends Prompt (Ok Closed) ended d lines out d' = (ended ≡ true) × Answered Prompt d lines out d'
+Ends Prompt (Ok Quit) ended d lines out d' = Quitted Prompt d lines out d'
+Ends Prompt (Err Read) ended d lines out d' = (ended ≡ false) × Answered Prompt d lines out d'
+Ends Prompt (Err (Write whole part)) ended d lines out d' =
+    WrittenInPart Prompt d lines whole part out d'
+
+-- From a source that was `from` and is `left` some bytes were received, and to a sink that was
+-- `old` and is `new` others were sent. Those sent answer the lines of those received, by a front
+-- that was d and is d' then, and nothing else. Before each read, all whole lines were answered.
+pub record AnswersLines (from left : Incoming) (old new : Outgoing) (d d' : FrontState)
+    (result : Result End LineEnd) : Type 0 where
+  pub read : List ℕ
+  pub out : List ℕ
+  pub ended : Bool
+  pub moments : List Moment
+  pub reads : Receives from left read
+  pub writes : Sends old new out
+  pub passes : Passes from left moments
+  pub at_end : ended ≡ true → IsOver left
+  pub ends : Ends (ArePrompt from old moments) result ended d (lines_of ended read) out d'
+
+-- it reports that a read failed
+abbrev pub is_read_failure : Result End LineEnd → Bool
+is_read_failure (Err Read) = true
+is_read_failure _ = false
+
+-- it reports that a write failed
+abbrev pub is_write_failure : Result End LineEnd → Bool
+is_write_failure (Err (Write whole part)) = true
+is_write_failure _ = false

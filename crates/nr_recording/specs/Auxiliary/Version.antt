@@ -1,0 +1,22 @@
+-- Beside `Version`: what contracts and proofs cite, and no law of docs/THEOREM.md rests on.
+use Rattle.std.specs.Prelude.{ℕ, Bool, true, false, Option, Some, None}
+use Rattle.nr_rev.specs.declared.answer.Answer.{Answer}
+use Rattle.nr_recording.specs.declared.version.Version.{Version}
+use Rattle.nr_recording.specs.declared.version.Version.TheVariants.{One, Two}
+
+-- the number in the header
+abbrev pub version_number : Version → ℕ
+version_number One = 1
+version_number Two = 2
+
+-- how many answers go with so many steps: in version 2 one each, in version 1 none
+abbrev pub answer_count : Version → ℕ → ℕ
+answer_count One steps = 0
+answer_count Two steps = steps
+
+-- a step has its answer in version 2, and none in version 1
+abbrev pub may_have : Version → Option Answer → Bool
+may_have One None = true
+may_have One (Some answer) = false
+may_have Two None = false
+may_have Two (Some answer) = true

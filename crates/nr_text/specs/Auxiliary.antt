@@ -1,0 +1,4 @@
+-- Auxiliary definitions. Each file goes on with that of its name, which has what the laws rest on.
+pub mod Moments
+pub mod Streams
+pub mod Text

@@ -1,0 +1,30 @@
+-- Beside `Change`: what contracts and proofs cite, and no law of docs/THEOREM.md rests on.
+use Rattle.std.specs.Prelude.{◌≡◌, ◌⊎◌, ℕ, ◌<◌, ◌-◌, List, [], ◌∷◌, ◌++◌, length, take}
+use Rattle.std.specs.List.{swap}
+use Rattle.nr_rev.specs.declared.timer.Entry.{Entry}
+use Rattle.nr_timers.specs.Line.{Leads}
+use Rattle.nr_timers.specs.Auxiliary.Line.{moved_up, moved_down}
+
+-- the last entry at p, and the entry from p gone
+abbrev pub refilled : List Entry → ℕ → List Entry
+refilled old p = take (length old - 1) (swap old p (length old - 1))
+
+-- the entry at q taken back to p along the line of parents
+abbrev pub TakenBack : ℕ → ℕ → List Entry → List Entry → Type 0
+TakenBack p q new rest =
+    ((n : ℕ) × Leads n p q × (rest ≡ moved_down n new p))
+    ⊎ ((n : ℕ) × Leads n q p × (rest ≡ moved_up n new q))
+
+-- the way back over an insertion that ended at q
+abbrev pub InsertedBack : ℕ → List Entry → List Entry → Type 0
+InsertedBack q new old =
+    (0 < length new) × (n : ℕ) × Leads n (length new - 1) q
+    × (old ≡ take (length new - 1) (moved_down n new (length new - 1)))
+
+-- the way back over the removal of the entry from p, after which the one that had been last was at
+-- q
+abbrev pub RemovedBack : ℕ → ℕ → Entry → List Entry → List Entry → Type 0
+RemovedBack p q entry new old =
+    ((p ≡ length new) × (q ≡ p) ⊎ (p < length new) × (q < length new))
+    × (rest : List Entry) × TakenBack p q new rest
+    × (old ≡ swap (rest ++ entry ∷ []) p (length new))

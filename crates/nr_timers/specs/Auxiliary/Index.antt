@@ -1,0 +1,19 @@
+-- Beside `Index`: what contracts and proofs cite, and no law of docs/THEOREM.md rests on.
+use Rattle.std.specs.Prelude.{◌≡◌, ℕ, zero, suc, ◌+◌, ◌-◌, ◌<◌, ◌≤◌, List, length, slice_index_or, sum_by}
+use Rattle.nr_rev.specs.declared.timer.Entry.{Entry}
+use Rattle.nr_timers.specs.Order.{at, AllBelow}
+use Rattle.nr_timers.specs.Index.{key}
+
+-- 1 for no place
+abbrev pub free : ℕ → ℕ
+free zero = 1
+free (suc p) = 0
+
+-- a cell holds 1 more than the place of the entry with its key, and 0 where there is none
+pub record IsIndexed (entries : List Entry) (index : List ℕ) : Type 0 where
+  pub below : AllBelow key (length index) entries
+  pub found : (p : ℕ) → p < length entries → slice_index_or index (key (at entries p)) 0 ≡ p + 1
+  pub within : (k : ℕ) → 0 < slice_index_or index k 0 → slice_index_or index k 0 ≤ length entries
+  pub kept : (k : ℕ) → 0 < slice_index_or index k 0
+      → key (at entries (slice_index_or index k 0 - 1)) ≡ k
+  pub count : length entries + sum_by free index ≡ length index
