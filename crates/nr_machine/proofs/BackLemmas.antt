@@ -1,7 +1,7 @@
 -- The way back goes on from where it is.
 use Rattle.std.proofs.Common.{◌≡◌, sym, subst}
 use Rattle.nr_machine.specs.declared.delta.WorldUndo.{WorldUndo}
-use Rattle.nr_machine.specs.Changing.{Then}
+use Rattle.nr_machine.specs.Auxiliary.Changing.{Then}
 use Rattle.nr_machine.specs.Delta.{UndoBack}
 use Rattle.nr_machine.specs.DeltaLaws.{LeadsToOne}
 use Rattle.nr_machine.specs.World.{WorldParts}

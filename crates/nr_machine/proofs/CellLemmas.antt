@@ -14,8 +14,9 @@ use Rattle.nr_rev.specs.Lock.{bit}
 use Rattle.nr_rev.specs.Semaphore.{Semaphore}
 use Rattle.nr_rev.specs.Sides.{of_side}
 use Rattle.nr_rev.specs.Socket.{Socket}
-use Rattle.nr_gsema.specs.Table.{count_at}
-use Rattle.nr_sockbuf.specs.Sock.{OpenSock, SockParts, is_shut, viewed_bytes}
+use Rattle.nr_gsema.specs.Auxiliary.Table.{count_at}
+use Rattle.nr_sockbuf.specs.Sock.{OpenSock, SockParts}
+use Rattle.nr_sockbuf.specs.Auxiliary.Sock.{is_shut, viewed_bytes}
 use Rattle.nr_machine.specs.Fits.{IsWorld}
 use Rattle.nr_machine.specs.Sockets.{buffers_in, rest_at, socket_of}
 use Rattle.nr_machine.specs.World.{WorldParts, meant}

@@ -17,6 +17,7 @@ use Rattle.nr_rev.specs.World.{World, with_row}
 use Rattle.nr_desc.specs.Change.{listed}
 use Rattle.nr_desc.specs.Desc.{DescFits}
 use Rattle.nr_desc.specs.Op as desc_op
+use Rattle.nr_desc.specs.Auxiliary.Op as desc_op_auxiliary
 use Rattle.nr_desc.specs.declared.op.DescAnswer.{DescAnswer}
 use Rattle.nr_desc.specs.declared.op.DescOp.{DescOp}
 use Rattle.nr_desc.specs.declared.reversible.DescDelta.{DescDelta}
@@ -32,11 +33,11 @@ use Rattle.nr_machine.specs.declared.delta.TheConstants.{MOST_WORDS}
 use Rattle.nr_machine.specs.declared.delta.WorldUndo.TheVariants.{Changed}
 use Rattle.nr_machine.specs.declared.world_core.Core.{Core}
 use Rattle.nr_machine.specs.Asked.{TimersMade, asked_at, asked_by, timers_op}
-use Rattle.nr_machine.specs.Changing.{with_descriptor}
+use Rattle.nr_machine.specs.Auxiliary.Changing.{with_descriptor}
 use Rattle.nr_machine.specs.Continuing.{CanWake, Obeyed, TakesFiring, changing, orders_outcome, without_firing, woken_any, woken_both}
 use Rattle.nr_machine.specs.Delta.{ObeyBack, WokenBack}
 use Rattle.nr_machine.specs.Fits.{CoreFits, IsWorld, PartsFit}
-use Rattle.nr_machine.specs.Made.{Made}
+use Rattle.nr_machine.specs.Auxiliary.Made.{Made}
 use Rattle.nr_machine.specs.Rows.{row_of}
 use Rattle.nr_machine.specs.World.{WorldParts, meant}
 use Rattle.nr_machine.proofs.ChangingLemmas.{described_back}
@@ -101,7 +102,7 @@ abbrev pub with_firings : State → World → World
 with_firings t w = record w { firings = t.firings }
 
 module _ (m : WorldParts) (d : ℕ) (o : DescOp) (x after : Descriptor) (answer : DescAnswer) (there : slice_get m.core.descriptors.items d ≡ Some x)
-    (step : desc_op.StepTo x o answer after) (t : State) where
+    (step : desc_op_auxiliary.StepTo x o answer after) (t : State) where
   -- the world in which the descriptor and its timers are others
   abbrev left_world : World
   left_world = record (with_row d (row_of after (timers_of t.entries d)) (with_firings t (meant m))) { next_arming = t.next }
@@ -147,7 +148,7 @@ woken_light both =
     omega (arith, read, write)
 
 module _ (m : WorldParts) (d : ℕ) (o : DescOp) (x after : Descriptor) (answer : DescAnswer) (h : IsWorld m) (there : slice_get m.core.descriptors.items d ≡ Some x)
-    (step : desc_op.StepTo x o answer after) where
+    (step : desc_op_auxiliary.StepTo x o answer after) where
   -- whoever is woken can be, once the descriptor is written
   pub written_can : (asked : List TimersOp) (both : Sides (Option TimersDelta)) (timed written : Core) → Timed d answer.orders asked both m.core timed → written ≡ with_descriptor d after timed
       → CanWake d answer.woken written

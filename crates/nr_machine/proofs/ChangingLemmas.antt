@@ -6,7 +6,7 @@ use Rattle.nr_rev.specs.declared.descriptor.Descriptor.{Descriptor}
 use Rattle.nr_rev.specs.declared.lock.Lock.{Lock}
 use Rattle.nr_rev.specs.declared.status.Status.{Status}
 use Rattle.nr_machine.specs.declared.world_core.Core.{Core}
-use Rattle.nr_machine.specs.Changing.{CanMove, MovesOn, with_descriptor, with_lock, with_status}
+use Rattle.nr_machine.specs.Auxiliary.Changing.{CanMove, MovesOn, with_descriptor, with_lock, with_status}
 use Rattle.nr_machine.proofs.ListLemmas.{set_nowhere, set_same}
 
 -- a status written over itself

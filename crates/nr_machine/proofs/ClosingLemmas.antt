@@ -19,10 +19,11 @@ use Rattle.nr_machine.specs.declared.delta.DescUndo.{DescUndo}
 use Rattle.nr_machine.specs.declared.delta.TheConstants.{MOST_WORDS}
 use Rattle.nr_machine.specs.declared.delta.WorldUndo.TheVariants.{Closed}
 use Rattle.nr_machine.specs.declared.world_core.Core.{Core}
-use Rattle.nr_machine.specs.Changing.{Describes, desc_outcome}
-use Rattle.nr_machine.specs.Changing as changing
+use Rattle.nr_machine.specs.Changing.{desc_outcome}
+use Rattle.nr_machine.specs.Auxiliary.Changing.{Describes}
+use Rattle.nr_machine.specs.Auxiliary.Changing as changing
 use Rattle.nr_machine.specs.Fits.{IsWorld, PartsFit}
-use Rattle.nr_machine.specs.Made.{Made}
+use Rattle.nr_machine.specs.Auxiliary.Made.{Made}
 use Rattle.nr_machine.specs.World.{WorldParts, meant}
 use Rattle.nr_machine.proofs.FitsLemmas.{descriptor_fits, descriptor_tied, retied, tied_then}
 use Rattle.nr_machine.proofs.DescriptorLemmas.{described_means, free_fits, free_tied, opened_row, opened_there, quiet_leaves, unawaited, with_free}

@@ -28,10 +28,10 @@ use Rattle.nr_machine.specs.declared.delta.DescUndo.{DescUndo}
 use Rattle.nr_machine.specs.declared.delta.TheConstants.{MOST_WORDS}
 use Rattle.nr_machine.specs.declared.delta.WorldUndo.TheVariants.{Described}
 use Rattle.nr_machine.specs.declared.world_core.Core.{Core}
-use Rattle.nr_machine.specs.Changing.{Describes}
-use Rattle.nr_machine.specs.Changing as changing
+use Rattle.nr_machine.specs.Auxiliary.Changing.{Describes}
+use Rattle.nr_machine.specs.Auxiliary.Changing as changing
 use Rattle.nr_machine.specs.Fits.{CoreFits, PartsFit}
-use Rattle.nr_machine.specs.Made.{Made}
+use Rattle.nr_machine.specs.Auxiliary.Made.{Made}
 use Rattle.nr_machine.specs.World.{WorldParts, meant}
 use Rattle.nr_machine.proofs.FitsLemmas.{IsTiedAs, counted_fits, descriptor_fits, descriptor_tied, retied}
 use Rattle.nr_machine.proofs.RowsLemmas.{descriptor_set, row_at, row_past, row_with}

@@ -16,7 +16,7 @@ use Rattle.nr_gsema.specs.Table.{GoroutineTable}
 use Rattle.nr_timers.specs.State.{IsTimers, State}
 use Rattle.nr_timers.specs.TimersOf.{timers_of}
 use Rattle.nr_machine.specs.declared.world_core.Core.{Core}
-use Rattle.nr_machine.specs.Changing.{with_descriptor, with_lock, with_status}
+use Rattle.nr_machine.specs.Auxiliary.Changing.{with_descriptor, with_lock, with_status}
 use Rattle.nr_machine.specs.Fits.{CoreFits, PartsFit}
 use Rattle.nr_machine.specs.World.{WorldParts}
 

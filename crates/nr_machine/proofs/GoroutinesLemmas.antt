@@ -26,7 +26,7 @@ use Rattle.nr_gsema.specs.Applying.{IsQueuedUp}
 use Rattle.nr_gsema.specs.Delta.{LeadsBack, delta_weight, weight_allowed}
 use Rattle.nr_gsema.specs.ReversibleLaws.{weight_is_within}
 use Rattle.nr_gsema.specs.Step as table
-use Rattle.nr_gsema.specs.Table as of_table
+use Rattle.nr_gsema.specs.Auxiliary.Table as of_table
 use Rattle.nr_gsema.specs.Table.{GoroutineTable}
 use Rattle.nr_gsema.specs.declared.delta.GDelta.{GDelta}
 use Rattle.nr_gsema.specs.declared.operation.GOperation.{GOperation}
@@ -35,7 +35,7 @@ use Rattle.nr_machine.specs.declared.delta.TheConstants.{MOST_WORDS}
 use Rattle.nr_machine.specs.declared.delta.WorldUndo.TheVariants.{Goroutine}
 use Rattle.nr_machine.specs.Fits.{IsWorld}
 use Rattle.nr_machine.specs.Goroutines.{IsStep, goroutine_outcome}
-use Rattle.nr_machine.specs.Made.{Made}
+use Rattle.nr_machine.specs.Auxiliary.Made.{Made}
 use Rattle.nr_machine.specs.Sockets.{rest_at}
 use Rattle.nr_machine.specs.World.{WorldParts, meant}
 use Rattle.nr_machine.proofs.ListLemmas.{get_within}

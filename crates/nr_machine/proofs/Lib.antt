@@ -6,6 +6,7 @@ pub mod MadeLemmas
 pub mod ChangingLemmas
 pub mod FitsLemmas
 pub mod LockingLemmas
+pub mod TouchLemmas
 pub mod TransferLemmas
 pub mod OpeningLemmas
 pub mod QueueLemmas

@@ -29,11 +29,11 @@ use Rattle.nr_machine.specs.declared.world_core.Core.{Core}
 use Rattle.nr_machine.specs.declared.delta.LockUndo.{LockUndo}
 use Rattle.nr_machine.specs.declared.delta.TheConstants.{MOST_WORDS}
 use Rattle.nr_machine.specs.declared.delta.WorldUndo.TheVariants.{Locked}
-use Rattle.nr_machine.specs.Changing.{CanMove, Locks, MovesOn, lock_outcome, with_lock}
-use Rattle.nr_machine.specs.Changing as changing
+use Rattle.nr_machine.specs.Auxiliary.Changing.{CanMove, Locks, MovesOn, lock_outcome, with_lock}
+use Rattle.nr_machine.specs.Auxiliary.Changing as changing
 use Rattle.nr_machine.specs.Fits.{IsWorld, PartsFit}
 use Rattle.nr_machine.specs.Locking.{locking, status_left}
-use Rattle.nr_machine.specs.Made.{Made}
+use Rattle.nr_machine.specs.Auxiliary.Made.{Made}
 use Rattle.nr_machine.specs.World.{WorldParts, meant}
 use Rattle.nr_machine.proofs.FitsLemmas.{lock_fits, lock_tied, retied, status_fits, status_tied, tied_then}
 use Rattle.nr_machine.proofs.SocketsLemmas.{length-sockets_of, lock_set, socket_at, socket_past, socket_with}

@@ -3,14 +3,15 @@ use Rattle.std.proofs.Common.{◌+◌, ◌/◌, Bool, inl, Ok, Err, Result, ap, 
 use Rattle.nr_rev.specs.declared.answer.Answer.{Answer}
 use Rattle.nr_rev.specs.declared.refusal.Refusal.{Refusal}
 use Rattle.nr_rev.specs.declared.step.Step.{Step}
-use Rattle.nr_rev.specs.Step.{IsTimely, outcome}
+use Rattle.nr_rev.specs.Step.{outcome}
+use Rattle.nr_rev.specs.Auxiliary.Step.{IsTimely}
 use Rattle.nr_rev.specs.Worlds.{bytes_left, refusal_of}
 use Rattle.nr_rev.proofs.StepKeepsLemmas.{step_keeps}
 use Rattle.nr_machine.specs.declared.delta.TheConstants.{MOST_WORDS}
 use Rattle.nr_machine.specs.declared.delta.WorldUndo.{WorldUndo}
 use Rattle.nr_machine.specs.Asked.{asked_of}
 use Rattle.nr_machine.specs.Fits.{IsWorld}
-use Rattle.nr_machine.specs.Made.{Made, Makes, MakesStep}
+use Rattle.nr_machine.specs.Auxiliary.Made.{Made, Makes, MakesStep}
 use Rattle.nr_machine.specs.World.{WorldParts, meant}
 
 -- a step that is made, with an undo that the place holds

@@ -13,12 +13,13 @@ use Rattle.nr_rev.specs.Reversible.{Refuses}
 use Rattle.nr_rev.specs.Step.{after_order, after_orders}
 use Rattle.nr_timers.specs.ReversibleLaws as timers
 use Rattle.nr_timers.specs.State.{State}
-use Rattle.nr_timers.specs.Step.{TakesMemory, TimersStep, timers_reason}
+use Rattle.nr_timers.specs.Step.{TimersStep}
+use Rattle.nr_timers.specs.Auxiliary.Step.{TakesMemory, timers_reason}
 use Rattle.nr_timers.specs.TimersOf.{timers_of}
 use Rattle.nr_timers.specs.declared.delta.TimersDelta.{TimersDelta}
 use Rattle.nr_machine.specs.declared.world_core.Core.{Core}
 use Rattle.nr_machine.specs.Asked.{TimersMade, timers_op}
-use Rattle.nr_machine.specs.Changing.{IfAny, TimersBack}
+use Rattle.nr_machine.specs.Auxiliary.Changing.{IfAny, TimersBack}
 use Rattle.nr_machine.specs.Continuing.{Obeyed, orders_outcome}
 
 -- descriptor d's timers, and the next arming number

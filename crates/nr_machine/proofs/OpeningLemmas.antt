@@ -13,17 +13,17 @@ use Rattle.nr_rev.specs.Step.{idle, new_row, pollopen, row_of as find_row}
 use Rattle.nr_rev.specs.World.{World, with_descriptor}
 use Rattle.nr_rev.proofs.ListUpdateLemmas.{slice_get-push_all}
 use Rattle.nr_desc.specs.Desc.{DescFits}
-use Rattle.nr_desc.specs.Op as desc_op
+use Rattle.nr_desc.specs.Auxiliary.Op as desc_op
 use Rattle.nr_desc.specs.declared.op.DescAnswer.{DescAnswer}
 use Rattle.nr_desc.specs.declared.op.DescOp.TheVariants as op
 use Rattle.nr_desc.specs.declared.reversible.DescDelta.{DescDelta}
 use Rattle.nr_machine.specs.declared.delta.TheConstants.{MOST_WORDS}
 use Rattle.nr_machine.specs.declared.delta.WorldUndo.TheVariants as undo
 use Rattle.nr_machine.specs.declared.world_core.Core.{Core}
-use Rattle.nr_machine.specs.Changing as changing
+use Rattle.nr_machine.specs.Auxiliary.Changing as changing
 use Rattle.nr_machine.specs.Delta.{TakeBack}
 use Rattle.nr_machine.specs.Fits.{CoreFits, IsWorld, PartsFit}
-use Rattle.nr_machine.specs.Made.{Made}
+use Rattle.nr_machine.specs.Auxiliary.Made.{Made}
 use Rattle.nr_machine.specs.Opening.{opening, opening_of}
 use Rattle.nr_machine.specs.World.{WorldParts, meant}
 use Rattle.nr_machine.proofs.ChangingLemmas.{described_back}

@@ -22,15 +22,17 @@ use Rattle.nr_rev.specs.World.{World, least_entry, with_row}
 use Rattle.nr_timers.specs.Back.{TimersBack, delta_weight}
 use Rattle.nr_timers.specs.Order.{at}
 use Rattle.nr_timers.specs.State.{IsTimers, State}
-use Rattle.nr_timers.specs.Step.{TakesMemory, TimersStep, timers_reason}
-use Rattle.nr_timers.specs.TimersOf.{AreTimers, SetsTimer, is_for, timer_of, timers_of}
+use Rattle.nr_timers.specs.Step.{TimersStep}
+use Rattle.nr_timers.specs.Auxiliary.Step.{TakesMemory, timers_reason}
+use Rattle.nr_timers.specs.TimersOf.{SetsTimer, is_for, timer_of, timers_of}
+use Rattle.nr_timers.specs.Auxiliary.TimersOf.{AreTimers}
 use Rattle.nr_timers.specs.declared.delta.TimersDelta.{TimersDelta}
 use Rattle.nr_timers.specs.declared.op.TimersOp.TheVariants.{Pop}
 use Rattle.nr_machine.specs.declared.delta.TheConstants.{MOST_WORDS}
 use Rattle.nr_machine.specs.declared.delta.WorldUndo.TheVariants.{Timers}
 use Rattle.nr_machine.specs.declared.world_core.Core.{Core}
 use Rattle.nr_machine.specs.Fits.{IsWorld, PartsFit}
-use Rattle.nr_machine.specs.Made.{Made}
+use Rattle.nr_machine.specs.Auxiliary.Made.{Made}
 use Rattle.nr_machine.specs.Rows.{row_of, rows_of}
 use Rattle.nr_machine.specs.World.{WorldParts, meant}
 use Rattle.nr_machine.proofs.FitsLemmas.{retied, timed_fits, timed_tied}

@@ -17,12 +17,14 @@ use Rattle.nr_rev.specs.Semaphore.{Semaphore, new_semaphore}
 use Rattle.nr_rev.specs.Sides.{of_side, same_side, twice}
 use Rattle.nr_rev.specs.Socket.{Socket}
 use Rattle.nr_rev.specs.WellFormed.{is_queued}
-use Rattle.nr_rev.specs.Worlds.{HasItems}
+use Rattle.nr_rev.specs.Auxiliary.Worlds.{HasItems}
 use Rattle.nr_rev.proofs.BoolLemmas.{both_true}
 use Rattle.nr_rev.proofs.NumberLemmas.{count_front}
 use Rattle.nr_gsema.specs.Applying.{IsQueuedUp}
-use Rattle.nr_gsema.specs.Table.{GoroutineTable, behind, in_queue, next_in_queue, queue_at, queue_found}
-use Rattle.nr_sockbuf.specs.Sock.{OpenSock, SockParts, never_opened, viewed_bytes}
+use Rattle.nr_gsema.specs.Table.{GoroutineTable}
+use Rattle.nr_gsema.specs.Auxiliary.Table.{behind, in_queue, next_in_queue, queue_at, queue_found}
+use Rattle.nr_sockbuf.specs.Sock.{OpenSock, SockParts, never_opened}
+use Rattle.nr_sockbuf.specs.Auxiliary.Sock.{viewed_bytes}
 use Rattle.nr_machine.specs.Sockets.{buffers_in, rest_at}
 use Rattle.nr_machine.specs.World.{WorldParts, meant}
 use Rattle.nr_machine.proofs.ListLemmas.{get_within}

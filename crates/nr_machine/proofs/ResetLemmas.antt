@@ -20,9 +20,10 @@ use Rattle.nr_machine.specs.declared.delta.DescUndo.{DescUndo}
 use Rattle.nr_machine.specs.declared.delta.TheConstants.{MOST_WORDS}
 use Rattle.nr_machine.specs.declared.delta.WorldUndo.TheVariants.{Described}
 use Rattle.nr_machine.specs.declared.world_core.Core.{Core}
-use Rattle.nr_machine.specs.Changing.{Describes, desc_outcome}
+use Rattle.nr_machine.specs.Changing.{desc_outcome}
+use Rattle.nr_machine.specs.Auxiliary.Changing.{Describes}
 use Rattle.nr_machine.specs.Fits.{IsWorld}
-use Rattle.nr_machine.specs.Made.{Made}
+use Rattle.nr_machine.specs.Auxiliary.Made.{Made}
 use Rattle.nr_machine.specs.World.{WorldParts, meant}
 use Rattle.nr_machine.proofs.DescriptorLemmas.{described_made, opened_row, opened_there, unawaited}
 use Rattle.nr_machine.proofs.RowsLemmas.{row_with}

@@ -8,7 +8,8 @@ use Rattle.nr_rev.specs.declared.sides.Sides.{Sides}
 use Rattle.nr_rev.specs.declared.timer.Entry.{Entry}
 use Rattle.nr_rev.specs.declared.timer.Timer.{Timer}
 use Rattle.nr_rev.specs.Sides.{twice, with_side}
-use Rattle.nr_timers.specs.TimersOf.{AreTimers, SetsTimer, timers_of}
+use Rattle.nr_timers.specs.TimersOf.{SetsTimer, timers_of}
+use Rattle.nr_timers.specs.Auxiliary.TimersOf.{AreTimers}
 use Rattle.nr_machine.specs.Fits.{PartsFit}
 use Rattle.nr_machine.specs.Numbered.{numbered}
 use Rattle.nr_machine.specs.NumberedLaws.{numbered_at}

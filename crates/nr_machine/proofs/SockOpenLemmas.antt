@@ -36,7 +36,8 @@ use Rattle.nr_machine.specs.declared.world_core.Core.{Core}
 use Rattle.nr_machine.specs.Asked.{asked_of}
 use Rattle.nr_machine.specs.Delta.{OpenedBack, SockBack}
 use Rattle.nr_machine.specs.Fits.{CoreFits, IsWorld, PartsFit, SockFits}
-use Rattle.nr_machine.specs.Made.{Made, parts_reason}
+use Rattle.nr_machine.specs.Made.{parts_reason}
+use Rattle.nr_machine.specs.Auxiliary.Made.{Made}
 use Rattle.nr_machine.specs.Sockets.{SocketRest, rest_at, socket_of}
 use Rattle.nr_machine.specs.Transfers.{IsOpening}
 use Rattle.nr_machine.specs.World.{WorldParts, meant}

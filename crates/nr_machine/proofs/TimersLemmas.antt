@@ -6,7 +6,7 @@ use Rattle.nr_rev.specs.Step.{tick}
 use Rattle.nr_machine.specs.declared.delta.TheConstants.{MOST_WORDS}
 use Rattle.nr_machine.specs.declared.delta.WorldUndo.TheVariants.{Clock}
 use Rattle.nr_machine.specs.Fits.{IsWorld}
-use Rattle.nr_machine.specs.Made.{Made}
+use Rattle.nr_machine.specs.Auxiliary.Made.{Made}
 use Rattle.nr_machine.specs.World.{WorldParts, meant}
 use Rattle.nr_machine.proofs.FitsLemmas.{counted_fits, retied}
 

@@ -29,7 +29,8 @@ use Rattle.nr_machine.specs.declared.delta.WorldUndo.TheVariants.{Sock}
 use Rattle.nr_machine.specs.Asked.{TimersMade, asked_of}
 use Rattle.nr_machine.specs.Delta.{SockBack}
 use Rattle.nr_machine.specs.Fits.{IsWorld, PartsFit, SockFits}
-use Rattle.nr_machine.specs.Made.{Advanced, MakesStep, TakesMemory, LeadsBackWithin, parts_reason}
+use Rattle.nr_machine.specs.Made.{TakesMemory, parts_reason}
+use Rattle.nr_machine.specs.Auxiliary.Made.{Advanced, MakesStep, LeadsBackWithin}
 use Rattle.nr_machine.specs.Sockets.{SocketRest, buffers_in, rest_at, socket_of}
 use Rattle.nr_machine.specs.Transfers.{IsTransfer}
 use Rattle.nr_machine.specs.World.{WorldParts, meant}

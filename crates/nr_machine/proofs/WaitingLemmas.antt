@@ -21,6 +21,7 @@ use Rattle.nr_rev.specs.World.{World, with_descriptor, with_status}
 use Rattle.nr_rev.proofs.WaitersLemmas.{waiters_within}
 use Rattle.nr_rev.proofs.LookupLemmas.{Ends-status_of}
 use Rattle.nr_desc.specs.Op as desc_op
+use Rattle.nr_desc.specs.Auxiliary.Op as desc_op_auxiliary
 use Rattle.nr_desc.specs.declared.op.DescAnswer.{DescAnswer}
 use Rattle.nr_desc.specs.declared.op.DescOp.{DescOp}
 use Rattle.nr_desc.specs.declared.op.DescOp.TheVariants as op
@@ -31,11 +32,12 @@ use Rattle.nr_machine.specs.declared.delta.DescUndo.{DescUndo}
 use Rattle.nr_machine.specs.declared.delta.TheConstants.{MOST_WORDS}
 use Rattle.nr_machine.specs.declared.delta.WorldUndo.TheVariants.{Goroutine, Waited}
 use Rattle.nr_machine.specs.declared.world_core.Core.{Core}
-use Rattle.nr_machine.specs.Changing.{CanMove, Describes, Moves, desc_outcome}
-use Rattle.nr_machine.specs.Changing as changing
+use Rattle.nr_machine.specs.Changing.{desc_outcome}
+use Rattle.nr_machine.specs.Auxiliary.Changing.{CanMove, Describes, Moves}
+use Rattle.nr_machine.specs.Auxiliary.Changing as changing
 use Rattle.nr_machine.specs.Delta.{ParkBack}
 use Rattle.nr_machine.specs.Fits.{CoreFits, IsWorld, PartsFit}
-use Rattle.nr_machine.specs.Made.{Made}
+use Rattle.nr_machine.specs.Auxiliary.Made.{Made}
 use Rattle.nr_machine.specs.Waiting.{core_parked, parks, status_after, waiting, with_parked}
 use Rattle.nr_machine.specs.World.{WorldParts, meant}
 use Rattle.nr_machine.proofs.DescriptorLemmas.{row_found}
@@ -106,7 +108,7 @@ module _ (m : WorldParts) (g d : ℕ) (o : DescOp) where
   waiting_refused e refused = by_descriptor (slice_get m.core.descriptors.items d) e refl refused
 
   -- and one that it carries out leads there
-  pub waiting_leads : (before after : Descriptor) (answer : DescAnswer) → slice_get m.core.descriptors.items d ≡ Some before → desc_op.StepTo before o answer after
+  pub waiting_leads : (before after : Descriptor) (answer : DescAnswer) → slice_get m.core.descriptors.items d ≡ Some before → desc_op_auxiliary.StepTo before o answer after
       → waiting g d o (meant m)
       ≡ Ok (answer.answer, with_parked (parks o answer.answer) (with_status g (status_after d o answer.answer) (with_descriptor d (row_with m d before) after (meant m))))
   waiting_leads before after answer at leads =

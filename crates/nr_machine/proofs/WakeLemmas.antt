@@ -19,8 +19,9 @@ use Rattle.nr_rev.specs.WellFormed.{held_count, is_held}
 use Rattle.nr_rev.specs.World.{World}
 use Rattle.nr_rev.proofs.ListUpdateLemmas.{slice_get-set_cases}
 use Rattle.nr_rev.proofs.WaitWordSetLemmas.{parked_at}
-use Rattle.nr_desc.specs.Change.{both_let_go, let_go, listed}
-use Rattle.nr_desc.specs.Op.{StepTo, woken_by}
+use Rattle.nr_desc.specs.Change.{listed}
+use Rattle.nr_desc.specs.Auxiliary.Change.{both_let_go, let_go}
+use Rattle.nr_desc.specs.Auxiliary.Op.{StepTo, woken_by}
 use Rattle.nr_desc.specs.declared.op.DescAnswer.{DescAnswer}
 use Rattle.nr_desc.specs.declared.op.DescOp.{DescOp}
 use Rattle.nr_desc.specs.declared.op.DescOp.TheVariants as op

@@ -24,7 +24,7 @@ use Rattle.nr_timers.specs.declared.delta.TimersDelta.{TimersDelta}
 use Rattle.nr_timers.specs.declared.op.TimersOp.TheVariants.{TakeFiring}
 use Rattle.nr_machine.specs.declared.world_core.Core.{Core}
 use Rattle.nr_machine.specs.Asked.{TimersMade, timers_op}
-use Rattle.nr_machine.specs.Changing.{TimersBack, woken}
+use Rattle.nr_machine.specs.Auxiliary.Changing.{TimersBack, woken}
 
 -- an operation on descriptor d: its orders are obeyed, and those whom it wakes go on
 abbrev pub changing : ℕ → DescOp → World → Outcome

@@ -22,7 +22,7 @@ use Rattle.nr_machine.specs.declared.delta.LockUndo.{LockUndo}
 use Rattle.nr_machine.specs.declared.delta.WorldDelta.{WorldDelta}
 use Rattle.nr_machine.specs.declared.delta.WorldUndo.{WorldUndo}
 use Rattle.nr_machine.specs.declared.delta.WorldUndo.TheVariants.{Still, Goroutine, Locked, Sock, Opened, Made, Reopened, Closed, Described, Waited, Clock, Timers, Changed}
-use Rattle.nr_machine.specs.Changing.{DescBack, GoroutineBack, IfAny, LockBack, Same, Then, TimersBack, WakeBack, parked}
+use Rattle.nr_machine.specs.Auxiliary.Changing.{DescBack, GoroutineBack, IfAny, LockBack, Same, Then, TimersBack, WakeBack, parked}
 use Rattle.nr_machine.specs.Delta.{AddBack, GiveBack, MadeBack, ObeyBack, OfCore, ParkBack, SockBack, TakeBack, UndoBack, WokenBack, WorldBack}
 use Rattle.nr_machine.specs.World.{WorldParts}
 

@@ -1,44 +1,10 @@
 -- What a step is made of: its outcome, the way back, and what stays tied.
-use Rattle.std.specs.Prelude.{◌≡◌, ℕ, ◌+◌, ◌/◌, ◌≤◌, Bool, true, List, Option, Result, Ok, Err}
-use Rattle.nr_rev.specs.declared.answer.Answer.{Answer}
+use Rattle.std.specs.Prelude.{Option}
 use Rattle.nr_rev.specs.declared.refusal.Refusal.{Refusal}
 use Rattle.nr_rev.specs.declared.step.Step.{Step}
-use Rattle.nr_rev.specs.Reversible.{IfKept, Refuses}
-use Rattle.nr_rev.specs.Step.{Outcome, outcome}
-use Rattle.nr_rev.specs.Worlds.{LosesBytes, bytes_left, refusal_of}
-use Rattle.nr_timers.specs.declared.op.TimersOp.{TimersOp}
-use Rattle.nr_machine.specs.declared.delta.TheConstants.{MOST_WORDS}
-use Rattle.nr_machine.specs.declared.delta.WorldUndo.{WorldUndo}
-use Rattle.nr_machine.specs.Asked.{TimersMade, asked_of}
-use Rattle.nr_machine.specs.Delta.{UndoBack, undo_weight}
-use Rattle.nr_machine.specs.Fits.{PartsFit}
+use Rattle.nr_rev.specs.Step.{outcome}
+use Rattle.nr_rev.specs.Worlds.{LosesBytes, refusal_of}
 use Rattle.nr_machine.specs.World.{WorldParts, meant}
-
--- The new parts mean the definition's next world and still fit together. The timers are exactly
--- what the asked operations leave.
-pub record Advanced (due : Outcome) (asked : List TimersOp) (old : WorldParts) (answer : Answer)
-    (new : WorldParts) : Type 0 where
-  pub leads : due ≡ Ok (answer, meant new)
-  pub parts : PartsFit new
-  pub timers : TimersMade asked old.core.timers new.core.timers
-
--- an undo leads back from the new parts to the old ones, and holds at most so many words
-abbrev pub LeadsBackWithin : ℕ → WorldParts → WorldParts → WorldUndo → Type 0
-LeadsBackWithin most new old undo = UndoBack undo new old × (undo_weight undo ≤ most)
-
--- the new parts are the definition's, and the undo leads back
-abbrev pub Made : Outcome → List TimersOp → ℕ → WorldParts → Answer → WorldUndo → WorldParts
-    → Type 0
-Made due asked most old answer undo new =
-    Advanced due asked old answer new × LeadsBackWithin most new old undo
-
--- what a step comes to is made, with an undo that the place holds if it keeps any; or the step has
--- the machine's reason and changes nothing
-abbrev pub Makes : {Place : Type 0} → (Place → WorldUndo → Type 0) → Place → Outcome
-    → List TimersOp → WorldParts → Result Answer Refusal → WorldParts → Type 0
-Makes {Place} holds place due asked old (Ok answer) new =
-    (undo : WorldUndo) × holds place undo × Made due asked MOST_WORDS old answer undo new
-Makes {Place} holds place due asked old (Err e) new = (due ≡ Err e) × (new ≡ old)
 
 -- why a step does not apply
 abbrev pub parts_reason : WorldParts → Step → Option Refusal
@@ -47,14 +13,3 @@ parts_reason m step = refusal_of (outcome (meant m) step)
 -- a step takes memory where bytes leave a buffer
 abbrev pub TakesMemory : WorldParts → Step → Type 0
 TakesMemory m step = LosesBytes (meant m) step
-
--- A whole step is made, and the place holds an undo of it where it keeps one. Or the step has its
--- reason; or it is out of memory, where bytes are to be kept.
-abbrev pub MakesStep : {Place : Type 0} → Bool → (Place → WorldUndo → Type 0) → Place → Step
-    → WorldParts → Result Answer Refusal → WorldParts → Type 0
-MakesStep {Place} keeps holds place step old (Ok answer) new =
-    Advanced (outcome (meant old) step) (asked_of old step) old answer new
-    × IfKept keeps holds place
-    (LeadsBackWithin (MOST_WORDS + (bytes_left step answer + 7) / 8) new old)
-MakesStep {Place} keeps holds place step old (Err e) new =
-    Refuses parts_reason (λ m op. (keeps ≡ true) × TakesMemory m op) old step e × (new ≡ old)

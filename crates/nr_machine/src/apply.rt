@@ -1,8 +1,8 @@
 //! Steps applied and undone.
 
-ghost use Rattle.nr_rev.specs.Step.{IsTimely};
+ghost use Rattle.nr_rev.specs.Auxiliary.Step.{IsTimely};
 ghost use Rattle.nr_machine.specs.Fits.{IsWorld};
-ghost use Rattle.nr_machine.specs.Made.{MakesStep};
+ghost use Rattle.nr_machine.specs.Auxiliary.Made.{MakesStep};
 
 use crate::delta::{MOST_WORDS, WorldDelta, WorldUndo};
 use crate::world::World;

@@ -4,7 +4,7 @@ ghost use Rattle.nr_rev.specs.Step as step;
 ghost use Rattle.nr_desc.specs.declared.op.DescOp.TheVariants as desc;
 ghost use Rattle.nr_machine.specs.Asked.{asked_at};
 ghost use Rattle.nr_machine.specs.Fits.{IsWorld};
-ghost use Rattle.nr_machine.specs.Made.{Makes};
+ghost use Rattle.nr_machine.specs.Auxiliary.Made.{Makes};
 ghost use Rattle.nr_machine.specs.World.{meant};
 
 use crate::delta::WorldUndo;

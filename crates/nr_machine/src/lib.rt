@@ -15,6 +15,7 @@ mod reads;
 mod semaphores;
 mod snapshot;
 mod timers;
+mod touches_cells;
 mod transfers;
 mod undoing;
 mod waiting;

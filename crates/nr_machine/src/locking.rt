@@ -8,7 +8,7 @@ ghost use Rattle.nr_gsema.specs.Step.{is_movable};
 ghost use Rattle.nr_lock.specs.Op.{left as left_of};
 ghost use Rattle.nr_machine.specs.Fits.{IsWorld};
 ghost use Rattle.nr_machine.specs.Locking.{locking, status_left};
-ghost use Rattle.nr_machine.specs.Made.{Makes};
+ghost use Rattle.nr_machine.specs.Auxiliary.Made.{Makes};
 ghost use Rattle.nr_machine.specs.World.{meant};
 
 use crate::delta::WorldUndo;

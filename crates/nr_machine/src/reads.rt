@@ -3,7 +3,7 @@
 ghost use Rattle.std.specs.Prelude.{◌≡◌};
 ghost use Rattle.nr_rev.specs.Step as step;
 ghost use Rattle.nr_rev.specs.World.{is_free_number, is_waited};
-ghost use Rattle.nr_rev.specs.Refusing.{Gives};
+ghost use Rattle.nr_rev.specs.Auxiliary.Refusing.{Gives};
 ghost use Rattle.nr_machine.specs.Rows.{row_of};
 ghost use Rattle.nr_machine.specs.World.{meant};
 ghost use Rattle.nr_timers.specs.TimersOf.{timers_of};

@@ -3,7 +3,7 @@
 ghost use Rattle.std.specs.Prelude.{[]};
 ghost use Rattle.nr_rev.specs.Step as step;
 ghost use Rattle.nr_machine.specs.Fits.{IsWorld};
-ghost use Rattle.nr_machine.specs.Made.{Makes};
+ghost use Rattle.nr_machine.specs.Auxiliary.Made.{Makes};
 ghost use Rattle.nr_machine.specs.World.{meant};
 
 use crate::delta::WorldUndo;

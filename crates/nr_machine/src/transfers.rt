@@ -1,7 +1,7 @@
 //! The steps that open sockets, and move bytes into their buffers and out of them.
 
 ghost use Rattle.nr_machine.specs.Fits.{IsWorld};
-ghost use Rattle.nr_machine.specs.Made.{MakesStep};
+ghost use Rattle.nr_machine.specs.Auxiliary.Made.{MakesStep};
 ghost use Rattle.nr_machine.specs.Transfers.{IsOpening, IsTransfer, IsTransferOf};
 ghost use Rattle.nr_machine.specs.World.{meant};
 

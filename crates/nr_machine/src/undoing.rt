@@ -1,6 +1,6 @@
 //! Steps undone: what a step changed of the parts, from the last change to the first.
 
-ghost use Rattle.nr_machine.specs.Changing.{DescBack, GoroutineBack, IfAny, LockBack, Then, TimersBack, WakeBack};
+ghost use Rattle.nr_machine.specs.Auxiliary.Changing.{DescBack, GoroutineBack, IfAny, LockBack, Then, TimersBack, WakeBack};
 ghost use Rattle.nr_machine.specs.Delta.{GiveBack, ObeyBack, OpenedBack, ParkBack, SockBack, TakeBack, UndoBack, WokenBack};
 ghost use Rattle.nr_machine.specs.World.{WorldParts};
 ghost use Rattle.nr_machine.specs.declared.world_core.Core.{Core as Parts};

@@ -7,7 +7,7 @@ ghost use Rattle.nr_rev.specs.WellFormed.{socket_named};
 ghost use Rattle.nr_rev.specs.World.{with_status};
 ghost use Rattle.nr_gsema.specs.Step.{is_movable};
 ghost use Rattle.nr_machine.specs.Fits.{IsWorld};
-ghost use Rattle.nr_machine.specs.Made.{Makes};
+ghost use Rattle.nr_machine.specs.Auxiliary.Made.{Makes};
 ghost use Rattle.nr_machine.specs.Waiting.{parks, status_after, waiting};
 ghost use Rattle.nr_machine.specs.World.{meant};
 

@@ -4,8 +4,8 @@ ghost use Rattle.std.specs.Prelude.{◌≡◌, ◌<◌, IfOk, OnErr, length, rep
 ghost use Rattle.nr_rev.specs.Cell.{bytes_of, queue_of};
 ghost use Rattle.nr_rev.specs.Limits.{AreInRange};
 ghost use Rattle.nr_rev.specs.World.{empty_world};
-ghost use Rattle.nr_rev.specs.Worlds.{HasItems};
-ghost use Rattle.nr_gsema.specs.Table.{queue_at};
+ghost use Rattle.nr_rev.specs.Auxiliary.Worlds.{HasItems};
+ghost use Rattle.nr_gsema.specs.Auxiliary.Table.{queue_at};
 ghost use Rattle.nr_sockbuf.specs.Sock.{never_opened};
 ghost use Rattle.nr_machine.specs.Fits.{CoreFits, IsWorld};
 ghost use Rattle.nr_machine.specs.Fresh.{empty_core};

@@ -2,7 +2,7 @@ use Rattle.std.proofs.Common.{◌≡◌, ℕ, [], Ok, rules, subst}
 use Rattle.nr_rev.specs.declared.status.Status.TheVariants.{Parking}
 use Rattle.nr_rev.specs.Step.{status_of}
 use Rattle.nr_desc.specs.declared.op.DescOp.TheVariants.{Commit}
-use Rattle.nr_machine.specs.Made.{Makes}
+use Rattle.nr_machine.specs.Auxiliary.Made.{Makes}
 use Rattle.nr_machine.specs.Waiting.{waiting}
 use Rattle.nr_machine.specs.World.{meant}
 use Rattle.nr_machine.proofs.WaitingLemmas.{parkcommit_is}

@@ -1,6 +1,6 @@
 use Rattle.std.proofs.Common.{◌≡◌, ◌<◌, [], List, ℕ, length, refl, sym, ◌∙◌, arith}
 use Rattle.std.proofs.lemmas.Result.{err_from_is_err_and}
-use Rattle.nr_gsema.specs.Table.{queue_at}
+use Rattle.nr_gsema.specs.Auxiliary.Table.{queue_at}
 use Rattle.nr_machine.proofs.QueueLemmas.{next_at, walk_ends, walk_goes, walk_more}
 use Rattle.nr_machine.proofs.world.World.queued.Goals as goal
 

@@ -1,6 +1,6 @@
 use Rattle.std.proofs.Common.{◌≡◌, ◌-◌, ◌≤◌, length, take}
 use Rattle.std.specs.Prelude.{slice_get}
-use Rattle.nr_gsema.specs.Table.{queue_at}
+use Rattle.nr_gsema.specs.Auxiliary.Table.{queue_at}
 use Rattle.nr_machine.proofs.world.World.queued.Given as goal
 
 abbrev pub invariant-loop-next : goal.invariant-loop-next

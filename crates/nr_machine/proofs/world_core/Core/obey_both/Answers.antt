@@ -1,5 +1,5 @@
 use Rattle.std.proofs.Common.{sym, subst}
-use Rattle.nr_machine.specs.Changing.{IfAny, TimersBack}
+use Rattle.nr_machine.specs.Auxiliary.Changing.{IfAny, TimersBack}
 use Rattle.nr_machine.specs.declared.world_core.Core.{Core}
 use Rattle.nr_machine.proofs.ObeyLemmas.{second_refused, timers_again}
 use Rattle.nr_machine.proofs.world_core.Core.obey_both.Goals as goal

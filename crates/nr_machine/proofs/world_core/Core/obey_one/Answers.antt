@@ -1,7 +1,7 @@
 use Rattle.std.proofs.Common.{subst}
 use Rattle.std.proofs.lemmas.Result.{err_from_is_err_and}
 use Rattle.nr_rev.specs.Reversible.{Refuses}
-use Rattle.nr_timers.specs.Step.{TakesMemory, timers_reason}
+use Rattle.nr_timers.specs.Auxiliary.Step.{TakesMemory, timers_reason}
 use Rattle.nr_timers.specs.declared.op.TimersOp.{TimersOp}
 use Rattle.nr_machine.proofs.ObeyLemmas.{order_refused}
 use Rattle.nr_machine.proofs.world_core.Core.obey_one.Goals as goal

@@ -1,4 +1,4 @@
-use Rattle.nr_machine.specs.Changing.{DescBack, Then}
+use Rattle.nr_machine.specs.Auxiliary.Changing.{DescBack, Then}
 use Rattle.nr_machine.specs.Delta.{ObeyBack, WokenBack}
 use Rattle.nr_machine.specs.DeltaLaws.{desc_one, woken_one}
 use Rattle.nr_machine.proofs.BackLemmas.{then_next}

@@ -1,4 +1,4 @@
-use Rattle.nr_machine.specs.Changing.{IfAny, TimersBack}
+use Rattle.nr_machine.specs.Auxiliary.Changing.{IfAny, TimersBack}
 use Rattle.nr_machine.specs.DeltaLaws.{orders_one}
 use Rattle.nr_machine.proofs.BackLemmas.{then_next}
 use Rattle.nr_machine.proofs.world_core.Core.unobey.Goals as goal

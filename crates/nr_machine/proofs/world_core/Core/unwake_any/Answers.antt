@@ -1,6 +1,6 @@
 use Rattle.std.proofs.Common.{◌≡◌, Option, Some, ℕ, rules, sym, subst}
 use Rattle.nr_machine.specs.declared.world_core.Core.{Core}
-use Rattle.nr_machine.specs.Changing.{IfAny, WakeBack}
+use Rattle.nr_machine.specs.Auxiliary.Changing.{IfAny, WakeBack}
 use Rattle.nr_machine.proofs.world_core.Core.unwake_any.Goals as goal
 
 pub unwake-requires : goal.unwake-requires

@@ -1,4 +1,4 @@
-use Rattle.nr_machine.specs.Changing.{IfAny, WakeBack}
+use Rattle.nr_machine.specs.Auxiliary.Changing.{IfAny, WakeBack}
 use Rattle.nr_machine.specs.DeltaLaws.{wakes_one}
 use Rattle.nr_machine.proofs.BackLemmas.{then_next}
 use Rattle.nr_machine.proofs.world_core.Core.unwake_both.Goals as goal

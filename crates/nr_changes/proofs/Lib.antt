@@ -1,0 +1,11 @@
+pub mod MemberLemmas
+pub mod KeepsLemmas
+pub mod WakeLemmas
+pub mod SocketTouchLemmas
+pub mod DescriptorTouchLemmas
+pub mod CellLemmas
+pub mod ChangedLemmas
+pub mod OrderLemmas
+pub mod ListedLemmas
+pub mod AllCellsLemmas
+pub mod ChangingLemmas

@@ -1,0 +1,45 @@
+//! Laws of what steps touch: public functions with an empty body, whose contract is the law.
+
+ghost use Rattle.std.specs.Prelude.{◌≡◌, ◌≢◌, ◌↔◌, ◌≤◌, ℕ, Ok, Contains, length};
+ghost use Rattle.std.specs.List.Sorted.{IsStrictlySortedBy};
+ghost use Rattle.nr_rev.specs.declared.answer.Answer.{Answer};
+ghost use Rattle.nr_rev.specs.declared.cell.Cell.{Cell};
+ghost use Rattle.nr_rev.specs.declared.step.Step.{Step};
+ghost use Rattle.nr_rev.specs.Cell.{cell};
+ghost use Rattle.nr_rev.specs.Step.{outcome};
+ghost use Rattle.nr_rev.specs.World.{World};
+ghost use Rattle.nr_changes.specs.Touched.{touched};
+ghost use Rattle.nr_changes.specs.Changed.{changed_cells, listing_order, touched_cells};
+ghost use Rattle.nr_changes.specs.Changes.{differing_cells};
+
+/// A step changes no cell but those that it touches, in any world.
+pub fn steps_change_what_they_touch_alone()
+    ensures { (w : World) (step : Step) (answer : Answer) (next : World) (c : Cell)
+        → outcome w step ≡ Ok (answer, next) → ¬ Contains (touched_cells w step) c
+        → cell next c ≡ cell w c }
+{}
+
+/// Just those cells differ that show another value in the next world: none is left out, and none is made up.
+pub fn just_what_shows_another_value_differs()
+    ensures { (w next : World) (c : Cell)
+        → Contains (differing_cells w next) c ↔ (cell next c ≢ cell w c) }
+{}
+
+/// Behind a step just those cells differ that are found among what it touches.
+pub fn what_differs_was_touched()
+    ensures { (w : World) (step : Step) (answer : Answer) (next : World)
+        → outcome w step ≡ Ok (answer, next) → changed_cells w step next ≡ differing_cells w next }
+{}
+
+/// Cells are listed in one order, by what they show and then by number, each once.
+pub fn cells_are_listed_in_order()
+    ensures touched { (w : World) (step : Step)
+        → IsStrictlySortedBy listing_order (touched_cells w step) }
+    ensures differing { (w next : World)
+        → IsStrictlySortedBy listing_order (differing_cells w next) }
+{}
+
+/// A step touches three goroutines at most.
+pub fn few_are_touched()
+    ensures { (w : World) (step : Step) → length (touched w step).goroutines ≤ 3 }
+{}

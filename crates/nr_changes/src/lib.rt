@@ -1,0 +1,16 @@
+//! Which cells a step of a recording may change, by number. The definitions are in `specs/`: `Touched` has what a step
+//! touches, `Changed` the cells that it may change and those that it changed.
+#![tactic(auto)]
+
+mod cell_list;
+mod changing;
+pub mod laws;
+mod listing;
+mod touched;
+mod touches_cells;
+
+pub use cell_list::{CellList, MOST_CELLS};
+pub use changing::{CellWithValue, Changes, advance};
+pub use listing::MOST_TOUCHED;
+pub use touched::Touched;
+pub use touches_cells::TouchesCells;

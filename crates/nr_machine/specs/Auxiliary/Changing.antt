@@ -1,0 +1,156 @@
+-- Beside `Changing`: what contracts and proofs cite, and no law of docs/THEOREM.md rests on.
+use Rattle.std.specs.Prelude.{◌≡◌, ℕ, ◌+◌, ◌-◌, ◌^◌, ◌<◌, ◌≤◌, true, length, slice_get, slice_set, Option, Some, None, Result}
+use Rattle.nr_rev.specs.declared.descriptor.Descriptor.{Descriptor}
+use Rattle.nr_rev.specs.declared.lock.Lock.{Lock}
+use Rattle.nr_rev.specs.declared.lock.LockOutcome.{LockOutcome}
+use Rattle.nr_rev.specs.declared.refusal.Refusal.{Refusal}
+use Rattle.nr_rev.specs.declared.refusal.Refusal.TheVariants.{NoSuchSocket}
+use Rattle.nr_rev.specs.declared.sides.Side.{Side}
+use Rattle.nr_rev.specs.declared.status.Status.{Status}
+use Rattle.nr_rev.specs.declared.status.Status.TheVariants.{Parked, Swapping}
+use Rattle.nr_rev.specs.Refusing.{◌>>=◌, found_or}
+use Rattle.nr_rev.specs.Weight.{option_weight}
+use Rattle.nr_rev.specs.WellFormed.{LockFits, socket_named}
+use Rattle.nr_desc.specs.Desc.{DescFits}
+use Rattle.nr_desc.specs.Auxiliary.Op as desc_op
+use Rattle.nr_desc.specs.declared.op.DescAnswer.{DescAnswer}
+use Rattle.nr_desc.specs.declared.op.DescOp.{DescOp}
+use Rattle.nr_gsema.specs.Applying.{IsQueuedUp}
+use Rattle.nr_gsema.specs.Delta as goroutine
+use Rattle.nr_gsema.specs.Step as step
+use Rattle.nr_gsema.specs.Auxiliary.Table as table
+use Rattle.nr_gsema.specs.declared.delta.GDelta.{GDelta}
+use Rattle.nr_lock.specs.Op as lock_op
+use Rattle.nr_lock.specs.declared.op.LockAnswer.{LockAnswer}
+use Rattle.nr_lock.specs.declared.op.LockOp.{LockOp}
+use Rattle.nr_timers.specs.Back as timers
+use Rattle.nr_timers.specs.declared.delta.TimersDelta.{TimersDelta}
+use Rattle.nr_machine.specs.declared.world_core.Core.{Core}
+use Rattle.nr_machine.specs.declared.delta.DescUndo.{DescUndo}
+use Rattle.nr_machine.specs.declared.delta.LockUndo.{LockUndo}
+
+-- the core with another status of goroutine g
+abbrev pub with_status : ℕ → Status → Core → Core
+with_status g status core =
+    record core { goroutines = table.with_status g status core.goroutines }
+
+-- the core with another lock of socket s
+abbrev pub with_lock : ℕ → Lock → Core → Core
+with_lock s lock core =
+    record core { locks = record core.locks { items = slice_set core.locks.items s lock } }
+
+-- the core with another descriptor d
+abbrev pub with_descriptor : ℕ → Descriptor → Core → Core
+with_descriptor d x core =
+    record core
+    { descriptors = record core.descriptors { items = slice_set core.descriptors.items d x } }
+
+-- the core with one waiter less, who goes on from d's side
+abbrev pub woken : ℕ → ℕ → Side → Core → Core
+woken g d side core = record (with_status g (Swapping d side) core) { waiters = core.waiters - 1 }
+
+-- the core with one waiter more, who is parked at d's side
+abbrev pub parked : ℕ → ℕ → Side → Core → Core
+parked g d side core = record (with_status g (Parked d side) core) { waiters = core.waiters + 1 }
+
+-- ---- the way back
+
+-- one way back, and then another
+abbrev pub Then : {S : Type 0} → (S → S → Type 0) → (S → S → Type 0) → S → S → Type 0
+Then {S} first next new old = (mid : S) × first new mid × next mid old
+
+-- nothing changed
+abbrev pub Same : Core → Core → Type 0
+Same new old = old ≡ new
+
+-- back over what there was, if there was any
+abbrev pub IfAny : {A : Type 0} → (A → Core → Core → Type 0) → Option A → Core → Core → Type 0
+IfAny back None = Same
+IfAny back (Some a) = back a
+
+-- back over a change of goroutines and semaphores
+abbrev pub GoroutineBack : GDelta → Core → Core → Type 0
+GoroutineBack delta new old =
+    goroutine.LeadsBack delta new.goroutines old.goroutines
+    × (old ≡ record new { goroutines = old.goroutines })
+
+-- back over a change of a lock
+abbrev pub LockBack : LockUndo → Core → Core → Type 0
+LockBack undo new old = old ≡ with_lock undo.socket undo.before.before new
+
+-- back over a change of a descriptor
+abbrev pub DescBack : DescUndo → Core → Core → Type 0
+DescBack undo new old = old ≡ with_descriptor undo.descriptor undo.before.before new
+
+-- back over a change of timers
+abbrev pub TimersBack : TimersDelta → Core → Core → Type 0
+TimersBack delta new old =
+    timers.TimersBack delta new.timers old.timers × (old ≡ record new { timers = old.timers })
+
+-- back over a wake: who goes on from some side was parked there
+pub record WakeBack (g : ℕ) (new old : Core) : Type 0 where
+  pub d : ℕ
+  pub side : Side
+  pub there : slice_get new.goroutines.goroutines g ≡ Some (Swapping d side)
+  pub queued : IsQueuedUp new.goroutines
+  pub few : new.waiters + 1 < 2 ^ 64
+  pub rest : old ≡ parked g d side new
+
+-- ---- what operations come to
+
+-- socket s's lock was one, and is another by the operation
+pub record Locks (old : Core) (s : ℕ) (op : LockOp) (before after : Lock) (answer : LockAnswer)
+    (undo : LockUndo) (new : Core) : Type 0 where
+  pub there : slice_get old.locks.items s ≡ Some before
+  pub step : lock_op.StepTo before op answer after
+  pub rest : new ≡ with_lock s after old
+  pub fits : LockFits after
+  pub back : LockBack undo new old
+
+-- some lock was, and some is
+abbrev pub LocksSome : Core → ℕ → LockOp → LockAnswer × LockUndo → Core → Type 0
+LocksSome old s op (answer, undo) new =
+    (before : Lock) × (after : Lock) × Locks old s op before after answer undo new
+
+-- what the operation comes to: reason 4 where there is no such lock
+abbrev pub lock_outcome : ℕ → LockOp → Core → Result LockOutcome Refusal
+lock_outcome s op core =
+    found_or (slice_get core.locks.items s) NoSuchSocket >>= λ lock. lock_op.outcome lock op
+
+-- descriptor d was one, and is another by the operation
+pub record Describes (old : Core) (d : ℕ) (op : DescOp) (before after : Descriptor)
+    (answer : DescAnswer) (undo : DescUndo) (new : Core) : Type 0 where
+  pub there : slice_get old.descriptors.items d ≡ Some before
+  pub step : desc_op.StepTo before op answer after
+  pub rest : new ≡ with_descriptor d after old
+  pub fits : DescFits after
+  pub back : DescBack undo new old
+
+-- some descriptor was, and some is
+abbrev pub DescribesSome : Core → ℕ → DescOp → DescAnswer × DescUndo → Core → Type 0
+DescribesSome old d op (answer, undo) new =
+    (before : Descriptor) × (after : Descriptor)
+    × Describes old d op before after answer undo new
+
+-- goroutine g goes on to a status, and what leads back is light
+pub record Moves (old : Core) (g : ℕ) (to : Status) (delta : GDelta) (new : Core) : Type 0 where
+  pub rest : new ≡ with_status g to old
+  pub queued : IsQueuedUp new.goroutines
+  pub back : GoroutineBack delta new old
+  pub light : goroutine.delta_weight delta ≤ 6
+
+-- goroutine g goes to a status, or stays where it has that one
+pub record MovesOn (old : Core) (g : ℕ) (to : Status) (delta : Option GDelta) (new : Core) : Type 0
+  where
+    pub rest : new ≡ with_status g to old
+    pub queued : IsQueuedUp new.goroutines
+    pub back : IfAny GoroutineBack delta new old
+    pub light : option_weight goroutine.delta_weight delta ≤ 7
+
+-- goroutine g has this status, and may have that one
+pub record CanMove (core : Core) (g : ℕ) (from to : Status) : Type 0 where
+  pub there : slice_get core.goroutines.goroutines g ≡ Some from
+  pub from_movable : step.is_movable from ≡ true
+  pub to_movable : step.is_movable to ≡ true
+  pub named : step.names_within (length core.goroutines.semaphores) (socket_named to) ≡ true
+  pub queued : IsQueuedUp core.goroutines

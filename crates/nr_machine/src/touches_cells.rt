@@ -1,0 +1,212 @@
+//! What a step touches, before it is made.
+
+ghost use Rattle.std.specs.Prelude.{◌≡◌, ◌<◌, ◌≤◌, [], ◌∷◌, ◌++◌, length, slice_get};
+ghost use Rattle.nr_changes.specs.Touched.{descriptor_at, front_for, held_at, held_by, next_descriptor, released_by, socket_at, touched_by_firing};
+ghost use Rattle.nr_machine.specs.Fits.{IsWorld};
+ghost use Rattle.nr_machine.specs.World.{meant};
+
+use crate::world::World;
+use arrayvec::ArrayVec;
+use nr_changes::{MOST_TOUCHED, Touched, TouchesCells};
+use nr_rev::{Side, Status, Step, WaitWord};
+
+/// Goroutines by number.
+type Numbers = ArrayVec<u32, MOST_TOUCHED>;
+
+// A list of one goroutine.
+fn one(goroutine: u32) -> Numbers
+    ensures { result.items ≡ goroutine ∷ [] }
+{
+    let mut numbers = ArrayVec::new();
+    numbers.push(goroutine);
+    numbers
+}
+
+// The goroutine that a word holds is put behind the others.
+fn push_held(numbers: &mut Numbers, word: WaitWord)
+    requires { length numbers.old.items < 3 }
+    ensures { numbers.new.items ≡ numbers.old.items ++ held_by word }
+{
+    if let WaitWord::Held(goroutine) = word {
+        numbers.push(goroutine);
+    }
+}
+
+impl World {
+    // The socket at whose semaphore a goroutine is.
+    fn socket_at(&self, goroutine: u32) -> Option<u32>
+        ensures { result ≡ socket_at goroutine (meant self.now) }
+    {
+        match self.core.goroutines.status(goroutine)? {
+            Status::Acquiring { socket, .. }
+            | Status::Queued { socket, .. }
+            | Status::Relock { socket, .. }
+            | Status::Owing { socket, .. } => Some(socket),
+            _ => None,
+        }
+    }
+
+    // The descriptor of whose wait a goroutine is inside.
+    fn descriptor_at(&self, goroutine: u32) -> Option<u32>
+        ensures { result ≡ descriptor_at goroutine (meant self.now) }
+    {
+        let (descriptor, _) = self.core.goroutines.status(goroutine)?.wait()?;
+        Some(descriptor)
+    }
+
+    // The front of the queue that the next release of a goroutine with this status is for.
+    fn front_for(&self, status: Status) -> Option<u32>
+        requires { IsWorld self.now }
+        ensures { result ≡ front_for status (meant self.now) }
+    {
+        let Status::Owing { socket, reads, .. } = status else {
+            return None;
+        };
+        if socket as usize >= self.core.locks.len() {
+            return None;
+        }
+        let side = if reads > 0 { Side::Read } else { Side::Write };
+        self.core.goroutines.front_of(socket, side)
+    }
+
+    // A goroutine, and the one that its release lets try again.
+    fn with_released(&self, goroutine: u32) -> Numbers
+        requires { IsWorld self.now }
+        ensures { result.items ≡ goroutine ∷ released_by goroutine (meant self.now) }
+    {
+        let mut numbers = one(goroutine);
+        if let Some(status) = self.core.goroutines.status(goroutine) {
+            if let Some(front) = self.front_for(status) {
+                numbers.push(front);
+            }
+        }
+        numbers
+    }
+
+    // The goroutines that the words of a descriptor hold are put behind another one.
+    fn with_held(&self, mut numbers: Numbers, descriptor: u32) -> Numbers
+        requires { length numbers.items ≤ 1 }
+        ensures { result.items ≡ numbers.items ++ held_at descriptor (meant self.now) }
+    {
+        if let Some(desc) = self.core.descriptors.get(descriptor as usize) {
+            push_held(&mut numbers, desc.word(Side::Read));
+            push_held(&mut numbers, desc.word(Side::Write));
+        }
+        numbers
+    }
+
+    // The number that the next descriptor opened gets.
+    fn next_descriptor(&self) -> u32
+        requires { IsWorld self.now }
+        ensures { result ≡ next_descriptor (meant self.now) }
+    {
+        match self.core.free.get(0) {
+            Some(descriptor) => descriptor,
+            None => self.core.descriptors.len() as u32,
+        }
+    }
+
+    // What a firing touches.
+    fn touched_by_firing(&self, place: u32) -> Touched
+        ensures { result ≡ touched_by_firing
+            (slice_get (meant self.now).firings place) (meant self.now) }
+    {
+        match self.core.timers.firing(place as usize) {
+            None => Touched::new(ArrayVec::new(), None, None),
+            Some(entry) => {
+                let held = self.with_held(ArrayVec::new(), entry.descriptor);
+                Touched::new(held, None, Some(entry.descriptor))
+            }
+        }
+    }
+}
+
+impl TouchesCells for World {
+    fn touched(&self, step: &Step) -> Touched {
+        match step {
+            Step::Spawn => Touched::new(one(self.core.goroutines.made()), None, None),
+            Step::Exit { goroutine } => Touched::new(one(*goroutine), None, None),
+            Step::SockOpen { .. } => {
+                Touched::new(ArrayVec::new(), Some(self.core.locks.len() as u32), None)
+            }
+            Step::Arrive { socket, .. } | Step::PeerClose { socket } | Step::Drain { socket, .. } =>
+                Touched::new(ArrayVec::new(), Some(*socket), None),
+            Step::SysRead {
+                goroutine,
+                socket,
+                ..
+            }
+            | Step::SysWrite {
+                goroutine,
+                socket,
+                ..
+            }
+            | Step::Incref { goroutine, socket }
+            | Step::IncrefClose { goroutine, socket }
+            | Step::Decref { goroutine, socket }
+            | Step::RwLock {
+                goroutine,
+                socket,
+                ..
+            }
+            | Step::RwUnlock {
+                goroutine,
+                socket,
+                ..
+            }
+            | Step::CloseWrite { goroutine, socket } => {
+                Touched::new(one(*goroutine), Some(*socket), None)
+            }
+            Step::Acquire { goroutine } => {
+                Touched::new(one(*goroutine), self.socket_at(*goroutine), None)
+            }
+            Step::Release { goroutine } => Touched::new(
+                self.with_released(*goroutine),
+                self.socket_at(*goroutine),
+                None,
+            ),
+            Step::PollOpen { goroutine, .. } => {
+                Touched::new(one(*goroutine), None, Some(self.next_descriptor()))
+            }
+            Step::PollClose {
+                goroutine,
+                descriptor,
+            }
+            | Step::PollReset {
+                goroutine,
+                descriptor,
+                ..
+            }
+            | Step::WaitBegin {
+                goroutine,
+                descriptor,
+                ..
+            } => Touched::new(one(*goroutine), None, Some(*descriptor)),
+            Step::BlockArm { goroutine }
+            | Step::BlockCheck { goroutine }
+            | Step::ParkCommit { goroutine }
+            | Step::BlockSwap { goroutine }
+            | Step::WaitCheck { goroutine } => {
+                Touched::new(one(*goroutine), None, self.descriptor_at(*goroutine))
+            }
+            Step::SetDeadline {
+                goroutine,
+                descriptor,
+                ..
+            }
+            | Step::Evict {
+                goroutine,
+                descriptor,
+            } => {
+                let held = self.with_held(one(*goroutine), *descriptor);
+                Touched::new(held, None, Some(*descriptor))
+            }
+            Step::PollEvent { descriptor, .. } => {
+                let held = self.with_held(ArrayVec::new(), *descriptor);
+                Touched::new(held, None, Some(*descriptor))
+            }
+            Step::Tick { .. } | Step::Pop => Touched::new(ArrayVec::new(), None, None),
+            Step::Fire { place } => self.touched_by_firing(*place),
+        }
+    }
+}
