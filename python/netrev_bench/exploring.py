@@ -13,10 +13,11 @@ from pathlib import Path
 from typing import Iterator
 
 from netrev_fuzz.injections import Traffic
-from netrev_model.machine import Limits, World
-from netrev_model.steps import apply
-from netrev_model.vocabulary import KINDS
-from netrev_model.writing import line_of
+from netrev_machine.machine import World
+from netrev_machine.steps import apply
+from netrev_words.recording import Limits
+from netrev_words.vocabulary import KINDS
+from netrev_words.writing import line_of
 from nrdb.exploring.finding import Exploring
 from nrdb.exploring.making import script_of
 from nrdb.exploring.workers import Share, play_all

@@ -1,4 +1,4 @@
-"""A fuzzer of netrev: random recordings and command lines, played by the program and by its model, netrev_model.
+"""A fuzzer of netrev: random recordings and command lines, played by the program and by its model, netrev_machine.
 
     randomsteps, texts, damage, lines   random recordings, texts and command lines
     cases, playing, counts              a case from its seed, the program over it, and what was met

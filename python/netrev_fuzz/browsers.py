@@ -7,9 +7,9 @@ import sys
 from pathlib import Path
 from typing import Any
 
-from netrev_model.writing import write_plain
+from netrev_words.writing import write_plain
+from nrdb.collecting import Collecting
 from nrdb.commands import COMMANDS, TOPICS
-from nrdb.dap.collecting import Collecting
 from nrdb.web.requests import LONGEST_LINE, Rejected, line_of
 from nrdb.web.shared import Shared
 from nrdb.web.streams import Streams, message

@@ -3,11 +3,12 @@
 import random
 from typing import Callable, NamedTuple, Optional, Sequence
 
-from netrev_model.machine import Answer, Limits, Step, World
-from netrev_model.reading import MOST_STEPS, RANGES, Recording
-from netrev_model.session import ROOM
-from netrev_model.steps import apply
-from netrev_model.writing import write_plain
+from netrev_machine.machine import World
+from netrev_machine.session import ROOM
+from netrev_machine.steps import apply
+from netrev_words.reading import MOST_STEPS, RANGES
+from netrev_words.recording import Answer, Limits, Recording, Step
+from netrev_words.writing import write_plain
 
 from . import texts
 from .damage import damaged

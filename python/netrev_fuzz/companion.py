@@ -11,16 +11,15 @@ from collections import Counter
 from pathlib import Path
 from typing import Optional, Sequence
 
-from netrev_model.cells import CELLS_OF_ALL, CELLS_OF_ONE
-from netrev_model.observing import Observer
-from netrev_model.program import replay
-from netrev_model.session import Session as ModelSession
-from netrev_model.session import recording_of
-from netrev_model.writing import write_plain
-from nrdb.answers import ANSWERS
+from netrev_machine.cells import CELLS_OF_ALL, CELLS_OF_ONE
+from netrev_machine.observing import Observer
+from netrev_machine.program import replay
+from netrev_machine.session import Session as ModelSession, recording_of
+from netrev_words.writing import write_plain
 from nrdb.interrupts import GivenUp, Interrupts
 from nrdb.netrev import Ended
 from nrdb.output import JsonPrinter
+from nrdb.prompt.answers import ANSWERS
 from nrdb.recording import Recording
 from nrdb.scout import Scout
 from nrdb.session import Session

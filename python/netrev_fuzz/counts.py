@@ -3,10 +3,10 @@
 from collections import Counter
 from typing import Any, Iterator, Mapping
 
-from netrev_model.debugger import Asked, Reply
-from netrev_model.machine import Answer
-from netrev_model.observing import Observer
-from netrev_model.vocabulary import KINDS
+from netrev_machine.debugger import Asked, Reply
+from netrev_machine.observing import Observer
+from netrev_words.recording import Answer
+from netrev_words.vocabulary import KINDS
 
 
 class Met(Observer):

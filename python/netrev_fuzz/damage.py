@@ -3,7 +3,7 @@
 import random
 import re
 
-from netrev_model.reading import LONGEST_LINE, RANGES
+from netrev_words.reading import LONGEST_LINE, RANGES
 
 from .texts import BLANKS, NO_ANSWERS, NUMBERS, PIECES, TEXTS
 

@@ -210,8 +210,9 @@ def wrong(seed: str, folder: Path) -> str:
 
 
 def confined(seed: str, folder: Path) -> str:
-    """What is wrong, found in a process of its own, which has little memory and time."""
-    resource.setrlimit(resource.RLIMIT_AS, (MEMORY, MEMORY))
+    """What is wrong, found in a process of its own, which has little time, and little memory more than it begins with."""
+    held = int(Path("/proc/self/statm").read_text(encoding="utf-8").split()[0]) * resource.getpagesize()
+    resource.setrlimit(resource.RLIMIT_AS, (held + MEMORY, held + MEMORY))
     resource.setrlimit(resource.RLIMIT_CPU, (SECONDS, SECONDS))
     signal.signal(signal.SIGXCPU, signal.SIG_DFL)
     if random.Random(f"{seed} netrev").random() > ASKED:

@@ -7,7 +7,7 @@ import random
 from pathlib import Path
 from typing import Any, Optional
 
-from netrev_model.writing import write_plain
+from netrev_words.writing import write_plain
 from nrdb.dap.adapter import Adapter
 from nrdb.dap.admission import Admission
 from nrdb.dap.messages import Malformed, Wire

@@ -5,10 +5,10 @@ import sys
 from enum import Enum
 from typing import Any, Callable, NamedTuple, Optional
 
-from netrev_model.machine import Limits
+from netrev_words.recording import Limits
 from nrdb.recording import Recording
-from nrdb.suspects.ranking import suspects_of
 from nrdb.suspects.found import Rule, Suspect
+from nrdb.suspects.ranking import suspects_of
 
 from .little_go import Program, Turns
 

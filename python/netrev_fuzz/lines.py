@@ -3,9 +3,9 @@
 import random
 from typing import Sequence
 
-from netrev_model.cells import CELLS_OF_ALL, CELLS_OF_ONE, SHOWS_DESC, SHOWS_SOCKET
-from netrev_model.machine import Limits, Step
-from netrev_model.vocabulary import DUMPS, KINDS
+from netrev_machine.cells import CELLS_OF_ALL, CELLS_OF_ONE, SHOWS_DESC, SHOWS_SOCKET
+from netrev_words.recording import Limits, Step
+from netrev_words.vocabulary import DUMPS, KINDS
 
 NONSENSE = (
     b"frob|stepi 0|stepi -1|stepi +1|stepi 1.0|stepi 4294967296|stepi 1 2|Stepi|ste|break|break @0|break @|"

@@ -5,8 +5,9 @@ import json
 import random
 from typing import Any, Callable, Generator
 
-from netrev_model.machine import Limits, Refused, World
-from netrev_model.steps import apply
+from netrev_machine.machine import Refused, World
+from netrev_machine.steps import apply
+from netrev_words.recording import Limits
 
 Turns = Generator[None, None, Any]  # a call: it yields behind each of its steps, and returns what Go's function does
 ASLEEP = ("parked", "queued")

@@ -10,7 +10,7 @@ import sys
 from pathlib import Path
 from typing import Optional, Type
 
-from netrev_model.machine import Limits
+from netrev_words.recording import Limits
 
 from .little_go import Program, Turns
 

@@ -4,7 +4,7 @@ import subprocess
 from pathlib import Path
 from typing import Optional
 
-from netrev_model.program import Printed, printed
+from netrev_machine.program import Printed, printed
 
 from . import companion
 from .cases import Case

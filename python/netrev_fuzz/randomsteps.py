@@ -5,10 +5,11 @@ recording: most have a theme."""
 import random
 from typing import Iterator, Optional, Sequence
 
-from netrev_model.machine import GREATEST_TIME, IDLE, Answer, Limits, Refused, Step, World
-from netrev_model.reading import ARGUMENTS, KINDS, RANGES, Recording
-from netrev_model.steps import apply
-from netrev_model.vocabulary import COUNTED_ANSWERS, KINDS as OF_NRDB, PLAIN_ANSWERS, VERSIONS
+from netrev_machine.machine import IDLE, Refused, World
+from netrev_machine.steps import apply
+from netrev_words.reading import ARGUMENTS, KINDS, RANGES
+from netrev_words.recording import GREATEST_TIME, Answer, Limits, Recording, Step
+from netrev_words.vocabulary import COUNTED_ANSWERS, KINDS as OF_NRDB, PLAIN_ANSWERS, VERSIONS
 
 NEXT = {
     "acquiring": "acquire",

@@ -4,10 +4,10 @@ from contextlib import contextmanager
 from pathlib import Path
 from typing import Iterator
 
-from nrdb.answers import ANSWERS
 from nrdb.interrupts import Interrupts
 from nrdb.netrev import Own
 from nrdb.output import Printer
+from nrdb.prompt.answers import ANSWERS
 from nrdb.recording import Recording
 from nrdb.scout import Scout
 from nrdb.session import Session

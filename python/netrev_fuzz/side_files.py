@@ -8,7 +8,7 @@ import random
 from pathlib import Path
 from typing import Any
 
-from netrev_model.writing import write_plain
+from netrev_words.writing import write_plain
 from nrdb.output import TextPrinter
 from nrdb.where import Lines
 

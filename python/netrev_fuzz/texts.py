@@ -6,9 +6,10 @@ import random
 import re
 from itertools import chain
 
-from netrev_model.reading import ARGUMENTS, KINDS, MOST_DIGITS, RANGES, Recording
-from netrev_model.vocabulary import COUNTED_ANSWERS, PLAIN_ANSWERS, VERSIONS
-from netrev_model.writing import header_of, write_plain
+from netrev_words.reading import ARGUMENTS, KINDS, MOST_DIGITS, RANGES
+from netrev_words.recording import Recording
+from netrev_words.vocabulary import COUNTED_ANSWERS, PLAIN_ANSWERS, VERSIONS
+from netrev_words.writing import header_of, write_plain
 
 BLANKS = [b"", b"  ", b"\t", b"\r", b" \t \r"]
 PIECES = """[ ] { } , : " \\ 0 1 -0 1.0 1e0 -1 1e999 true false null "r" "rw" [] {} "spawn" "exit" ["spawn"] ["exit",0]

@@ -7,10 +7,11 @@ import re
 from fnmatch import fnmatchcase
 from typing import Any, Callable, Iterable, Mapping, Optional, Sequence
 
-from netrev_model.cells import look
-from netrev_model.machine import Step, World
-from netrev_model.session import Session
-from netrev_model.vocabulary import CELLS, Of, cell_of
+from netrev_machine.cells import look
+from netrev_machine.machine import World
+from netrev_machine.session import Session
+from netrev_words.recording import Step
+from netrev_words.vocabulary import CELLS, Of, cell_of
 from nrdb.words import LockWord, in_words
 
 Event = Mapping[str, Any]

@@ -6,7 +6,7 @@ import os
 import pathlib
 import subprocess
 
-from netrev_model.plain import plain
+from netrev_words.plain import plain
 
 from .suites import DEBIAN, SAMPLES, Suite
 from .toolchain import Go

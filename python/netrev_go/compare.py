@@ -7,9 +7,10 @@ import pathlib
 import subprocess
 from collections import defaultdict
 
-from netrev_model.jsontext import Doubtful
-from netrev_model.observing import Observer
-from netrev_model.reading import Fault, positions, read_text
+from netrev_machine.observing import Observer
+from netrev_machine.replaying import positions
+from netrev_words.jsontext import Doubtful
+from netrev_words.reading import Fault, read_text
 
 # A session has room for 65,536 commands that move, so longer recordings are asked for in several.
 AT_ONCE = 30_000

@@ -8,8 +8,8 @@ from bisect import bisect_left
 from dataclasses import dataclass
 from functools import partial
 
-from netrev_model.files import forget_where
-from netrev_model.plain import plain
+from netrev_words.files import forget_where
+from netrev_words.plain import plain
 
 from .cutting import sockets_of
 from .lines import Roots, lines_of

@@ -16,7 +16,7 @@ import sys
 import tempfile
 from dataclasses import dataclass, field
 
-from netrev_model.plain import plain
+from netrev_words.plain import plain
 
 from .building import environment
 from .fetching import chosen

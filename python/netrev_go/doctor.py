@@ -4,7 +4,7 @@ from __future__ import annotations
 
 import tempfile
 
-from netrev_model.built import netrev_program
+from netrev_words.built import netrev_program
 
 from .calls_of_go import unknown_calls
 from .running import MOST_POINTS, logs_folder

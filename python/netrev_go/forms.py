@@ -9,7 +9,7 @@ from collections.abc import Iterable
 from dataclasses import asdict, dataclass, field
 from xml.etree import ElementTree
 
-from netrev_model.plain import plain
+from netrev_words.plain import plain
 
 from .ran import Ran, Went
 

@@ -9,7 +9,7 @@ import sys
 from dataclasses import replace
 from typing import TextIO
 
-from netrev_model.plain import plain
+from netrev_words.plain import plain
 
 from .converting import Wish, convert
 from .forms import suspects_in

@@ -7,7 +7,7 @@ import pathlib
 from collections.abc import Callable
 from dataclasses import dataclass, field
 
-from netrev_model.files import whole
+from netrev_words.files import whole
 
 from .answering import Unconvertible
 from .beside import Beside

@@ -4,7 +4,7 @@ from __future__ import annotations
 
 import argparse
 
-from netrev_model.version import VERSION
+from netrev_words.version import VERSION
 
 from .running import MOST_POINTS
 from .sockets import FEW_BYTES, MOST_MEGABYTES, MOST_SOCKETS

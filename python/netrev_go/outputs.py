@@ -6,7 +6,7 @@ import contextlib
 import os
 import pathlib
 
-from netrev_model.files import beside
+from netrev_words.files import beside
 
 from .toolchain import Trouble
 

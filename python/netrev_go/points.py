@@ -6,34 +6,36 @@ from dataclasses import dataclass, field
 from enum import IntEnum
 from typing import NamedTuple
 
+from netrev_words.vocabulary import NUMBERS
+
 
 class Kind(IntEnum):
     """What a point is: the number of the step's kind, or above 100 what is no step of its own."""
 
-    INIT = 3
-    READ = 6
-    WRITE = 7
-    INCREF = 9
-    INCREF_CLOSE = 10
-    DECREF = 11
-    RW_LOCK = 12
-    RW_UNLOCK = 13
-    ACQUIRE = 14
-    RELEASE = 15
-    OPEN = 16
-    CLOSE = 17
-    RESET = 18
-    WAIT_BEGIN = 19
-    ARM = 20
-    CHECK = 21
-    PARK = 22
-    SWAP = 23
-    WAIT_CHECK = 24
-    SET_DEADLINE = 25
-    EVICT = 26
-    EVENT = 27
-    FIRE = 30
-    CLOSE_WRITE = 31
+    INIT = NUMBERS["sockopen"]
+    READ = NUMBERS["sysread"]
+    WRITE = NUMBERS["syswrite"]
+    INCREF = NUMBERS["incref"]
+    INCREF_CLOSE = NUMBERS["increfclose"]
+    DECREF = NUMBERS["decref"]
+    RW_LOCK = NUMBERS["rwlock"]
+    RW_UNLOCK = NUMBERS["rwunlock"]
+    ACQUIRE = NUMBERS["acquire"]
+    RELEASE = NUMBERS["release"]
+    OPEN = NUMBERS["pollopen"]
+    CLOSE = NUMBERS["pollclose"]
+    RESET = NUMBERS["pollreset"]
+    WAIT_BEGIN = NUMBERS["waitbegin"]
+    ARM = NUMBERS["blockarm"]
+    CHECK = NUMBERS["blockcheck"]
+    PARK = NUMBERS["parkcommit"]
+    SWAP = NUMBERS["blockswap"]
+    WAIT_CHECK = NUMBERS["waitcheck"]
+    SET_DEADLINE = NUMBERS["setdeadline"]
+    EVICT = NUMBERS["evict"]
+    EVENT = NUMBERS["pollevent"]
+    FIRE = NUMBERS["fire"]
+    CLOSE_WRITE = NUMBERS["closewrite"]
     OPEN_FAILED = 116
     READY = 117
     SENT = 118

@@ -23,7 +23,7 @@ import sys
 import time
 from dataclasses import replace
 
-from netrev_model.built import netrev_program
+from netrev_words.built import netrev_program
 
 from . import suites
 from .asking import check, suspects

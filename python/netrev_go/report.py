@@ -7,8 +7,8 @@ import pathlib
 import shlex
 import shutil
 
-from netrev_model.built import netrev_program
-from netrev_model.plain import plain
+from netrev_words.built import netrev_program
+from netrev_words.plain import plain
 
 from .asking import Late, at_the_end, causes, check, hanging, never_closed, suspects
 from .lines import OF_GO, Call, Calls

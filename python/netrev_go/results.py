@@ -8,7 +8,7 @@ import pathlib
 from collections.abc import Iterable, Mapping
 from dataclasses import asdict, dataclass, field, replace
 
-from netrev_model.plain import plain
+from netrev_words.plain import plain
 
 from .standing import Standing
 

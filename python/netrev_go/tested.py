@@ -12,8 +12,8 @@ from collections import Counter
 from collections.abc import Iterable
 from dataclasses import replace
 
-from netrev_model.built import netrev_program
-from netrev_model.plain import plain
+from netrev_words.built import netrev_program
+from netrev_words.plain import plain
 
 from .asking import PACKAGES
 from .converting import Outcome, ReadLog, Wish, converted

@@ -12,8 +12,8 @@ import time
 from collections.abc import Callable, Iterator
 from dataclasses import dataclass, replace
 
-from netrev_model.files import written_whole
-from netrev_model.plain import plain
+from netrev_words.files import written_whole
+from netrev_words.plain import plain
 
 from . import forms
 from .converting import Wish

@@ -13,8 +13,8 @@ import sys
 import tempfile
 from dataclasses import dataclass
 
-from netrev_model.built import netrev_program
-from netrev_model.plain import plain
+from netrev_words.built import netrev_program
+from netrev_words.plain import plain
 
 from .asking import check
 from .compare import DIFFERS, by_the_model, differing

@@ -6,7 +6,7 @@ import json
 import pathlib
 from collections.abc import Iterable
 
-from netrev_model.files import written_whole
+from netrev_words.files import written_whole
 
 from .beside import Beside
 from .lines import OF_A_LIBRARY, OF_THE_PROGRAM, Call, Calls

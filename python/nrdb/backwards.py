@@ -5,7 +5,7 @@ import re
 from itertools import islice
 from typing import Collection, Iterator
 
-from netrev_model.vocabulary import KINDS
+from netrev_words.vocabulary import KINDS
 
 from .recording import Recording, Step
 

@@ -5,7 +5,7 @@ from array import array
 from functools import lru_cache
 from typing import Any, Callable, Optional
 
-from netrev_model.vocabulary import KINDS
+from netrev_words.vocabulary import KINDS
 
 from .one_call import CLOSE, CLOSE_WRITE, CONTROL, OPEN, Call, Outcome
 from .recording import Recording

@@ -3,7 +3,7 @@ is asked for all cells of these before the step and behind it."""
 
 from typing import Collection, NamedTuple, Optional
 
-from netrev_model.vocabulary import CELLS, Of
+from netrev_words.vocabulary import CELLS, Of
 
 from .netrev import Netrev
 from .output import Row, Table

@@ -9,11 +9,11 @@ import sys
 from contextlib import closing
 from typing import Any, Callable, NoReturn, Optional, Sequence
 
-from netrev_model.built import BUILT, netrev_program
-from netrev_model.plain import plain
-from netrev_model.version import VERSION
+from netrev_words.built import BUILT, netrev_program
+from netrev_words.plain import plain
+from netrev_words.version import VERSION
 
-from .answers import ANSWERS
+from .prompt.answers import ANSWERS
 from .dap import serve_port, serve_streams
 from .exploring import explored
 from .interrupts import GivenUp, Interrupted, Interrupts
@@ -26,7 +26,7 @@ from .scout import Lost, Scout
 from .session import Mismatched, Misused, Session
 from .shapes import POSITION, Refused, Strange
 from .suspects.table import suspects_table
-from .terminal import Terminal
+from .prompt.terminal import Terminal
 from .timeline import write_timeline, write_trace
 from .web import serve_page
 

@@ -5,8 +5,8 @@ from dataclasses import dataclass
 from enum import Enum
 from typing import Collection, Mapping
 
-from netrev_model.commands import OF_NETREV, SHORT, command
-from netrev_model.vocabulary import DUMPS
+from netrev_words.commands import OF_NETREV, SHORT, command
+from netrev_words.vocabulary import DUMPS
 
 
 class Origin(Enum):

@@ -5,7 +5,7 @@ from contextlib import contextmanager
 from pathlib import Path
 from typing import IO, Any, Iterator
 
-from netrev_model.files import whole
+from netrev_words.files import whole
 
 from .session import Misused
 

@@ -4,7 +4,7 @@ the calls that failed."""
 from itertools import chain
 from typing import Callable, Iterator, NamedTuple, Optional
 
-from netrev_model.vocabulary import KINDS, number_of
+from netrev_words.vocabulary import KINDS, number_of
 
 from .calls import Book, book_of
 from .one_call import Call

@@ -6,7 +6,7 @@ import unicodedata
 
 from typing import Callable, Optional
 
-from netrev_model.vocabulary import CELLS, DUMPS, KINDS, MOST_LINE, Cell, Of, cell_of, number_of
+from netrev_words.vocabulary import CELLS, DUMPS, KINDS, MOST_LINE, Cell, Of, cell_of, number_of
 
 from .commands import ALL_TOPICS, COMMANDS, SPELLINGS, TOPICS
 

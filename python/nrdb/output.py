@@ -8,7 +8,7 @@ from dataclasses import dataclass
 from enum import Enum
 from typing import Any, Optional, TextIO
 
-from netrev_model.plain import plain
+from netrev_words.plain import plain
 
 from .netrev import Reply
 from .recorded_answers import answer_text

@@ -2,7 +2,7 @@
 
 from typing import Iterable, Optional
 
-from netrev_model.vocabulary import Of
+from netrev_words.vocabulary import Of
 
 from .output import Row, Table, Values
 from .words import SIDES, LockWord, counted, info_words, lock_words

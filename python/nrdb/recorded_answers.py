@@ -4,7 +4,7 @@ had another one than the machine."""
 import json
 from typing import Any, Optional
 
-from netrev_model.vocabulary import COUNTED_ANSWERS, KINDS
+from netrev_words.vocabulary import COUNTED_ANSWERS, KINDS
 
 from .words import counted
 

@@ -12,8 +12,8 @@ from itertools import accumulate
 from os.path import commonprefix
 from typing import Any, Iterable, Iterator, NamedTuple, Optional, Sequence
 
-from netrev_model.files import check_name
-from netrev_model.vocabulary import KINDS
+from netrev_words.files import check_name
+from netrev_words.vocabulary import KINDS
 
 from .where import Lines
 

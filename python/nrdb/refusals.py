@@ -8,7 +8,7 @@ import subprocess
 import tempfile
 from typing import Any, Iterator
 
-from netrev_model.vocabulary import KINDS, REASONS
+from netrev_words.vocabulary import KINDS, REASONS
 
 from .recorded_answers import answer_text, answer_words, meaning
 from .recording import Recording, Step, shortened

@@ -4,8 +4,8 @@ from dataclasses import dataclass, field
 from pathlib import Path
 from typing import Callable, Mapping, Optional, Sequence
 
-from netrev_model.files import check_name
-from netrev_model.vocabulary import cell_of
+from netrev_words.files import check_name
+from netrev_words.vocabulary import cell_of
 
 from .attached import Attached
 from .changed import changed_table

@@ -4,7 +4,7 @@ is taken for the reply to another; what has no such shape wasn't said by netrev.
 import re
 from typing import Match, NamedTuple
 
-from netrev_model.vocabulary import CELLS, MOST_STANDING
+from netrev_words.vocabulary import CELLS, MOST_STANDING
 
 SHOWN = 60
 _SIDED = "acquiring|queued|relock|entering|armed|parking|parked|swapping|checking"

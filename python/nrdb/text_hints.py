@@ -5,7 +5,7 @@ import re
 import unicodedata
 from typing import Any, Optional
 
-from netrev_model.vocabulary import (
+from netrev_words.vocabulary import (
     HEADER_EXAMPLE,
     HEADERS,
     KINDS,

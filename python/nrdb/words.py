@@ -4,7 +4,7 @@ import json
 from dataclasses import dataclass
 from typing import Any, Mapping
 
-from netrev_model.vocabulary import CELLS, Of
+from netrev_words.vocabulary import CELLS, Of
 
 DUMPED = 80  # digits of a dump that are shown as text
 FIELD = 0xFFFFF  # references and waiters are counted in 20 bits each

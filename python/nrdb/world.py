@@ -3,7 +3,7 @@ which descriptors are open, and whose they are."""
 
 from typing import Iterable, Sequence
 
-from netrev_model.vocabulary import Of
+from netrev_words.vocabulary import Of
 
 from .netrev import Netrev
 from .recording import Recording

@@ -10,10 +10,10 @@ from pathlib import Path
 from typing import Any, Callable, Generic, Iterator, NamedTuple, Optional, Sequence, TypeVar
 from unittest import mock
 
-from nrdb.answers import ANSWERS
 from nrdb.interrupts import GivenUp, Interrupts
 from nrdb.netrev import Ended, Netrev
 from nrdb.output import JsonPrinter
+from nrdb.prompt.answers import ANSWERS
 from nrdb.recording import Recording
 from nrdb.scout import Scout
 from nrdb.session import Session

@@ -1,5 +1,5 @@
 """netrev-go with a real Go, where a run could be lost: a program that becomes another one, and what it leaves its children. It needs
-Go and netrev, and is run by `make real`:  python3 python unittest tests.go_kept"""
+Go and netrev, and is run by `make real`."""
 
 import os
 import shutil
@@ -72,7 +72,3 @@ class Kept(Tool):
         logs = said.rpartition("convert ")[2].partition("`")[0]
         self.addCleanup(shutil.rmtree, os.path.dirname(logs))
         self.assertEqual(self.called("-o", "again", "convert", logs)[0], 0)
-
-
-if __name__ == "__main__":
-    unittest.main()

@@ -1,5 +1,5 @@
 """Changes that a release to come may have, planted into a copy of Go 1.27: the doctor names each, and nothing is recorded. It
-needs netrev, and Go 1.27 or Debian's packages of it:  python3 python unittest tests.go_planted"""
+needs netrev, and Go 1.27 or Debian's packages of it; `make real` runs it."""
 
 import contextlib
 import os
@@ -178,7 +178,3 @@ class Planted(unittest.TestCase):
             status, said = self.called("doctor")
             self.assertEqual(status, 0, said)
             self.assertIn(f"  {without}\n", said)
-
-
-if __name__ == "__main__":
-    unittest.main()

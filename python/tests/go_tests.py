@@ -1,5 +1,5 @@
 """`netrev-go test` with a real Go: which tests are known, which recordings are kept, and with which status it ends. It needs Go and
-netrev, and is run by `make real`:  python3 python unittest tests.go_tests"""
+netrev, and is run by `make real`."""
 
 import json
 import os
@@ -203,7 +203,3 @@ class Tested(Tool):
                 here.unlink()
                 self.assertEqual(process.returncode, status, said)
                 self.assertEqual(self.made(number.name), ["p.TestEnds.jsonl"], said)
-
-
-if __name__ == "__main__":
-    unittest.main()

@@ -1,5 +1,5 @@
 """netrev-go with a real Go: programs of all sorts, and each thing that can go wrong. It needs Go (Debian's golang-go, or one that
-netrev_go.fetching fetched, on the PATH) and netrev, and is run by `make real`:  python3 python unittest tests.go_tool"""
+netrev_go.fetching fetched, on the PATH) and netrev, and is run by `make real`."""
 
 import dataclasses
 import json
@@ -17,7 +17,7 @@ from unittest import mock
 from netrev_go import calls_of_go
 from netrev_go.fetching import here
 from netrev_go.toolchain import CHANGED, SOURCES, TRIED, find_go, overlay, points_program, quiet_go, release_of
-from netrev_model.built import netrev_program
+from netrev_words.built import netrev_program
 from nrdb.where import Lines
 
 ROOT = pathlib.Path(__file__).resolve().parents[2]
@@ -436,7 +436,3 @@ class Installed(Tool):
         with mock.patch.dict(os.environ, {"GOARCH": "arm64"}):
             run = quiet_go(go, self.folder, "build", "-overlay", made, *CHANGED)
         self.assertEqual((run.returncode, run.stderr), (0, ""))
-
-
-if __name__ == "__main__":
-    unittest.main()

@@ -4,10 +4,10 @@ from collections import deque
 from pathlib import Path
 from typing import Callable, Optional
 
-from netrev_model.debugger import Recording
-from netrev_model.observing import Observer
-from netrev_model.program import replay
-from netrev_model.session import Session, recording_of
+from netrev_machine.debugger import Recording
+from netrev_machine.observing import Observer
+from netrev_machine.program import replay
+from netrev_machine.session import Session, recording_of
 from nrdb.interrupts import Interrupts
 from nrdb.netrev import Netrev
 

@@ -5,12 +5,12 @@ import random
 import unittest
 
 from netrev_fuzz.randomsteps import Author
-from netrev_model.cells import CELLS_OF_ALL, SHOWS_DESC, SHOWS_GOROUTINE, SHOWS_SOCKET, dumped, value
-from netrev_model.machine import World
-from netrev_model.writing import write_plain
+from netrev_machine.cells import CELLS_OF_ALL, SHOWS_DESC, SHOWS_GOROUTINE, SHOWS_SOCKET, dumped, value
+from netrev_machine.machine import World
+from netrev_words.vocabulary import CELLS, KINDS
+from netrev_words.writing import write_plain
 from nrdb.recording import Recording
 from nrdb.timeline.asking import AT_DESCRIPTOR, AT_SOCKET, OF_MACHINE, QUEUES, asked
-from netrev_model.vocabulary import CELLS, KINDS
 
 SEEDS, STEPS = range(30), 150
 
@@ -50,7 +50,3 @@ class Asking(unittest.TestCase):
         recording = Recording(write_plain(made))
         whole = list(asked(recording, 0, recording.length))
         self.assertEqual(list(asked(recording, 40, 90)), whole[40:90])
-
-
-if __name__ == "__main__":
-    unittest.main()

@@ -10,7 +10,7 @@ from pathlib import Path
 from unittest import mock
 
 from netrev_go import options
-from netrev_model import built, launching
+from netrev_words import built, launching
 from nrdb import cli
 
 ROOT = Path(__file__).resolve().parents[2]
@@ -81,7 +81,7 @@ class Launching(unittest.TestCase):
         self.launcher = self.folder / "pip/netrev"
         for path, text in (
             (self.program, ELF),
-            (self.launcher, b"#!/usr/bin/python3\nfrom netrev_model.launching import main"),
+            (self.launcher, b"#!/usr/bin/python3\nfrom netrev_words.launching import main"),
         ):
             path.parent.mkdir()
             path.write_bytes(text)
@@ -110,7 +110,3 @@ class Launching(unittest.TestCase):
             with mock.patch.object(sys, "argv", ["netrev", "check", "x"]):
                 launching.main()
         became.assert_called_once_with("/p", ["/p", "check", "x"])
-
-
-if __name__ == "__main__":
-    unittest.main()

@@ -186,7 +186,3 @@ class Going(unittest.TestCase):
             calls_table(recording, Subject(), 2, None).rows[0].text,
             "gor 0    Read on socket 0: since step 2, hasn't ended",
         )
-
-
-if __name__ == "__main__":
-    unittest.main()

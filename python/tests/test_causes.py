@@ -194,7 +194,3 @@ class Rules(unittest.TestCase):
         for rule in (RuleOfCalls.EARLIER_DEADLINE, RuleOfCalls.LEFT_OPEN, RuleOfCalls.TWO_READERS):
             found = all_suspects_of(with_lines(PAIRS[rule].bad)).suspects
             self.assertTrue(found[-1].sentence().startswith("perhaps: "), rule)
-
-
-if __name__ == "__main__":
-    unittest.main()

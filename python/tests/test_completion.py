@@ -2,9 +2,9 @@
 
 import unittest
 
-from netrev_model.vocabulary import KINDS, Of
+from netrev_words.vocabulary import KINDS, Of
 from nrdb.commands import is_answered_here, whole_words
-from nrdb.completion import candidates
+from nrdb.prompt.completion import candidates
 
 
 def numbers(of: Of) -> list[str]:
@@ -37,7 +37,3 @@ class Completion(unittest.TestCase):
         self.assertTrue(is_answered_here(["next"]))
         self.assertTrue(is_answered_here(["info", "errors"]))
         self.assertFalse(is_answered_here(["stepi"]))
-
-
-if __name__ == "__main__":
-    unittest.main()

@@ -9,10 +9,11 @@ from typing import Any
 from unittest.mock import Mock, patch
 
 from netrev_fuzz.injections import Traffic
-from netrev_model.machine import Limits, World
-from netrev_model.steps import apply
-from netrev_model.vocabulary import KINDS
-from netrev_model.writing import line_of
+from netrev_machine.machine import World
+from netrev_machine.steps import apply
+from netrev_words.recording import Limits
+from netrev_words.vocabulary import KINDS
+from netrev_words.writing import line_of
 from nrdb.calls import book_of
 from nrdb.exploring import commands
 from nrdb.exploring.arrivals import with_events
@@ -26,8 +27,8 @@ from nrdb.exploring.telling import LEFT_UNKNOWN, UNKNOWN, UNLESS, Telling, summa
 from nrdb.interrupts import Interrupted
 from nrdb.recording import Recording
 from nrdb.session import Misused
-from nrdb.suspects.ranking import suspects_of
 from nrdb.suspects.found import Rule
+from nrdb.suspects.ranking import suspects_of
 from tests.test_suspects import COMES, LOOKS, OPEN, PARK, READ, recording_of
 
 EXAMPLES = Path(__file__).resolve().parents[2] / "examples"
@@ -301,7 +302,3 @@ class Words(unittest.TestCase):
         self.assertTrue(said.text.startswith("stopped: 39 schedules"), said.text)
         self.assertEqual(said.found, len(said.text.splitlines()) - 1)
         self.assertGreater(said.found, 0)
-
-
-if __name__ == "__main__":
-    unittest.main()

@@ -154,7 +154,3 @@ class Words(unittest.TestCase):
         for line in ("failure", "5 failures", "failures 0"):
             with self.assertRaises(Misused):
                 commands.answer_explore(Mock(), line.split())
-
-
-if __name__ == "__main__":
-    unittest.main()

@@ -148,7 +148,3 @@ class Late(unittest.TestCase):
     def test_one_that_was_moved_for_both_sides_does_not_count(self) -> None:
         both = [[*step[:3], "rw", 900] if step[0] == "setdeadline" else step for step in LATE]
         self.assertEqual(explored(script_of(recording_of(both)), 40).found, {})
-
-
-if __name__ == "__main__":
-    unittest.main()

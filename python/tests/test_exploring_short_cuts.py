@@ -6,9 +6,11 @@ from pathlib import Path
 from typing import Any, Optional
 from unittest.mock import patch
 
+import pytest
 from netrev_fuzz.injections import Traffic
-from netrev_model.machine import Answer, Status, Step
-from netrev_model.steps import apply
+from netrev_machine.machine import Status
+from netrev_machine.steps import apply
+from netrev_words.recording import Answer, Step
 from nrdb.exploring.board import Board
 from nrdb.exploring.control import GOROUTINE, Place
 from nrdb.exploring.finding import Exploring, Played
@@ -19,6 +21,7 @@ from nrdb.exploring.schedules import Schedule, schedules
 from nrdb.recording import Recording
 from tests.test_exploring import EXAMPLES, answered, with_answers
 
+pytestmark = pytest.mark.long
 REAL = sorted((EXAMPLES / "real").glob("*.jsonl"))
 RACES = sorted((EXAMPLES / "races").glob("*.jsonl"))
 MOST, AT_ONCE = 200, 9  # schedules, of which every so manieth is played
@@ -119,7 +122,3 @@ class ShortCuts(unittest.TestCase):
             with self.subTest(seed):
                 self.assert_the_same(with_answers(Recording(Traffic(seed, None, LENGTH).run().text())))
         self.assertGreater(self.came_back, 5)
-
-
-if __name__ == "__main__":
-    unittest.main()

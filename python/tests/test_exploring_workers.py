@@ -7,6 +7,7 @@ from subprocess import PIPE, Popen
 from typing import Any
 from unittest.mock import patch
 
+import pytest
 from nrdb.exploring import workers
 from nrdb.exploring.finding import Exploring
 from nrdb.exploring.making import script_of
@@ -15,6 +16,7 @@ from nrdb.exploring.workers import Share, play_all
 from nrdb.interrupts import Interrupted
 from tests.test_exploring import EXAMPLES, answered
 
+pytestmark = pytest.mark.long
 MOST = 240
 
 
@@ -94,7 +96,3 @@ class Workers(unittest.TestCase):
         with patch.object(workers, "Working", side_effect=AssertionError):
             play_all(exploring, Share(self.script, self.recording.lines, 50, 0, 4), lambda: None)
         self.assertEqual(exploring.played, 50)
-
-
-if __name__ == "__main__":
-    unittest.main()

@@ -233,7 +233,3 @@ class Choosing(unittest.TestCase):
         self.assertEqual(log.made().sockets, 2)
         with self.assertRaisesRegex(Nothing, "one socket alone"):
             Points().opened().add(Kind.WRITE, 1, WORD, 2**32, 2**32, 0).made()
-
-
-if __name__ == "__main__":
-    unittest.main()

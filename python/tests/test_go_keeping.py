@@ -24,7 +24,7 @@ from netrev_go.outputs import base_name, look
 from netrev_go.points import Kind, Log
 from netrev_go.toolchain import Go, Trouble
 from netrev_go.zeros import Zeros
-from netrev_model.files import whole
+from netrev_words.files import whole
 
 from .test_go_converting import WORD, Points
 
@@ -340,7 +340,3 @@ class Names(unittest.TestCase):
         with tempfile.TemporaryDirectory() as folder:
             look(pathlib.Path(folder, "x"))
             self.assertEqual(os.listdir(folder), [])
-
-
-if __name__ == "__main__":
-    unittest.main()

@@ -106,7 +106,3 @@ class Flags(test_go_tests.Tested):
             folder = pathlib.Path(shlex.split(more[0])[2])
             self.assertTrue(folder.is_dir())
         self.assertFalse(folder.exists())
-
-
-if __name__ == "__main__":
-    unittest.main()

@@ -254,7 +254,3 @@ class Told(unittest.TestCase):
             self.assertTrue(convert(log, name, None, Wish()).taken)
             self.assertTrue(name.exists())
             self.assertFalse(name.with_suffix(".where").exists())
-
-
-if __name__ == "__main__":
-    unittest.main()

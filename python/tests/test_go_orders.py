@@ -124,7 +124,3 @@ class Written(unittest.TestCase):
                 write_where(path, [0] * 3_000, {}, orders)
                 self.assertEqual(Lines.beside(str(path), 3_000).orders, orders)
                 self.assertIsNone(Lines.beside(str(path), 2_999).orders)
-
-
-if __name__ == "__main__":
-    unittest.main()

@@ -386,7 +386,3 @@ class Counting(unittest.TestCase):
             results.keep([self.result("1.27")], pathlib.Path(folder))
             self.assertEqual(results.read_results(pathlib.Path(folder)), [self.result("1.27")])
             json.loads((pathlib.Path(folder) / "results.jsonl").read_text())
-
-
-if __name__ == "__main__":
-    unittest.main()

@@ -48,10 +48,4 @@ class Room(unittest.TestCase):
     def test_a_processes_logs_are_those_of_its_number(self) -> None:
         for name in ("log.12", "log.7.2", "log.program.5.6", "other.3"):
             (self.folder / name).touch()
-        self.assertEqual(
-            [(log.name, process_of(log)) for log in logs_in(self.folder)], [("log.12", 12), ("log.7.2", 7)]
-        )
-
-
-if __name__ == "__main__":
-    unittest.main()
+        self.assertEqual({log.name: process_of(log) for log in logs_in(self.folder)}, {"log.12": 12, "log.7.2": 7})

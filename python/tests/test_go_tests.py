@@ -14,6 +14,7 @@ from typing import Optional
 from unittest import mock
 from xml.etree import ElementTree
 
+import pytest
 from netrev_fuzz.logs import binary
 from netrev_go import cli, converting, forms, report
 from netrev_go.cli import Status
@@ -324,7 +325,10 @@ class Forms(unittest.TestCase):
         self.assertEqual({part.tag for part in top.iter()} | {key for part in top.iter() for key in part.keys()}, named)
 
 
+@pytest.mark.alone
 class Signals(unittest.TestCase):
+    """A signal is for netrev-go's one thread: a process of pytest-xdist has two."""
+
     def setUp(self) -> None:
         for number in (signal.SIGINT, signal.SIGTERM, signal.SIGUSR1):
             self.addCleanup(signal.signal, number, signal.getsignal(number))
@@ -358,7 +362,3 @@ class Signals(unittest.TestCase):
         called: list[bool] = []
         self.assertEqual(self.ended("kill -USR1 $PPID; sleep 0.3", called), (0, False))
         self.assertEqual(called, [True])
-
-
-if __name__ == "__main__":
-    unittest.main()

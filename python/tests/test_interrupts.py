@@ -88,7 +88,3 @@ class Unread(unittest.TestCase):
         self.assertRaises(MemoryError, netrev.ask_all, ["info position", "print clock", "print timers"])
         self.assertRaises(Ended, netrev.ask, "info breakpoints")
         self.assertTrue(netrev.has_ended)
-
-
-if __name__ == "__main__":
-    unittest.main()

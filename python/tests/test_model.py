@@ -7,7 +7,7 @@ from netrev_fuzz.__main__ import seeds
 from netrev_fuzz.cases import Case, make
 from netrev_fuzz.counts import Met
 from netrev_fuzz.playing import wanted
-from netrev_model.jsontext import Doubtful, NoJson, read_json
+from netrev_words.jsontext import Doubtful, NoJson, read_json
 from tests.examples import REFUSED
 
 ROOT = Path(__file__).resolve().parents[2]
@@ -65,7 +65,3 @@ class Model(unittest.TestCase):
                 read_json(line)
         with self.assertRaises(Doubtful):
             read_json(b"1.79769313486231581e308")
-
-
-if __name__ == "__main__":
-    unittest.main()

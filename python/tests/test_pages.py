@@ -13,12 +13,33 @@ PLANTED: list[tuple[str, str, str, str, str]] = [
     ("texts", "examples/one.script", "stepi", "continue", "one_commands has other bytes than examples/one.script"),
     ("runs", "examples/one.jsonl", "0,4]", "0,5]", "one isn't the run of examples/one.jsonl"),
     ("runs", "examples/one.jsonl", '"buf":8', '"buf":9', "one isn't the run"),
-    ("beliefs", "crates/counting/specs/Count.antt", "one : ℕ", "one : ℕ\none = 1", "counting rests on 10 lines"),
+    ("beliefs", "crates/counting/specs/Count.antt", "one : ℕ", "one : ℕ\none = 1", "counting rests on 8 lines"),
     ("beliefs", "crates/counting/specs/Count.antt", "IsCount", "IsCounted", "no definition counting/Count:IsCount"),
-    ("beliefs", "crates/counting/specs/Count.antt", "total as", "product as", "prints '| counting | 3 | 6 |"),
+    ("beliefs", "crates/counting/specs/Count.antt", "Sum.{total as", "Inside.{next as", "prints '| counting | 3 | 5 |"),
+    (
+        "beliefs",
+        "crates/counting/specs/Count.antt",
+        "one : ℕ",
+        "one : ℕ\n\nabbrev two : ℕ",
+        "no law rests on two, and laws rest",
+    ),
+    (
+        "beliefs",
+        "crates/adding/specs/Lib.antt",
+        "pub mod Sum\n",
+        "",
+        "Sum: the files that the laws rest on, and no others",
+    ),
+    (
+        "beliefs",
+        "crates/counting/specs/Lib.antt",
+        "-- what callers need\n",
+        "",
+        "Total: the files that the laws rest on, and no",
+    ),
     ("beliefs", "docs/THEOREM.md", "`Sum` 5", "`Sum` 4", "has '| `adding` | `Sum` 4 | 5 |'"),
     ("beliefs", "docs/THEOREM.md", "| `counting` | `Count` 4 | 4 |\n", "", "has 'no row'"),
-    ("beliefs", "docs/TRUSTED.md", "4 definitions", "5 definitions", "no law rests on 5 definitions in 9 lines"),
+    ("beliefs", "docs/TRUSTED.md", "4 definitions", "5 definitions", "no law rests on 5 definitions in 7 lines"),
     ("verdict", "docs/TRUSTED.md", "    logic=proved", "    logic=refused", "the page has 0 lines of a verdict"),
     ("verdict", "docs/TRUSTED.md", "sum=d0e1", "sum=d0e2", "README.md names d0e1"),
     ("verdict", "docs/TRUSTED.md", "main=Threads", "main=Threads+Wait", "the verdict has leave to wait"),
@@ -43,40 +64,52 @@ PLANTED: list[tuple[str, str, str, str, str]] = [
     ("tables", "docs/ARCHITECTURE.md", ", and so does `counting/src/table.rt`", "", "names 26 kinds"),
     ("diagram", "crates.txt", "counting: adding", "counting:", "the diagram isn't what"),
     ("diagram", "docs/ARCHITECTURE.md", "`crates/adding`, ", "", "leaves adding out"),
+    ("imports", "python/words/plain.py", '"""\n', '"""\n\nimport nrdb.counting\n', "nrdb is below words"),
+    (
+        "imports",
+        "python/nrdb/counting.py",
+        "from words import plain",
+        "from .cli import main",
+        "nrdb/cli.py is below nrdb",
+    ),
+    (
+        "imports",
+        "CONTRIBUTING.md",
+        "counts | `words`",
+        "counts | ",
+        "the row of nrdb in CONTRIBUTING.md leaves words out",
+    ),
+    ("imports", "python/nrdb/counting.py", "from words import plain", "import json", "nothing of nrdb imports words"),
+    ("imports", "CONTRIBUTING.md", "| `words` | words | |\n", "", "has no row for it"),
+    ("imports", "CONTRIBUTING.md", "Python", "C", "no table under"),
     ("docstrings", "python/nrdb/counting.py", "Counts.", "The same of two.", "leans on the comment before it"),
     ("sentences", "README.md", "It counts", f"It counts {LONG}", "a sentence of"),
     ("sentences", "docs/PROMISES.md", "The count is", f"{LONG} is", "a sentence of 44 words"),
     ("source-words", "crates/counting/src/lib.rt", "fn count", "fn told_count", "'told' is given up"),
     ("source-words", "crates/counting/src/lib.rt", "How many", "For want of memory, how many", "'want of memory'"),
-    ("modules", "crates/adding/specs/Lib.antt", "pub mod Sum\n", "pub mod Sum\npub mod Inside\n", "imports Inside"),
+    ("modules", "crates/counting/specs/Lib.antt", "need\n", "need\npub mod Spare\n", "imports Spare"),
     ("modules", "crates/adding/specs/Lib.antt", "use\n", "use\npub mod Sum\n", "callers need Sum"),
     ("modules", "crates/counting/src/lib.rt", "pub fn count", "fn count", "no public contract cites it"),
     ("comments", "crates/counting/src/lib.rt", "How many there are in all.", "So are those.", "leans on the comment"),
     ("comments", "crates/adding/specs/Inside.antt", "one more", "the same", "leans on the comment"),
     ("forgotten", "crates/counting/src/lib.rt", "    of.len()", "    mem::forget(of)", "mem::forget leaks memory"),
     ("forgotten", "crates/counting/src/lib.rt", "    of.len()", "    Box::leak(of)", "Box::leak leaks memory"),
-    (
-        "refused",
-        "crates/counting/src/lib.rt",
-        "    of.len()",
-        "    Err(Fault::Memory)",
-        "Fault::Memory: nothing here says",
-    ),
     ("refused", "crates/counting/src/lib.rt", "    of.len()", "    Err(AllocError)", "AllocError: nothing here says"),
     (
         "refused",
         "crates/counting/src/lib.rt",
         "    of.len()",
-        "    Full => Err(Fault::Memory),",
-        "Fault::Memory: nothing here",
+        "    Full => Err(Fault::Memory(AllocError.into())),",
+        "AllocError: nothing here says",
     ),
     (
         "refused",
         "crates/counting/src/lib.rt",
         "    of.len()",
-        "    send(&OutOfMemory)",
-        "&OutOfMemory: nothing here says",
+        '    w.send(b"fault 108 memory\\n")',
+        "fault 108 memory stands in crates/nr_recording",
     ),
+    ("refused", "crates/counting/src/lib.rt", "    of.len()", "    Err(Unshared::NoTag)", "Unshared::NoTag stands in"),
     (
         "lines",
         "crates/adding/specs/Sum.antt",
@@ -90,7 +123,7 @@ PLANTED: list[tuple[str, str, str, str, str]] = [
 class Pages(SmallTree):
     def test_finds_nothing_where_there_is_no_mistake(self) -> None:
         self.keep(LOG)
-        self.assertEqual(self.run_over(), (0, "pages: 6 pages, 23 rules, 0 findings\n"))
+        self.assertEqual(self.run_over(), (0, "pages: 7 pages, 24 rules, 0 findings\n"))
 
     def test_each_mistake_is_found_by_its_rule(self) -> None:
         for rule, path, old, new, says in PLANTED:
@@ -125,7 +158,3 @@ class Pages(SmallTree):
         half = " ".join(["word"] * 30)
         self.write("README.md", TREE["README.md"] + f"\n| a | b |\n|---|---|\n| {half} | {half} |\n")
         self.assertEqual(self.run_over("sentences")[0], 0)
-
-
-if __name__ == "__main__":
-    unittest.main()

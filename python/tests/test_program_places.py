@@ -5,15 +5,15 @@ import io
 import unittest
 from pathlib import Path
 
-from nrdb.answers import ANSWERS
+from nrdb.collecting import Collecting
 from nrdb.dap.debuggee import Debuggee
-from nrdb.dap.collecting import Collecting
 from nrdb.dap.go_lines import GoLines
 from nrdb.dap.marks import Unset, wish_of
 from nrdb.interrupts import Interrupts
 from nrdb.output import TextPrinter
 from nrdb.program.index import is_place, places_of
 from nrdb.program.source import source_of, text_round
+from nrdb.prompt.answers import ANSWERS
 from nrdb.recording import Recording
 from nrdb.scout import Scout
 from nrdb.session import Session
@@ -168,7 +168,3 @@ class Editor(unittest.TestCase):
         for path in (str(Path(__file__)), "\0", ""):
             self.assertEqual(self.lines.lines(path), {})
         self.assertEqual(self.lines.set_line("main.go", 46, wish_of("", None))[1], None)
-
-
-if __name__ == "__main__":
-    unittest.main()

@@ -7,9 +7,9 @@ from pathlib import Path
 from typing import Any
 from unittest.mock import patch
 
-from netrev_model.machine import Limits
-from netrev_model.writing import line_of
-from nrdb.completion import candidates
+from netrev_words.recording import Limits
+from netrev_words.writing import line_of
+from nrdb.prompt.completion import candidates
 from nrdb.recording import Recording
 from nrdb.reducing.events import Events
 from nrdb.reducing.playing import Player
@@ -148,7 +148,3 @@ class Where(unittest.TestCase):
             beside.write_text("mine")
             write_recording(path, "", b"steps", Lines(), [1])
             self.assertEqual(beside.read_text(), "mine")
-
-
-if __name__ == "__main__":
-    unittest.main()

@@ -102,7 +102,3 @@ class Shells(unittest.TestCase):
 
     def test_zsh(self) -> None:
         self.completes("zsh")
-
-
-if __name__ == "__main__":
-    unittest.main()

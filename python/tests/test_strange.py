@@ -15,7 +15,7 @@ from pathlib import Path
 from typing import Callable, Iterator
 from unittest import mock
 
-from netrev_model.plain import plain
+from netrev_words.plain import plain
 from nrdb.cli import SILENT, main
 
 ROOT = Path(__file__).resolve().parents[2]
@@ -247,7 +247,3 @@ class Plain(unittest.TestCase):
                 status, said = nrdb(*words)
                 self.assertIn(status, (2, 3))
                 self.assertEqual(unseen(said), [])
-
-
-if __name__ == "__main__":
-    unittest.main()

@@ -105,7 +105,3 @@ class Surface(unittest.TestCase):
 
     def test_a_table_without_calls_is_refused(self) -> None:
         self.assertEqual(self.run_over(SOURCE, "counting\n").returncode, 1)
-
-
-if __name__ == "__main__":
-    unittest.main()

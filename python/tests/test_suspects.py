@@ -6,11 +6,12 @@ import unittest
 from typing import Any, NamedTuple
 
 from netrev_fuzz.injections import Bug, Count, counted
-from netrev_model.machine import Limits, World
-from netrev_model.steps import apply
+from netrev_machine.machine import World
+from netrev_machine.steps import apply
+from netrev_words.recording import Limits
 from nrdb.recording import Recording
-from nrdb.suspects.ranking import suspects_of
 from nrdb.suspects.found import Rule, Suspect
+from nrdb.suspects.ranking import suspects_of
 from tests.examples import ALL, REFUSED
 
 LIMITS = Limits(gor=4, sock=2, desc=2, buf=16)
@@ -128,7 +129,3 @@ class Rules(unittest.TestCase):
                 total += count
         self.assertGreaterEqual(total.shows, 18)
         self.assertGreaterEqual(total.first, total.shows - 1)
-
-
-if __name__ == "__main__":
-    unittest.main()

@@ -83,7 +83,3 @@ class InCalls(unittest.TestCase):
         self.assertEqual(found(waits, ["(*FD).Accept"]), [])
         for functions in (["(*FD).RawRead"], None):
             self.assertEqual(found(waits, functions), [Rule.LOST_WAKE_UP])
-
-
-if __name__ == "__main__":
-    unittest.main()

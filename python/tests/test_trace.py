@@ -10,9 +10,9 @@ from typing import Any
 
 from netrev_fuzz.injections import Traffic
 from netrev_fuzz.randomsteps import Author
-from netrev_model.machine import World
-from netrev_model.steps import apply
-from netrev_model.writing import write_plain
+from netrev_machine.machine import World
+from netrev_machine.steps import apply
+from netrev_words.writing import write_plain
 from nrdb.recording import Recording
 from nrdb.timeline.trace import Tracing
 
@@ -130,7 +130,3 @@ class Trace(unittest.TestCase):
         }
         self.assertEqual(lines, {number: recording.lines.words(number) for number in lines})
         self.assertIn("main.go:34 net.(*conn).SetReadDeadline", lines.values())
-
-
-if __name__ == "__main__":
-    unittest.main()

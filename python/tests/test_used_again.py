@@ -31,7 +31,3 @@ class UsedAgain(unittest.TestCase):
         )
         arrived = [at for at, s in enumerate(book.sockets) if at in (3, len(book.sockets) - 2, len(book.sockets) - 1)]
         self.assertEqual([(book.sockets[at], book.descriptors[at]) for at in arrived], [(0, 0), (0, NONE), (1, 0)])
-
-
-if __name__ == "__main__":
-    unittest.main()

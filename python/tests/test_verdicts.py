@@ -30,7 +30,3 @@ class Verdicts(SmallTree):
         self.assertEqual(
             (status, printed.split(",")[0]), (0, "note: no verdict on these files of counting is kept here")
         )
-
-
-if __name__ == "__main__":
-    unittest.main()

@@ -1,4 +1,4 @@
-"""netrev_model.version has the version, and all that says one says that."""
+"""netrev_words.version has the version, and all that says one says that."""
 
 import json
 import subprocess
@@ -6,7 +6,7 @@ import sys
 import unittest
 from pathlib import Path
 
-from netrev_model.version import VERSION
+from netrev_words.version import VERSION
 
 ROOT = Path(__file__).resolve().parents[2]
 
@@ -27,7 +27,7 @@ class Version(unittest.TestCase):
 
     def test_packages_are_named_for_it(self) -> None:
         self.assertEqual(said("make", "-s", "--eval", "version: ; @echo $(VERSION)", "version"), f"{VERSION}\n")
-        self.assertIn('version = { attr = "netrev_model.version.VERSION" }\n', (ROOT / "pyproject.toml").read_text())
+        self.assertIn('version = { attr = "netrev_words.version.VERSION" }\n', (ROOT / "pyproject.toml").read_text())
         self.assertEqual(json.loads((ROOT / "editors/vscode/package.json").read_text())["version"], VERSION)
 
     def test_the_newest_changes_are_of_it(self) -> None:

@@ -12,11 +12,11 @@ from typing import Any, Iterator
 from unittest import mock
 
 from netrev_fuzz.companion import visit
-from nrdb.answers import ANSWERS
 from nrdb.backwards import OF_A_GOROUTINE, last_steps, takings
 from nrdb.holders import holders_of
 from nrdb.interrupts import Interrupts
 from nrdb.output import JsonPrinter
+from nrdb.prompt.answers import ANSWERS
 from nrdb.recording import Recording
 from nrdb.scout import Scout
 from nrdb.session import Session
@@ -179,7 +179,3 @@ class Backwards(unittest.TestCase):
             self.assertEqual(last_steps(world.recording, world.position, range(5)), right)
             met.update(number > 0 for number in right.values())
         self.assertGreater(min(met.values()), 50, met)
-
-
-if __name__ == "__main__":
-    unittest.main()

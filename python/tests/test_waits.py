@@ -84,7 +84,3 @@ class Hangs(unittest.TestCase):
         for waits in ([[1, 2]], [[1, 2, 3, 4, 5, 6]], 7, [["1", 0, 0, "", 0, 0]]):
             with self.subTest(waits), self.assertRaisesRegex(AssertionError, "isn't one of its form"):
                 hung([{"waits": waits}], TWO_ENDS)
-
-
-if __name__ == "__main__":
-    unittest.main()

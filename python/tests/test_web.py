@@ -269,7 +269,3 @@ class Hostile(Served):
                     time.sleep(0.05)
                 self.assertLess(time.monotonic() - begun, 5)
         self.expect_that_it_goes_on()
-
-
-if __name__ == "__main__":
-    unittest.main()

@@ -6,10 +6,10 @@ from pathlib import Path
 from typing import Any, Callable
 from unittest import mock
 
-from nrdb.answers import ANSWERS
 from nrdb.interrupts import Interrupts
 from nrdb.netrev import Netrev
 from nrdb.output import Printer
+from nrdb.prompt.answers import ANSWERS
 from nrdb.recording import Recording
 from nrdb.scout import Scout
 from nrdb.session import Session
@@ -272,7 +272,3 @@ class Timeline(Played):
                 window = window_of(position, length)
                 self.assertTrue(0 <= window.first <= position <= window.last <= length, (window, position))
                 self.assertEqual(window.last - window.first, min(length, MOST))
-
-
-if __name__ == "__main__":
-    unittest.main()

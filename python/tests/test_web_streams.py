@@ -148,7 +148,3 @@ def wait_until(is_so) -> None:
         if time.monotonic() > limit:
             raise TimeoutError
         time.sleep(0.005)
-
-
-if __name__ == "__main__":
-    unittest.main()

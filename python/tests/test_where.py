@@ -8,7 +8,7 @@ import unittest
 from pathlib import Path
 from typing import Any
 
-from netrev_model.files import whole, written_whole
+from netrev_words.files import whole, written_whole
 from nrdb.files import written
 from nrdb.recording import NoRecording, Recording
 from nrdb.session import Misused
@@ -167,7 +167,3 @@ class Files(unittest.TestCase):
 
 def text_of(lines: list[Any]) -> bytes:
     return "".join(f"{json.dumps(line)}\n" for line in lines).encode()
-
-
-if __name__ == "__main__":
-    unittest.main()

@@ -4,7 +4,7 @@ PROGRAM is how nrdb is called, in the line to type next."""
 
 import sys
 
-from netrev_model.plain import plain
+from netrev_words.plain import plain
 
 from ..recording import NoRecording, Recording
 from .first import first_words

@@ -3,9 +3,9 @@
 from contextlib import ExitStack
 from typing import Callable, NamedTuple, Optional
 
-from netrev_model.plain import plain
+from netrev_words.plain import plain
 
-from ..completion import candidates
+from ..prompt.completion import candidates
 from ..line_hints import hint
 from ..netrev import Ended
 from ..recording import NoRecording

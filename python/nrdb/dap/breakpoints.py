@@ -1,7 +1,7 @@
 """What is answered of breakpoints: at lines, of kinds of steps, of cells, and of what has gone wrong."""
 
-from netrev_model.plain import plain
-from netrev_model.vocabulary import KINDS
+from netrev_words.plain import plain
+from netrev_words.vocabulary import KINDS
 
 from .go_lines import FUNCTIONS
 from .marks import Sort, cell_wish, kind_wish, wish_of

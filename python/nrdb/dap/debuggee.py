@@ -4,9 +4,9 @@ from contextlib import closing, contextmanager
 from pathlib import Path
 from typing import Iterator, Optional
 
-from netrev_model.vocabulary import Of
+from netrev_words.vocabulary import Of
 
-from ..answers import ANSWERS
+from ..prompt.answers import ANSWERS
 from ..backwards import last_steps
 from ..interrupts import Interrupts
 from ..netrev import Own
@@ -15,7 +15,7 @@ from ..refusals import explained
 from ..scout import Scout
 from ..session import Session
 from ..shapes import POSITION
-from .collecting import Collecting
+from ..collecting import Collecting
 from .messages import Unanswerable
 
 FAR = 10_000  # steps

@@ -5,8 +5,8 @@ from dataclasses import dataclass
 from pathlib import Path
 from typing import Optional, Sequence
 
-from netrev_model.plain import plain
-from netrev_model.vocabulary import CELLS, KINDS, Of, cell_of
+from netrev_words.plain import plain
+from netrev_words.vocabulary import CELLS, KINDS, Of, cell_of
 
 from ..calls import book_of
 from ..following import calls_at

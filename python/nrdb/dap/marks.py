@@ -5,7 +5,7 @@ from enum import Enum
 from fnmatch import fnmatchcase
 from typing import NamedTuple, Optional, Sequence
 
-from netrev_model.vocabulary import KINDS, cell_of
+from netrev_words.vocabulary import KINDS, cell_of
 
 from ..line_hints import hint
 from ..session import Session

@@ -6,7 +6,7 @@ from contextlib import ExitStack, suppress
 from threading import Timer
 from typing import BinaryIO
 
-from netrev_model.plain import plain
+from netrev_words.plain import plain
 
 from .adapter import Adapter
 from .admission import NAMED_BY, Admission, NoToken, token_for_a_port

@@ -3,8 +3,9 @@ in the recorded run, or in a schedule before, makes the same of it again: so the
 
 from typing import Any, NamedTuple, Optional
 
-from netrev_model.machine import INSIDE, Desc, Socket, Status, Step, Timer, World
-from netrev_model.steps import apply
+from netrev_machine.machine import INSIDE, Desc, Socket, Status, Timer, World
+from netrev_machine.steps import apply
+from netrev_words.recording import Step
 
 from .runs import Made
 

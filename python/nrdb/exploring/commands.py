@@ -5,7 +5,7 @@ import time
 from pathlib import Path
 from typing import Callable, NamedTuple
 
-from netrev_model.vocabulary import number_of
+from netrev_words.vocabulary import number_of
 
 from ..calls import book_of
 from ..interrupts import Interrupted

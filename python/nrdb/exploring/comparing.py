@@ -3,7 +3,7 @@ sockets and descriptors, and what nobody can look at any more."""
 
 from typing import NamedTuple
 
-from netrev_model.machine import INSIDE, SIDES, Desc, Socket, Status, Timer
+from netrev_machine.machine import INSIDE, SIDES, Desc, Socket, Status, Timer
 
 from .board import Board
 from .control import Numbers

@@ -4,7 +4,8 @@ machine's answer."""
 from bisect import bisect_right
 from typing import NamedTuple, Optional
 
-from netrev_model.machine import Answer, Status, Step
+from netrev_machine.machine import Status
+from netrev_words.recording import Answer, Step
 
 from .board import Board
 from .scripts import Operation, Sort

@@ -5,7 +5,8 @@ from collections import Counter
 from dataclasses import replace
 from typing import Any, Callable, Iterator, NamedTuple, Optional
 
-from netrev_model.machine import Answer, Limits, Status, Step, World
+from netrev_machine.machine import Status, World
+from netrev_words.recording import Answer, Limits, Step
 
 from ..recording import Recording
 from ..suspects.ranking import suspects_of

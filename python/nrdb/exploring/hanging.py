@@ -3,7 +3,7 @@ in this schedule too; where it wasn't, since who sets it hangs itself or waits, 
 
 from typing import Optional
 
-from netrev_model.machine import SIDES, Status, World
+from netrev_machine.machine import SIDES, Status, World
 
 from .control import Place
 from .runs import Made

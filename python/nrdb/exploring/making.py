@@ -1,6 +1,6 @@
 """Makes the script of a recording."""
 
-from netrev_model.machine import Limits
+from netrev_words.recording import Limits
 
 from ..recording import Recording
 from ..reducing.events import Events

@@ -4,7 +4,7 @@ order."""
 from collections import defaultdict
 from typing import Iterator, Optional
 
-from netrev_model.machine import Step
+from netrev_words.recording import Step
 
 from .board import Board
 from .control import CLOCK, MADE, NETWORK, NotMade, Numbers

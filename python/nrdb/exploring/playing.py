@@ -5,7 +5,8 @@ has still to make."""
 from heapq import heappop, heappush
 from typing import Optional
 
-from netrev_model.machine import Answer, Refused, Status, Step
+from netrev_machine.machine import Refused, Status
+from netrev_words.recording import Answer, Step
 
 from ..reducing.events import Event
 from .control import GOROUTINE, MADE, NETWORK, NEVER, NotMade, Place, behind, is_about, next_number, number_of

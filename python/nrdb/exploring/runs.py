@@ -2,7 +2,7 @@
 
 from typing import NamedTuple
 
-from netrev_model.machine import Answer, Step
+from netrev_words.recording import Answer, Step
 
 
 class Delay(NamedTuple):

@@ -6,7 +6,7 @@ from dataclasses import dataclass, field
 from enum import Enum, auto
 from typing import Any, NamedTuple, Optional
 
-from netrev_model.machine import Limits
+from netrev_words.recording import Limits
 
 from ..reducing.events import Event, Timer
 

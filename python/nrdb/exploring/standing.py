@@ -4,7 +4,8 @@ copied, and compared with where another stands."""
 from heapq import heapify, heappush
 from typing import NamedTuple, Optional, TypeVar
 
-from netrev_model.machine import Answer, Status, Step, World
+from netrev_machine.machine import Status, World
+from netrev_words.recording import Answer, Step
 
 from .board import Board
 from .comparing import Numbered, are_alike

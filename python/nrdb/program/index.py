@@ -4,7 +4,7 @@ import re
 from functools import lru_cache
 from typing import Callable, Hashable, NamedTuple, Optional, TypeVar
 
-from netrev_model.vocabulary import KINDS, cell_of
+from netrev_words.vocabulary import KINDS, cell_of
 
 from ..calls import book_of
 from ..recording import Recording

@@ -3,8 +3,8 @@ used again, and a timer by the use and the side that it is for. So a step keeps 
 
 from typing import Any, NamedTuple, Optional
 
-from netrev_model.machine import Answer
-from netrev_model.vocabulary import KINDS
+from netrev_words.recording import Answer
+from netrev_words.vocabulary import KINDS
 
 from ..recording import Recording
 from ..suspects.following import HANDLERS

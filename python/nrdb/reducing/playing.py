@@ -4,9 +4,10 @@ step doesn't apply, or answers otherwise than it did, is left out too."""
 from bisect import bisect_left
 from typing import Any, Callable, Iterable, Optional
 
-from netrev_model.machine import Answer, Limits, Refused, World
-from netrev_model.steps import apply
-from netrev_model.vocabulary import KINDS
+from netrev_machine.machine import Refused, World
+from netrev_machine.steps import apply
+from netrev_words.recording import Answer, Limits
+from netrev_words.vocabulary import KINDS
 
 from .events import NUMBERED, Event, Events, Timer
 from .units import Needs, Unit

@@ -4,8 +4,8 @@ from collections import Counter
 from fnmatch import fnmatchcase
 from typing import Callable, NamedTuple, Optional
 
-from netrev_model.machine import Limits
-from netrev_model.vocabulary import cell_of, number_of
+from netrev_words.recording import Limits
+from netrev_words.vocabulary import cell_of, number_of
 
 from ..files import spare
 from ..recording import Recording

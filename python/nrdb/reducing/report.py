@@ -3,8 +3,8 @@
 import re
 from pathlib import Path
 
-from netrev_model.plain import plain
-from netrev_model.vocabulary import KINDS
+from netrev_words.plain import plain
+from netrev_words.vocabulary import KINDS
 
 from ..netrev import Own
 from ..output import Table

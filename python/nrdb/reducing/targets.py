@@ -4,8 +4,8 @@ from abc import ABC, abstractmethod
 from fnmatch import fnmatchcase
 from typing import Any, Iterator, Optional, Sequence
 
-from netrev_model.cells import value as value_of_cell
-from netrev_model.vocabulary import CELLS, Of
+from netrev_machine.cells import value as value_of_cell
+from netrev_words.vocabulary import CELLS, Of
 
 from ..recording import Recording
 from ..suspects.ranking import suspects_of

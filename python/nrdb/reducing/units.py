@@ -4,7 +4,7 @@ timer that starts, with the run of its function; and each other step alone."""
 from enum import Enum
 from typing import Iterable, NamedTuple, Optional
 
-from netrev_model.vocabulary import KINDS
+from netrev_words.vocabulary import KINDS
 
 from .events import Event, Events
 

@@ -7,9 +7,10 @@ import tempfile
 from pathlib import Path
 from typing import Any, Sequence
 
-from netrev_model.files import forget_where
-from netrev_model.machine import Answer, Limits, Step, World
-from netrev_model.writing import line_of
+from netrev_machine.machine import World
+from netrev_words.files import forget_where
+from netrev_words.recording import Answer, Limits, Step
+from netrev_words.writing import line_of
 
 from ..files import spare, written
 from ..session import Misused

@@ -2,7 +2,7 @@
 
 from typing import Any, Callable, Optional
 
-from netrev_model.vocabulary import KINDS
+from netrev_words.vocabulary import KINDS
 
 from ..recording import Recording
 from . import deadlines, descriptors, sockets

@@ -3,7 +3,7 @@ for few cells at each position. Whether they were enough is looked at where all 
 
 from typing import Any, Iterator
 
-from netrev_model.vocabulary import CELLS, Of
+from netrev_words.vocabulary import CELLS, Of
 
 from ..recording import Recording
 from ..suspects.following import HANDLERS

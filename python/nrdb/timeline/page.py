@@ -5,8 +5,8 @@ from itertools import islice
 from pathlib import Path
 from typing import Any, Optional
 
-from netrev_model.plain import plain
-from netrev_model.vocabulary import CELLS
+from netrev_words.plain import plain
+from netrev_words.vocabulary import CELLS
 
 from ..files import writing
 from ..recording import Recording, shortened

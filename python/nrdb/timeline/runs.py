@@ -3,7 +3,7 @@
 from dataclasses import dataclass
 from itertools import islice
 
-from netrev_model.vocabulary import CELLS, Of
+from netrev_words.vocabulary import CELLS, Of
 
 from ..recording import Recording
 from ..scout import Scout

@@ -3,7 +3,7 @@ colours."""
 
 from dataclasses import dataclass
 
-from netrev_model.vocabulary import Of
+from netrev_words.vocabulary import Of
 
 from ..words import LockWord
 

@@ -4,7 +4,7 @@ lines of the program. That is nrdb's own, unproved."""
 from itertools import islice
 from typing import Any
 
-from netrev_model.vocabulary import KINDS
+from netrev_words.vocabulary import KINDS
 
 from ..recording import Recording
 from ..scout import Scout

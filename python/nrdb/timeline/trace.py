@@ -9,8 +9,8 @@ from itertools import islice
 from pathlib import Path
 from typing import IO, Any, Callable, Iterator, Optional
 
-from netrev_model.plain import plain
-from netrev_model.vocabulary import KINDS
+from netrev_words.plain import plain
+from netrev_words.vocabulary import KINDS
 
 from ..files import writing
 from ..recording import Recording, shortened

@@ -4,9 +4,9 @@ netrev says nothing but where they left the session: so their moves are seen whe
 from dataclasses import dataclass, field, fields
 from typing import Any, Optional, Protocol, Sequence
 
-from ..answers import ANSWERS, answer_list
+from ..prompt.answers import ANSWERS, answer_list
 from ..commands import whole_words
-from ..dap.collecting import Collecting
+from ..collecting import Collecting
 from ..netrev import Netrev, Reply
 from ..output import Place, Table
 from ..session import Answering, Misused, Session

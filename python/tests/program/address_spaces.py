@@ -6,7 +6,7 @@ import resource
 import signal
 import subprocess
 
-from netrev_model.debugger import State, is_command, read_line
+from netrev_machine.debugger import State, is_command, read_line
 
 from .sharing import NETREV, PATIENCE, Server, Wrong, expect, talk
 

@@ -8,9 +8,8 @@ import os
 import signal
 import subprocess
 from concurrent.futures import ThreadPoolExecutor
-from functools import partial
 from pathlib import Path
-from typing import Callable, Iterator, Optional, Sequence
+from typing import Optional, Sequence
 
 from tests.examples import REFUSED
 
@@ -47,19 +46,11 @@ def beginning(text: bytes, differs: Optional[int]) -> Printed:
     return wanted_of(f"line {len(lines)}", "102 not JSON")
 
 
-def beginnings(folder: str) -> Iterator[tuple[str, Callable[[], None]]]:
-    """A case for each recording."""
-    for name in BEGUN:
-        whole = (ROOT / name).read_bytes()
-        play = partial(every_beginning, folder, whole, DIFFERS.get(name))
-        yield f"beginning of {name}: each of {len(whole)}", play
-
-
-def every_beginning(folder: str, whole: bytes, differs: Optional[int]) -> None:
+def every_beginning(folder: Path, whole: bytes, differs: Optional[int]) -> None:
     """Cuts the text at each byte. Where all of a line but its line feed is there, it is read with it."""
 
     def cut(sizes: range) -> None:
-        paths = [Path(folder) / f"beginning-{size}.jsonl" for size in sizes]
+        paths = [folder / f"beginning-{size}.jsonl" for size in sizes]
         wanted = []
         for size, path in zip(sizes, paths):
             path.write_bytes(whole[:size])

@@ -1,4 +1,4 @@
-"""Makes each call that takes memory with its requests for memory refused, one after the other:  python3 python tests.program.each_call [CALL ..]
+"""Makes each call that takes memory with its requests for memory refused, one after the other.
 
 The program is crates/nr_refused, or what NR_REFUSED names. It makes the call of that name, and then the same once more
 with memory; scripts/refused.c is put before the C library. Of the first call the first request is refused, then in a run
@@ -7,19 +7,20 @@ compares what came of both calls with the right answer and, where the first one 
 was. So a call that was refused has to say so, and either it is right then or the next time; and one that gets no memory at
 all has to be refused, unless it takes none.
 
-Prints how many requests each call makes, and in the end how many were refused. --list prints the calls.
+Each test prints how many requests its call makes, and how often it could do without, which `pytest -rP` shows.
 """
 
-import argparse
 import os
 import subprocess
-import sys
 import tempfile
 from dataclasses import dataclass
 from pathlib import Path
 
-ROOT = Path(__file__).resolve().parents[3]
-PROGRAM = os.environ.get("NR_REFUSED", str(ROOT / "crates/nr_refused/out/nr_refused"))
+import pytest
+
+from .sharing import ROOT, Wrong, is_program, library_of
+
+PROGRAM = os.path.abspath(os.environ.get("NR_REFUSED", ROOT / "crates/nr_refused/out/nr_refused"))
 PATIENCE = 60  # seconds
 RIGHT, REFUSED = "right", "refused, then right"
 
@@ -31,9 +32,9 @@ LINES = {"six-lines"}
 WITH_THREADS = {"search-forward-by-three", "search-backward-by-three", "serve-bytes"}
 IN_A_ROW = 8
 
-
-class Wrong(Exception):
-    """What came isn't what was expected."""
+if not is_program(PROGRAM):
+    UNBUILT = f"{PROGRAM} is no program: `make refused` builds it, and NR_REFUSED=FILE names another"
+    pytest.skip(UNBUILT, allow_module_level=True)
 
 
 @dataclass
@@ -48,19 +49,12 @@ class Tally:
         self.told += other.told
 
 
-def printed(*words, **how):
-    ran = subprocess.run([PROGRAM, *words], stdout=subprocess.PIPE, stderr=subprocess.PIPE, timeout=PATIENCE, **how)
-    return ran.returncode, ran.stdout.decode(), ran.stderr.decode()
-
-
 class Player:
     """Plays calls, with a library that refuses memory."""
 
     def __init__(self, folder):
-        self.library = Path(folder) / "refused.so"
-        self.told = Path(folder) / "told"
-        source = ROOT / "scripts/refused.c"
-        subprocess.run(["cc", "-O2", "-fPIC", "-shared", "-o", self.library, source, "-ldl"], check=True)
+        self.library = library_of("refused", folder)
+        self.told = folder / "told"
 
     def play(self, call, number, behind):
         """What came of a call, and whether one of its requests was refused."""
@@ -101,49 +95,25 @@ class Player:
 
 def calls():
     """The calls that the program has."""
-    status, names, _ = printed()
-    if status != 2 or not names:
+    ran = subprocess.run([PROGRAM], stdout=subprocess.PIPE, timeout=PATIENCE)
+    names = ran.stdout.decode().split()
+    if ran.returncode != 2 or not names:
         raise Wrong(f"{PROGRAM} says no calls")
-    return names.split()
+    return names
 
 
-def refuse_all(names):
-    """Refuses each request of these calls, prints a line for each, and the sum."""
-    total = Tally()
+@pytest.fixture(scope="module")
+def player():
     with tempfile.TemporaryDirectory() as folder:
-        player = Player(folder)
-        for call in names:
-            tally = player.refuse_each(call, behind=False)
-            print(f"{call}: {tally.refused} requests")
-            if call not in LINES:
-                tally.add(player.refuse_each(call, behind=True))
-            if (tally.told > 0) != (call not in WITHOUT):
-                raise Wrong(f"{call} was refused memory {tally.told} times")
-            total.add(tally)
-    return total
+        yield Player(Path(folder))
 
 
-def main():
-    arguments = argparse.ArgumentParser(description=__doc__.split("\n", 1)[0])
-    arguments.add_argument("--list", action="store_true", help="print the calls")
-    arguments.add_argument("calls", nargs="*", metavar="CALL", help="only these")
-    given = arguments.parse_args()
-    try:
-        names = given.calls or calls()
-        if given.list:
-            print("\n".join(names))
-            return 0
-        total = refuse_all(names)
-    except (Wrong, OSError, subprocess.SubprocessError) as wrong:
-        print(f"each_call.py: {wrong}", file=sys.stderr)
-        return 1
-    without = total.refused - total.told
-    print(
-        f"each call: {len(names)} calls, {total.refused} requests refused; {total.told} times the call said so, "
-        f"{without} times it could do without"
-    )
-    return 0
-
-
-if __name__ == "__main__":
-    sys.exit(main())
+@pytest.mark.parametrize("call", calls())
+def test_each_request_refused(player, call):
+    tally = player.refuse_each(call, behind=False)
+    print(f"{call}: {tally.refused} requests")
+    if call not in LINES:
+        tally.add(player.refuse_each(call, behind=True))
+    if (tally.told > 0) != (call not in WITHOUT):
+        raise Wrong(f"{call} was refused memory {tally.told} times")
+    print(f"refused {tally.refused} times, and said so {tally.told} times")

@@ -1,42 +1,33 @@
-"""Plays the built program for long:  python3 python tests.program.endurance [--list] [NAME ..]
+"""Plays the built program for long.
 
-No contract counts memory, nor how often a call may be interrupted. So that is played here: many steps to and fro over a read, and many
-copies of much that is held, in an address space that has room for it once; and reads and writes that are interrupted again and
-again, as by signals, for which it needs a C compiler. Each case has a name in plain words; of those given only the ones that begin so are
-played. Ends with status 1 at the first that isn't as it has to be.
+No contract counts memory, nor how often a call may be interrupted. So that is played here: many steps to and fro over a read, and
+many copies of much that is held, in an address space that has room for it once; and reads and writes that are interrupted again
+and again, as by signals, for which it needs a C compiler.
 """
 
-import argparse
-import os
 import subprocess
-import sys
-import tempfile
 from functools import partial
 from pathlib import Path
-from typing import Callable, Mapping
+from typing import Sequence
 
 from .address_spaces import MEGABYTE, limit_memory
 from .given import FIRST
-from .sharing import NETREV, PATIENCE, ROOT, Wrong, expect
+from .sharing import NETREV, PATIENCE, Wrong, expect, library_of
 
 PIECE, BUFFER, EACH_COPY = 65_536, 1_048_576, 1_024
 TIMES = 10_000  # to and fro
 ROOM = 200 * MEGABYTE
 HELD, COPIES = 8, 200  # megabytes that are held, and copies
 INTERRUPTED = 150  # times, before each read and each write
-TOLD = 9  # the descriptor at which scripts/interrupted.c tells of it
-Case = Callable[[Path], None]
 
 
-def replies(words: list[str], script: str, room: int = 0, settings: Mapping[str, str] = {}) -> tuple[int, str, str]:
-    """netrev's status, its output and its errors, with so much address space."""
+def replies(words: list[str], script: str, room: int = 0, through: Sequence[str] = ()) -> tuple[int, str, str]:
+    """netrev's status, its output and its errors, with so much address space. It is started by the words of `through`, if any."""
     ran = subprocess.run(
-        [NETREV, *words],
+        [*through, NETREV, *words],
         input=script,
-        env={**os.environ, **settings},
         capture_output=True,
         text=True,
-        pass_fds=(TOLD,) if settings else (),
         timeout=4 * PATIENCE,
         preexec_fn=partial(limit_memory, room) if room else None,
         check=False,
@@ -61,7 +52,7 @@ def same(script: str, right: str, came: tuple[int, str, str]) -> None:
     expect("status and errors", (0, ""), (status, errors))
 
 
-def play_to_and_fro(folder: Path) -> None:
+def test_steps_to_and_fro_over_a_read_take_no_more_memory(folder: Path) -> None:
     """20,000 steps over a read of 65,536 bytes: each way back has them, and they are let go of the next time."""
     path = folder / "read.jsonl"
     lines = [f'["sockopen",{PIECE},{PIECE}]', f'["arrive",0,"{"ab" * PIECE}"]', f'["sysread",0,0,{PIECE}]']
@@ -71,7 +62,7 @@ def play_to_and_fro(folder: Path) -> None:
     same(script, right, replies(["run", str(path)], script, ROOM))
 
 
-def play_copies(folder: Path) -> None:
+def test_copies_share_what_stays_as_it_is(folder: Path) -> None:
     """Copies of what stays as it is share it: all of them would be eight times as large as the address space."""
     path = folder / "held.jsonl"
     last = COPIES * EACH_COPY
@@ -88,57 +79,16 @@ def play_copies(folder: Path) -> None:
     same(script, right, replies(["run", str(path)], script, ROOM))
 
 
-def play_interrupted(folder: Path) -> None:
-    """Each read and each write goes on, however often it was interrupted."""
-    library, told = folder / "interrupted.so", folder / "told"
-    words = ["cc", "-O2", "-fPIC", "-shared", "-o", str(library), str(ROOT / "scripts/interrupted.c"), "-ldl"]
-    subprocess.run(words, check=True)
+def test_reads_and_writes_that_are_interrupted_go_on(folder: Path) -> None:
+    """Each of them, however often it was interrupted."""
+    library, told = library_of("interrupted", folder), folder / "told"
+    # (of each interruption the library tells at this descriptor)
+    through = ["sh", "-c", 'told=$1; shift; exec env "$@" 9> "$told"', "sh", str(told)]
+    through += [f"LD_PRELOAD={library}", f"INTERRUPTED={INTERRUPTED}"]
     script = "si 6\np lock 0\nwatch lock 0\nc\nrc\nquit\n"
     right = replies(["run", FIRST], script)
     for command, given in (("run", script), ("check", "")):
-        settings = {"LD_PRELOAD": str(library), "INTERRUPTED": str(INTERRUPTED)}
-        with open(told, "wb") as file:
-            came = telling(file.fileno(), lambda: replies([command, FIRST], given, 0, settings))
+        came = replies([command, FIRST], given, 0, through)
         expect("status, output and errors", right if given else (0, "ok 10 steps\n", ""), came)
         if told.stat().st_size < (2 if given else 1) * INTERRUPTED:
             raise Wrong(f"{command} was interrupted {told.stat().st_size} times alone")
-
-
-def telling(descriptor: int, play: Callable[[], tuple[int, str, str]]) -> tuple[int, str, str]:
-    """Plays netrev, which inherits that file as the descriptor at which it is told of interruptions."""
-    os.dup2(descriptor, TOLD)
-    try:
-        return play()
-    finally:
-        os.close(TOLD)
-
-
-CASES: dict[str, Case] = {
-    "memory: 20,000 steps to and fro over a read": play_to_and_fro,
-    "memory: 200 copies of what stays as it is": play_copies,
-    "reads and writes that are interrupted 150 times each": play_interrupted,
-}
-
-
-def main() -> int:
-    arguments = argparse.ArgumentParser(description=(__doc__ or "").split("\n", 1)[0])
-    arguments.add_argument("--list", action="store_true", help="prints the names")
-    arguments.add_argument("names", nargs="*", metavar="NAME", help="plays those whose names begin so")
-    given = arguments.parse_args()
-    chosen = [name for name in CASES if not given.names or name.startswith(tuple(given.names))]
-    if given.list:
-        print("\n".join(chosen))
-        return 0
-    for name in chosen:
-        with tempfile.TemporaryDirectory() as folder:
-            try:
-                CASES[name](Path(folder))
-            except Wrong as why:
-                print(f"{name}: {why}", file=sys.stderr)
-                return 1
-    print(f"{len(chosen)} cases: as they have to be" if chosen else "no case has such a name")
-    return 0 if chosen else 1
-
-
-if __name__ == "__main__":
-    sys.exit(main())

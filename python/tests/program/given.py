@@ -1,13 +1,27 @@
-"""What the cases of system.py are given: recordings and files; and what both of its modules do with them."""
+"""What cases are given: recordings and files; and what several modules do with them.
+
+    python3 python tests.program.given FILE    prints what `netrev upgrade` has to write of a recording
+"""
 
 import os
 import socket
+import sys
 from dataclasses import dataclass
 from pathlib import Path
 from typing import Callable, Union
 
+from netrev_machine.observing import Observer
+from netrev_machine.program import printed
+
 from .sharing import ROOT
-from .upgrades import upgrade_of
+
+
+def upgrade_of(text: bytes) -> bytes:
+    """The text that the model writes of a recording's, or its fault."""
+    upgraded = printed("upgrade", text, b"", Observer())
+    assert upgraded, "the model has an opinion on each recording that is here"
+    return upgraded.output
+
 
 FIRST = str(ROOT / "examples/first.jsonl")
 TEXT = Path(FIRST).read_bytes()
@@ -54,3 +68,7 @@ def rest_of(caller: socket.socket) -> bytes:
         except ConnectionResetError:
             pass
     return came
+
+
+if __name__ == "__main__":
+    sys.stdout.buffer.write(upgrade_of(Path(sys.argv[1]).read_bytes()))

@@ -1,6 +1,4 @@
-"""Plays bad recordings and bad command lines with the built program:  python3 python tests.program.hostile [--list] [NAME ..]
-
-Each case has a name in plain words; --list prints them all, and of those given only the ones that begin so are played.
+"""Bad recordings and bad command lines, played with the built program. Each case has a name in plain words, which begins so:
 
     reason     each reason for which a step doesn't apply, met once by `netrev check`. Three are left out, since no recording
                of 1,000,000 steps reaches them: 6 (a full field of a lock word), 18 (a number at its last value) and 21 (a
@@ -12,18 +10,14 @@ Each case has a name in plain words; --list prints them all, and of those given 
     beginning  every beginning of each short recording, byte by byte: read where it ends with a line, else refused at its
                last line
     command    command lines that ask for nothing that there is
-
-Ends with status 1 at the first that isn't as it has to be, and prints the name of that case.
 """
 
-import argparse
 import subprocess
-import sys
-import tempfile
-from pathlib import Path
 
-from .beginnings import WALK, beginnings, wanted_of
-from .sharing import NETREV, PATIENCE, ROOT, Wrong, expect
+import pytest
+
+from .beginnings import BEGUN, DIFFERS, WALK, every_beginning, wanted_of
+from .sharing import NETREV, PATIENCE, ROOT, expect
 
 HEADER = '{"buf":16,"desc":1,"gor":2,"netrev":1,"sock":1}'
 OPEN = '["sockopen",1,1]'
@@ -272,7 +266,7 @@ def printed(words, text=b""):
 
 def check(folder, text):
     """What `check` says of a text."""
-    path = Path(folder) / "recording.jsonl"
+    path = folder / "recording.jsonl"
     path.write_bytes(text)
     return printed(["check", path])
 
@@ -281,95 +275,67 @@ def text_of(lines):
     return "".join(f"{line}\n" for line in lines).encode("latin-1")
 
 
-def refused_steps(folder):
+def refused_steps():
     for reason, steps in REASONS:
         wanted = wanted_of(f"step {len(steps)}", f"107 reason {reason}")
-        yield f"reason {reason}", lambda s=steps, w=wanted: expect("check", w, check(folder, text_of([HEADER, *s])))
+        yield pytest.param([HEADER, *steps], wanted, id=f"reason {reason}")
         before = (0, f"ok {len(steps) - 1} steps\n")
-        yield f"reason {reason}: without the last step", lambda s=steps, w=before: expect(
-            "check", w, check(folder, text_of([HEADER, *s[:-1]]))
-        )
+        yield pytest.param([HEADER, *steps[:-1]], before, id=f"reason {reason}: without the last step")
 
 
-def faulty_lines(folder):
+def faulty_lines():
     for line, fault in LINES:
-        wanted = wanted_of("line 2", fault)
         name = line if len(line) < 40 else f"{line[:20]}.. of {len(line)} bytes"
-        yield f"line {name!r}", lambda t=text_of([HEADER, line]), w=wanted: expect("check", w, check(folder, t))
+        yield pytest.param([HEADER, line], wanted_of("line 2", fault), id=f"line {name!r}")
     for lines, number, fault in PLACES:
-        wanted = wanted_of(f"line {number}", fault)
-        yield f"line {number} of {lines!r}", lambda t=text_of([HEADER, *lines]), w=wanted: expect(
-            "check", w, check(folder, t)
-        )
-    yield "line 3 where there is no header", lambda: expect(
-        "check", wanted_of("line 3", "101 header"), check(folder, b"\n \n")
-    )
-    late = text_of([HEADER, '["exit",1]', OPEN, OPEN, '["jump"]'])
-    yield "line 5 faulty, where step 1 doesn't apply", lambda: expect(
-        "check", wanted_of("line 5", "103 unknown step"), check(folder, late)
-    )
+        yield pytest.param([HEADER, *lines], wanted_of(f"line {number}", fault), id=f"line {number} of {lines!r}")
+    yield pytest.param(["", " "], wanted_of("line 3", "101 header"), id="line 3 where there is no header")
+    late = [HEADER, '["exit",1]', OPEN, OPEN, '["jump"]']
+    wanted = wanted_of("line 5", "103 unknown step")
+    yield pytest.param(late, wanted, id="line 5 faulty, where step 1 doesn't apply")
 
 
-def faulty_headers(folder):
+def faulty_headers():
     for line, fault in HEADERS:
-        wanted = wanted_of("line 2" if line == "" else "line 1", fault)
-        yield f"header {line!r}", lambda t=text_of([line]), w=wanted: expect("check", w, check(folder, t))
+        yield pytest.param([line], wanted_of("line 2" if line == "" else "line 1", fault), id=f"header {line!r}")
 
 
-def versions_and_answers(folder):
-    """Rows of version 2, and of version 1 what only the other has; `check` and `upgrade` print the same fault of each."""
+def versions_and_answers():
+    """Rows of version 2, and of version 1 what only the other has."""
     rows = [(f"version: {name}", *row) for name, *row in VERSIONS]
     rows += [(f"answer {name}", [SECOND, *steps], *fault) for name, steps, *fault in ANSWERS]
     for text in NO_ANSWERS:
         rows.append((f"answer that is none: {text}", [SECOND, f'["spawn",{text}]'], "line 2", "104 arguments"))
     for name, lines, place, fault in rows:
-        yield name, lambda t=text_of(lines), w=wanted_of(place, fault): both(folder, t, w)
+        yield pytest.param(lines, wanted_of(place, fault), id=str(name))
 
 
-def both(folder, text, wanted):
-    """What `check` says of a text, and `upgrade` where that is a fault."""
-    expect("check", wanted, check(folder, text))
-    if wanted[0]:
-        expect("upgrade", wanted, printed(["upgrade", Path(folder) / "recording.jsonl"]))
-
-
-def faulty_commands(_folder):
+def faulty_commands():
     for line, reply in COMMANDS:
         returned = " and a carriage return" if line.endswith("\r") else ""
         name = line if len(line) < 40 else f"{line.strip() or 'nothing'} and {line.count(' ')} spaces{returned}"
-        yield f"command {name!r}", lambda line=line, reply=reply: expect(
-            "run", (0, f"{reply}\n"), printed(["run", ROOT / WALK], f"{line}\n".encode())
-        )
+        yield pytest.param(line, reply, id=f"command {name!r}")
 
 
-def cases(folder):
-    for made in (refused_steps, faulty_lines, faulty_headers, versions_and_answers, beginnings, faulty_commands):
-        yield from made(folder)
+@pytest.mark.parametrize("lines, wanted", [*refused_steps(), *faulty_lines(), *faulty_headers()])
+def test_check(folder, lines, wanted):
+    expect("check", wanted, check(folder, text_of(lines)))
 
 
-def main():
-    parser = argparse.ArgumentParser(description=__doc__, formatter_class=argparse.RawDescriptionHelpFormatter)
-    parser.add_argument("--list", action="store_true", help="print the names of the cases")
-    parser.add_argument("names", nargs="*", metavar="NAME", help="how the names of those to play begin")
-    given = parser.parse_args()
-    played = 0
-    with tempfile.TemporaryDirectory() as folder:
-        for name, play in cases(folder):
-            if given.names and not name.startswith(tuple(given.names)):
-                continue
-            if given.list:
-                print(name)
-                continue
-            try:
-                play()
-            except (Wrong, subprocess.TimeoutExpired) as error:
-                print(f"{name}: {error}")
-                return 1
-            played += 1
-    if not given.list:
-        print(f"hostile: {played} cases as they have to be")
-    return 0
+@pytest.mark.parametrize("lines, wanted", versions_and_answers())
+def test_check_and_upgrade(folder, lines, wanted):
+    """What `check` says of a text, and `upgrade` where that is a fault."""
+    expect("check", wanted, check(folder, text_of(lines)))
+    if wanted[0]:
+        expect("upgrade", wanted, printed(["upgrade", folder / "recording.jsonl"]))
 
 
-if __name__ == "__main__":
-    sys.exit(main())
+@pytest.mark.long
+@pytest.mark.parametrize("name", [pytest.param(name, id=f"beginning of {name}") for name in BEGUN])
+def test_every_beginning(folder, name):
+    every_beginning(folder, (ROOT / name).read_bytes(), DIFFERS.get(name))
+
+
+@pytest.mark.parametrize("line, reply", faulty_commands())
+def test_run(line, reply):
+    expect("run", (0, f"{reply}\n"), printed(["run", ROOT / WALK], f"{line}\n".encode()))

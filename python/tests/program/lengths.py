@@ -1,24 +1,19 @@
-"""Plays the built program past the sizes that a body could have in mind:  python3 python tests.program.lengths [--list] [NAME ..]
-
-Each case has a name in plain words; --list prints them all, and of those given only the ones that begin so are played.
+"""Plays the built program past the sizes that a body could have in mind. Each case has a name in plain words, which begins so:
 
     walk      recordings longer than the way back that is kept and than copies lie apart, walked both ways
     dump      a buffer larger than what goes out at once
     text      recordings of more than a megabyte, and steps with as many bytes as may be
     limit     as many marks and checkpoints as there may be, and one more; no number is given again
     journal   as many commands as `run` has room for, and one more
-
-Ends with status 1 at the first that isn't as it has to be, and prints the name of that case.
 """
 
-import argparse
 import subprocess
-import sys
-import tempfile
 from dataclasses import dataclass
 from pathlib import Path
 
-from .sharing import NETREV, PATIENCE, Wrong, expect
+import pytest
+
+from .sharing import NETREV, PATIENCE, expect
 
 HEADER = '{"netrev":1,"gor":4,"sock":2,"desc":2,"buf":16}\n'
 LARGE = '{"netrev":1,"gor":1,"sock":1,"desc":1,"buf":65536}\n["sockopen",65536,1]\n'
@@ -40,8 +35,8 @@ class Case:
     script: str | None
     output: str
 
-    def play(self, folder: str) -> None:
-        path = Path(folder) / "recording.jsonl"
+    def play(self, folder: Path) -> None:
+        path = folder / "recording.jsonl"
         path.write_text(self.recording, encoding="utf-8")
         ran = subprocess.run(
             [NETREV, "check" if self.script is None else "run", path],
@@ -109,29 +104,6 @@ CASES = (
 )
 
 
-def main() -> int:
-    parser = argparse.ArgumentParser(description=__doc__, formatter_class=argparse.RawDescriptionHelpFormatter)
-    parser.add_argument("--list", action="store_true", help="print the names of the cases")
-    parser.add_argument("names", nargs="*", metavar="NAME", help="how the names of those to play begin")
-    given = parser.parse_args()
-    played = 0
-    with tempfile.TemporaryDirectory() as folder:
-        for case in CASES:
-            if given.names and not case.name.startswith(tuple(given.names)):
-                continue
-            if given.list:
-                print(case.name)
-                continue
-            try:
-                case.play(folder)
-            except (Wrong, subprocess.TimeoutExpired) as error:
-                print(f"{case.name}: {error}")
-                return 1
-            played += 1
-    if not given.list:
-        print(f"lengths: {played} cases as they have to be")
-    return 0
-
-
-if __name__ == "__main__":
-    sys.exit(main())
+@pytest.mark.parametrize("case", CASES, ids=lambda case: case.name)
+def test_length(folder: Path, case: Case) -> None:
+    case.play(folder)

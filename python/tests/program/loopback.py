@@ -1,4 +1,4 @@
-"""Plays sessions of the built program over the loopback:  python3 python tests.program.loopback [--seed N] [NAME ..]
+"""Plays sessions of the built program over the loopback:
 
     table     two callers one after the other, whose replies are known, with journals of one word and of four
     turns     three callers at each of two fronts, one after the other
@@ -16,25 +16,22 @@
     altered   the search for that order can fail: each reply of one session, and each of a command in another, is altered
               in turn, and none is believed
 
-Ends with status 1 at the first that isn't as it has to be, and says what was expected, what came, and the seed.
+The random lines are those of pytest's option --seed.
 """
 
-import argparse
 import errno
-import random
 import signal
 import socket
 import struct
 import subprocess
-import sys
 import tempfile
 from dataclasses import replace
 from pathlib import Path
-from typing import Callable
 
-from netrev_model.debugger import FULL, Recording, is_command, read_line  # (it tells Python where nrdb is)
-from netrev_model.history import GaveUp, Search
-from netrev_model.vocabulary import CELLS, DUMPS, KINDS, MOST, Of
+import pytest
+from netrev_machine.debugger import FULL, Recording, is_command, read_line  # (it tells Python where nrdb is)
+from netrev_machine.history import GaveUp, Search
+from netrev_words.vocabulary import CELLS, DUMPS, KINDS, MOST, Of
 
 from .sharing import NETREV, PATIENCE, ROOT, Server, Talker, Wrong, converse, expect, read_to_end, talk
 
@@ -62,14 +59,29 @@ TOO_LONG = [b"x" * 257, b"stepi" + b" " * 300, b"checkpoint" + b" " * 246 + b"\r
 RESET = struct.pack("ii", 1, 0)
 
 
-def make_recordings(folder):
-    """Writes the two recordings of these sessions, and reads them with what their positions show."""
-    parked, lives = folder / "parked.jsonl", folder / "lives.jsonl"
-    parked.write_text(PARKED, encoding="ascii")
+@pytest.fixture(scope="module")
+def kept():
+    """A folder for the recordings of these sessions."""
+    with tempfile.TemporaryDirectory() as name:
+        yield Path(name)
+
+
+@pytest.fixture(scope="module")
+def parked(kept):
+    """A short recording, read with what its positions show."""
+    path = kept / "parked.jsonl"
+    path.write_text(PARKED, encoding="ascii")
+    return Recording.read(NETREV, path, LOOKS)
+
+
+@pytest.fixture(scope="module")
+def lives(kept):
+    """A long one."""
+    path = kept / "lives.jsonl"
     shapes = ROOT / "bench/shapes.awk"
-    with open(lives, "wb") as out:
+    with open(path, "wb") as out:
         subprocess.run(["awk", "-v", "shape=mix", "-v", "n=3000", "-f", shapes], stdout=out, timeout=60, check=True)
-    return Recording.read(NETREV, parked, LOOKS), Recording.read(NETREV, lives, LOOKS)
+    return Recording.read(NETREV, path, LOOKS)
 
 
 class Lines:
@@ -196,7 +208,7 @@ def as_text(exchanged):
 # ---- the sessions ----
 
 
-def play_table(parked, _lives, _dice):
+def test_table(parked):
     """Replies that are known: with room for one command, and for four."""
     for journal, placed, moved in (
         (1, 1, ["fault 303 journal full", "at 3 of 12 forward"]),
@@ -209,7 +221,7 @@ def play_table(parked, _lives, _dice):
             server.expect_end(0, f"placed {placed}\n")
 
 
-def play_turns(parked, _lives, _dice):
+def test_turns(parked):
     """Three callers a front, each of whom finds the session where the one before left it."""
     turns = (
         (0, ["stepi 3", "quit"], ["at 3", "bye"]),
@@ -225,7 +237,7 @@ def play_turns(parked, _lives, _dice):
         server.expect_end(0, "placed 6\n")
 
 
-def play_stopped(parked, _lives, _dice):
+def test_stopped(parked):
     """A signal ends one that serves without end, while one is connected too, and leaves no port taken."""
     for stop in (signal.SIGTERM, signal.SIGKILL):
         with Server(parked.path, fronts=2, connections=None) as server:
@@ -242,7 +254,7 @@ def play_stopped(parked, _lives, _dice):
                     next_one.expect_end(0, "placed 2\n")
 
 
-def play_elsewhere(parked, _lives, _dice):
+def test_elsewhere(parked):
     """Each port is one of 127.0.0.1 alone."""
     with Server(parked.path, fronts=2) as server:
         callers = [server.call(front) for front in range(2)]
@@ -271,7 +283,7 @@ def other_addresses():
     return found
 
 
-def play_crowded(_parked, lives, _dice):
+def test_crowded(lives):
     """Callers who step forwards at the same time: each place up to the journal's room is one command's."""
     for fronts, each, journal in ((8, 1, 7), (2, 100, 4096)):
         exchanged = share_lines(lives, [[[b"stepi"] * each + [b"quit"]]] * fronts, journal, windows=(1000,))
@@ -281,7 +293,7 @@ def play_crowded(_parked, lives, _dice):
         expect("the replies", sorted(places + [(FULL,)] * (fronts * each - placed)), sorted(replies))
 
 
-def play_silent(parked, _lives, dice):
+def test_silent(parked, dice):
     """Sixteen work to their end beside one who says nothing."""
     for leave, status in ((socket.socket.close, 0), (reset, 3)):
         with Server(parked.path, fronts=17) as server:
@@ -363,7 +375,7 @@ def stays_behind_quit(caller):
     return caller
 
 
-def play_hostile(parked, _lives, _dice):
+def test_hostile(parked):
     """After each of these the next caller of the front is served where the front stands, and then it ends."""
     for leave, status, position, placed in (
         (half_a_line, 0, 3, 2),
@@ -418,7 +430,7 @@ def play_mixed(lives, dice, windows, workers):
                 raise
 
 
-def play_histories(parked, lives, dice):
+def test_histories(parked, lives, dice):
     """Random lines at many fronts: one history."""
     history_of(lives, race_forwards(lives, dice, fronts=64, connections=2))
     for windows, workers in ((1,), 1), ((1, 4), 3):
@@ -441,7 +453,7 @@ def other_reply(reply):
     return (*front, " ".join(words))
 
 
-def play_altered(parked, lives, dice):
+def test_altered(parked, lives, dice):
     """Of two who talk one after the other there is one history alone: so there is none where a reply is altered. Of
     commands whose positions rise there is one order alone, whoever comes first: so there is none where a command's reply
     is altered. A look that was shown something else may have come earlier or later."""
@@ -461,37 +473,3 @@ def expect_no_other(recording, exchanged, has_one_place):
             altered[front][at] = replace(one, reply=other_reply(one.reply))
             if Search(recording, altered, 4096).find():
                 raise Wrong(f"a history was found, with {one.line!r} altered:\n{as_text(altered)}")
-
-
-SESSIONS: dict[str, Callable[..., None]] = {
-    "table": play_table,
-    "turns": play_turns,
-    "stopped": play_stopped,
-    "elsewhere": play_elsewhere,
-    "crowded": play_crowded,
-    "silent": play_silent,
-    "hostile": play_hostile,
-    "histories": play_histories,
-    "altered": play_altered,
-}
-
-
-def main():
-    arguments = argparse.ArgumentParser(description=__doc__.split("\n", 1)[0])
-    arguments.add_argument("--seed", type=int, default=1)
-    arguments.add_argument("names", nargs="*", metavar="NAME", help=", ".join(SESSIONS))
-    given = arguments.parse_args()
-    with tempfile.TemporaryDirectory() as folder:
-        recordings = make_recordings(Path(folder))
-        for name in given.names or SESSIONS:
-            try:
-                SESSIONS[name](*recordings, random.Random(given.seed))
-            except (Wrong, GaveUp, OSError) as wrong:
-                print(f"loopback.py {name}, seed {given.seed}: {wrong or 'the search gave up'}", file=sys.stderr)
-                return 1
-    print("Sessions over the loopback: all replies are right.")
-    return 0
-
-
-if __name__ == "__main__":
-    sys.exit(main())

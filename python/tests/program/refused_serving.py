@@ -1,4 +1,4 @@
-"""Plays `serve` of the built program with each of its allocations refused in turn:  python3 python tests.program.refused_serving
+"""Plays `serve` of the built program with each of its allocations refused in turn.
 
 Two callers, at a front each, send fixed lines one after the other, so the right replies are known: first over a short
 recording, which one worker searches, then over one of more than three thousand steps, which three do; of that the
@@ -15,19 +15,16 @@ Then all other replies are the right ones, and so they all are where netrev coul
 placed twice. Last, no thread can be started: then each front is served in its turn, and searches for itself.
 """
 
-import subprocess
-import sys
-import tempfile
 from bisect import bisect_left
 from concurrent.futures import ThreadPoolExecutor
 from dataclasses import dataclass
-from pathlib import Path
 from typing import NamedTuple
 
-from netrev_model.debugger import is_command, read_line
+import pytest
+from netrev_machine.debugger import is_command, read_line
 
 from .loopback import PARKED
-from .sharing import ROOT, Server, Wrong, expect
+from .sharing import Server, Wrong, expect, library_of
 
 
 class Played(NamedTuple):
@@ -212,30 +209,8 @@ def play_script(folder, preload, script):
     return played
 
 
-def play_all(folder):
-    """Plays all scripts, and says how many allocations were refused, and told."""
-    library = folder / "refused.so"
-    subprocess.run(
-        ["cc", "-O2", "-fPIC", "-shared", "-o", library, ROOT / "scripts/refused.c", "-ldl"], timeout=60, check=True
-    )
-    played = [one for script in SCRIPTS for one in play_script(folder, f"LD_PRELOAD={library}", script)]
-    return sum(one.refused for one in played), sum(one.told for one in played)
-
-
-def main():
-    with tempfile.TemporaryDirectory() as name:
-        folder = Path(name)
-        try:
-            refused, told = play_all(folder)
-        except (Wrong, OSError) as wrong:
-            print(f"refused_serving.py: {wrong}", file=sys.stderr)
-            return 1
-    print(
-        f"Of {refused} refused allocations of serve {told} were told, as they have to be, "
-        f"and {refused - told} could be done without."
-    )
-    return 0
-
-
-if __name__ == "__main__":
-    sys.exit(main())
+@pytest.mark.long
+@pytest.mark.parametrize("script", SCRIPTS, ids=lambda script: script.name)
+def test_each_allocation_refused(folder, script):
+    played = play_script(folder, f"LD_PRELOAD={library_of('refused', folder)}", script)
+    print(f"{sum(one.refused for one in played)} allocations refused, {sum(one.told for one in played)} of them told")

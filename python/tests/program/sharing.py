@@ -17,11 +17,11 @@ from dataclasses import dataclass, field
 from itertools import count
 from pathlib import Path
 
-from netrev_model.debugger import read_line
-from netrev_model.history import Exchange
+from netrev_machine.debugger import read_line
+from netrev_machine.history import Exchange
 
 ROOT = Path(__file__).resolve().parents[3]
-NETREV = os.environ.get("NETREV", str(ROOT / "crates/netrev/out/netrev"))
+NETREV = os.path.abspath(os.environ.get("NETREV", ROOT / "crates/netrev/out/netrev"))
 PATIENCE = 30  # seconds
 LOOPBACK = "127.0.0.1"
 
@@ -34,6 +34,19 @@ def expect(what, expected, came):
     """Says what was expected and what came, where they differ."""
     if expected != came:
         raise Wrong(f"{what}\n  expected: {expected!r}\n  came:     {came!r}")
+
+
+def is_program(path):
+    """Whether there is a program at the path."""
+    return os.path.isfile(path) and os.access(path, os.X_OK)
+
+
+def library_of(name, folder):
+    """The library of scripts/NAME.c, which is put before the C library. It needs a C compiler."""
+    library = folder / f"{name}.so"
+    words = ["cc", "-O2", "-fPIC", "-shared", "-o", library, ROOT / f"scripts/{name}.c", "-ldl"]
+    subprocess.run(words, timeout=60, check=True)
+    return library
 
 
 class Ports:

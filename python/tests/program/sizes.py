@@ -1,21 +1,22 @@
-"""Plays the built program at the greatest sizes that a recording and a session may have:  python3 python tests.program.sizes [--list] [NAME ..]
+"""Plays the built program at the greatest sizes that a recording and a session may have.
 
 A call may report that memory ran out, and a proof can't tell whether it was right to. So each is played here with ample memory
 and as much of everything as docs/RECORDING.md allows: none may say that memory ran out, and all replies have to be right.
-Each case has a name in plain words; of those given only the ones that begin so are played. Ends with status 1 at the first that
-isn't as it has to be. It takes 1 GB of memory.
+It takes 1 GB of memory.
 """
 
-import argparse
 import socket
 import subprocess
-import sys
 import tempfile
 import threading
 from pathlib import Path
-from typing import Callable, Iterable, Sequence
+from typing import Callable, Iterable, Iterator, Sequence
+
+import pytest
 
 from .sharing import NETREV, PATIENCE, Server, Wrong, expect
+
+pytestmark = pytest.mark.alone
 
 STEPS = 1_000_000
 GOROUTINES, SOCKETS, DESCRIPTORS, BUFFER, PIECE = 4096, 256, 256, 1_048_576, 65_536
@@ -296,25 +297,13 @@ CASES: dict[str, Case] = {
 }
 
 
-def main() -> int:
-    arguments = argparse.ArgumentParser(description=(__doc__ or "").split("\n", 1)[0])
-    arguments.add_argument("--list", action="store_true", help="print the cases' names")
-    arguments.add_argument("names", nargs="*", metavar="NAME", help="how the names of cases begin")
-    given = arguments.parse_args()
-    names = [name for name in CASES if not given.names or name.startswith(tuple(given.names))]
-    if given.list:
-        print("\n".join(names))
-        return 0
-    with tempfile.TemporaryDirectory() as folder:
-        for name in names:
-            try:
-                CASES[name](Path(folder))
-            except (Wrong, OSError, subprocess.SubprocessError) as wrong:
-                print(f"sizes.py: {name}: {wrong}", file=sys.stderr)
-                return 1
-    print(f"sizes: {len(names)} cases")
-    return 0
+@pytest.fixture(scope="module")
+def folder() -> Iterator[Path]:
+    """One for all cases, since several play the same recording."""
+    with tempfile.TemporaryDirectory() as name:
+        yield Path(name)
 
 
-if __name__ == "__main__":
-    sys.exit(main())
+@pytest.mark.parametrize("play", CASES.values(), ids=CASES)
+def test_size(folder: Path, play: Case) -> None:
+    play(folder)

@@ -1,6 +1,4 @@
-"""Plays the built program against the operating system:  python3 python tests.program.system [--list] [NAME ..]
-
-Each case has a name in plain words; --list prints them all, and of those given only the ones that begin so are played.
+"""Plays the built program against the operating system. Each case has a name in plain words, which begins so:
 
     output    standard output closed, full, or a pipe whose reader has gone: status 3, no signal, nothing on standard error
     input     standard input closed, a folder, empty, not there yet
@@ -13,18 +11,13 @@ Each case has a name in plain words; --list prints them all, and of those given 
     memory    address spaces of a hundred sizes, from too small for any program to ample: the right replies, or that memory
               ran out, and below the size that the system can load the program in, the system's own message
     upgrade   `upgrade` in all of these: its text goes out whole, or its first lines and what went wrong
-
-Ends with status 1 at the first that isn't as it has to be, and prints the name of that case.
 """
 
-import argparse
 import os
 import pty
 import signal
 import socket
 import subprocess
-import sys
-import tempfile
 import threading
 import time
 from contextlib import contextmanager
@@ -32,14 +25,28 @@ from dataclasses import dataclass
 from functools import partial
 from pathlib import Path
 
-from netrev_model.debugger import Recording
+import pytest
+from netrev_machine.debugger import Recording
 
-from ..naming import LEFT_OUT
 from .address_spaces import LOOKS, MEGABYTE, NO_MEMORY, ended, limit_memory, loads_in, play_memory, play_memory_of_serve
 from .callers import callers
-from .given import ARRIVED, FIRST, LARGE, POSITION, TEXT, TICKS, UPGRADED, UPGRADED_TICKS, Function, file_of, rest_of
+from .given import (
+    ARRIVED,
+    FIRST,
+    LARGE,
+    POSITION,
+    TEXT,
+    TICKS,
+    UPGRADED,
+    UPGRADED_TICKS,
+    Function,
+    file_of,
+    rest_of,
+    upgrade_of,
+)
 from .sharing import NETREV, PATIENCE, Server, Wrong, expect, talk
-from .upgrades import upgrade_of
+
+pytestmark = pytest.mark.alone
 
 USAGE = b"""usage: netrev run FILE
        netrev check FILE
@@ -138,7 +145,8 @@ FULL = opened("/dev/full", os.O_WRONLY)
 @dataclass
 class Case:
     """netrev with `word` and FILE; its standard input, as bytes, as one of the above or CLOSED; its standard output, which
-    is read where none is named; the memory that it may have; and how it has to end."""
+    is read where none is named; the memory that it may have, in all or beside what it is loaded in; and how it has to end.
+    """
 
     name: str
     word: str
@@ -149,10 +157,12 @@ class Case:
     input: object = b""
     into: object = None
     memory: int = 0
+    beside: int = 0
     skipped: bool = False
 
     def play(self, folder):
         files = []
+        memory = loads_in() + self.beside if self.beside else self.memory
 
         def stream(what, otherwise):
             if what is CLOSED or what is None or isinstance(what, bytes):
@@ -164,8 +174,8 @@ class Case:
             for number, what in ((0, self.input), (1, self.into)):
                 if what is CLOSED:
                     os.close(number)
-            if self.memory:
-                limit_memory(self.memory)
+            if memory:
+                limit_memory(memory)
 
         file = self.file(folder) if callable(self.file) else self.file
         words = [NETREV, self.word, file] if self.word else [NETREV]
@@ -175,7 +185,7 @@ class Case:
             stdin=stream(self.input, taken),
             stdout=stream(self.into, subprocess.PIPE),
             stderr=subprocess.PIPE,
-            preexec_fn=begin if self.memory or CLOSED in (self.input, self.into) else None,
+            preexec_fn=begin if memory or CLOSED in (self.input, self.into) else None,
         )
         for number in files:
             os.close(number)
@@ -191,7 +201,7 @@ def outputs():
         yield Case(f"output {what}: run with nothing to print", "run", FIRST, 0, input=b"  \n", into=into)
         yield Case(f"output {what}: check", "check", FIRST, 3, into=into)
         yield Case(f"output {what}: check of a refused recording", "check", "/dev/null", 3, into=into)
-        yield Case(f"output {what}: check without memory", "check", FIRST, 3, into=into, memory=loads_in() + 8192)
+        yield Case(f"output {what}: check without memory", "check", FIRST, 3, into=into, beside=8192)
         yield Case(f"output {what}: no words", "", None, 2, errors=USAGE, into=into)
         yield Function(f"output {what}: serve", partial(play_output_of_serve, into))
     yield Case("output full, and never waits: run", "run", FIRST, 3, input=b"si\n", into=full_pipe_that_never_waits)
@@ -373,11 +383,11 @@ RECORDINGS = (
 
 
 def lines():
-    little = loads_in() + 6 * MEGABYTE  # as much as loading the example takes; less than the 10 MB
+    little = 6 * MEGABYTE  # as much as loading the example takes; less than the 10 MB
     for what, text, output in COMMANDS:
-        yield Case(f"lines: a command {what}", "run", FIRST, 0, output, input=text, memory=little)
+        yield Case(f"lines: a command {what}", "run", FIRST, 0, output, input=text, beside=little)
     many = POSITIONS * 4
-    yield Case("lines: 200000 commands", "run", FIRST, 0, POSITION * 200_000, input=many, memory=little)
+    yield Case("lines: 200000 commands", "run", FIRST, 0, POSITION * 200_000, input=many, beside=little)
     for what, text, output in RECORDINGS:
         status = 0 if output.startswith(b"ok") else 1
         yield Case(f"lines: a recording {what}", "check", file_of("lines", text), status, output, memory=40 * MEGABYTE)
@@ -404,7 +414,7 @@ def upgrades():
     for into, what in ((CLOSED, "closed"), (FULL, "full"), (gone, "without a reader")):
         yield Case(f"upgrade: output {what}", "upgrade", FIRST, 3, into=into)
         yield Case(f"upgrade: output {what}, a refused recording", "upgrade", "/dev/null", 3, into=into)
-        yield Case(f"upgrade: output {what}, no memory", "upgrade", FIRST, 3, into=into, memory=loads_in() + 8192)
+        yield Case(f"upgrade: output {what}, no memory", "upgrade", FIRST, 3, into=into, beside=8192)
         yield Case(f"upgrade: output {what}, no such file", "upgrade", "no such file", 3, into=into)
     yield Case("upgrade: output full, and never waits", "upgrade", FIRST, 3, into=full_pipe_that_never_waits)
     yield Function("upgrade: output whose reader goes in the middle", play_reader_goes_in_an_upgrade)
@@ -639,56 +649,36 @@ def cases():
         yield from group()
 
 
-def play(case):
-    """Plays a case in a folder of its own. All that goes wrong in it is said with its name."""
-    signal.signal(signal.SIGALRM, stop_waiting)
+def parameters():
+    """The cases by their names."""
+    another = pytest.mark.skip(reason="it needs another user than root")
+    return [pytest.param(case, id=case.name, marks=[another] * case.skipped) for case in cases()]
+
+
+@pytest.fixture
+def patience():
+    """Stops one that takes too long."""
+
+    def stop_waiting(*_):
+        raise Wrong(f"it took more than {4 * PATIENCE} s")
+
+    before = signal.signal(signal.SIGALRM, stop_waiting)
     signal.alarm(4 * PATIENCE)
-    try:
-        with tempfile.TemporaryDirectory() as folder:
-            case.play(Path(folder))
-    except (Wrong, OSError, subprocess.SubprocessError) as wrong:
-        raise Wrong(f"{case.name}: {wrong}") from None
-    finally:
-        signal.alarm(0)
+    yield
+    signal.alarm(0)
+    signal.signal(signal.SIGALRM, before)
 
 
-def stop_waiting(*_):
-    raise Wrong(f"it took more than {4 * PATIENCE} s")
+@pytest.fixture
+def signals_of_a_terminal():
+    """Netrev has these as a terminal gives them, however pytest was started."""
+    before = [(one, signal.signal(one, signal.SIG_DFL)) for one in SIGNALS]
+    yield
+    for one, handler in before:
+        signal.signal(one, handler)
 
 
-def play_all(names, listed):
-    """Plays the cases whose names begin as one of these do, or lists them, and says how many were played."""
-    played = 0
-    for case in cases():
-        if names and not case.name.startswith(tuple(names)):
-            continue
-        if listed:
-            print(case.name)
-        elif case.skipped:
-            print(f"{LEFT_OUT}{case.name}: it needs another user than root")
-        else:
-            play(case)
-            played += 1
-    return played
-
-
-def main():
-    arguments = argparse.ArgumentParser(description=__doc__.split("\n", 1)[0])
-    arguments.add_argument("--list", action="store_true", help="print the cases' names")
-    arguments.add_argument("names", nargs="*", metavar="NAME", help="how the names of cases begin")
-    given = arguments.parse_args()
-    # (netrev has these as a terminal gives them, however this script was started)
-    for one in SIGNALS:
-        signal.signal(one, signal.SIG_DFL)
-    try:
-        played = play_all(given.names, given.list)
-    except (Wrong, OSError) as wrong:
-        print(f"system.py: {wrong}", file=sys.stderr)
-        return 1
-    if not given.list:
-        print(f"system: {played} cases")
-    return 0
-
-
-if __name__ == "__main__":
-    sys.exit(main())
+@pytest.mark.usefixtures("patience", "signals_of_a_terminal")
+@pytest.mark.parametrize("case", parameters())
+def test_system(folder, case):
+    case.play(folder)

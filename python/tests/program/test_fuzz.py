@@ -18,8 +18,8 @@ from netrev_fuzz.keeping import kept
 from netrev_fuzz.playing import difference
 from netrev_fuzz.pressing import confined, heard, nothing, pressed
 from netrev_fuzz.slow import Slow
-from netrev_model import polling, reading, steps
-from netrev_model.machine import Refused
+from netrev_machine import polling, replaying, steps
+from netrev_machine.machine import Refused
 from nrdb.interrupts import GivenUp, Interrupts
 from nrdb.scout import Scout
 from tests.disturbed import EXAMPLE
@@ -63,12 +63,12 @@ EVENT, WRITE = polling.event, steps.syswrite
 PLANTED: dict[str, tuple[str, Callable[[], ContextManager[object]]]] = {
     "a reason exchanged": ("86", lambda: mock.patch.dict(steps.OF_KIND, decref=reason_exchanged)),
     "a mark that stays": ("17", lambda: mock.patch.object(polling, "event", error_stays)),
-    "a command line shorter by one": ("4", lambda: mock.patch("netrev_model.debugger.MOST_LINE", 255)),
+    "a command line shorter by one": ("4", lambda: mock.patch("netrev_machine.debugger.MOST_LINE", 255)),
     "a temporary break that stays": (
         "127",
-        lambda: mock.patch("netrev_model.debugger.left_standing", lambda marks, hitting: marks),
+        lambda: mock.patch("netrev_machine.debugger.left_standing", lambda marks, hitting: marks),
     ),
-    "answers compared by their sort": ("100", lambda: mock.patch.object(reading, "differs", sorts_compared)),
+    "answers compared by their sort": ("100", lambda: mock.patch.object(replaying, "differs", sorts_compared)),
     "a shut socket that takes bytes": ("98", lambda: mock.patch.dict(steps.OF_KIND, syswrite=shut_for_nothing)),
 }
 WITHIN = 15
@@ -207,7 +207,3 @@ class Pressing(unittest.TestCase):
         self.assertEqual(self.came, 0)
         pressed()
         self.assertEqual(self.came, 1)
-
-
-if __name__ == "__main__":
-    unittest.main()

@@ -11,8 +11,8 @@ from unittest import mock
 
 from netrev_fuzz import around, editors, side_files
 from netrev_go.points import Point
-from nrdb.answers import ANSWERS
 from nrdb.dap import breakpoints
+from nrdb.prompt.answers import ANSWERS
 
 from .sharing import NETREV, ROOT
 
@@ -123,7 +123,3 @@ class Around(unittest.TestCase):
         first, again = (editors.conversation("7-editors-1", "x.jsonl") for _ in range(2))
         self.assertEqual(first, again)
         self.assertNotEqual(first, editors.conversation("7-editors-2", "x.jsonl"))
-
-
-if __name__ == "__main__":
-    unittest.main()

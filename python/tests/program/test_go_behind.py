@@ -139,7 +139,3 @@ class Explored(Behind):
         self.assertEqual(status, 7)
         self.assertNotIn("possible", said)
         findings.assert_not_called()
-
-
-if __name__ == "__main__":
-    unittest.main()

@@ -103,7 +103,3 @@ class Recorded(unittest.TestCase):
             self.made(name)
             values = at_the_end(str(NETREV), self.name, 1000, cells)
             self.assertEqual((hanging(values), never_closed(values)), (waiting, held))
-
-
-if __name__ == "__main__":
-    unittest.main()

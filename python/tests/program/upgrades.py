@@ -1,30 +1,21 @@
-"""Plays `netrev upgrade` with the built program:  python3 python tests.program.upgrades [--list] [--text FILE] [NAME ..]
-
-Each case has a name in plain words; --list prints them all, and of those given only the ones that begin so are played.
+"""Plays `netrev upgrade` with the built program. Each case has a name in plain words, which begins so:
 
     stored     what is upgraded, and the text that is stored for it; with a recorded answer that isn't the machine's
     written    one way of writing, whatever the recording's was: compact, keys in alphabetical order, digits in lower case
     refused    faults, other words, a file that isn't there: the statuses are those of `check`
-    recording  each recording that is here: its upgrade is the text that the fuzzer's model writes (python/netrev_model), `check`
+    recording  each recording that is here: its upgrade is the text that the fuzzer's model writes (python/netrev_machine), `check`
                takes it, it has the same bytes when it is upgraded again, and `run` answers as it does over the recording
-
---text prints what the model writes of a recording, and plays nothing. Ends with status 1 at the first that isn't as it has
-to be, and prints the name of that case.
 """
 
-import argparse
 import subprocess
-import sys
-import tempfile
-from functools import partial
 from pathlib import Path
 from typing import Union
 
-from netrev_model.observing import Observer
-from netrev_model.program import printed
+import pytest
 from tests import examples
 
-from .sharing import NETREV, PATIENCE, ROOT, Wrong, expect
+from .given import upgrade_of
+from .sharing import NETREV, PATIENCE, ROOT, expect
 
 WOKEN = ROOT / "scripts/recordings/woken-by-an-event.jsonl"
 ANSWERS, OTHER, SHUT = (ROOT / f"examples/{name}.jsonl" for name in ("answers", "other-answer", "shut-write-side"))
@@ -107,19 +98,8 @@ def played(words, status, output, errors=b""):
     expect("status, output and errors", (status, output, errors), ended(words))
 
 
-def play_written(folder, text, right):
-    (folder / "given.jsonl").write_bytes(text)
-    played(["upgrade", folder / "given.jsonl"], 0, right)
-
-
-def upgrade_of(text):
-    """The text that the model writes of a recording's, or its fault."""
-    upgraded = printed("upgrade", text, b"", Observer())
-    assert upgraded, "the model has an opinion on each recording that is here"
-    return upgraded.output
-
-
-def play_recording(folder, path):
+@pytest.mark.parametrize("path", [pytest.param(path, id=f"recording {path.relative_to(ROOT)}") for path in RECORDINGS])
+def test_recording(folder, path):
     """The upgrade of a recording, and of that again; a recording that is refused has its fault in both programs."""
     right = upgrade_of(path.read_bytes())
     if right.startswith(b"step "):
@@ -133,42 +113,21 @@ def play_recording(folder, path):
     expect("run over the upgrade", ended(["run", path], LOOKS), ended(["run", again], LOOKS))
 
 
-def cases(folder):
-    for word, name, status, right in STORED:
-        output = right.read_bytes() if isinstance(right, Path) else right
-        yield f"stored: {word} {name.stem}", partial(played, [word, name], status, output)
-    for what, text, written in WRITTEN:
-        yield f"written: {what}", partial(play_written, folder, text, written)
-    for what, *row in REFUSED:
-        yield f"refused: {what}", partial(played, *row)
-    for path in RECORDINGS:
-        yield f"recording {path.relative_to(ROOT)}", partial(play_recording, folder, path)
+@pytest.mark.parametrize(
+    "word, path, status, right", [pytest.param(*row, id=f"stored: {row[0]} {row[1].stem}") for row in STORED]
+)
+def test_stored(word, path, status, right):
+    played([word, path], status, right.read_bytes() if isinstance(right, Path) else right)
 
 
-def main():
-    parser = argparse.ArgumentParser(description=__doc__, formatter_class=argparse.RawDescriptionHelpFormatter)
-    parser.add_argument("--list", action="store_true", help="print the names of the cases")
-    parser.add_argument("--text", metavar="FILE", help="print what the model writes of this recording")
-    parser.add_argument("names", nargs="*", metavar="NAME", help="how the names of those to play begin")
-    given = parser.parse_args()
-    if given.text:
-        sys.stdout.buffer.write(upgrade_of(Path(given.text).read_bytes()))
-        return 0
-    count = 0
-    with tempfile.TemporaryDirectory() as folder:
-        for name, play in cases(Path(folder)):
-            if given.names and not name.startswith(tuple(given.names)):
-                continue
-            count += 1
-            try:
-                print(name) if given.list else play()
-            except (Wrong, subprocess.TimeoutExpired) as error:
-                print(f"{name}: {error}")
-                return 1
-    if not given.list:
-        print(f"upgrades: {count} cases as they have to be")
-    return 0
+@pytest.mark.parametrize("text, right", [pytest.param(*row, id=f"written: {what}") for what, *row in WRITTEN])
+def test_written(folder, text, right):
+    (folder / "given.jsonl").write_bytes(text)
+    played(["upgrade", folder / "given.jsonl"], 0, right)
 
 
-if __name__ == "__main__":
-    sys.exit(main())
+@pytest.mark.parametrize(
+    "words, status, output, errors", [pytest.param(*row, id=f"refused: {what}") for what, *row in REFUSED]
+)
+def test_refused(words, status, output, errors):
+    played(words, status, output, errors)

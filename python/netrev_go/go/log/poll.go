@@ -11,11 +11,16 @@ import (
 
 // Kinds of points, numbered as the steps of a recording are.
 const (
-	netrevInitKind       = 3
-	netrevReadKind       = 6
-	netrevWriteKind      = 7
-	netrevCloseWriteKind = 31
-	netrevNamedKind      = 123 // no step: a is the name of a connection's own end, and b that of the other one
+	netrevInitKind        = 3
+	netrevReadKind        = 6
+	netrevWriteKind       = 7
+	netrevIncrefKind      = 9
+	netrevIncrefCloseKind = 10
+	netrevDecrefKind      = 11
+	netrevRWLockKind      = 12
+	netrevRWUnlockKind    = 13
+	netrevCloseWriteKind  = 31
+	netrevNamedKind       = 123 // no step: a is the name of a connection's own end, and b that of the other one
 )
 
 // What the log has of a system call's error.

@@ -66,21 +66,21 @@ func one(how how, find string, put string) edit { return edit{how, find, 1, []st
 // The points of steps. None can be done without.
 var steps = []rule{
 	{lockWords, "incref", all(
-		one(replace, isClosed, "$0 && (netrevOn == 0 || netrevClosed(9, mu, false))"),
-		one(replace, swap, orLogged("netrevSwap(9, mu, old, new, true, false)")))},
+		one(replace, isClosed, "$0 && (netrevOn == 0 || netrevClosed(netrevIncrefKind, mu, false))"),
+		one(replace, swap, orLogged("netrevSwap(netrevIncrefKind, mu, old, new, true, false)")))},
 	{lockWords, "increfAndClose", all(
-		one(replace, isClosed, "$0 && (netrevOn == 0 || netrevClosed(10, mu, false))"),
-		one(replace, swap, orLogged("netrevSwap(10, mu, old, new, true, false)")),
+		one(replace, isClosed, "$0 && (netrevOn == 0 || netrevClosed(netrevIncrefCloseKind, mu, false))"),
+		one(replace, swap, orLogged("netrevSwap(netrevIncrefCloseKind, mu, old, new, true, false)")),
 		one(replace, "runtime_Semrelease(&mu.rsema)", "netrevRelease($1, true)"),
 		one(replace, "runtime_Semrelease(&mu.wsema)", "netrevRelease($1, false)"))},
 	{lockWords, "decref", all(
-		one(replace, swap, orLogged("netrevSwap(11, mu, old, new, $return, false)")))},
+		one(replace, swap, orLogged("netrevSwap(netrevDecrefKind, mu, old, new, $return, false)")))},
 	{lockWords, "rwlock", all(
-		one(replace, isClosed, "$0 && (netrevOn == 0 || netrevClosed(12, mu, read))"),
-		one(replace, swap, orLogged("netrevSwap(12, mu, old, new, old&mutexBit == 0, read)")),
+		one(replace, isClosed, "$0 && (netrevOn == 0 || netrevClosed(netrevRWLockKind, mu, read))"),
+		one(replace, swap, orLogged("netrevSwap(netrevRWLockKind, mu, old, new, old&mutexBit == 0, read)")),
 		one(replace, "runtime_Semacquire(...)", "netrevAcquire($1, read)"))},
 	{lockWords, "rwunlock", all(
-		one(replace, swap, orLogged("netrevSwap(13, mu, old, new, $return, read)")),
+		one(replace, swap, orLogged("netrevSwap(netrevRWUnlockKind, mu, old, new, $return, read)")),
 		one(replace, "runtime_Semrelease(...)", "netrevRelease($1, read)"))},
 	{sockets, "Init", all(
 		one(replace, "fd.pd.init(fd)", "fd.pd.init(netrevInit(fd))"))},

@@ -8,7 +8,7 @@ import subprocess
 import sys
 from functools import lru_cache
 
-from netrev_model.vocabulary import CELLS, DUMPS, Of
+from netrev_words.vocabulary import CELLS, DUMPS, Of
 from nrdb.cli import main
 from nrdb.recording import Recording
 from tests.examples import ALL

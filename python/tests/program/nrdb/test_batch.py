@@ -141,7 +141,3 @@ class Batch(unittest.TestCase):
             process.stdin.write(b"help\n" * 10)
             process.stdin.close()
             self.assertEqual((process.wait(60), process.stderr.read()), (3, b""))
-
-
-if __name__ == "__main__":
-    unittest.main()

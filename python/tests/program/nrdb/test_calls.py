@@ -7,9 +7,9 @@ import tempfile
 import unittest
 from pathlib import Path
 
-from netrev_model.observing import Observer
-from netrev_model.program import replay
-from netrev_model.vocabulary import CELLS
+from netrev_machine.observing import Observer
+from netrev_machine.program import replay
+from netrev_words.vocabulary import CELLS
 
 from .support import EXAMPLES, events, nrdb, nrdb_process, recordings, shown
 
@@ -182,7 +182,3 @@ class Shown(unittest.TestCase):
         told, errors, status = nrdb_process("--batch", "-ex", "info suspects", LOST)
         self.assertEqual((errors, status), ("", 0))
         self.assertNotIn("\x1b", told)
-
-
-if __name__ == "__main__":
-    unittest.main()

@@ -346,7 +346,3 @@ def children(process):
     """The processes that a process has started."""
     found = subprocess.run(["ps", "-o", "pid=", "--ppid", str(process)], capture_output=True, text=True, check=False)
     return [int(word) for word in found.stdout.split()]
-
-
-if __name__ == "__main__":
-    unittest.main()

@@ -172,7 +172,3 @@ class Late(unittest.TestCase):
 
     def test_one_that_is_let_in_is_waited_for(self):
         self.assertFalse(self.ends(None, 1.0))
-
-
-if __name__ == "__main__":
-    unittest.main()

@@ -87,7 +87,3 @@ class Documents(unittest.TestCase):
                     self.assertEqual(len(said) == len(shown), lines[-1] != "...")
                 count += 1
         self.assertGreaterEqual(count, 3)
-
-
-if __name__ == "__main__":
-    unittest.main()

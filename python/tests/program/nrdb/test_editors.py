@@ -39,7 +39,3 @@ class Conversation(unittest.TestCase):
                 if message["command"] == "launch":
                     arguments["program"] = str(EXAMPLES / RECORDING)
                 editor.send({"seq": number, "type": "request", "command": message["command"], "arguments": arguments})
-
-
-if __name__ == "__main__":
-    unittest.main()

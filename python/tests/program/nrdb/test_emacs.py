@@ -125,7 +125,3 @@ class Emacs(unittest.TestCase):
         self.assertEqual(
             [line.rpartition(" of ")[0] for line in told], [f"{way} main.go 46, at {at}" for way, at in came]
         )
-
-
-if __name__ == "__main__":
-    unittest.main()

@@ -136,7 +136,3 @@ def upgraded_with_lines(path: Path) -> tuple[Path, str]:
 def upgrade(path: Path) -> None:
     """Gives a recording netrev's answers."""
     path.write_bytes(answered_by(NETREV, "upgrade", path.read_bytes())[1])
-
-
-if __name__ == "__main__":
-    unittest.main()

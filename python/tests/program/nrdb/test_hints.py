@@ -103,7 +103,3 @@ def answered(text):
         elif found:
             found[-1][1].append(line)
     return found
-
-
-if __name__ == "__main__":
-    unittest.main()

@@ -69,7 +69,3 @@ class Hunts(unittest.TestCase):
                 said = nrdb("--batch", "-ex", "continue", "-ex", "info goroutines 4", file)
             self.assertIn("gor 4    parked 3 r", said)
             self.assertEqual(unread in said, has_unread)
-
-
-if __name__ == "__main__":
-    unittest.main()

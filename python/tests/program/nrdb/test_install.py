@@ -15,7 +15,7 @@ from .support import EXAMPLES, NETREV, PATIENCE, ROOT, nrdb
 ENVIRONMENT = {name: value for name, value in os.environ.items() if name not in ("NETREV", "MAKEFLAGS", "PYTHONPATH")}
 ASKED = ("--batch", "-ex", "continue", "-ex", "info goroutines", EXAMPLES / "first.jsonl")
 PROJECT = ("pyproject.toml", "python", "LICENSE", "README.md")
-INSTALLED = ("nrdb", "netrev_model", "netrev_go")
+INSTALLED = ("nrdb", "netrev_words", "netrev_machine", "netrev_go")
 
 
 def printed(*words: object, **settings: str) -> str:
@@ -63,10 +63,12 @@ class Install(unittest.TestCase):
             printed(
                 "make", "-s", "-C", ROOT, "-o", "netrev", "install", f"PROGRAM={NETREV}", f"PREFIX={given}", *settings
             )
-            self.assertEqual(contents(prefix / "lib/netrev"), contents(ROOT / "python"))
+            lib = prefix / "lib/netrev"
+            self.assertEqual({file.parent.name for file in lib.glob("*/__init__.py")}, set(INSTALLED))
+            self.assertEqual(contents(lib), contents(ROOT / "python"))
             self.assertEqual(printed(prefix / "bin/nrdb", *ASKED), nrdb(*ASKED))
             self.assertIn("records where NETREV_LOG=PATH is set", printed(prefix / "bin/netrev-go", "--help"))
-            found = "import sys; from netrev_model import built; print(built.netrev_program())"
+            found = "import sys; from netrev_words import built; print(built.netrev_program())"
             self.assertEqual(
                 printed("python3", "-c", found, PYTHONPATH=str(prefix / "lib/netrev"), PATH=os.defpath).strip(),
                 str((prefix / "bin/netrev").resolve()),
@@ -86,12 +88,9 @@ class Install(unittest.TestCase):
                 shutil.copy(ROOT / name, project / name)
         words = ("install", "--quiet", "--no-index", "--no-build-isolation", "--no-deps", "--target", there, project)
         printed(python, "-m", "pip", *words, PIP_DISABLE_PIP_VERSION_CHECK="1", PIP_ROOT_USER_ACTION="ignore")
+        self.assertEqual({file.parent.name for file in there.glob("*/__init__.py")}, set(INSTALLED))
         self.assertEqual(contents(there), contents(ROOT / "python"))
         self.assertEqual(printed(there / "bin/nrdb", *ASKED, NETREV=NETREV, PYTHONPATH=str(there)), nrdb(*ASKED))
         self.assertIn(
             "records where NETREV_LOG=PATH is set", printed(there / "bin/netrev-go", "--help", PYTHONPATH=str(there))
         )
-
-
-if __name__ == "__main__":
-    unittest.main()

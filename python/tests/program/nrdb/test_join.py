@@ -154,7 +154,3 @@ class Join(unittest.TestCase):
             server.ended()
         said = nrdb("--join", f"127.0.0.1:{server.port}", status=3)
         self.assertEqual(said, f"| 127.0.0.1:{server.port}: Connection refused\n")
-
-
-if __name__ == "__main__":
-    unittest.main()

@@ -100,7 +100,3 @@ class Obeyed(unittest.TestCase):
                 self.assertEqual(unseen(nrdb("--batch", named, status=status)), [])
             said = nrdb("--batch", "-ex", f"source {file}", "-x", FIRST, FIRST)
             self.assertEqual(unseen(said), [])
-
-
-if __name__ == "__main__":
-    unittest.main()

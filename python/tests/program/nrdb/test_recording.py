@@ -92,7 +92,3 @@ class Holders(unittest.TestCase):
         self.assertEqual((held, rest), ([(0, 1), (2, 3)], "lock 0 = 19: closed, read lock, 2 references; 2 holders"))
         held, rest = self.holders(lock.format(0), '["increfclose",2,0]', unlock.format(0), '["decref",2,0]')
         self.assertEqual((held, rest), ([], "lock 0 = 1: closed, 0 references; 0 holders"))
-
-
-if __name__ == "__main__":
-    unittest.main()

@@ -143,7 +143,3 @@ class Reducing(unittest.TestCase):
         said = nrdb("--reduce", self.folder / "none/x.jsonl", EXAMPLES / "lost-wakeup.jsonl", status=3)
         self.assertIn("none/x.jsonl: No such file or directory", said)
         self.assertIn("no step gives gor 0 the value gone", nrdb("--batch", "-ex", "reduce x.jsonl gor 0 gone", path))
-
-
-if __name__ == "__main__":
-    unittest.main()

@@ -40,7 +40,3 @@ class EveryPoint(Disturbances[Slow]):
         with confined():
             given_up = self.check(COMMANDS, (slow_and_interrupted, slow_and_given_up, slow_and_killed))
         self.assertGreater(given_up, 20)  # (on a busy machine two Ctrl-C may come as one)
-
-
-if __name__ == "__main__":
-    unittest.main()

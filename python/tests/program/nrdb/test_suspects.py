@@ -81,7 +81,3 @@ class Suspects(unittest.TestCase):
         for name in REFUSED:
             said, errors, status = nrdb_process("--suspects", EXAMPLES / f"{name}.jsonl")
             self.assertEqual((errors, status), ("", 1), said)
-
-
-if __name__ == "__main__":
-    unittest.main()

@@ -220,7 +220,3 @@ class Terminal(unittest.TestCase):
             person.type("quit\r")
             person.until("bye\n")
             self.assertEqual(person.ends(), 0)
-
-
-if __name__ == "__main__":
-    unittest.main()

@@ -135,7 +135,3 @@ def brightness(colour):
     """How bright a colour is, from 0 to 255."""
     red, green, blue = (int(colour[at : at + 2], 16) for at in (1, 3, 5))
     return 0.299 * red + 0.587 * green + 0.114 * blue
-
-
-if __name__ == "__main__":
-    unittest.main()

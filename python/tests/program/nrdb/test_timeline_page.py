@@ -194,7 +194,3 @@ class Page(unittest.TestCase):
         self.assertIn("<img src=x", told["name"])
         self.assertIn("</script><img src=x", told["panel"])
         self.assertIn("\\u202e", told["panel"])
-
-
-if __name__ == "__main__":
-    unittest.main()

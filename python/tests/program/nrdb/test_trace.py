@@ -40,7 +40,3 @@ class Trace(unittest.TestCase):
     def test_a_file_that_cannot_be_written(self) -> None:
         said = nrdb("--trace", self.path.parent / "none/x.json", EXAMPLES / "first.jsonl", status=3)
         self.assertIn("none/x.json: No such file or directory", said)
-
-
-if __name__ == "__main__":
-    unittest.main()

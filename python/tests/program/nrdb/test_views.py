@@ -202,7 +202,3 @@ class Views(unittest.TestCase):
                 with self.subTest(path.stem, position=at, socket=socket):
                     self.assertEqual(event["reply"], [f"lock {socket} = {value}"])
                     self.assertEqual(told_fields(event["words"]), lock_fields(value))
-
-
-if __name__ == "__main__":
-    unittest.main()

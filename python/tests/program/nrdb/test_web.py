@@ -143,7 +143,3 @@ class Alone(unittest.TestCase):
         ended = subprocess.run([NETREV, "check", str(EXAMPLES / "other-answer.jsonl")], capture_output=True, text=True)
         said = nrdb("--web", 0, EXAMPLES / "other-answer.jsonl", status=1).splitlines()
         self.assertEqual(said[0], ended.stdout.strip())
-
-
-if __name__ == "__main__":
-    unittest.main()

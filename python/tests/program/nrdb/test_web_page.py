@@ -181,7 +181,3 @@ class InChromium(unittest.TestCase):
             self.assertLessEqual(sizes["aside"][2], 900)
             self.assertEqual(page.value("document.documentElement.scrollWidth"), 500)
             self.assertGreater(sizes["#line"][0], 200)
-
-
-if __name__ == "__main__":
-    unittest.main()

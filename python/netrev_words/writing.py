@@ -3,8 +3,7 @@
 import json
 from typing import Optional
 
-from .machine import Answer, Step
-from .reading import Recording
+from .recording import Answer, Recording, Step
 
 
 def header_of(recording: Recording) -> dict[str, int]:

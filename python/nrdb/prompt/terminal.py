@@ -4,14 +4,14 @@ import os
 from pathlib import Path
 from typing import Optional
 
-from netrev_model.vocabulary import Of
+from netrev_words.vocabulary import Of
 
-from .commands import COMMANDS, Ambiguous, whole_words
+from ..commands import COMMANDS, Ambiguous, whole_words
 from .completion import candidates
-from .interrupts import Interrupted
-from .netrev import Ended
-from .session import Session
-from .world import made_at
+from ..interrupts import Interrupted
+from ..netrev import Ended
+from ..session import Session
+from ..world import made_at
 
 try:
     import readline

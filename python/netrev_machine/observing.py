@@ -4,9 +4,10 @@ from __future__ import annotations
 
 from typing import TYPE_CHECKING
 
+from netrev_words.recording import Answer
+
 if TYPE_CHECKING:
     from .debugger import Asked, Reply
-    from .machine import Answer
 
 
 class Observer:

@@ -2,9 +2,11 @@
 
 from typing import Optional, Sequence
 
+from netrev_words.recording import Step
+
 from .cells import look
 from .debugger import FULL, Recording, Reply, State, is_command, read_line
-from .machine import Step, World
+from .machine import World
 from .observing import Observer
 
 ROOM = 65_536

@@ -4,25 +4,25 @@ Misused says what is wrong with them."""
 import re
 from fnmatch import fnmatchcase
 
-from netrev_model.vocabulary import CELLS, KINDS, REASONS, Of, cell_of, number_of
+from netrev_words.vocabulary import CELLS, KINDS, REASONS, Of, cell_of, number_of
 
 from .answers_of_calls import OF_CALLS, answer_errors, arrive, taken_most, usage
-from .changes import history_table
-from .commands import ALL_TOPICS, COMMANDS, OF_NETREV, OF_NRDB, TOPICS, Origin, whole_command
-from .causes import hangs_table
-from .exploring import answer_explore
-from .holders import holders_table
-from .output import Row, Table
-from .places import descriptors_table, sockets_table, timers_table
-from .program.answers import OF_FRAMES, OF_PLACES, of_place, stack_at
-from .recorded_answers import spelled
-from .reducing import answer_reduce, answer_report
-from .session import Answering, Misused, Session
-from .suspects.table import suspects_table
-from .timeline import write_timeline, write_trace
-from .timers import timer_words
-from .waiting import goroutines_table
-from .where import stack_lines
+from ..changes import history_table
+from ..commands import ALL_TOPICS, COMMANDS, OF_NETREV, OF_NRDB, TOPICS, Origin, whole_command
+from ..causes import hangs_table
+from ..exploring import answer_explore
+from ..holders import holders_table
+from ..output import Row, Table
+from ..places import descriptors_table, sockets_table, timers_table
+from .answers_of_program import OF_FRAMES, OF_PLACES, of_place, stack_at
+from ..recorded_answers import spelled
+from ..reducing import answer_reduce, answer_report
+from ..session import Answering, Misused, Session
+from ..suspects.table import suspects_table
+from ..timeline import write_timeline, write_trace
+from ..timers import timer_words
+from ..waiting import goroutines_table
+from ..where import stack_lines
 
 ROUND = 5
 TIME = re.compile(r"(\d+(?:\.\d+)?)(ns|us|ms|s)")

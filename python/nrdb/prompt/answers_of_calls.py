@@ -2,10 +2,10 @@
 
 from typing import Optional
 
-from netrev_model.vocabulary import number_of
+from netrev_words.vocabulary import number_of
 
-from .commands import COMMANDS, TOPICS
-from .following import (
+from ..commands import COMMANDS, TOPICS
+from ..following import (
     GOALS,
     MOST,
     Stay,
@@ -16,10 +16,10 @@ from .following import (
     goroutine_at,
     steps_table,
 )
-from .netrev import Reply
-from .output import Table
-from .session import Answering, Misused, Session
-from .shapes import MOVED, move_of
+from ..netrev import Reply
+from ..output import Table
+from ..session import Answering, Misused, Session
+from ..shapes import MOVED, move_of
 
 
 def usage(name: str) -> str:

@@ -6,7 +6,9 @@ state that a recording reaches: where one breaks it, the pages contradict each o
 
 from typing import Iterator
 
-from .machine import GREATEST_COUNT, GREATEST_SEQUENCE, GREATEST_TIME, SIDES, Status, Timer, World, at
+from netrev_words.recording import GREATEST_TIME
+
+from .machine import GREATEST_COUNT, GREATEST_SEQUENCE, SIDES, Status, Timer, World, at
 from .polling import is_combo
 
 

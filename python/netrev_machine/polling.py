@@ -2,7 +2,9 @@
 
 from typing import Optional
 
-from .machine import GREATEST_SEQUENCE, GREATEST_TIME, Desc, Refused, Timer, Word, World, at, put
+from netrev_words.recording import GREATEST_TIME
+
+from .machine import GREATEST_SEQUENCE, Desc, Refused, Timer, Word, World, at, put
 
 
 def check(desc: Desc, side: str) -> int:

@@ -2,13 +2,13 @@
 
 from typing import Optional
 
-from ..answers_of_calls import arrive
+from .answers_of_calls import arrive
 from ..output import Row, Table
 from ..recording import Recording
 from ..session import Answering, Misused, Session
 from ..where import OF_THE_PROGRAM, Call, Stack
-from .index import OF_A_LINE, Place, is_file, is_place, places_of
-from .source import source_of, text_round
+from ..program.index import OF_A_LINE, Place, is_file, is_place, places_of
+from ..program.source import source_of, text_round
 
 NO_LINES = "the lines of the program aren't known: NAME.where isn't beside the recording"
 MOST = 40

@@ -1,4 +1,4 @@
-"""The model in netrev's place:  python3 python netrev_model run|check|upgrade FILE
+"""The model in netrev's place:  python3 python netrev_machine run|check|upgrade FILE
 
 It answers as the program should, as far as the model has an opinion, and is no netrev: nothing of it is proved, and it is slow
 where a recording is long. Tests of nrdb that need no built program are played with it.
@@ -7,9 +7,10 @@ where a recording is long. Tests of nrdb that need no built program are played w
 import sys
 from pathlib import Path
 
+from netrev_words.reading import Fault
+
 from .observing import Observer
 from .program import printed, replay
-from .reading import Fault
 from .session import Session, recording_of
 
 

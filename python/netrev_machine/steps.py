@@ -6,8 +6,10 @@ Answers are as docs/MACHINE.md names them, in small letters; a number, a code, `
 
 from typing import Callable
 
+from netrev_words.recording import Step
+
 from . import lockword, polling
-from .machine import GONE, GREATEST_COUNT, IDLE, Desc, Outcome, Refused, Socket, Status, Step, World, at, put
+from .machine import GONE, GREATEST_COUNT, IDLE, Desc, Outcome, Refused, Socket, Status, World, at, put
 
 Operation = Callable[..., lockword.Operated]
 

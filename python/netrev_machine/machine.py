@@ -8,8 +8,8 @@ from __future__ import annotations
 
 from typing import Any, NamedTuple, TypeVar, Union
 
-Step = tuple[Any, ...]  # the kind, and the arguments behind it
-Answer = tuple[Any, ...]  # its name, and for some a number behind it
+from netrev_words.recording import Answer, Limits
+
 Status = tuple[Any, ...]  # its name, and the numbers and the side that it has
 Word = Union[str, int]  # "nil", "ready", "wait" or a goroutine's number
 Item = TypeVar("Item")
@@ -18,7 +18,6 @@ SIDES = "rw"
 IDLE: Status = ("idle",)
 GONE: Status = ("gone",)
 INSIDE = ("entering", "armed", "parking", "parked", "swapping", "checking")
-GREATEST_TIME = 2**63 - 1
 GREATEST_SEQUENCE = 2**64 - 1
 GREATEST_COUNT = 2**32 - 1
 
@@ -29,13 +28,6 @@ class Refused(Exception):
     def __init__(self, reason: int) -> None:
         super().__init__(reason)
         self.reason = reason
-
-
-class Limits(NamedTuple):
-    gor: int
-    sock: int
-    desc: int
-    buf: int
 
 
 class Lock(NamedTuple):

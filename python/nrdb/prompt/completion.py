@@ -2,9 +2,9 @@
 
 from typing import Callable
 
-from netrev_model.vocabulary import CELLS, DUMPS, KINDS, Of
+from netrev_words.vocabulary import CELLS, DUMPS, KINDS, Of
 
-from .commands import COMMANDS, DIRECTIONS, TOPICS, Ambiguous, whole_words
+from ..commands import COMMANDS, DIRECTIONS, TOPICS, Ambiguous, whole_words
 
 NUMBERED_TOPICS = {"goroutines": Of.GOROUTINE, "sockets": Of.SOCKET, "descriptors": Of.DESCRIPTOR, "holders": Of.SOCKET}
 OF_CELL = ("print", "watch", "display", "undisplay", "history", "until", "reverse-until")

@@ -1,8 +1,8 @@
-"""What a session says, kept as text for the editor's console."""
+"""What a session says, kept as text for an editor's console or a page."""
 
 import io
 
-from ..output import TextPrinter
+from .output import TextPrinter
 
 
 class Collecting(TextPrinter):
@@ -13,7 +13,7 @@ class Collecting(TextPrinter):
         super().__init__(self.kept)
 
     def echo(self, line: str) -> None:
-        """The editor shows what was typed itself."""
+        """Whoever shows it shows what was typed itself."""
 
     def take(self) -> str:
         """What was said since the last time."""

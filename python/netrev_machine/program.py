@@ -2,14 +2,16 @@
 
 from typing import Iterable, NamedTuple, Optional
 
-from .jsontext import Doubtful
-from .machine import Answer, World
+from netrev_words.jsontext import Doubtful
+from netrev_words.reading import Fault, read_text
+from netrev_words.recording import Answer, Recording as Text
+from netrev_words.writing import write_plain
+
+from .machine import World
 from .observing import Observer
-from .reading import Fault, positions, read_text
-from .reading import Recording as Text
+from .replaying import positions
 from .session import Session, recording_of, replies_to
 from .wellformed import breaches
-from .writing import write_plain
 
 HELD = 500  # of so many positions the states are looked over
 

@@ -1,7 +1,7 @@
 """A plain model of the shared debugger, against which the replies of a session are held.
 
 `Recording` knows what stands at each position of a recording: the kinds of its steps by its text, and the replies of
-looks by one pass of `netrev run` over it. The words stand in the tables of vocabulary.py. What the commands do, and which
+looks by one pass of `netrev run` over it. The words stand in the tables of netrev_words/vocabulary.py. What the commands do, and which
 line is answered what, is the model's own, as docs/COMMANDS.md tells it: `read_line` says what a line asks for, and
 `Recording.answer` what it is answered in a state of the session, and the state behind it.
 """
@@ -16,9 +16,8 @@ from functools import lru_cache
 from pathlib import Path
 from typing import Any, Mapping, NamedTuple, Optional, Sequence
 
-from .commands import OF_NETREV, SHORT
-
-from .vocabulary import DUMPS, MOST_LINE, MOST_STANDING, break_of, cell_of, number_of
+from netrev_words.commands import OF_NETREV, SHORT
+from netrev_words.vocabulary import DUMPS, MOST_LINE, MOST_STANDING, break_of, cell_of, number_of
 
 UNKNOWN = "fault 201 unknown command"
 BAD = "fault 202 bad argument"

@@ -2,12 +2,10 @@
 
 import re
 from functools import lru_cache
-from typing import Any, Iterator, NamedTuple, Optional, Sequence
+from typing import Any, Optional
 
 from .jsontext import NoJson, read_json
-from .machine import GREATEST_TIME, Answer, Limits, Refused, Step, World
-from .observing import Observer
-from .steps import apply
+from .recording import GREATEST_TIME, Answer, Limits, Recording, Step
 from .vocabulary import HEADERS, VERSIONS, Kind, is_answer
 from .vocabulary import KINDS as OF_NRDB
 
@@ -30,15 +28,6 @@ def forms_of(kind: Kind) -> tuple[str, ...]:
 ARGUMENTS = {kind.name: forms_of(kind) for kind in OF_NRDB.values()}
 # of each version the kinds that its recordings can have
 KINDS = {version: tuple(kind.name for kind in OF_NRDB.values() if kind.since <= version) for version in VERSIONS}
-
-
-class Recording(NamedTuple):
-    """What a text says: steps as tuples, and in version 2 the recorded answer of each, as the machine's answers are."""
-
-    version: int
-    limits: Limits
-    steps: Sequence[Step]
-    answers: Sequence[Optional[Answer]]
 
 
 class Fault(Exception):
@@ -141,26 +130,3 @@ def read_text(text: bytes) -> Recording:
     if limits is None:
         raise Fault(f"line {text.count(10) + 1}: fault 101 header")
     return Recording(version, limits, steps, answers)
-
-
-def differs(recorded: Answer, answer: Answer) -> bool:
-    """Whether a recorded answer isn't the machine's."""
-    return recorded != answer
-
-
-def positions(recording: Recording, observer: Observer) -> Iterator[tuple[World, Optional[Answer]]]:
-    """The state of each position in turn with the answer that led to it, or the Fault of the first step that doesn't apply
-    or whose recorded answer is another. The observer is told what is met."""
-    world = World(recording.limits)
-    yield world, None
-    for number, (step, recorded) in enumerate(zip(recording.steps, recording.answers), 1):
-        try:
-            world, answer = apply(world, step)
-        except Refused as refused:
-            observer.refused(step[0], refused.reason)
-            raise Fault(f"step {number}: fault 107 reason {refused.reason}") from refused
-        if recorded is not None and differs(recorded, answer):
-            observer.differed(step[0], recorded, answer)
-            raise Fault(f"step {number}: fault 109 answer")
-        observer.applied(step[0], answer)
-        yield world, answer

@@ -87,6 +87,8 @@ KINDS = {
     )
 }
 
+NUMBERS = {name: number for number, name in enumerate(KINDS, 1)}  # a kind's number is its place in the table
+
 # a recorded answer is one of these names, or an array of one of those with a number
 PLAIN_ANSWERS = ("done", "yes", "no", "wait", "last", "notlast", "eof", "again", "stale", "pipe")
 COUNTED_ANSWERS = ("number", "code", "got", "put")

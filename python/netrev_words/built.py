@@ -8,10 +8,10 @@ from typing import Optional
 
 HERE = Path(__file__).resolve().parents
 BUILT = HERE[2] / "crates/netrev/out/netrev"
-INSTALLED = HERE[3] / "bin/netrev"  # by `make install`, which puts this module into lib/netrev/netrev_model
+INSTALLED = HERE[3] / "bin/netrev"  # by `make install`, which puts this module into lib/netrev/netrev_words
 
 
-LAUNCHER = b"netrev_model.launching"  # stands in the script of pip's that looks for netrev itself
+LAUNCHER = b"netrev_words.launching"  # stands in the script of pip's that looks for netrev itself
 
 
 def is_launcher(path: Path) -> bool:

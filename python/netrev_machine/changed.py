@@ -1,0 +1,54 @@
+"""Which cells the last step of a machine in place changed, read off what it keeps of the step."""
+
+from typing import Any, NamedTuple
+
+from .cells import SHOWS_ALL, SHOWS_DESC, SHOWS_GOROUTINE, SHOWS_SOCKET, Shows
+from .in_place import WHOLE, Machine
+from .machine import Timer
+
+# the lists of queues, which `dump` shows
+SHOWS_QUEUES: Shows = {"rq": lambda socket: socket.queues[0], "wq": lambda socket: socket.queues[1]}
+# (no step changes cells of a socket and of a descriptor, so `shut` comes last)
+OF_MANY: dict[str, Shows] = {"goroutines": SHOWS_GOROUTINE, "sockets": SHOWS_SOCKET, "descs": SHOWS_DESC}
+
+
+class Before(NamedTuple):
+    """Of the whole machine what was there before the step."""
+
+    clock: int
+    waiters: int
+    timers: tuple[Timer, ...]
+    firings: tuple[Timer, ...]
+
+
+def changed_cells(machine: Machine, with_queues: bool = False) -> list[str]:
+    """The cells that the last step changed, in the order of docs/COMMANDS.md, and of one name in that of numbers; with queues what
+    `dump rq` and `dump wq` show too, last of all."""
+    whole: dict[str, Any] = {}
+    first: dict[str, dict[int, Any]] = {}  # what was there before the step
+    for of, place, old in machine.changes:
+        if place == WHOLE:
+            whole.setdefault(of, old)
+        else:
+            first.setdefault(of, {}).setdefault(place, old)
+    cells = _of_all(machine, whole) if whole else []
+    for of, shows in OF_MANY.items():
+        if of in first:
+            cells += _of_many(getattr(machine, of), first[of], shows)
+    return cells + _of_many(machine.sockets, first.get("sockets", {}), SHOWS_QUEUES) if with_queues else cells
+
+
+def _of_all(machine: Machine, whole: dict[str, Any]) -> list[str]:
+    """The cells of which there is one."""
+    before = Before(*(whole.get(name, getattr(machine, name)) for name in Before._fields))
+    return [name for name, shows in SHOWS_ALL.items() if shows(before) != shows(machine)]
+
+
+def _of_many(now: list[Any], before: dict[int, Any], shows: Shows) -> list[str]:
+    """The cells of goroutines, sockets or descriptors, of those that were changed or made."""
+    return [
+        f"{name} {place}"
+        for name, show in shows.items()
+        for place in sorted(before)
+        if before[place] is None or show(before[place]) != show(now[place])
+    ]

@@ -1,0 +1,147 @@
+"""The machine, changed in place: steps.py's 31 functions run over it as over a World, which it reads as. It keeps what each step
+changed. So a step that is refused leaves nothing, the last steps can be undone, and whoever asks what a step changed asks here."""
+
+from __future__ import annotations
+
+from collections import deque
+from typing import Any, NamedTuple, Optional
+
+from netrev_words.recording import Answer, Limits, Step
+
+from .machine import IDLE, INSIDE, Desc, Refused, Socket, Status, Timer, World
+from .steps import OF_KIND
+
+ONE_OF_MANY = ("goroutines", "sockets", "descs")
+WHOLE = -1  # the place of what isn't one of many
+
+
+class Change(NamedTuple):
+    """What was changed, and what was there before: of goroutines, sockets and descriptors the one at a place, where None says that it
+    was made; of all else the whole."""
+
+    of: str
+    place: int
+    old: Any
+
+
+Changes = list[Change]  # of one step, in their order
+
+
+class Machine:
+    """The state, and what the last steps changed: so many as it is to remember."""
+
+    __slots__ = (*World._fields, "steps", "_changes", "_seats")
+
+    def __init__(self, limits: Limits, remembers: Optional[int] = 1) -> None:
+        self.limits = limits
+        self.clock, self.waiters, self.next_number = 0, 0, 1
+        self.goroutines: list[Status] = [IDLE]
+        self.sockets: list[Socket] = []
+        self.descs: list[Desc] = []
+        self.free: tuple[int, ...] = ()
+        self.timers: tuple[Timer, ...] = ()
+        self.firings: tuple[Timer, ...] = ()
+        self.steps: deque[Changes] = deque(maxlen=remembers)  # what each of the last steps changed; None remembers all
+        self._changes: Changes = []
+        self._seats: dict[tuple[Any, ...], int] = {}  # who is inside the wait of a descriptor and side
+
+    @property
+    def changes(self) -> Changes:
+        """What the last step changed."""
+        return self.steps[-1] if self.steps else []
+
+    def step(self, step: Step) -> Answer:
+        """Makes a step: its answer. Where it is Refused nothing has changed."""
+        changes: Changes = []
+        self._changes = changes
+        try:
+            _, answer = OF_KIND[step[0]](self, *step[1:])
+        except Refused:
+            self._lead_back(changes)
+            raise
+        self.steps.append(changes)
+        return answer
+
+    def undo(self) -> bool:
+        """Leads back over the last step: whether one is remembered."""
+        if not self.steps:
+            return False
+        self._lead_back(self.steps.pop())
+        return True
+
+    def world(self) -> World:
+        """A snapshot of it."""
+        return World(
+            self.limits, self.clock, self.waiters, self.next_number, tuple(self.goroutines), tuple(self.sockets),
+            tuple(self.descs), self.free, self.timers, self.firings,
+        )  # fmt: skip
+
+    # what the functions of steps.py ask of a World
+
+    def is_open(self, d: int) -> bool:
+        return d < len(self.descs) and d not in self.free
+
+    def inside(self, d: int, side: str) -> list[int]:
+        """The goroutines that are inside the wait of a descriptor and side: one at most."""
+        g = self._seats.get((d, side))
+        return [] if g is None else [g]
+
+    def with_status(self, g: int, status: Status) -> Machine:
+        self._changes.append(Change("goroutines", g, self.goroutines[g]))
+        self._sits(g, status)
+        return self
+
+    def with_socket(self, s: int, **changes: Any) -> Machine:
+        old = self.sockets[s]
+        self._changes.append(Change("sockets", s, old))
+        self.sockets[s] = old._replace(**changes)
+        return self
+
+    def with_desc(self, d: int, **changes: Any) -> Machine:
+        old = self.descs[d]
+        self._changes.append(Change("descs", d, old))
+        self.descs[d] = old._replace(**changes)
+        return self
+
+    def _replace(self, **changes: Any) -> Machine:
+        for name, value in changes.items():
+            old = getattr(self, name)
+            if name in ONE_OF_MANY:
+                self._put_all(name, old, value)
+            else:
+                self._changes.append(Change(name, WHOLE, old))
+                setattr(self, name, value)
+        return self
+
+    def _put_all(self, name: str, old: list[Any], items: tuple[Any, ...]) -> None:
+        """Has these goroutines, sockets or descriptors: one more than there were, or others of them."""
+        if len(items) != len(old):
+            self._changes.append(Change(name, len(old), None))
+            old.extend(items[len(old) :])
+            return
+        for place, item in enumerate(items):
+            if item is not old[place]:
+                self._changes.append(Change(name, place, old[place]))
+                old[place] = item
+
+    def _sits(self, g: int, status: Status) -> None:
+        """Gives a goroutine a status, and knows who is inside a wait then."""
+        old = self.goroutines[g]
+        if old[0] in INSIDE:
+            del self._seats[old[1:]]
+        if status[0] in INSIDE:
+            self._seats[status[1:]] = g
+        self.goroutines[g] = status
+
+    def _lead_back(self, changes: Changes) -> None:
+        """Leads back over these changes, from the last to the first."""
+        for of, place, old in reversed(changes):
+            if place == WHOLE:
+                setattr(self, of, old)
+            elif old is None:
+                getattr(self, of).pop()
+            elif of == "goroutines":
+                self._sits(place, old)
+            else:
+                getattr(self, of)[place] = old
+        changes.clear()

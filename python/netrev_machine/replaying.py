@@ -1,0 +1,33 @@
+"""A recording that was read, step by step through the machine."""
+
+from typing import Iterator, Optional
+
+from netrev_words.reading import Fault
+from netrev_words.recording import Answer, Recording
+
+from .machine import Refused, World
+from .observing import Observer
+from .steps import apply
+
+
+def differs(recorded: Answer, answer: Answer) -> bool:
+    """Whether a recorded answer isn't the machine's."""
+    return recorded != answer
+
+
+def positions(recording: Recording, observer: Observer) -> Iterator[tuple[World, Optional[Answer]]]:
+    """The state of each position in turn with the answer that led to it, or the Fault of the first step that doesn't apply
+    or whose recorded answer is another. The observer is told what is met."""
+    world = World(recording.limits)
+    yield world, None
+    for number, (step, recorded) in enumerate(zip(recording.steps, recording.answers), 1):
+        try:
+            world, answer = apply(world, step)
+        except Refused as refused:
+            observer.refused(step[0], refused.reason)
+            raise Fault(f"step {number}: fault 107 reason {refused.reason}") from refused
+        if recorded is not None and differs(recorded, answer):
+            observer.differed(step[0], recorded, answer)
+            raise Fault(f"step {number}: fault 109 answer")
+        observer.applied(step[0], answer)
+        yield world, answer

@@ -1,0 +1,33 @@
+"""Scripts that play the built program or look over the tree: each is a test, and says what it does itself.
+
+What one leaves out for want of a tool it says in a line for each: `left out: NAME: WHY`. Then it is skipped for that, and not passed."""
+
+import shlex
+import subprocess
+
+import pytest
+
+from .sharing import ROOT
+
+LEFT_OUT = "left out: "
+SCRIPTS = (
+    pytest.param("sh scripts/refused.sh", marks=pytest.mark.long),
+    pytest.param("python3 python netrev_go.real --gate", marks=pytest.mark.long),
+    pytest.param("sh scripts/lint.sh --if-there", marks=pytest.mark.long),
+    "sh scripts/agree.sh",
+    "python3 scripts/pages.py",
+    "python3 scripts/surface.py",
+    pytest.param("sh examples/play_all.sh", marks=pytest.mark.alone),
+)
+
+
+@pytest.mark.parametrize("command", SCRIPTS)
+def test_script(command: str) -> None:
+    ran = subprocess.run(
+        shlex.split(command), cwd=ROOT, stdout=subprocess.PIPE, stderr=subprocess.STDOUT, text=True, errors="replace"
+    )
+    print(ran.stdout)
+    assert ran.returncode == 0
+    left_out = [line.removeprefix(LEFT_OUT) for line in ran.stdout.splitlines() if line.startswith(LEFT_OUT)]
+    if left_out:
+        pytest.skip("; ".join(left_out))
