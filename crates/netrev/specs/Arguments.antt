@@ -6,6 +6,7 @@ use Rattle.clap.specs.Words.{App, Row, Rule, Text, fault_of, first_of, new_app, 
 use Rattle.clap.specs.Simple.{on_top}
 use Rattle.clap.specs.declared.error.kind.ErrorKind.{ErrorKind}
 use Rattle.clap.specs.declared.error.kind.ErrorKind.TheVariants as kind
+use Rattle.nr_rev.specs.Refusing.{refused_memory}
 use Rattle.nr_command.specs.Command.{number_of}
 use Rattle.nr_command.specs.Count.{from_one}
 use Rattle.nr_programs.specs.Sharing.{is_in_range}
@@ -118,13 +119,13 @@ file_of (program.Serve file sharing) = file.now
 
 -- `Memory` where the error is out of memory, and `Usage` where it is any other
 abbrev pub fault_of_kind : ErrorKind → ArgumentsFault
-fault_of_kind kind.OutOfMemory = fault.Memory
+fault_of_kind kind.OutOfMemory = fault.Memory refused_memory
 fault_of_kind _ = fault.Usage
 
 -- usage is reported only of arguments that ask for no program
 abbrev pub IsArgumentsFault : List Text → ArgumentsFault → Type 0
 IsArgumentsFault arguments fault.Usage = (program : Program) → ¬ Asks arguments program
-IsArgumentsFault arguments fault.Memory = Unit {0}
+IsArgumentsFault arguments (fault.Memory refused) = Unit {0}
 
 -- what is found names this program, or no program
 abbrev pub IsNamed : Option (Text × List Row) → Option Program → Type 0

@@ -2,10 +2,12 @@
 use Rattle.std.specs.Prelude.{◌≡◌, ℕ, true, List, ◌++◌, take, codes}
 use Rattle.std.specs.declared.io.ErrorKind.{ErrorKind}
 use Rattle.std.specs.declared.io.ErrorKind.TheVariants as kind
+use Rattle.nr_rev.specs.Refusing.{refused_memory}
 use Rattle.nr_text.specs.Streams.{Incoming, Outgoing, Sends}
 use Rattle.nr_recording.specs.Faults.{memory_line}
 use Rattle.nr_serving.specs.Conversations.{FrontsLog}
-use Rattle.nr_programs.specs.Run.{Checks, EndsPrinting, Runs}
+use Rattle.nr_programs.specs.Run.{EndsPrinting}
+use Rattle.nr_programs.specs.Auxiliary.Run.{Checks}
 use Rattle.nr_programs.specs.Serving.{ServesAll}
 use Rattle.nr_programs.specs.Sharing.{is_in_range}
 use Rattle.nr_programs.specs.Transcript.{RunsTranscript}
@@ -22,11 +24,11 @@ use Rattle.netrev.specs.declared.arguments.ArgumentsFault.TheVariants as argumen
 -- a fault of the arguments
 abbrev pub unstarted_of_arguments : ArgumentsFault → Unstarted
 unstarted_of_arguments arguments.Usage = unstarted.Usage
-unstarted_of_arguments arguments.Memory = unstarted.Memory
+unstarted_of_arguments (arguments.Memory refused) = unstarted.Memory refused
 
 -- `Memory` where the error is out of memory, and the other reason where it is any other
 abbrev pub unstarted_by : ErrorKind → Unstarted → Unstarted
-unstarted_by kind.OutOfMemory other = unstarted.Memory
+unstarted_by kind.OutOfMemory other = unstarted.Memory refused_memory
 unstarted_by _ other = other
 
 -- how netrev is called
@@ -50,8 +52,7 @@ IsInRange (program.Serve file sharing) = is_in_range sharing ≡ true
 abbrev pub Plays : Program → List ℕ → Incoming → Incoming → FrontsLog → FrontsLog → Outgoing
     → Outgoing → ExitStatus → Type 0
 Plays (program.Run file) bytes input left before after old new status =
-    (after ≡ before) × Runs bytes input left old new status
-    × RunsTranscript bytes input left old new status
+    (after ≡ before) × RunsTranscript bytes input left old new status
 Plays (program.Check file) bytes input left before after old new status =
     (left ≡ input) × (after ≡ before) × Checks bytes old new status
 Plays (program.Upgrade file) bytes input left before after old new status =
@@ -66,7 +67,7 @@ abbrev pub PrintsUnstarted : Unstarted → Outgoing → Outgoing → Outgoing �
 PrintsUnstarted unstarted.Usage old new before after status =
     (status ≡ statuses.Usage) × (new ≡ old)
     × ((n : ℕ) × Sends before after (take n usage_text))
-PrintsUnstarted unstarted.Memory old new before after status =
+PrintsUnstarted (unstarted.Memory refused) old new before after status =
     EndsPrinting memory_line statuses.Refused old new status × (after ≡ before)
 PrintsUnstarted unstarted.File old new before after status =
     (status ≡ statuses.StreamFailed) × (new ≡ old) × (after ≡ before)

@@ -4,6 +4,7 @@ ghost use Rattle.std.specs.Prelude.{◌≡◌, ℕ, List, [], ◌∷◌, None, I
 ghost use Rattle.clap.specs.Values.{kind_of};
 ghost use Rattle.clap.specs.Words.{app_of, found_of, rows_of, subcommand_rows_of, with_rule};
 ghost use Rattle.clap.specs.declared.builder.command.Command.TheViews.{out-Command};
+ghost use Rattle.nr_rev.specs.Refusing.{refused_memory};
 ghost use Rattle.nr_programs.specs.Sharing.{is_in_range};
 ghost use Rattle.netrev.specs.Arguments.{Ask, Asks, IsNamed, IsPlain, IsArgumentsFault, fault_of_kind, file_of, file_program, netrev, number_in, option_rule, serve_program, sharing_in};
 ghost use Rattle.netrev.specs.Starting.{IsInRange};
@@ -13,6 +14,7 @@ use clap::error::ErrorKind;
 use clap::{Arg, ArgMatches, Command, Error};
 use nr_command::{from_one, number};
 use nr_programs::Sharing;
+use nr_rev::Memory;
 use std::alloc::{AllocError, Global};
 
 /// How the program is called.
@@ -55,14 +57,14 @@ pub enum ArgumentsFault {
     /// They name no program, or not just its file.
     Usage,
     /// No memory.
-    Memory,
+    Memory(Memory),
 }
 
 impl From<AllocError> for ArgumentsFault {
-    ghost from_gives = { λ _ fault. fault ≡ faults.Memory };
+    ghost from_gives = { λ _ fault. fault ≡ faults.Memory refused_memory };
 
-    fn from(_error: AllocError) -> ArgumentsFault {
-        ArgumentsFault::Memory
+    fn from(refused: AllocError) -> ArgumentsFault {
+        ArgumentsFault::Memory(refused.into())
     }
 }
 
@@ -71,7 +73,7 @@ impl From<Error> for ArgumentsFault {
 
     fn from(error: Error) -> ArgumentsFault {
         match error.kind() {
-            ErrorKind::OutOfMemory => ArgumentsFault::Memory,
+            ErrorKind::OutOfMemory => ArgumentsFault::Memory(AllocError.into()),
             _ => ArgumentsFault::Usage,
         }
     }

@@ -3,13 +3,14 @@
 ghost use Rattle.std.specs.Prelude.{◌≡◌, false, IfOk, IfErr};
 ghost use Rattle.std.specs.IoError.{error_kind};
 ghost use Rattle.netrev.specs.Starting.{IsInRange, Plays, PrintsUnstarted, unstarted_of_arguments, unstarted_by};
+ghost use Rattle.nr_rev.specs.Refusing.{refused_memory};
 ghost use Rattle.nr_programs.specs.declared.run.ExitStatus.{ExitStatus as Status};
 ghost use Rattle.netrev.specs.declared.starting.Unstarted.TheVariants as reasons;
 
 use crate::arguments::{ArgumentsFault, Program, USAGE};
 use nr_programs::{ExitStatus, check_bytes, refuse, run_bytes, serve_bytes, upgrade_bytes};
 use nr_recording::OutOfMemory;
-use nr_rev::Worlds;
+use nr_rev::{Memory, Worlds};
 use nr_serving::{LoggedPorts, Ports};
 use nr_text::{Sink, Source};
 use std::alloc::{AllocError, Global};
@@ -23,7 +24,7 @@ pub enum Unstarted {
     /// The arguments ask for no program.
     Usage,
     /// There was no memory for the arguments or the file.
-    Memory,
+    Memory(Memory),
     /// The file could not be read.
     File,
 }
@@ -34,16 +35,16 @@ impl From<ArgumentsFault> for Unstarted {
     fn from(fault: ArgumentsFault) -> Unstarted {
         match fault {
             ArgumentsFault::Usage => Unstarted::Usage,
-            ArgumentsFault::Memory => Unstarted::Memory,
+            ArgumentsFault::Memory(refused) => Unstarted::Memory(refused),
         }
     }
 }
 
 impl From<AllocError> for Unstarted {
-    ghost from_gives = { λ _ unstarted. unstarted ≡ reasons.Memory };
+    ghost from_gives = { λ _ unstarted. unstarted ≡ reasons.Memory refused_memory };
 
-    fn from(_error: AllocError) -> Unstarted {
-        Unstarted::Memory
+    fn from(refused: AllocError) -> Unstarted {
+        Unstarted::Memory(refused.into())
     }
 }
 
@@ -54,7 +55,7 @@ impl Unstarted {
         ensures { result ≡ unstarted_by kind other }
     {
         match kind {
-            ErrorKind::OutOfMemory => Unstarted::Memory,
+            ErrorKind::OutOfMemory => Unstarted::Memory(AllocError.into()),
             _ => other,
         }
     }
@@ -72,7 +73,7 @@ impl Unstarted {
                 let _printed = errors.print(&USAGE.as_bytes());
                 ExitStatus::Usage
             }
-            Unstarted::Memory => refuse(&OutOfMemory, output),
+            Unstarted::Memory(refused) => refuse(&OutOfMemory(refused), output),
             Unstarted::File => ExitStatus::StreamFailed,
         }
     }

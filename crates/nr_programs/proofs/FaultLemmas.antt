@@ -42,12 +42,12 @@ others_differ a b other =
 -- ---- one step
 
 -- a step that answers as is recorded of it has no fault
-no_fault : (n : ℕ) (recorded : Option Answer) (given : Answer) (next : World) → Agrees recorded given → step_fault n recorded (Ok (given, next)) ≡ None
+pub no_fault : (n : ℕ) (recorded : Option Answer) (given : Answer) (next : World) → Agrees recorded given → step_fault n recorded (Ok (given, next)) ≡ None
 no_fault n None given next agrees = refl
 no_fault n (Some answer) given next agrees = rw (agrees answer refl, same_as_itself given) refl
 
 -- one that answers otherwise has
-other_answer : (n : ℕ) (recorded : Option Answer) (given : Answer) (next : World) → Differs recorded given → step_fault n recorded (Ok (given, next)) ≡ Some (load.OtherAnswer n)
+pub other_answer : (n : ℕ) (recorded : Option Answer) (given : Answer) (next : World) → Differs recorded given → step_fault n recorded (Ok (given, next)) ≡ Some (load.OtherAnswer n)
 other_answer n recorded given next differs = rw (differs.1, others_differ differs.0 given differs.2) refl
 
 module _ (r : Recorded) where
@@ -56,7 +56,7 @@ module _ (r : Recorded) where
   fault_from n = first_fault (n + 1) (world_at (run_of r) n) (drop n r.steps)
 
   -- what is recorded of a step of the run
-  step_there : (n : ℕ) (step : Step) → slice_get (run_of r).steps n ≡ Some step → (s : RecordedStep) × (slice_get r.steps n ≡ Some s) × (s.step ≡ step) × (recorded_at r n ≡ s.answer)
+  pub step_there : (n : ℕ) (step : Step) → slice_get (run_of r).steps n ≡ Some step → (s : RecordedStep) × (slice_get r.steps n ≡ Some s) × (s.step ≡ step) × (recorded_at r n ≡ s.answer)
   step_there n step read = there (slice_get r.steps n) refl (sym (slice_get-map (λ (s : RecordedStep). s.step) r.steps n) ∙ read)
     where
       there : (o : Option RecordedStep) → slice_get r.steps n ≡ o → option_map (λ (s : RecordedStep). s.step) o ≡ Some step → (s : RecordedStep) × (slice_get r.steps n ≡ Some s) × (s.step ≡ step) × (recorded_at r n ≡ s.answer)
@@ -164,7 +164,7 @@ module _ (r : Recorded) where
 
   -- the fault of a recording
   pub fault_found : (f : LoadFault) → IsStepFault r f → fault_from r 0 ≡ Some f
-  fault_found load.Memory is = absurd is
+  fault_found (load.Memory refused) is = absurd is
   fault_found (load.Refused step reason) is = refused_found (step - 1) reason is.2 is.3 ∙ ap (λ n. Some (load.Refused n reason)) (omega (arith, is.0))
   fault_found (load.OtherAnswer step) is = other_found (step - 1) is.1 ∙ ap (λ n. Some (load.OtherAnswer n)) (omega (arith, is.0))
 
@@ -178,15 +178,15 @@ opened_good bytes run is =
 
 -- a fault that isn't out of memory
 abbrev pub IsOwn : OpenFault → Type 0
-IsOwn (Read read.Memory) = ⊥
-IsOwn (Load load.Memory) = ⊥
+IsOwn (Read (read.Memory refused)) = ⊥
+IsOwn (Load (load.Memory refused)) = ⊥
 IsOwn fault = Unit {0}
 
 -- a faulty one as its first fault
 pub opened_faulty : (bytes : List ℕ) (fault : OpenFault) → IsOwn fault → IsFirstFault bytes fault → opened bytes ≡ Err fault
-opened_faulty bytes (Read read.Memory) own is = absurd own
+opened_faulty bytes (Read (read.Memory refused)) own is = absurd own
 opened_faulty bytes (Read (read.Line n f)) own is = ap opened_as is
-opened_faulty bytes (Load load.Memory) own is = absurd own
+opened_faulty bytes (Load (load.Memory refused)) own is = absurd own
 opened_faulty bytes (Load (load.Refused step reason)) own is =
     ap opened_as (reading_again bytes is.0 is.1) ∙ ap (λ f. run_or f is.0) (fault_found is.0 (load.Refused step reason) is.2)
 opened_faulty bytes (Load (load.OtherAnswer step)) own is =

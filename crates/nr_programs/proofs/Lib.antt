@@ -1,5 +1,7 @@
 pub mod AcceptedLemmas
+pub mod AloneLemmas
 pub mod FaultLemmas
+pub mod ChangesLemmas
 pub mod LieLemmas
 pub mod OpeningLemmas
 pub mod PlacedLemmas

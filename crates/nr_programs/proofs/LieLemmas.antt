@@ -1,11 +1,9 @@
 -- What no caller is sent, and no run writes.
-use Rattle.std.proofs.Common.{◌≡◌, ◌⊎◌, inl, inr, ◌∙◌, ℕ, codes, false, true, List, [], ◌∷◌, None, Ok, refl, sym, ap}
+use Rattle.std.proofs.Common.{◌≡◌, inl, inr, ◌∙◌, ℕ, codes, false, true, List, [], ◌∷◌, None, Ok, refl, sym, ap}
 use Rattle.std.specs.List.{All}
 use Rattle.std.proofs.lemmas.List.Elements.{All-head}
 use Rattle.nr_rev.specs.Run.{Recording}
-use Rattle.nr_text.specs.Moments.{Moment}
-use Rattle.nr_text.specs.Streams.{IsOver, unread, unwritten}
-use Rattle.nr_lines.specs.Engine.{has_quit}
+use Rattle.nr_text.specs.Auxiliary.Streams.{unread, unwritten}
 use Rattle.nr_lines.specs.declared.ending.End.TheVariants.{Closed, Quit}
 use Rattle.nr_programs.specs.Opening.{opened}
 use Rattle.nr_programs.specs.Shared.{HeardOut, IsAnswered}
@@ -39,8 +37,8 @@ pub lie_no_run : (recording : List ℕ) (r : Recording) → opened recording ≡
     (record { remaining = None; received = []; ended = true; failed = false; moments = [] }) (unwritten None)
     (record { contents = None; sent = 65 ∷ []; failed = false }) Done)
 lie_no_run recording r is t =
-    let w : 65 ∷ [] ≡ transcript_by recording true t.commands t.met = t.writes.sent ∙ t.whole refl in
-    let e : transcript_by recording true t.commands t.met ≡ transcript_by recording true [] t.met =
-    ap (λ c. transcript_by recording true c t.met) (sym t.reads.received) in
-    let f : transcript_by recording true [] t.met ≡ [] = ap (λ o. replies_over o true [] t.met) is in
+    let w : 65 ∷ [] ≡ transcript_by recording true t.commands t.supplies = t.writes.sent ∙ t.whole refl in
+    let e : transcript_by recording true t.commands t.supplies ≡ transcript_by recording true [] t.supplies =
+    ap (λ c. transcript_by recording true c t.supplies) (sym t.reads.received) in
+    let f : transcript_by recording true [] t.supplies ≡ [] = ap (λ o. replies_over o true [] t.supplies) is in
     absurd (let same : 65 ∷ [] ≡ [] = w ∙ e ∙ f in cc)

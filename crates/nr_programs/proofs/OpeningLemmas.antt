@@ -40,11 +40,11 @@ no_step_fault bytes r s fault is text faulty =
 
 -- out of memory is all that it can report
 only_memory : (bytes : List ℕ) (fault : OpenFault) (r : Recording) → IsFirstFault bytes fault → IsGoodText bytes r → fault_line fault ≡ memory_line
-only_memory bytes (Read read.Memory) r first is = refl
+only_memory bytes (Read (read.Memory refused)) r first is = refl
 only_memory bytes (Read (read.Line n fault)) r first is =
     let again = reading_again bytes is.recorded is.text in
     cc
-only_memory bytes (Load load.Memory) r first is = refl
+only_memory bytes (Load (load.Memory refused)) r first is = refl
 only_memory bytes (Load (load.Refused n reason)) r first is = absurd (no_step_fault bytes r first.0 (load.Refused n reason) is first.1 first.2)
 only_memory bytes (Load (load.OtherAnswer n)) r first is = absurd (no_step_fault bytes r first.0 (load.OtherAnswer n) is first.1 first.2)
 

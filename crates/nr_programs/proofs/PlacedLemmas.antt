@@ -13,8 +13,10 @@ use Rattle.nr_command.specs.declared.command.Line.{Line}
 use Rattle.nr_command.specs.declared.command.Line.TheVariants as lines
 use Rattle.nr_command.specs.declared.command.LineFault.{LineFault}
 use Rattle.nr_lines.specs.Turn.{is_quit}
-use Rattle.nr_programs.specs.Shared.{MeetsOthers, own_word, placed_words, words_seen}
-use Rattle.nr_programs.specs.Transcript.{Met, SessionState, Supply, enough, line_answer, next_met, no_memory, no_memory_to_search, no_room}
+use Rattle.nr_programs.specs.Shared.{MeetsOthers, own_word, words_seen}
+use Rattle.nr_programs.specs.Auxiliary.Shared.{placed_words}
+use Rattle.nr_programs.specs.Among.{Met, answer_among, next_met}
+use Rattle.nr_programs.specs.Transcript.{SessionState, Supply, enough, no_memory, no_memory_to_search, no_room}
 
 differs : (a b : ℕ) → a ≢ b → nat_eq a b ≡ false
 differs a b h = elim (eqb_tells a b) as (λ _. nat_eq a b ≡ false) [ inl same ↦ absurd (h same.1) | inr other ↦ other.0 ]
@@ -79,7 +81,7 @@ module _ (tag : ℕ) (fits : tag < 256) where
   own_words r s (line ∷ ls) met all =
       let asked = meaning_of line in
       let m = next_met met in
-      let a = line_answer r s.owed asked m s in
+      let a = answer_among r s.owed asked m s in
       let own = own_word tag s.owed asked m.supply in
       let later = cond (is_quit asked) [] (words_seen tag r a.1 ls (drop 1 met)) in
       filter-append is_own (m.others ++ own) later

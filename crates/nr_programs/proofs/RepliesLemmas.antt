@@ -15,8 +15,10 @@ use Rattle.nr_command.specs.declared.command.Line.TheVariants as lines
 use Rattle.nr_command.specs.declared.command.LineFault.{LineFault}
 use Rattle.nr_command.specs.Command.{meaning_of}
 use Rattle.nr_front.specs.FrontState.{FrontState}
-use Rattle.nr_lines.specs.Engine.{Answered, AnswersLines, ArePrompt, IsPrompt, Quitted, Turns, WrittenInPart, has_quit, is_read_failure, is_write_failure, lines_of, whole_lines}
-use Rattle.nr_lines.specs.Turn.{Turn, is_quit, text_or_none}
+use Rattle.nr_lines.specs.Engine.{has_quit, lines_of}
+use Rattle.nr_lines.specs.Auxiliary.Engine.{Answered, AnswersLines, ArePrompt, IsPrompt, Quitted, Turns, WrittenInPart, is_read_failure, is_write_failure, whole_lines}
+use Rattle.nr_lines.specs.Turn.{is_quit, text_or_none}
+use Rattle.nr_lines.specs.Auxiliary.Turn.{Turn}
 use Rattle.nr_lines.specs.declared.ending.End.{End}
 use Rattle.nr_lines.specs.declared.ending.End.TheVariants.{Closed, Quit}
 use Rattle.nr_lines.specs.declared.ending.LineEnd.{LineEnd}
@@ -26,14 +28,17 @@ use Rattle.nr_lines.proofs.LineLemmas.{lines_at_end}
 use Rattle.nr_recording.specs.declared.fault.ReadFault.TheVariants as read
 use Rattle.nr_snaps.specs.declared.fault.LoadFault.TheVariants as load
 use Rattle.nr_programs.specs.Opening.{IsFirstFault, IsGoodText, fault_line, opened}
-use Rattle.nr_programs.specs.Run.{PrintsFault, Walks, status_after}
+use Rattle.nr_programs.specs.Run.{PrintsFault}
+use Rattle.nr_programs.specs.Auxiliary.Run.{Walks, status_after}
 use Rattle.nr_programs.specs.Shared.{MeetsOthers, StartsList, words_seen, words_with}
-use Rattle.nr_programs.specs.Transcript.{AllMayMeet, JournalSize, MayMeet, Met, RunsTranscript, UnlessQuit, SessionState, Transcribes, WasPrompt, calm, journal_of_one, line_answer, next_met, replies, replies_over, start, status_of, texts, transcript_by}
+use Rattle.nr_programs.specs.Among.{AllMayMeet, MayMeet, Met, answer_among, calm, next_met, replies_among, texts_among}
+use Rattle.nr_programs.specs.Transcript.{AllMayHave, JournalSize, RunsTranscript, UnlessQuit, SessionState, Supply, Transcribes, WasPrompt, enough, journal_of_one, line_answer, replies, replies_over, start, status_of, texts, transcript_by}
 use Rattle.nr_programs.specs.declared.opening.OpenFault.{OpenFault}
 use Rattle.nr_programs.specs.declared.opening.OpenFault.TheVariants.{Load}
 use Rattle.nr_programs.specs.declared.opening.OpenFault.TheVariants as openings
 use Rattle.nr_programs.specs.declared.run.ExitStatus.{ExitStatus}
 use Rattle.nr_programs.specs.declared.run.ExitStatus.TheVariants.{Done, Refused, StreamFailed}
+use Rattle.nr_programs.proofs.AloneLemmas.{MeetsNoOther, all_may_alone, replies_alone, supplies_of}
 use Rattle.nr_programs.proofs.FaultLemmas.{IsOwn, opened_faulty, opened_good}
 use Rattle.nr_programs.proofs.TranscriptLemmas.{IsInState, line_given, same_size, size_of}
 
@@ -48,7 +53,7 @@ record Goes (r : Recording) (s : SessionState) (d : FrontState) (line text : Lis
   pub there : IsInState r after d'
   pub company : d'.pass_state.passes ≡ d.pass_state.passes
   pub no_others : d.pass_state.passes ≡ 1 → met.others ≡ []
-  pub text_is : (lines : List (List ℕ)) (more : List Met) → texts r s (line ∷ lines) (met ∷ more) ≡ text ∷ cond (is_quit (meaning_of line)) [] (texts r after lines more)
+  pub text_is : (lines : List (List ℕ)) (more : List Met) → texts_among r s (line ∷ lines) (met ∷ more) ≡ text ∷ cond (is_quit (meaning_of line)) [] (texts_among r after lines more)
   pub tag : d'.pass_state.tag ≡ d.pass_state.tag
   pub seen : d'.pass_state.seen ≡ d.pass_state.seen ++ words_with d.pass_state.tag s.owed (meaning_of line) met
   pub words_are : (tag : ℕ) (lines : List (List ℕ)) (more : List Met)
@@ -62,14 +67,14 @@ record Goes (r : Recording) (s : SessionState) (d : FrontState) (line text : Lis
 goes : (r : Recording) (s : SessionState) (d : FrontState) (line text : List ℕ) (d' : FrontState) → IsInState r s d → Turn d line text d' → Goes r s d line text d'
 goes r s d line text d' here turn =
     let given = line_given r s d here (meaning_of line) turn.0 d' turn.1 in
-    let a = line_answer r s.owed (meaning_of line) given.met s in
+    let a = answer_among r s.owed (meaning_of line) given.met s in
     record {
       met = given.met;
       after = a.1;
       there = given.there;
       company = given.company;
       no_others = given.no_others;
-      text_is = λ lines more. ap (λ (t : List ℕ). t ∷ cond (is_quit (meaning_of line)) [] (texts r a.1 lines more)) (ap text_or_none given.reply_is ∙ sym turn.2);
+      text_is = λ lines more. ap (λ (t : List ℕ). t ∷ cond (is_quit (meaning_of line)) [] (texts_among r a.1 lines more)) (ap text_or_none given.reply_is ∙ sym turn.2);
       tag = given.tag;
       seen = given.seen;
       words_are = λ tag lines more. refl;
@@ -83,10 +88,6 @@ neither : (a b : Bool) → (a || b) ≡ false → (a ≡ false) × (b ≡ false)
 neither true b e = cc
 neither false b e = (refl, e)
 
--- nothing of others is met
-abbrev pub MeetsNoOther : Met → Type 0
-MeetsNoOther m = m.others ≡ []
-
 -- lines none of which is quit
 record GoOn (r : Recording) (s : SessionState) (d : FrontState) (lines given : List (List ℕ)) (d' : FrontState) : Type 0 where
   pub met : List Met
@@ -94,7 +95,7 @@ record GoOn (r : Recording) (s : SessionState) (d : FrontState) (lines given : L
   pub there : IsInState r after d'
   pub company : d'.pass_state.passes ≡ d.pass_state.passes
   pub no_others : d.pass_state.passes ≡ 1 → All MeetsNoOther met
-  pub texts_are : (later : List (List ℕ)) (more : List Met) → texts r s (lines ++ later) (met ++ more) ≡ given ++ texts r after later more
+  pub texts_are : (later : List (List ℕ)) (more : List Met) → texts_among r s (lines ++ later) (met ++ more) ≡ given ++ texts_among r after later more
   pub tag : d'.pass_state.tag ≡ d.pass_state.tag
   pub words : List ℕ
   pub seen : d'.pass_state.seen ≡ d.pass_state.seen ++ words
@@ -141,7 +142,7 @@ go_on r s d (line ∷ lines) (text ∷ given) d' here none h =
       there = rest.there;
       company = rest.company ∙ one.company;
       no_others = λ alone. All-cons MeetsNoOther one.met rest.met (one.no_others alone) (rest.no_others (one.company ∙ alone));
-      texts_are = λ later more. one.text_is (lines ++ later) (rest.met ++ more) ∙ ap (λ q. text ∷ cond q [] (texts r one.after (lines ++ later) (rest.met ++ more))) no.0
+      texts_are = λ later more. one.text_is (lines ++ later) (rest.met ++ more) ∙ ap (λ q. text ∷ cond q [] (texts_among r one.after (lines ++ later) (rest.met ++ more))) no.0
           ∙ ap (λ (l : List (List ℕ)). text ∷ l) (rest.texts_are later more);
       tag = rest.tag ∙ one.tag;
       words = here_words ++ rest.words;
@@ -193,9 +194,9 @@ lines_behind ended text front line back split =
 pub record Replied (r : Recording) (s : SessionState) (d d' : FrontState) (from : Incoming) (old : Outgoing) (moments : List Moment) (lines : List (List ℕ)) (out : List ℕ) (says : List Met → Type 0) : Type 0 where
   pub met : List Met
   pub ran : List (List ℕ)
-  pub prompt : ArePrompt from old moments ran (texts r s ran met)
+  pub prompt : ArePrompt from old moments ran (texts_among r s ran met)
   pub first : StartsList lines ran
-  pub nothing_else : StartsWith (concat (texts r s ran met)) out
+  pub nothing_else : StartsWith (concat (texts_among r s ran met)) out
   pub seen : d'.pass_state.seen ≡ d.pass_state.seen ++ words_seen d.pass_state.tag r s ran met
   pub tag : d'.pass_state.tag ≡ d.pass_state.tag
   pub theirs : All (MeetsOthers d.pass_state.tag) met
@@ -224,11 +225,11 @@ seen_with r s d front line given text mid d' on last =
 
 -- the texts of lines and of one more
 texts_with : (r : Recording) (s : SessionState) (d : FrontState) (front : List (List ℕ)) (line : List ℕ) (given : List (List ℕ)) (text : List ℕ) (mid d' : FrontState) (on : GoOn r s d front given mid)
-    → (last : Goes r on.after mid line text d') → texts r s (front ++ line ∷ []) (on.met ++ last.met ∷ []) ≡ given ++ text ∷ []
+    → (last : Goes r on.after mid line text d') → texts_among r s (front ++ line ∷ []) (on.met ++ last.met ∷ []) ≡ given ++ text ∷ []
 texts_with r s d front line given text mid d' on last =
     on.texts_are (line ∷ []) (last.met ∷ []) ∙ ap (λ (l : List (List ℕ)). given ++ l) (last.text_is [] [] ∙ ap (λ (l : List (List ℕ)). text ∷ l) (none_behind (is_quit (meaning_of line))))
   where
-    none_behind : (quits : Bool) → cond quits [] (texts r last.after [] []) ≡ []
+    none_behind : (quits : Bool) → cond quits [] (texts_among r last.after [] []) ≡ []
     none_behind true = refl
     none_behind false = refl
 
@@ -254,7 +255,7 @@ unless_calm false later = later
 calm_may : (r : Recording) (journal : JournalSize) (s : SessionState) (lines : List (List ℕ)) → AllMayMeet r journal s lines []
 calm_may r journal s [] = tt
 calm_may r journal s (line ∷ lines) =
-    (calm_one r journal s s.owed (meaning_of line), unless_calm (is_quit (meaning_of line)) (calm_may r journal (line_answer r s.owed (meaning_of line) calm s).1 lines))
+    (calm_one r journal s s.owed (meaning_of line), unless_calm (is_quit (meaning_of line)) (calm_may r journal (answer_among r s.owed (meaning_of line) calm s).1 lines))
 
 -- so may lines and one more
 may_with : (r : Recording) (s : SessionState) (d : FrontState) (front : List (List ℕ)) (line : List ℕ) (given : List (List ℕ)) (text : List ℕ) (mid d' : FrontState) (on : GoOn r s d front given mid)
@@ -268,18 +269,18 @@ may_with r s d front line given text mid d' on last later all is then =
 module _ (r : Recording) (s : SessionState) (d d' : FrontState) (here : IsInState r s d) (from : Incoming) (old : Outgoing) (moments : List Moment) (read out : List ℕ) where
   -- all lines were answered
   pub all_answered : (ended : Bool) → Answered (ArePrompt from old moments) d (lines_of ended read) out d'
-      → Replied r s d d' from old moments (lines_of ended read) out (λ met. out ≡ replies r s ended read met)
+      → Replied r s d d' from old moments (lines_of ended read) out (λ met. out ≡ replies_among r s ended read met)
   all_answered ended h =
       let lines = lines_of ended read in
       let on = go_on r s d lines h.texts d' here h.no_quit h.turns in
-      let whole : texts r s lines (on.met ++ []) ≡ h.texts =
-      ap (λ (l : List (List ℕ)). texts r s l (on.met ++ [])) (sym (append-nil lines)) ∙ on.texts_are [] [] ∙ append-nil h.texts in
+      let whole : texts_among r s lines (on.met ++ []) ≡ h.texts =
+      ap (λ (l : List (List ℕ)). texts_among r s l (on.met ++ [])) (sym (append-nil lines)) ∙ on.texts_are [] [] ∙ append-nil h.texts in
       record {
         met = on.met ++ [];
         ran = lines;
         prompt = subst (ArePrompt from old moments lines) (sym whole) h.prompt;
         first = ([], sym (append-nil lines));
-        nothing_else = all_of (concat (texts r s lines (on.met ++ []))) out (h.written ∙ ap concat (sym whole));
+        nothing_else = all_of (concat (texts_among r s lines (on.met ++ []))) out (h.written ∙ ap concat (sym whole));
         seen = on.seen ∙ ap (λ (l : List ℕ). d.pass_state.seen ++ l)
             (sym (ap (λ (l : List (List ℕ)). words_seen d.pass_state.tag r s l (on.met ++ [])) (sym (append-nil lines)) ∙ on.words_are [] [] ∙ append-nil on.words));
         tag = on.tag;
@@ -295,23 +296,23 @@ module _ (r : Recording) (s : SessionState) (d d' : FrontState) (here : IsInStat
 
   -- one was quit
   pub up_to_quit : (ended : Bool) → Quitted (ArePrompt from old moments) d (lines_of ended read) out d'
-      → Replied r s d d' from old moments (lines_of true read) out (λ met. out ≡ replies r s true read met)
+      → Replied r s d d' from old moments (lines_of true read) out (λ met. out ≡ replies_among r s true read met)
   up_to_quit ended h =
       let by = ends_by d h.front h.line h.texts d' h.turns in
       let on = go_on r s d h.front by.front by.mid here h.no_quit by.turns in
       let last = goes r on.after by.mid h.line by.text d' on.there by.turn in
       let later = lines_behind ended read h.front h.line h.back h.split in
       let met = on.met ++ last.met ∷ [] in
-      let whole : texts r s (lines_of true read) met ≡ h.texts =
-      ap (λ (l : List (List ℕ)). texts r s l met) later.1 ∙ on.texts_are (h.line ∷ later.0) (last.met ∷ [])
-      ∙ ap (λ (l : List (List ℕ)). by.front ++ l) (last.text_is later.0 [] ∙ ap (λ q. by.text ∷ cond q [] (texts r last.after later.0 [])) h.quit)
+      let whole : texts_among r s (lines_of true read) met ≡ h.texts =
+      ap (λ (l : List (List ℕ)). texts_among r s l met) later.1 ∙ on.texts_are (h.line ∷ later.0) (last.met ∷ [])
+      ∙ ap (λ (l : List (List ℕ)). by.front ++ l) (last.text_is later.0 [] ∙ ap (λ q. by.text ∷ cond q [] (texts_among r last.after later.0 [])) h.quit)
       ∙ sym by.given_is in
       record {
         met = met;
         ran = h.front ++ h.line ∷ [];
         prompt = subst (ArePrompt from old moments (h.front ++ h.line ∷ [])) (by.given_is ∙ sym (texts_with r s d h.front h.line by.front by.text by.mid d' on last)) h.prompt;
         first = (later.0, later.1 ∙ sym (append_assoc h.front (h.line ∷ []) later.0));
-        nothing_else = all_of (concat (texts r s (h.front ++ h.line ∷ []) met)) out (h.written ∙ ap concat (by.given_is ∙ sym (texts_with r s d h.front h.line by.front by.text by.mid d' on last)));
+        nothing_else = all_of (concat (texts_among r s (h.front ++ h.line ∷ []) met)) out (h.written ∙ ap concat (by.given_is ∙ sym (texts_with r s d h.front h.line by.front by.text by.mid d' on last)));
         seen = seen_with r s d h.front h.line by.front by.text by.mid d' on last;
         tag = last.tag ∙ on.tag;
         table = last.table ∙ on.table;
@@ -326,15 +327,15 @@ module _ (r : Recording) (s : SessionState) (d d' : FrontState) (here : IsInStat
 
   -- a write failed in the text of one
   pub up_to_failure : (ended : Bool) (whole part : ℕ) → WrittenInPart (ArePrompt from old moments) d (lines_of ended read) whole part out d'
-      → Replied r s d d' from old moments (lines_of true read) out (λ met. StartsWith (replies r s true read met) out)
+      → Replied r s d d' from old moments (lines_of true read) out (λ met. StartsWith (replies_among r s true read met) out)
   up_to_failure ended whole part h =
       let on = go_on r s d h.front h.texts h.mid here h.no_quit h.turns in
       let last = goes r on.after h.mid h.line h.text d' on.there h.turn in
       let later = lines_behind ended read h.front h.line h.back h.split in
       let met = on.met ++ last.met ∷ [] in
-      let beyond = cond (is_quit (meaning_of h.line)) [] (texts r last.after later.0 []) in
-      let all : texts r s (lines_of true read) met ≡ h.texts ++ h.text ∷ beyond =
-      ap (λ (l : List (List ℕ)). texts r s l met) later.1 ∙ on.texts_are (h.line ∷ later.0) (last.met ∷ []) ∙ ap (λ (l : List (List ℕ)). h.texts ++ l) (last.text_is later.0 []) in
+      let beyond = cond (is_quit (meaning_of h.line)) [] (texts_among r last.after later.0 []) in
+      let all : texts_among r s (lines_of true read) met ≡ h.texts ++ h.text ∷ beyond =
+      ap (λ (l : List (List ℕ)). texts_among r s l met) later.1 ∙ on.texts_are (h.line ∷ later.0) (last.met ∷ []) ∙ ap (λ (l : List (List ℕ)). h.texts ++ l) (last.text_is later.0 []) in
       let rest = drop h.n h.text ++ concat beyond in
       let cut : h.text ++ concat beyond ≡ take h.n h.text ++ rest =
       ap (λ (t : List ℕ). t ++ concat beyond) (sym (take-append-drop h.n h.text)) ∙ append_assoc (take h.n h.text) (drop h.n h.text) (concat beyond) in
@@ -373,29 +374,29 @@ nothing_before [] b e = refl
 nothing_before (x ∷ a) b e = absurd cc
 
 -- the first texts of lines are those of the first lines
-first_texts : (r : Recording) (s : SessionState) (lines behind : List (List ℕ)) (met : List Met) (a b : List (List ℕ)) → texts r s (lines ++ behind) met ≡ a ++ b → length a ≡ length lines
-    → a ≡ texts r s lines met
+first_texts : (r : Recording) (s : SessionState) (lines behind : List (List ℕ)) (met : List Met) (a b : List (List ℕ)) → texts_among r s (lines ++ behind) met ≡ a ++ b → length a ≡ length lines
+    → a ≡ texts_among r s lines met
 first_texts r s [] behind met [] b e n = refl
 first_texts r s [] behind met (x ∷ a) b e n = absurd cc
 first_texts r s (line ∷ lines) behind met [] b e n = absurd cc
 first_texts r s (line ∷ lines) behind met (x ∷ a) b e n =
-    let given = line_answer r s.owed (meaning_of line) (next_met met) s in
+    let given = answer_among r s.owed (meaning_of line) (next_met met) s in
     let later = drop 1 met in
     let counted : length a ≡ length lines = cc in
     let first : x ≡ text_or_none given.0 = cc in
-    let rest : cond (is_quit (meaning_of line)) [] (texts r given.1 (lines ++ behind) later) ≡ a ++ b = cc in
+    let rest : cond (is_quit (meaning_of line)) [] (texts_among r given.1 (lines ++ behind) later) ≡ a ++ b = cc in
     ap (λ (t : List ℕ). t ∷ a) first
     ∙ ap (λ (l : List (List ℕ)). text_or_none given.0 ∷ l)
-    (elim (is_quit (meaning_of line)) as (λ q. cond q [] (texts r given.1 (lines ++ behind) later) ≡ a ++ b → a ≡ cond q [] (texts r given.1 lines later))
+    (elim (is_quit (meaning_of line)) as (λ q. cond q [] (texts_among r given.1 (lines ++ behind) later) ≡ a ++ b → a ≡ cond q [] (texts_among r given.1 lines later))
     [ true ↦ nothing_before a b | false ↦ λ h. first_texts r given.1 lines behind later a b h counted ] rest)
 
 -- a read was prompt: what had been sent are the replies to the whole lines that had come
-pub prompt_replies : (r : Recording) (s : SessionState) (ran : List (List ℕ)) (met : List Met) (from : Incoming) (old : Outgoing) (m : Moment) → (p : IsPrompt from old ran (texts r s ran met) m)
-    → m.sent ≡ old.sent ++ replies r s false p.read met
+pub prompt_replies : (r : Recording) (s : SessionState) (ran : List (List ℕ)) (met : List Met) (from : Incoming) (old : Outgoing) (m : Moment) → (p : IsPrompt from old ran (texts_among r s ran met) m)
+    → m.sent ≡ old.sent ++ replies_among r s false p.read met
 prompt_replies r s ran met from old m p =
     p.sent
     ∙ ap (λ (l : List (List ℕ)). old.sent ++ concat l)
-    (first_texts r s (whole_lines p.read) p.lines_behind met p.answers p.texts_behind (ap (λ (l : List (List ℕ)). texts r s l met) (sym p.of_lines) ∙ p.of_texts) p.one_each)
+    (first_texts r s (whole_lines p.read) p.lines_behind met p.answers p.texts_behind (ap (λ (l : List (List ℕ)). texts_among r s l met) (sym p.of_lines) ∙ p.of_texts) p.one_each)
 
 -- the statuses differ
 not_done : ¬ (Done ≡ StreamFailed)
@@ -415,50 +416,53 @@ quit_among (x ∷ front) line back quit =
 
 -- what a session of one read and wrote, by how it ended
 module _ (recording : List ℕ) (r : Recording) (opening : opened recording ≡ Ok r) (from left : Incoming) (old new : Outgoing) (d d' : FrontState) (here : IsInState r start d) (alone : d.pass_state.passes ≡ 1) (room : journal_room d.table ≡ 65536) where
-  over : (ended : Bool) (commands : List ℕ) (met : List Met) → transcript_by recording ended commands met ≡ replies r start ended commands met
-  over ended commands met = ap (λ o. replies_over o ended commands met) opening
+  over : (ended : Bool) (commands : List ℕ) (supplies : List Supply) → transcript_by recording ended commands supplies ≡ replies r start ended commands supplies
+  over ended commands supplies = ap (λ o. replies_over o ended commands supplies) opening
 
   never_refused : (commands : List ℕ) (fault : OpenFault) → opened recording ≡ Err fault → commands ≡ []
   never_refused commands fault e = let both = sym opening ∙ e in absurd cc
 
-  may_meet : (failed : Bool) (commands : List ℕ) (met : List Met) → left.failed ≡ failed → AllMayMeet r (size_of d) start (lines_of (not failed) commands) met → (x : Recording) → opened recording ≡ Ok x
-      → AllMayMeet x journal_of_one start (lines_of (not left.failed) commands) met
-  may_meet failed commands met is may x e =
+  may_have : (failed : Bool) (commands : List ℕ) (supplies : List Supply) → left.failed ≡ failed → AllMayHave r (size_of d) start (lines_of (not failed) commands) supplies → (x : Recording) → opened recording ≡ Ok x
+      → AllMayHave x journal_of_one start (lines_of (not left.failed) commands) supplies
+  may_have failed commands supplies is may x e =
       let same : r ≡ x = let both = sym opening ∙ e in cc in
-      subst (λ (y : Recording). AllMayMeet y journal_of_one start (lines_of (not left.failed) commands) met) same
-      (subst (λ (f : Bool). AllMayMeet r journal_of_one start (lines_of (not f) commands) met) (sym is)
-      (subst (λ (k : JournalSize). AllMayMeet r k start (lines_of (not failed) commands) met) of_one may))
+      subst (λ (y : Recording). AllMayHave y journal_of_one start (lines_of (not left.failed) commands) supplies) same
+      (subst (λ (f : Bool). AllMayHave r journal_of_one start (lines_of (not f) commands) supplies) (sym is)
+      (subst (λ (k : JournalSize). AllMayHave r k start (lines_of (not failed) commands) supplies) of_one may))
     where
       of_one : size_of d ≡ journal_of_one
       of_one = cc
 
   -- the reads were prompt
-  prompt_said : (moments : List Moment) (ran : List (List ℕ)) (met : List Met) → ArePrompt from old moments ran (texts r start ran met) → All (WasPrompt recording from old met) moments
-  prompt_said moments ran met all =
-      All-weaker (IsPrompt from old ran (texts r start ran met)) (WasPrompt recording from old met) (λ m p. record {
+  prompt_said : (moments : List Moment) (ran : List (List ℕ)) (met : List Met) → All MeetsNoOther met → ArePrompt from old moments ran (texts_among r start ran met)
+      → All (WasPrompt recording from old (supplies_of met)) moments
+  prompt_said moments ran met none all =
+      All-weaker (IsPrompt from old ran (texts_among r start ran met)) (WasPrompt recording from old (supplies_of met)) (λ m p. record {
         commands = p.read;
         received = p.received;
-        sent = prompt_replies r start ran met from old m p ∙ ap (λ (l : List ℕ). old.sent ++ l) (sym (over false p.read met));
+        sent = prompt_replies r start ran met from old m p ∙ ap (λ (l : List ℕ). old.sent ++ l) (replies_alone r start false p.read met none ∙ sym (over false p.read (supplies_of met)));
       }) moments all
 
   -- no write failed
-  whole_transcript : (status : ExitStatus) (commands written : List ℕ) (met : List Met) (failed : Bool) (moments : List Moment) → Passes from left moments → All (WasPrompt recording from old met) moments → AllMayMeet r (size_of d) start (lines_of (not failed) commands) met → All MeetsNoOther met → Receives from left commands → Sends old new written → left.failed ≡ failed
-      → new.failed ≡ false → written ≡ replies r start (not failed) commands met → status ≡ status_of (Ok r) failed false → (status ≡ Done → IsOver left ⊎ (has_quit (lines_of false commands) ≡ true))
+  whole_transcript : (status : ExitStatus) (commands written : List ℕ) (met : List Met) (failed : Bool) (moments : List Moment) → Passes from left moments → All MeetsNoOther met
+      → All (WasPrompt recording from old (supplies_of met)) moments → AllMayMeet r (size_of d) start (lines_of (not failed) commands) met → Receives from left commands → Sends old new written → left.failed ≡ failed
+      → new.failed ≡ false → written ≡ replies_among r start (not failed) commands met → status ≡ status_of (Ok r) failed false → (status ≡ Done → IsOver left ⊎ (has_quit (lines_of false commands) ≡ true))
       → Transcribes recording from left old new status
-  whole_transcript status commands written met failed moments passes prompt may no_others reads writes is unfailed all ends complete =
-      let whole : written ≡ transcript_by recording (not left.failed) commands met = all ∙ ap (λ f. replies r start (not f) commands met) (sym is) ∙ sym (over (not left.failed) commands met) in
+  whole_transcript status commands written met failed moments passes none prompt may reads writes is unfailed all ends complete =
+      let supplies = supplies_of met in
+      let whole : written ≡ transcript_by recording (not left.failed) commands supplies =
+      all ∙ replies_alone r start (not failed) commands met none ∙ ap (λ f. replies r start (not f) commands supplies) (sym is) ∙ sym (over (not left.failed) commands supplies) in
       record {
         commands = commands;
         written = written;
-        met = met;
+        supplies = supplies;
         moments = moments;
         reads = reads;
         writes = writes;
         passes = passes;
         prompt = prompt;
-        alone = no_others;
-        may = may_meet failed commands met is may;
-        begins = all_of (transcript_by recording (not left.failed) commands met) written whole;
+        may = may_have failed commands supplies is (all_may_alone r (size_of d) start (lines_of (not failed) commands) met none may);
+        begins = all_of (transcript_by recording (not left.failed) commands supplies) written whole;
         whole = λ _. whole;
         complete = complete;
         unread = never_refused commands;
@@ -470,10 +474,10 @@ module _ (recording : List ℕ) (r : Recording) (opening : opened recording ≡ 
   transcribes (Ok Closed) h read write =
       let lines : Answered (ArePrompt from old h.moments) d (lines_of true h.read) h.out d' = subst (λ e. Answered (ArePrompt from old h.moments) d (lines_of e h.read) h.out d') h.ends.0 h.ends.1 in
       let all = all_answered r start d d' here from old h.moments h.read h.out true lines in
-      whole_transcript Done h.read h.out all.met false h.moments h.passes (prompt_said h.moments all.ran all.met all.prompt) all.may (all.no_others alone) h.reads h.writes read write all.says_it refl (λ _. inl (h.at_end h.ends.0))
+      whole_transcript Done h.read h.out all.met false h.moments h.passes (all.no_others alone) (prompt_said h.moments all.ran all.met (all.no_others alone) all.prompt) all.may h.reads h.writes read write all.says_it refl (λ _. inl (h.at_end h.ends.0))
   transcribes (Ok Quit) h read write =
       let all = up_to_quit r start d d' here from old h.moments h.read h.out h.ended h.ends in
-      whole_transcript Done h.read h.out all.met false h.moments h.passes (prompt_said h.moments all.ran all.met all.prompt) all.may (all.no_others alone) h.reads h.writes read write all.says_it refl (λ _. ends_well h.ended refl)
+      whole_transcript Done h.read h.out all.met false h.moments h.passes (all.no_others alone) (prompt_said h.moments all.ran all.met (all.no_others alone) all.prompt) all.may h.reads h.writes read write all.says_it refl (λ _. ends_well h.ended refl)
     where
       ends_well : (ended : Bool) → h.ended ≡ ended → IsOver left ⊎ (has_quit (lines_of false h.read) ≡ true)
       ends_well true is = inl (h.at_end is)
@@ -481,21 +485,23 @@ module _ (recording : List ℕ) (r : Recording) (opening : opened recording ≡ 
   transcribes (Err Read) h read write =
       let lines : Answered (ArePrompt from old h.moments) d (lines_of false h.read) h.out d' = subst (λ e. Answered (ArePrompt from old h.moments) d (lines_of e h.read) h.out d') h.ends.0 h.ends.1 in
       let all = all_answered r start d d' here from old h.moments h.read h.out false lines in
-      whole_transcript StreamFailed h.read h.out all.met true h.moments h.passes (prompt_said h.moments all.ran all.met all.prompt) all.may (all.no_others alone) h.reads h.writes read write all.says_it refl (λ e. absurd (not_done (sym e)))
+      whole_transcript StreamFailed h.read h.out all.met true h.moments h.passes (all.no_others alone) (prompt_said h.moments all.ran all.met (all.no_others alone) all.prompt) all.may h.reads h.writes read write all.says_it refl (λ e. absurd (not_done (sym e)))
   transcribes (Err (Write whole part)) h read write =
       let part_of = up_to_failure r start d d' here from old h.moments h.read h.out h.ended whole part h.ends in
-      let all : transcript_by recording (not left.failed) h.read part_of.met ≡ replies r start true h.read part_of.met = over (not left.failed) h.read part_of.met ∙ ap (λ f. replies r start (not f) h.read part_of.met) read in
+      let none = part_of.no_others alone in
+      let supplies = supplies_of part_of.met in
+      let all : transcript_by recording (not left.failed) h.read supplies ≡ replies_among r start true h.read part_of.met =
+      over (not left.failed) h.read supplies ∙ ap (λ f. replies r start (not f) h.read supplies) read ∙ sym (replies_alone r start true h.read part_of.met none) in
       record {
         commands = h.read;
         written = h.out;
-        met = part_of.met;
+        supplies = supplies;
         moments = h.moments;
         reads = h.reads;
         writes = h.writes;
         passes = h.passes;
-        prompt = prompt_said h.moments part_of.ran part_of.met part_of.prompt;
-        alone = part_of.no_others alone;
-        may = may_meet false h.read part_of.met read part_of.may;
+        prompt = prompt_said h.moments part_of.ran part_of.met none part_of.prompt;
+        may = may_have false h.read supplies read (all_may_alone r (size_of d) start (lines_of true h.read) part_of.met none part_of.may);
         begins = subst (λ t. StartsWith t h.out) (sym all) part_of.says_it;
         whole = λ unfailed. absurd (true_is_false (sym write ∙ unfailed));
         complete = λ e. absurd (not_done (sym e));
@@ -524,13 +530,12 @@ fault_transcribes bytes fault from left old new status own is unfailed prints =
       | inl all ↦ record {
         commands = [];
         written = fault_line fault;
-        met = [];
+        supplies = [];
         moments = [];
         reads = unread;
         writes = all.1.0;
         passes = passes;
         prompt = All-nil (WasPrompt bytes from old []);
-        alone = All-nil MeetsNoOther;
         may = λ r good. absurd (never_good r good);
         begins = all_of (transcript_by bytes (not left.failed) [] []) (fault_line fault) (sym over);
         whole = λ _. sym over;
@@ -543,13 +548,12 @@ fault_transcribes bytes fault from left old new status own is unfailed prints =
           record {
             commands = [];
             written = take cut.n (fault_line fault);
-            met = [];
+            supplies = [];
             moments = [];
             reads = unread;
             writes = cut.out;
             passes = passes;
             prompt = All-nil (WasPrompt bytes from old []);
-            alone = All-nil MeetsNoOther;
             may = λ r good. absurd (never_good r good);
             begins = (drop cut.n (fault_line fault), over ∙ sym (take-append-drop cut.n (fault_line fault)));
             whole = λ still. absurd (true_is_false (sym cut.failed ∙ still));
@@ -562,25 +566,27 @@ fault_transcribes bytes fault from left old new status own is unfailed prints =
 -- or out of memory
 pub refused_transcribes : (bytes : List ℕ) (fault : OpenFault) (from left : Incoming) (old new : Outgoing) (status : ExitStatus) → IsFirstFault bytes fault → old.failed ≡ false
     → PrintsFault (fault_line fault) from left old new status → RunsTranscript bytes from left old new status
-refused_transcribes bytes (openings.Read read.Memory) from left old new status is unfailed prints = inr prints
+refused_transcribes bytes (openings.Read (read.Memory refused)) from left old new status is unfailed prints = inr prints
 refused_transcribes bytes (openings.Read (read.Line n f)) from left old new status is unfailed prints = inl (fault_transcribes bytes (openings.Read (read.Line n f)) from left old new status tt is unfailed prints)
-refused_transcribes bytes (Load load.Memory) from left old new status is unfailed prints = inr prints
+refused_transcribes bytes (Load (load.Memory refused)) from left old new status is unfailed prints = inr prints
 refused_transcribes bytes (Load (load.Refused step reason)) from left old new status is unfailed prints = inl (fault_transcribes bytes (Load (load.Refused step reason)) from left old new status tt is unfailed prints)
 refused_transcribes bytes (Load (load.OtherAnswer step)) from left old new status is unfailed prints = inl (fault_transcribes bytes (Load (load.OtherAnswer step)) from left old new status tt is unfailed prints)
 
--- ---- lines that meet nothing
+-- ---- lines for which there is enough
 
-texts_calm : (r : Recording) (s : SessionState) (lines : List (List ℕ)) (met : List Met) → All (λ m. m ≡ calm) met → texts r s lines met ≡ texts r s lines []
-texts_calm r s [] met all = refl
-texts_calm r s (line ∷ lines) [] all = refl
-texts_calm r s (line ∷ lines) (m ∷ met) all =
-    let a = line_answer r s.owed (meaning_of line) calm s in
-    ap (λ x. texts r s (line ∷ lines) (x ∷ met)) (All-head (λ m. m ≡ calm) m met all)
-    ∙ ap (λ (l : List (List ℕ)). text_or_none a.0 ∷ cond (is_quit (meaning_of line)) [] l) (texts_calm r a.1 lines met (All-tail (λ m. m ≡ calm) m met all))
+texts_enough : (r : Recording) (s : SessionState) (lines : List (List ℕ)) (supplies : List Supply) → All (λ supply. supply ≡ enough) supplies → texts r s lines supplies ≡ texts r s lines []
+texts_enough r s [] supplies all = refl
+texts_enough r s (line ∷ lines) [] all = refl
+texts_enough r s (line ∷ lines) (supply ∷ supplies) all =
+    let a = line_answer r s.owed (meaning_of line) enough s in
+    ap (λ x. texts r s (line ∷ lines) (x ∷ supplies)) (All-head (λ supply. supply ≡ enough) supply supplies all)
+    ∙ ap (λ (l : List (List ℕ)). text_or_none a.0 ∷ cond (is_quit (meaning_of line)) [] l) (texts_enough r a.1 lines supplies (All-tail (λ supply. supply ≡ enough) supply supplies all))
 
-replies_calm : (opening : Result Recording OpenFault) (ended : Bool) (commands : List ℕ) (met : List Met) → All (λ m. m ≡ calm) met → replies_over opening ended commands met ≡ replies_over opening ended commands []
-replies_calm (Ok r) ended commands met all = ap concat (texts_calm r start (lines_of ended commands) met all)
-replies_calm (Err fault) ended commands met all = refl
+replies_enough : (opening : Result Recording OpenFault) (ended : Bool) (commands : List ℕ) (supplies : List Supply) → All (λ supply. supply ≡ enough) supplies
+    → replies_over opening ended commands supplies ≡ replies_over opening ended commands []
+replies_enough (Ok r) ended commands supplies all = ap concat (texts_enough r start (lines_of ended commands) supplies all)
+replies_enough (Err fault) ended commands supplies all = refl
 
-pub transcript_calm : (recording : List ℕ) (ended : Bool) (commands : List ℕ) (met : List Met) → All (λ m. m ≡ calm) met → transcript_by recording ended commands met ≡ transcript_by recording ended commands []
-transcript_calm recording ended commands met all = replies_calm (opened recording) ended commands met all
+pub transcript_enough : (recording : List ℕ) (ended : Bool) (commands : List ℕ) (supplies : List Supply) → All (λ supply. supply ≡ enough) supplies
+    → transcript_by recording ended commands supplies ≡ transcript_by recording ended commands []
+transcript_enough recording ended commands supplies all = replies_enough (opened recording) ended commands supplies all

@@ -4,10 +4,11 @@ use Rattle.std.specs.Prelude.{IfOk, OnErr}
 use Rattle.nr_rev.specs.Run.{Recording}
 use Rattle.nr_text.specs.Streams.{Outgoing}
 use Rattle.nr_serving.specs.Conversations.{FrontsLog}
-use Rattle.nr_serving.specs.Session.{words_of}
+use Rattle.nr_serving.specs.Auxiliary.Session.{words_of}
 use Rattle.nr_serving.specs.declared.session.Ended.{Ended}
 use Rattle.nr_serving.specs.declared.session.Unshared.{Unshared}
-use Rattle.nr_programs.specs.Serving.{Shares, SharesAll, PrintsSession, PrintsHistory}
+use Rattle.nr_programs.specs.Serving.{Shares, SharesAll, PrintsHistory}
+use Rattle.nr_programs.specs.Auxiliary.Serving.{PrintsSession}
 use Rattle.nr_programs.specs.declared.sharing.Sharing.{Sharing}
 use Rattle.nr_programs.specs.declared.run.ExitStatus.{ExitStatus}
 

@@ -4,24 +4,30 @@ use Rattle.std.specs.List.{All, concat}
 use Rattle.std.specs.Prelude.{is_err}
 use Rattle.std.proofs.lemmas.List.Elements.{All-cons, All-head, All-nil, All-tail, All-weaker}
 use Rattle.nr_text.specs.Moments.{Moment}
-use Rattle.nr_text.specs.Streams.{IsOver, unread, unwritten}
+use Rattle.nr_text.specs.Streams.{IsOver}
+use Rattle.nr_text.specs.Auxiliary.Streams.{unread, unwritten}
 use Rattle.atomic_table.specs.Seated.{TableId}
 use Rattle.nr_rev.specs.Run.{Recording}
 use Rattle.nr_journal.specs.Rule.{Covers, StartsWith, journal_room}
 use Rattle.nr_front.specs.FrontState.{FrontState}
-use Rattle.nr_lines.specs.Engine.{Answered, ArePrompt, Ends, Grows, IsPrompt, Quitted, has_quit, is_read_failure, is_write_failure, lines_of}
+use Rattle.nr_lines.specs.Engine.{has_quit, lines_of}
+use Rattle.nr_lines.specs.Auxiliary.Engine.{Answered, ArePrompt, Ends, Grows, IsPrompt, Quitted, is_read_failure, is_write_failure}
 use Rattle.nr_lines.specs.declared.ending.End.{End}
 use Rattle.nr_lines.specs.declared.ending.End.TheVariants.{Closed, Quit}
 use Rattle.nr_lines.specs.declared.ending.LineEnd.{LineEnd}
 use Rattle.nr_lines.specs.declared.ending.LineEnd.TheVariants.{Read, Write}
 use Rattle.nr_lines.proofs.GrowLemmas.{turns_grow}
 use Rattle.nr_lines.proofs.TurnLemmas.{turns_more}
-use Rattle.nr_serving.specs.Fronts.{Course, ServesCaller, ServesCallers}
+use Rattle.nr_serving.specs.Fronts.{Course}
+use Rattle.nr_serving.specs.Auxiliary.Fronts.{ServesCaller, ServesCallers}
 use Rattle.nr_serving.specs.Conversations.{Conversation, Passed}
-use Rattle.nr_serving.specs.Session.{BeginsFresh, HasOwn, IsShared, last_pass_state}
+use Rattle.nr_serving.specs.Session.{BeginsFresh, IsShared, last_pass_state}
+use Rattle.nr_serving.specs.Auxiliary.Session.{HasOwn}
 use Rattle.nr_serving.proofs.TagLemmas.{serving_keeps_tag}
-use Rattle.nr_programs.specs.Shared.{AreAnswered, HeardOut, IsAnswered, HasRun, StartsList, tag_at_end, words_seen}
-use Rattle.nr_programs.specs.Transcript.{AllMayMeet, JournalSize, Met, SessionState, replies, start, texts}
+use Rattle.nr_programs.specs.Shared.{AreAnswered, HeardOut, IsAnswered, HasRun, StartsList, words_seen}
+use Rattle.nr_programs.specs.Auxiliary.Shared.{tag_at_end}
+use Rattle.nr_programs.specs.Among.{AllMayMeet, Met, replies_among, texts_among}
+use Rattle.nr_programs.specs.Transcript.{JournalSize, SessionState, start}
 use Rattle.nr_programs.proofs.RepliesLemmas.{Replied, all_answered, all_of, prompt_replies, quit_among, true_is_false, up_to_failure, up_to_quit}
 use Rattle.nr_programs.proofs.TranscriptLemmas.{IsInState, same_size, size_of}
 
@@ -58,39 +64,39 @@ record Goes (r : Recording) (c : Conversation) (s : SessionState) (d d' : FrontS
 -- one caller, of whom these bytes were received and to whom these were sent
 module _ (r : Recording) (c : Conversation) (s : SessionState) (d d' : FrontState) (known held : Option (List ℕ)) (moments : List Moment) (read out : List ℕ) (received : c.input.received ≡ read) (sent : c.output.sent ≡ out)
     (passes : c.input.moments ≡ moments) where
-  replies_are : (failed : Bool) (met : List Met) → c.input.failed ≡ failed → replies r s (not failed) read met ≡ replies r s (not c.input.failed) c.input.received met
-  replies_are failed met is = ap (λ (bytes : List ℕ). replies r s (not failed) bytes met) (sym received) ∙ ap (λ (f : Bool). replies r s (not f) c.input.received met) (sym is)
+  replies_are : (failed : Bool) (met : List Met) → c.input.failed ≡ failed → replies_among r s (not failed) read met ≡ replies_among r s (not c.input.failed) c.input.received met
+  replies_are failed met is = ap (λ (bytes : List ℕ). replies_among r s (not failed) bytes met) (sym received) ∙ ap (λ (f : Bool). replies_among r s (not f) c.input.received met) (sym is)
 
   lines : (failed : Bool) → c.input.failed ≡ failed → lines_of (not failed) read ≡ lines_of (not c.input.failed) c.input.received
   lines failed is = ap (λ (bytes : List ℕ). lines_of (not failed) bytes) (sym received) ∙ ap (λ (f : Bool). lines_of (not f) c.input.received) (sym is)
 
   -- the reads were prompt
-  heard_out : (ran : List (List ℕ)) (met : List Met) → ArePrompt (unread known) (unwritten held) moments ran (texts r s ran met) → All (HeardOut r s met) c.input.moments
+  heard_out : (ran : List (List ℕ)) (met : List Met) → ArePrompt (unread known) (unwritten held) moments ran (texts_among r s ran met) → All (HeardOut r s met) c.input.moments
   heard_out ran met all =
       subst (All (HeardOut r s met)) (sym passes)
-      (All-weaker (IsPrompt (unread known) (unwritten held) ran (texts r s ran met)) (HeardOut r s met)
-      (λ m p. prompt_replies r s ran met (unread known) (unwritten held) m p ∙ ap (λ (bytes : List ℕ). replies r s false bytes met) (sym p.received)) moments all)
+      (All-weaker (IsPrompt (unread known) (unwritten held) ran (texts_among r s ran met)) (HeardOut r s met)
+      (λ m p. prompt_replies r s ran met (unread known) (unwritten held) m p ∙ ap (λ (bytes : List ℕ). replies_among r s false bytes met) (sym p.received)) moments all)
 
   -- what a caller sent ends, where neither a read nor a write failed
   abbrev Complete : Type 0
   Complete = is_err c.ending ≡ false → IsOver c.input ⊎ (has_quit (lines_of false c.input.received) ≡ true)
 
   -- what was replied goes on, where what was sent begins the replies, and is all of them if no write failed
-  goes_with : (failed : Bool) (says : List Met → Type 0) → c.input.failed ≡ failed → ((met : List Met) → says met → StartsWith (replies r s (not failed) read met) out)
-      → ((met : List Met) → says met → c.output.failed ≡ false → out ≡ replies r s (not failed) read met) → Complete → Replied r s d d' (unread known) (unwritten held) moments (lines_of (not failed) read) out says
+  goes_with : (failed : Bool) (says : List Met → Type 0) → c.input.failed ≡ failed → ((met : List Met) → says met → StartsWith (replies_among r s (not failed) read met) out)
+      → ((met : List Met) → says met → c.output.failed ≡ false → out ≡ replies_among r s (not failed) read met) → Complete → Replied r s d d' (unread known) (unwritten held) moments (lines_of (not failed) read) out says
       → Goes r c s d d'
   goes_with failed says is begins whole complete all = record {
     answered = record {
       met = all.met;
       may = subst (λ (l : List (List ℕ)). AllMayMeet r (size_of d) s l all.met) (lines failed is) all.may;
       begins = subst (λ (t : List ℕ). StartsWith t c.output.sent) (replies_are failed all.met is)
-          (subst (StartsWith (replies r s (not failed) read all.met)) (sym sent) (begins all.met all.says_it));
+          (subst (StartsWith (replies_among r s (not failed) read all.met)) (sym sent) (begins all.met all.says_it));
       whole = λ calm. sent ∙ whole all.met all.says_it calm ∙ replies_are failed all.met is;
       prompt = heard_out all.ran all.met all.prompt;
       complete = complete;
       ran = all.ran;
       first = subst (λ (l : List (List ℕ)). StartsList l all.ran) (lines failed is) all.first;
-      nothing_else = subst (StartsWith (concat (texts r s all.ran all.met))) (sym sent) all.nothing_else;
+      nothing_else = subst (StartsWith (concat (texts_among r s all.ran all.met))) (sym sent) all.nothing_else;
       others = all.theirs;
     };
     after = all.after;
@@ -102,14 +108,14 @@ module _ (r : Recording) (c : Conversation) (s : SessionState) (d d' : FrontStat
   }
 
   -- no write failed
-  whole_of : (failed : Bool) → c.input.failed ≡ failed → Complete → Replied r s d d' (unread known) (unwritten held) moments (lines_of (not failed) read) out (λ met. out ≡ replies r s (not failed) read met) → Goes r c s d d'
+  whole_of : (failed : Bool) → c.input.failed ≡ failed → Complete → Replied r s d d' (unread known) (unwritten held) moments (lines_of (not failed) read) out (λ met. out ≡ replies_among r s (not failed) read met) → Goes r c s d d'
   whole_of failed is complete all =
-      goes_with failed (λ met. out ≡ replies r s (not failed) read met) is (λ met says. all_of (replies r s (not failed) read met) out says) (λ met says calm. says) complete all
+      goes_with failed (λ met. out ≡ replies_among r s (not failed) read met) is (λ met says. all_of (replies_among r s (not failed) read met) out says) (λ met says calm. says) complete all
 
   -- one failed
-  cut_of : c.input.failed ≡ false → c.output.failed ≡ true → Complete → Replied r s d d' (unread known) (unwritten held) moments (lines_of true read) out (λ met. StartsWith (replies r s true read met) out) → Goes r c s d d'
+  cut_of : c.input.failed ≡ false → c.output.failed ≡ true → Complete → Replied r s d d' (unread known) (unwritten held) moments (lines_of true read) out (λ met. StartsWith (replies_among r s true read met) out) → Goes r c s d d'
   cut_of is failed complete part =
-      goes_with false (λ met. StartsWith (replies r s true read met) out) is (λ met says. says) (λ met says calm. absurd (true_is_false (sym failed ∙ calm))) complete part
+      goes_with false (λ met. StartsWith (replies_among r s true read met) out) is (λ met says. says) (λ met says calm. absurd (true_is_false (sym failed ∙ calm))) complete part
 
   -- an end that is a failure is no good one
   never_complete : (stopped : LineEnd) → c.ending ≡ Err stopped → Complete

@@ -1,6 +1,7 @@
 -- What the lines of a front are answered is the transcript.
 use Rattle.std.proofs.Common.{◌≡◌, inl, inr, ℕ, ◌+◌, List, [], ◌∷◌, ◌++◌, length, Option, Some, None, Result, Ok, Err, refl, sym, ap, ◌∙◌, subst, append-nil, append_assoc, length-append}
 use Rattle.std.proofs.lemmas.List.{same_from_push}
+use Rattle.nr_rev.specs.Refusing.{refused_memory}
 use Rattle.nr_rev.specs.Run.{Recording}
 use Rattle.nr_command.specs.Debugger.{Searches, after_words, opening, query_reply, run}
 use Rattle.nr_command.specs.Word.{word_of}
@@ -13,7 +14,8 @@ use Rattle.nr_command.specs.declared.debugger.Debugger.{Debugger}
 use Rattle.nr_command.specs.declared.reply.Fault.TheVariants as faults
 use Rattle.nr_command.specs.declared.reply.Reply.{Reply}
 use Rattle.nr_command.specs.declared.reply.Reply.TheVariants.{NothingOwed, Bye, Fault}
-use Rattle.nr_front.specs.FrontState.{FrontState, IsAt, IsBehind, RepliesLast, own_pending, owed_command, pending_command}
+use Rattle.nr_front.specs.FrontState.{FrontState, IsAt, IsBehind}
+use Rattle.nr_front.specs.Auxiliary.FrontState.{RepliesLast, own_pending, owed_command, pending_command}
 use Rattle.nr_front.specs.Front.{Executes, IsLeftOwed, IsStillOwed, Learns, Looks, PlacesCommand, RepliesToLook, Resumes, StaysOwed, with_walker_state, without_pending}
 use Rattle.nr_front.specs.Replica.{WalkerState}
 use Rattle.nr_front.specs.declared.fault.FrontFault.{FrontFault}
@@ -21,12 +23,13 @@ use Rattle.nr_front.specs.declared.fault.FrontFault.TheVariants.{Memory, Placed,
 use Rattle.nr_front.specs.declared.pending.Pending.{Pending}
 use Rattle.nr_front.specs.declared.pending.Pending.TheVariants.{Nothing, Others, Own}
 use Rattle.nr_front.proofs.FrontStateLemmas.{after_words-append, run_last}
-use Rattle.nr_lines.specs.Turn.{MayReply, reply_given, resumed}
+use Rattle.nr_lines.specs.Auxiliary.Turn.{MayReply, reply_given, resumed}
 use Rattle.nr_journal.specs.Rule.{IsOthers, journal_room}
 use Rattle.nr_journal.specs.declared.view.PassState.{PassState}
 use Rattle.std.proofs.lemmas.List.Elements.{All-nil}
 use Rattle.nr_programs.specs.Shared.{MeetsOthers, own_word, words_with}
-use Rattle.nr_programs.specs.Transcript.{Answered, JournalSize, MayMeet, Met, SessionState, Supply, enough, no_memory, no_memory_to_search, no_room, calm, behind_others, line_answer, owing}
+use Rattle.nr_programs.specs.Among.{MayMeet, Met, answer_among, behind_others, calm}
+use Rattle.nr_programs.specs.Transcript.{Answered, JournalSize, SessionState, Supply, enough, no_memory, no_memory_to_search, no_room, owing}
 
 -- the front is in this state of the transcript
 pub record IsInState (r : Recording) (s : SessionState) (d : FrontState) : Type 0 where
@@ -45,8 +48,8 @@ same_size d d' table passes = let room : journal_room d'.table ≡ journal_room 
 -- a line may be answered so, by what it meets; and the only pass of a journal meets nothing of others
 pub record MayGive (r : Recording) (owed : Option Command) (asked : Result Line LineFault) (s : SessionState) (d : FrontState) (reply : Option Reply) (d' : FrontState) : Type 0 where
   pub met : Met
-  pub reply_is : (line_answer r owed asked met s).0 ≡ reply
-  pub there : IsInState r (line_answer r owed asked met s).1 d'
+  pub reply_is : (answer_among r owed asked met s).0 ≡ reply
+  pub there : IsInState r (answer_among r owed asked met s).1 d'
   pub company : d'.pass_state.passes ≡ d.pass_state.passes
   pub no_others : d.pass_state.passes ≡ 1 → met.others ≡ []
   pub tag : d'.pass_state.tag ≡ d.pass_state.tag
@@ -174,7 +177,7 @@ module _ (r : Recording) (s : SessionState) (d : FrontState) (here : IsInState r
   -- others' words were seen, and then there was no memory or no room
   refused : (asked : Result Line LineFault) (reply : Option Reply) (supply : Supply) (d' : FrontState) → (l : Learns d d') → own_word d.pass_state.tag None asked supply ≡ []
       → MayMeet r (size_of d) None asked (record { others = l.sees_others.0; supply = supply }) s
-      → line_answer r None asked (record { others = l.sees_others.0; supply = supply }) s ≡ (reply, behind_others r l.sees_others.0 s) → MayGive r s.owed asked s d reply d'
+      → answer_among r None asked (record { others = l.sees_others.0; supply = supply }) s ≡ (reply, behind_others r l.sees_others.0 s) → MayGive r s.owed asked s d reply d'
   refused asked reply supply d' l none may is =
       subst (λ o. MayGive r o asked s d reply d') (sym (none_owed l.unowed)) (record {
         met = record { others = l.sees_others.0; supply = supply };
@@ -192,7 +195,7 @@ module _ (r : Recording) (s : SessionState) (d : FrontState) (here : IsInState r
   -- a reply was owed, and nothing was done
   stays_owed : (asked : Result Line LineFault) (supply : Supply) (d' : FrontState) (place : ℕ) → (stays : StaysOwed d d' place)
       → MayMeet r (size_of d) (Some stays.command) asked (record { others = []; supply = supply }) s
-      → line_answer r (Some stays.command) asked (record { others = []; supply = supply }) s ≡ owing s → MayGive r s.owed asked s d (Some (Fault (faults.Placed place))) d'
+      → answer_among r (Some stays.command) asked (record { others = []; supply = supply }) s ≡ owing s → MayGive r s.owed asked s d (Some (Fault (faults.Placed place))) d'
   stays_owed asked supply d' place stays may is =
       subst (λ o. MayGive r o asked s d (Some (Fault (faults.Placed place))) d') (sym (here.owed ∙ stays.still_owed)) (record {
         met = record { others = []; supply = supply };
@@ -211,7 +214,7 @@ module _ (r : Recording) (s : SessionState) (d : FrontState) (here : IsInState r
   executed : (command : Command) (d' : FrontState) (given : Result Reply FrontFault) → Executes command d d' given → MayGive r s.owed (Ok (Run command)) s d (Some (reply_given given)) d'
   executed command d' (Ok reply) h =
       subst (λ o. MayGive r o (Ok (Run command)) s d (Some reply) d') (sym (none_owed h.places.unowed)) (command_run command d' reply h.places h.replies h.run)
-  executed command d' (Err Memory) h = refused (Ok (Run command)) (Some (Fault faults.Memory)) no_memory d' h.learns refl (λ only. h.company (h.learns.sees_others.5 ∙ only)) refl
+  executed command d' (Err (Memory _)) h = refused (Ok (Run command)) (Some (Fault (faults.Memory refused_memory))) no_memory d' h.learns refl (λ only. h.company (h.learns.sees_others.5 ∙ only)) refl
   executed command d' (Err (Placed place)) (inl left) =
       subst (λ o. MayGive r o (Ok (Run command)) s d (Some (Fault (faults.Placed place))) d') (sym (none_owed left.places.unowed)) (command_owed command d' place left)
   executed command d' (Err (Placed place)) (inr stays) = stays_owed (Ok (Run command)) enough d' place stays refl refl
@@ -246,10 +249,10 @@ module _ (r : Recording) (s : SessionState) (d : FrontState) (here : IsInState r
   looked_at : (query : Query) (d' : FrontState) (given : Result Reply FrontFault) → Looks query d d' given → MayGive r s.owed (Ok (Look query)) s d (Some (reply_given given)) d'
   looked_at query d' (Ok reply) h =
       subst (λ o. MayGive r o (Ok (Look query)) s d (Some reply) d') (sym (none_owed h.catches_all.learns.unowed)) (look_given query d' reply h)
-  looked_at query d' (Err Memory) (inl h) = refused (Ok (Look query)) (Some (Fault faults.Memory)) no_memory d' h.learns refl tt refl
-  looked_at query d' (Err Memory) (inr h) =
+  looked_at query d' (Err (Memory _)) (inl h) = refused (Ok (Look query)) (Some (Fault (faults.Memory refused_memory))) no_memory d' h.learns refl tt refl
+  looked_at query d' (Err (Memory _)) (inr h) =
       let l = h.catches_all.learns in
-      subst (λ o. MayGive r o (Ok (Look query)) s d (Some (Fault faults.Memory)) d') (sym (none_owed l.unowed)) (record {
+      subst (λ o. MayGive r o (Ok (Look query)) s d (Some (Fault (faults.Memory refused_memory))) d') (sym (none_owed l.unowed)) (record {
         met = record { others = l.sees_others.0; supply = no_memory };
         reply_is = refl;
         there = walked (behind_others r l.sees_others.0 s) _ h.caught_up d' h.moved (learnt h.caught_up l);
@@ -318,18 +321,18 @@ module _ (r : Recording) (s : SessionState) (d : FrontState) (here : IsInState r
   resumes d' (Ok (Some reply)) h =
       let owed = here.owed ∙ h.was_owed in
       subst (λ o. MayGive r o (Ok Resume) s d (Some reply) d') (sym owed) (owed_run h.command d' reply owed h.replies h.now)
-  resumes d' (Err Memory) h = absurd h
+  resumes d' (Err (Memory _)) h = absurd h
   resumes d' (Err (Placed place)) h = stays_owed (Ok Resume) no_memory d' place h.stays (refl, searches_still d' place h) refl
   resumes d' (Err Full) h = absurd h
 
   -- what is answered the same, whether a reply is owed or not
-  quiet : (asked : Result Line LineFault) (reply given : Option Reply) (d' : FrontState) → ((o : Option Command) → line_answer r o asked calm s ≡ (reply, s))
+  quiet : (asked : Result Line LineFault) (reply given : Option Reply) (d' : FrontState) → ((o : Option Command) → answer_among r o asked calm s ≡ (reply, s))
       → ((o : Option Command) → own_word d.pass_state.tag o asked enough ≡ []) → ((o : Option Command) → MayMeet r (size_of d) o asked calm s) → given ≡ reply → d' ≡ d → MayGive r s.owed asked s d given d'
   quiet asked reply given d' each none may is same =
       let e = each s.owed in record {
         met = calm;
         reply_is = ap (λ (a : Answered). a.0) e ∙ sym is;
-        there = subst (IsInState r (line_answer r s.owed asked calm s).1) (sym same) (subst (λ x. IsInState r x d) (sym (ap (λ (a : Answered). a.1) e)) here);
+        there = subst (IsInState r (answer_among r s.owed asked calm s).1) (sym same) (subst (λ x. IsInState r x d) (sym (ap (λ (a : Answered). a.1) e)) here);
         company = ap (λ (x : FrontState). x.pass_state.passes) same;
         no_others = λ _. refl;
         tag = ap (λ (x : FrontState). x.pass_state.tag) same;
@@ -344,12 +347,12 @@ module _ (r : Recording) (s : SessionState) (d : FrontState) (here : IsInState r
   line_given (Ok (Run command)) reply d' h = subst (λ x. MayGive r s.owed (Ok (Run command)) s d x d') (sym h.2) (executed command d' h.0 h.1)
   line_given (Ok (Look query)) reply d' h = subst (λ x. MayGive r s.owed (Ok (Look query)) s d x d') (sym h.2) (looked_at query d' h.0 h.1)
   line_given (Ok Resume) reply d' h = subst (λ x. MayGive r s.owed (Ok Resume) s d x d') (sym h.2) (resumes d' h.0 h.1)
-  line_given (Ok Quit) reply d' h = quiet (Ok Quit) (Some Bye) reply d' (λ o. elim o as (λ k. line_answer r k (Ok Quit) calm s ≡ (Some Bye, s)) [ None ↦ refl | Some c ↦ refl ])
+  line_given (Ok Quit) reply d' h = quiet (Ok Quit) (Some Bye) reply d' (λ o. elim o as (λ k. answer_among r k (Ok Quit) calm s ≡ (Some Bye, s)) [ None ↦ refl | Some c ↦ refl ])
       (λ o. elim o as (λ k. own_word d.pass_state.tag k (Ok Quit) enough ≡ []) [ None ↦ refl | Some c ↦ refl ])
       (λ o. elim o as (λ k. MayMeet r (size_of d) k (Ok Quit) calm s) [ None ↦ refl | Some c ↦ refl ]) h.0 h.1
-  line_given (Ok Empty) reply d' h = quiet (Ok Empty) None reply d' (λ o. elim o as (λ k. line_answer r k (Ok Empty) calm s ≡ (None, s)) [ None ↦ refl | Some c ↦ refl ])
+  line_given (Ok Empty) reply d' h = quiet (Ok Empty) None reply d' (λ o. elim o as (λ k. answer_among r k (Ok Empty) calm s ≡ (None, s)) [ None ↦ refl | Some c ↦ refl ])
       (λ o. elim o as (λ k. own_word d.pass_state.tag k (Ok Empty) enough ≡ []) [ None ↦ refl | Some c ↦ refl ])
       (λ o. elim o as (λ k. MayMeet r (size_of d) k (Ok Empty) calm s) [ None ↦ refl | Some c ↦ refl ]) h.0 h.1
-  line_given (Err fault) reply d' h = quiet (Err fault) (Some (Fault (faults.Line fault))) reply d' (λ o. elim o as (λ k. line_answer r k (Err fault) calm s ≡ (Some (Fault (faults.Line fault)), s)) [ None ↦ refl | Some c ↦ refl ])
+  line_given (Err fault) reply d' h = quiet (Err fault) (Some (Fault (faults.Line fault))) reply d' (λ o. elim o as (λ k. answer_among r k (Err fault) calm s ≡ (Some (Fault (faults.Line fault)), s)) [ None ↦ refl | Some c ↦ refl ])
       (λ o. elim o as (λ k. own_word d.pass_state.tag k (Err fault) enough ≡ []) [ None ↦ refl | Some c ↦ refl ])
       (λ o. elim o as (λ k. MayMeet r (size_of d) k (Err fault) calm s) [ None ↦ refl | Some c ↦ refl ]) h.0 h.1

@@ -1,11 +1,16 @@
--- what callers need
-pub mod Accepted
-pub mod Examples
+-- what the laws of docs/THEOREM.md rest on, whole files
 pub mod Opening
 pub mod Run
 pub mod Serving
 pub mod Shared
+pub mod Transcript
+pub mod Among
+pub mod Changes
+-- what callers need besides
+pub mod Accepted
+pub mod Examples
 pub mod Sharing
 pub mod ShortRuns
-pub mod Transcript
 pub mod Upgrade
+-- what goes on with the files that the laws rest on
+pub mod Auxiliary

@@ -30,9 +30,9 @@ pub record IsGoodText (bytes : List ℕ) (r : Recording) : Type 0 where
 
 -- the bytes have this fault and none before it, or there was no memory
 abbrev pub IsFirstFault : List ℕ → OpenFault → Type 0
-IsFirstFault bytes (Read read.Memory) = Unit {0}
+IsFirstFault bytes (Read (read.Memory refused)) = Unit {0}
 IsFirstFault bytes (Read (read.Line n fault)) = reading bytes ≡ Err (read.Line n fault)
-IsFirstFault bytes (Load load.Memory) = Unit {0}
+IsFirstFault bytes (Load (load.Memory refused)) = Unit {0}
 IsFirstFault bytes (Load fault) = (r : Recorded) × IsTextOf bytes r × IsStepFault r fault
 
 -- ---- computed

@@ -1,12 +1,10 @@
 -- What a session does that several people share.
-use Rattle.std.specs.Prelude.{◌≡◌, ◌⊎◌, ℕ, Bool, List, ◌++◌, length, Option, Some, None, Result, Ok, Err, codes, decimal, if◌then◌else◌}
+use Rattle.std.specs.Prelude.{◌≡◌, ◌⊎◌, ℕ, Bool, List, ◌++◌, length, Option, Some, None, codes, decimal, if◌then◌else◌}
 use Rattle.nr_rev.specs.Run.{Recording}
 use Rattle.nr_text.specs.Streams.{Outgoing}
 use Rattle.nr_recording.specs.Faults.{memory_line}
 use Rattle.nr_serving.specs.Conversations.{FrontsLog, Passed}
-use Rattle.nr_serving.specs.Session.{IsShared, Opens, words_of}
-use Rattle.nr_serving.specs.declared.session.Ended.{Ended}
-use Rattle.nr_serving.specs.declared.session.Unshared.{Unshared}
+use Rattle.nr_serving.specs.Session.{IsShared, Opens}
 use Rattle.nr_programs.specs.Opening.{IsFirstFault, IsGoodText, fault_line}
 use Rattle.nr_programs.specs.Run.{EndsPrinting}
 use Rattle.nr_programs.specs.declared.sharing.Sharing.{Sharing}
@@ -29,12 +27,6 @@ abbrev pub PrintsHistory : Option (List ℕ) → Bool → Outgoing → Outgoing 
 PrintsHistory (Some history) failed old new status =
     EndsPrinting (placed_line history) (exit_status_of failed) old new status
 PrintsHistory None failed old new status = EndsPrinting memory_line Refused old new status
-
--- What is printed of a session, by what came of it: out of memory where it wasn't shared.
-abbrev pub PrintsSession : Result Ended Unshared → Outgoing → Outgoing → ExitStatus → Type 0
-PrintsSession (Ok ended) old new status =
-    PrintsHistory (words_of ended.history) ended.failed old new status
-PrintsSession (Err fault) old new status = EndsPrinting memory_line Refused old new status
 
 -- As many fronts as were asked for were opened, and this passed with their callers. They shared the
 -- recording over one journal, each with as many workers as were asked for and a walker as deep as

@@ -14,9 +14,9 @@ use Rattle.nr_text.specs.Moments.{Moment}
 use Rattle.nr_text.specs.Streams.{IsOver}
 use Rattle.nr_lines.specs.Engine.{has_quit, lines_of}
 use Rattle.nr_lines.specs.Turn.{is_quit}
-use Rattle.nr_serving.specs.Fronts.{Course}
 use Rattle.nr_serving.specs.Conversations.{Conversation}
-use Rattle.nr_programs.specs.Transcript.{AllMayMeet, JournalSize, Met, SessionState, Supply, enough, line_answer, next_met, no_memory_to_search, replies, texts}
+use Rattle.nr_programs.specs.Among.{AllMayMeet, Met, answer_among, next_met, replies_among, texts_among}
+use Rattle.nr_programs.specs.Transcript.{JournalSize, SessionState, Supply, enough, no_memory_to_search}
 
 -- the lines begin with these
 abbrev pub StartsList : List (List ℕ) → List (List ℕ) → Type 0
@@ -38,18 +38,9 @@ abbrev pub words_seen : ℕ → Recording → SessionState → List (List ℕ) �
 words_seen tag r s [] met = []
 words_seen tag r s (line ∷ lines) met =
     let asked = meaning_of line in
-    let a = line_answer r s.owed asked (next_met met) s in
+    let a = answer_among r s.owed asked (next_met met) s in
     words_with tag s.owed asked (next_met met)
     ++ (if is_quit asked then [] else words_seen tag r a.1 lines (drop 1 met))
-
--- the words of the commands that some lines placed, up to the first `quit`
-abbrev pub placed_words : ℕ → Recording → SessionState → List (List ℕ) → List Met → List ℕ
-placed_words tag r s [] met = []
-placed_words tag r s (line ∷ lines) met =
-    let asked = meaning_of line in
-    let a = line_answer r s.owed asked (next_met met) s in
-    own_word tag s.owed asked (next_met met).supply
-    ++ (if is_quit asked then [] else placed_words tag r a.1 lines (drop 1 met))
 
 -- what a line met of others has none of the front's own words
 abbrev pub MeetsOthers : ℕ → Met → Type 0
@@ -58,7 +49,7 @@ MeetsOthers tag m = All (IsOthers tag) m.others
 -- When the caller was read, each whole line that had come from it was answered, and its reply was
 -- out.
 abbrev pub HeardOut : Recording → SessionState → List Met → Moment → Type 0
-HeardOut r s met m = m.sent ≡ replies r s false m.received met
+HeardOut r s met m = m.sent ≡ replies_among r s false m.received met
 
 -- One caller of a front: what was sent to it is a prefix of the replies to what was received from
 -- it, from where the front was; all of it unless a write failed. Where a read failed, an unfinished
@@ -70,15 +61,16 @@ pub record IsAnswered (r : Recording) (journal : JournalSize) (tag : ℕ) (c : C
     (s : SessionState) : Type 0 where
   pub met : List Met
   pub may : AllMayMeet r journal s (lines_of (not c.input.failed) c.input.received) met
-  pub begins : StartsWith (replies r s (not c.input.failed) c.input.received met) c.output.sent
+  pub begins :
+      StartsWith (replies_among r s (not c.input.failed) c.input.received met) c.output.sent
   pub whole : c.output.failed ≡ false
-      → c.output.sent ≡ replies r s (not c.input.failed) c.input.received met
+      → c.output.sent ≡ replies_among r s (not c.input.failed) c.input.received met
   pub prompt : All (HeardOut r s met) c.input.moments
   pub complete : is_err c.ending ≡ false
       → IsOver c.input ⊎ (has_quit (lines_of false c.input.received) ≡ true)
   pub ran : List (List ℕ)
   pub first : StartsList (lines_of (not c.input.failed) c.input.received) ran
-  pub nothing_else : StartsWith (concat (texts r s ran met)) c.output.sent
+  pub nothing_else : StartsWith (concat (texts_among r s ran met)) c.output.sent
   pub others : All (MeetsOthers tag) met
 
 -- The front has run a prefix of the history: its debugger is that of these words, less the last
@@ -99,7 +91,3 @@ AreAnswered r journal tag history s seen (c ∷ callers) =
     (one : IsAnswered r journal tag c s) × (next : SessionState)
     × HasRun r history (seen ++ words_seen tag r s one.ran one.met) next
     × AreAnswered r journal tag history next (seen ++ words_seen tag r s one.ran one.met) callers
-
--- the tag of a front's words
-abbrev pub tag_at_end : Course → ℕ
-tag_at_end course = course.last.pass_state.tag

@@ -1,13 +1,14 @@
 -- The transcript: what the lines of a front are answered, as a function of the bytes.
-use Rattle.std.specs.Prelude.{◌≡◌, ◌≢◌, ◌⊎◌, ℕ, ◌+◌, Bool, true, false, not, ◌||◌, List, [], ◌∷◌, ◌++◌, length, drop, Option, Some, None, Result, Ok, Err, ⊤, if◌then◌else◌}
+use Rattle.std.specs.Prelude.{◌≡◌, ◌≢◌, ◌⊎◌, ℕ, ◌+◌, Bool, true, false, not, ◌||◌, List, [], ◌∷◌, ◌++◌, drop, Option, Some, None, Result, Ok, Err, ⊤, if◌then◌else◌}
 use Rattle.nr_text.specs.Moments.{Moment}
 use Rattle.nr_text.specs.Streams.{Incoming, IsOver, Outgoing, Passes, Receives, Sends}
 use Rattle.std.specs.List.{All, concat}
+use Rattle.nr_rev.specs.Refusing.{refused_memory}
 use Rattle.nr_rev.specs.Run.{Recording}
 use Rattle.nr_journal.specs.Rule.{StartsWith}
 use Rattle.nr_recording.specs.Faults.{memory_line}
 use Rattle.nr_command.specs.Command.{meaning_of}
-use Rattle.nr_command.specs.Debugger.{Ran, Searches, after_words, opening, query_reply, run}
+use Rattle.nr_command.specs.Debugger.{Ran, Searches, opening, query_reply, run}
 use Rattle.nr_command.specs.declared.command.Command.{Command}
 use Rattle.nr_command.specs.declared.command.Line.{Line}
 use Rattle.nr_command.specs.declared.command.Line.TheVariants.{Run, Look, Resume, Quit, Empty}
@@ -25,7 +26,7 @@ use Rattle.nr_programs.specs.declared.opening.OpenFault.{OpenFault}
 use Rattle.nr_programs.specs.declared.run.ExitStatus.{ExitStatus}
 use Rattle.nr_programs.specs.declared.run.ExitStatus.TheVariants.{Done, Refused, StreamFailed}
 
--- ---- what a line meets
+-- ---- what there is for a line
 
 -- What there is for a line: memory and room; no memory; no memory to search for the reply of its
 -- command, which is placed; or no room in the journal.
@@ -35,19 +36,10 @@ pub data Supply : Type 0 where
   no_memory_to_search : Supply
   no_room : Supply
 
--- what a line meets: the words that others placed before it, and what there is for it
-pub record Met : Type 0 where
-  pub others : List ℕ
-  pub supply : Supply
-
--- nothing of others, and enough
-abbrev pub calm : Met
-calm = record { others = []; supply = enough }
-
--- what the next of several lines meets: those that nothing is said of meet nothing
-abbrev pub next_met : List Met → Met
-next_met [] = calm
-next_met (m ∷ met) = m
+-- what there is for the next of several lines: enough for those that nothing is said of
+abbrev pub next_supply : List Supply → Supply
+next_supply [] = enough
+next_supply (supply ∷ supplies) = supply
 
 -- ---- a front between two lines
 
@@ -66,13 +58,6 @@ start = record { debugger = opening; placed = 0; owed = None }
 abbrev pub Answered : Type 0
 Answered = Option Reply × SessionState
 
--- behind words that others placed
-abbrev pub behind_others : Recording → List ℕ → SessionState → SessionState
-behind_others r words s = record s {
-  debugger = after_words r s.debugger words;
-  placed = s.placed + length words;
-}
-
 -- a command was run, which is the last word
 abbrev pub with_run : Ran → ℕ → Answered
 with_run ran placed = (Some ran.0, record { debugger = ran.1; placed = placed; owed = None })
@@ -84,7 +69,7 @@ owing s = (Some (Fault (faults.Placed s.placed)), s)
 -- a command is placed and run
 abbrev pub command_answer : Recording → Command → Supply → SessionState → Answered
 command_answer r command enough s = with_run (run r command s.debugger) (s.placed + 1)
-command_answer r command no_memory s = (Some (Fault faults.Memory), s)
+command_answer r command no_memory s = (Some (Fault (faults.Memory refused_memory)), s)
 command_answer r command no_memory_to_search s =
     owing (record s { placed = s.placed + 1; owed = Some command })
 command_answer r command no_room s = (Some (Fault faults.JournalFull), s)
@@ -92,16 +77,16 @@ command_answer r command no_room s = (Some (Fault faults.JournalFull), s)
 -- a look shows what the debugger shows
 abbrev pub look_answer : Recording → Query → Supply → SessionState → Answered
 look_answer r query enough s = (Some (query_reply r s.debugger query), s)
-look_answer r query _ s = (Some (Fault faults.Memory), s)
+look_answer r query _ s = (Some (Fault (faults.Memory refused_memory)), s)
 
 -- a line where no reply is owed
-abbrev pub answer : Recording → Result Line LineFault → Met → SessionState → Answered
-answer r (Ok (Run command)) m s = command_answer r command m.supply (behind_others r m.others s)
-answer r (Ok (Look query)) m s = look_answer r query m.supply (behind_others r m.others s)
-answer r (Ok Resume) m s = (Some NothingOwed, s)
-answer r (Ok Quit) m s = (Some Bye, s)
-answer r (Ok Empty) m s = (None, s)
-answer r (Err fault) m s = (Some (Fault (faults.Line fault)), s)
+abbrev pub answer : Recording → Result Line LineFault → Supply → SessionState → Answered
+answer r (Ok (Run command)) supply s = command_answer r command supply s
+answer r (Ok (Look query)) supply s = look_answer r query supply s
+answer r (Ok Resume) supply s = (Some NothingOwed, s)
+answer r (Ok Quit) supply s = (Some Bye, s)
+answer r (Ok Empty) supply s = (None, s)
+answer r (Err fault) supply s = (Some (Fault (faults.Line fault)), s)
 
 -- `resume` gives the reply that is owed
 abbrev pub resume_answer : Recording → Command → Supply → SessionState → Answered
@@ -109,20 +94,20 @@ resume_answer r command enough s = with_run (run r command s.debugger) s.placed
 resume_answer r command _ s = owing s
 
 -- a line where the reply to this command is owed
-abbrev pub answer_owing : Recording → Command → Result Line LineFault → Met → SessionState
+abbrev pub answer_owing : Recording → Command → Result Line LineFault → Supply → SessionState
     → Answered
-answer_owing r command (Ok (Run next)) m s = owing s
-answer_owing r command (Ok (Look query)) m s = owing s
-answer_owing r command (Ok Resume) m s = resume_answer r command m.supply s
-answer_owing r command asked m s = answer r asked m s
+answer_owing r command (Ok (Run next)) supply s = owing s
+answer_owing r command (Ok (Look query)) supply s = owing s
+answer_owing r command (Ok Resume) supply s = resume_answer r command supply s
+answer_owing r command asked supply s = answer r asked supply s
 
 -- a line, by whether a reply is owed
-abbrev pub line_answer : Recording → Option Command → Result Line LineFault → Met → SessionState
+abbrev pub line_answer : Recording → Option Command → Result Line LineFault → Supply → SessionState
     → Answered
-line_answer r None asked m s = answer r asked m s
-line_answer r (Some command) asked m s = answer_owing r command asked m s
+line_answer r None asked supply s = answer r asked supply s
+line_answer r (Some command) asked supply s = answer_owing r command asked supply s
 
--- ---- what a line may meet
+-- ---- what there may be for a line
 
 -- how many words a journal has room for, and how many passes it has at most
 pub record JournalSize : Type 0 where
@@ -133,81 +118,77 @@ pub record JournalSize : Type 0 where
 abbrev pub journal_of_one : JournalSize
 journal_of_one = record { room = 65536; passes = 1 }
 
--- A command may meet this, as the line finds the session: there is no memory before it is placed
--- only where others may have placed words; its search runs out of memory only where it searches by
--- copies of worlds; there is no room only where the journal has so many words.
-abbrev pub CommandMayMeet : Recording → JournalSize → Command → Supply → SessionState → Type 0
-CommandMayMeet r journal command enough s = ⊤
-CommandMayMeet r journal command no_memory s = journal.passes ≢ 1
-CommandMayMeet r journal command no_memory_to_search s = Searches r command s.debugger
-CommandMayMeet r journal command no_room s = s.placed ≡ journal.room
+-- This there may be for a command, as the line finds the session: there is no memory before it is
+-- placed only where others may have placed words; its search runs out of memory only where it
+-- searches by copies of worlds; there is no room only where the journal has so many words.
+abbrev pub CommandMayHave : Recording → JournalSize → Command → Supply → SessionState → Type 0
+CommandMayHave r journal command enough s = ⊤
+CommandMayHave r journal command no_memory s = journal.passes ≢ 1
+CommandMayHave r journal command no_memory_to_search s = Searches r command s.debugger
+CommandMayHave r journal command no_room s = s.placed ≡ journal.room
 
 -- a look may run out of memory
-abbrev pub LookMayMeet : Supply → Type 0
-LookMayMeet enough = ⊤
-LookMayMeet no_memory = ⊤
-LookMayMeet no_memory_to_search = ⊥
-LookMayMeet no_room = ⊥
+abbrev pub LookMayHave : Supply → Type 0
+LookMayHave enough = ⊤
+LookMayHave no_memory = ⊤
+LookMayHave no_memory_to_search = ⊥
+LookMayHave no_room = ⊥
 
 -- the search of the command whose reply is owed may run out of memory once more
-abbrev pub ResumeMayMeet : Recording → Command → Supply → SessionState → Type 0
-ResumeMayMeet r command enough s = ⊤
-ResumeMayMeet r command no_memory s = Searches r command s.debugger
-ResumeMayMeet r command no_memory_to_search s = ⊥
-ResumeMayMeet r command no_room s = ⊥
+abbrev pub ResumeMayHave : Recording → Command → Supply → SessionState → Type 0
+ResumeMayHave r command enough s = ⊤
+ResumeMayHave r command no_memory s = Searches r command s.debugger
+ResumeMayHave r command no_memory_to_search s = ⊥
+ResumeMayHave r command no_room s = ⊥
 
--- What a line may meet, by whether a reply is owed, where the journal is of this size. All lines
--- that place no command and show nothing meet nothing.
-abbrev pub MayMeet : Recording → JournalSize → Option Command → Result Line LineFault → Met
+-- What there may be for a line, by whether a reply is owed, where the journal is of this size. For
+-- all lines that place no command and show nothing there is enough.
+abbrev pub MayHave : Recording → JournalSize → Option Command → Result Line LineFault → Supply
     → SessionState → Type 0
-MayMeet r journal None (Ok (Run command)) m s =
-    CommandMayMeet r journal command m.supply (behind_others r m.others s)
-MayMeet r journal None (Ok (Look query)) m s = LookMayMeet m.supply
-MayMeet r journal (Some command) (Ok Resume) m s =
-    (m.others ≡ []) × ResumeMayMeet r command m.supply s
-MayMeet r journal owed asked m s = m ≡ calm
+MayHave r journal None (Ok (Run command)) supply s = CommandMayHave r journal command supply s
+MayHave r journal None (Ok (Look query)) supply s = LookMayHave supply
+MayHave r journal (Some command) (Ok Resume) supply s = ResumeMayHave r command supply s
+MayHave r journal owed asked supply s = supply ≡ enough
 
 -- ---- line after line
 
 -- the texts of lines, one for each, up to the first `quit`
-abbrev pub texts : Recording → SessionState → List (List ℕ) → List Met → List (List ℕ)
-texts r s [] met = []
-texts r s (line ∷ lines) met =
+abbrev pub texts : Recording → SessionState → List (List ℕ) → List Supply → List (List ℕ)
+texts r s [] supplies = []
+texts r s (line ∷ lines) supplies =
     let asked = meaning_of line in
-    let a = line_answer r s.owed asked (next_met met) s in
-    text_or_none a.0 ∷ (if is_quit asked then [] else texts r a.1 lines (drop 1 met))
+    let a = line_answer r s.owed asked (next_supply supplies) s in
+    text_or_none a.0 ∷ (if is_quit asked then [] else texts r a.1 lines (drop 1 supplies))
 
 -- what holds behind a line, unless it is `quit`
 abbrev pub UnlessQuit : Bool → Type 0 → Type 0
 UnlessQuit true later = ⊤
 UnlessQuit false later = later
 
--- each of some lines, up to the first `quit`, met what it may
-abbrev pub AllMayMeet : Recording → JournalSize → SessionState → List (List ℕ) → List Met → Type 0
-AllMayMeet r journal s [] met = ⊤
-AllMayMeet r journal s (line ∷ lines) met =
+-- for each of some lines, up to the first `quit`, there was what there may be
+abbrev pub AllMayHave : Recording → JournalSize → SessionState → List (List ℕ) → List Supply
+    → Type 0
+AllMayHave r journal s [] supplies = ⊤
+AllMayHave r journal s (line ∷ lines) supplies =
     let asked = meaning_of line in
-    let a = line_answer r s.owed asked (next_met met) s in
-    MayMeet r journal s.owed asked (next_met met) s
-    × UnlessQuit (is_quit asked) (AllMayMeet r journal a.1 lines (drop 1 met))
+    let a = line_answer r s.owed asked (next_supply supplies) s in
+    MayHave r journal s.owed asked (next_supply supplies) s
+    × UnlessQuit (is_quit asked) (AllMayHave r journal a.1 lines (drop 1 supplies))
 
--- The replies to the lines of a text, by what they meet. Where the text isn't at its end, what
--- follows the last line feed is no line yet.
-abbrev pub replies : Recording → SessionState → Bool → List ℕ → List Met → List ℕ
-replies r s ended commands met = concat (texts r s (lines_of ended commands) met)
+-- The replies to the lines of a text, by what there was for them. Where the text isn't at its end,
+-- what follows the last line feed is no line yet.
+abbrev pub replies : Recording → SessionState → Bool → List ℕ → List Supply → List ℕ
+replies r s ended commands supplies = concat (texts r s (lines_of ended commands) supplies)
 
 -- the replies to commands over the run that was opened, or the line of its fault
-abbrev pub replies_over : Result Recording OpenFault → Bool → List ℕ → List Met → List ℕ
-replies_over (Ok r) ended commands met = replies r start ended commands met
-replies_over (Err fault) ended commands met = fault_line fault
+abbrev pub replies_over : Result Recording OpenFault → Bool → List ℕ → List Supply → List ℕ
+replies_over (Ok r) ended commands supplies = replies r start ended commands supplies
+replies_over (Err fault) ended commands supplies = fault_line fault
 
--- The transcript of the bytes of a recording and of commands, by what the commands' lines meet.
-abbrev pub transcript_by : List ℕ → Bool → List ℕ → List Met → List ℕ
-transcript_by recording ended commands met = replies_over (opened recording) ended commands met
-
--- The transcript of the bytes of a recording and of commands.
-abbrev pub transcript : List ℕ → List ℕ → List ℕ
-transcript recording commands = transcript_by recording true commands []
+-- The transcript of the bytes of a recording and of commands, by what there was for their lines.
+abbrev pub transcript_by : List ℕ → Bool → List ℕ → List Supply → List ℕ
+transcript_by recording ended commands supplies =
+    replies_over (opened recording) ended commands supplies
 
 -- ---- what the program did
 
@@ -219,33 +200,32 @@ status_of (Err fault) read_failed write_failed = if write_failed then StreamFail
 
 -- When a read was made, what had been sent was the transcript of what had been received: each whole
 -- line was answered, and its reply was out.
-pub record WasPrompt (recording : List ℕ) (from : Incoming) (old : Outgoing) (met : List Met)
-    (m : Moment) : Type 0 where
+pub record WasPrompt (recording : List ℕ) (from : Incoming) (old : Outgoing)
+    (supplies : List Supply) (m : Moment) : Type 0 where
   pub commands : List ℕ
   pub received : m.received ≡ from.received ++ commands
-  pub sent : m.sent ≡ old.sent ++ transcript_by recording false commands met
+  pub sent : m.sent ≡ old.sent ++ transcript_by recording false commands supplies
 
--- Commands were read and replies written: a prefix of the transcript of the commands, by what their
--- lines met, and all of it unless a write failed. They met nothing of others. Where a read failed,
--- an unfinished last line is no command. Before each read all whole lines were answered. Where it
+-- Commands were read and replies written: a prefix of the transcript of the commands, by what there
+-- was for their lines, and all of it unless a write failed. Where a read failed, an unfinished last
+-- line is no command. Before each read all whole lines were answered. Where it
 -- ended well, the input is at its end, or a line is `quit`. Of a recording with a fault no command
 -- was read.
 pub record Transcribes (recording : List ℕ) (from left : Incoming) (old new : Outgoing)
     (status : ExitStatus) : Type 0 where
   pub commands : List ℕ
   pub written : List ℕ
-  pub met : List Met
+  pub supplies : List Supply
   pub moments : List Moment
   pub reads : Receives from left commands
   pub writes : Sends old new written
   pub passes : Passes from left moments
-  pub prompt : All (WasPrompt recording from old met) moments
-  pub alone : All (λ m. m.others ≡ []) met
+  pub prompt : All (WasPrompt recording from old supplies) moments
   pub may : (r : Recording) → opened recording ≡ Ok r
-      → AllMayMeet r journal_of_one start (lines_of (not left.failed) commands) met
-  pub begins : StartsWith (transcript_by recording (not left.failed) commands met) written
+      → AllMayHave r journal_of_one start (lines_of (not left.failed) commands) supplies
+  pub begins : StartsWith (transcript_by recording (not left.failed) commands supplies) written
   pub whole : new.failed ≡ false
-      → written ≡ transcript_by recording (not left.failed) commands met
+      → written ≡ transcript_by recording (not left.failed) commands supplies
   pub complete : status ≡ Done
       → IsOver left ⊎ (has_quit (lines_of false commands) ≡ true)
   pub unread : (fault : OpenFault) → opened recording ≡ Err fault → commands ≡ []

@@ -4,7 +4,7 @@ use Rattle.std.specs.List.{concat}
 use Rattle.nr_recording.specs.Faults.{memory_line}
 use Rattle.nr_recording.specs.Writing.{line_texts, text}
 use Rattle.nr_rev.specs.Run.{Recording}
-use Rattle.nr_snaps.specs.Answers.{answered}
+use Rattle.nr_snaps.specs.Auxiliary.Answers.{answered}
 use Rattle.nr_text.specs.Streams.{Outgoing}
 use Rattle.nr_programs.specs.Opening.{IsFirstFault, IsGoodText, fault_line}
 use Rattle.nr_programs.specs.Run.{EndsPrinting}

@@ -6,7 +6,7 @@ ghost use Rattle.nr_rev.specs.Run.{Recording};
 ghost use Rattle.nr_rev.specs.declared.answer.Answer.{Answer};
 ghost use Rattle.nr_rev.specs.declared.step.Step.{Step};
 ghost use Rattle.nr_recording.specs.Recording.{recorded_at};
-ghost use Rattle.nr_text.specs.Streams.{unread, unwritten};
+ghost use Rattle.nr_text.specs.Auxiliary.Streams.{unread, unwritten};
 ghost use Rattle.nr_lines.specs.declared.ending.End.TheVariants.{Closed, Quit};
 ghost use Rattle.nr_snaps.specs.Answers.{Agrees, answer_at};
 ghost use Rattle.nr_command.specs.Looking.{is_at_world};
@@ -14,10 +14,13 @@ ghost use Rattle.nr_command.specs.declared.command.Query.{Query};
 ghost use Rattle.nr_serving.specs.Conversations.{Passed};
 ghost use Rattle.nr_serving.specs.Session.{IsShared, IsTheirs, last_pass_state};
 ghost use Rattle.nr_programs.specs.Opening.{IsGoodText, opened};
-ghost use Rattle.nr_programs.specs.Shared.{AreAnswered, IsAnswered, MeetsOthers, placed_words, tag_at_end, words_seen};
+ghost use Rattle.nr_programs.specs.Shared.{AreAnswered, IsAnswered, MeetsOthers, words_seen};
+ghost use Rattle.nr_programs.specs.Auxiliary.Shared.{placed_words, tag_at_end};
 ghost use Rattle.nr_journal.specs.Rule.{tag_of};
 ghost use Rattle.nr_programs.specs.Accepted.{LeadsOnAt};
-ghost use Rattle.nr_programs.specs.Transcript.{JournalSize, Met, SessionState, Transcribes, calm, enough, look_answer, start, transcript, transcript_by};
+ghost use Rattle.nr_programs.specs.Among.{Met};
+ghost use Rattle.nr_programs.specs.Transcript.{JournalSize, SessionState, Supply, Transcribes, enough, look_answer, start, transcript_by};
+ghost use Rattle.nr_programs.specs.Auxiliary.Transcript.{transcript};
 ghost use Rattle.nr_programs.specs.declared.opening.TheConstants.{COPY_EVERY};
 ghost use Rattle.nr_programs.specs.declared.run.ExitStatus.TheVariants.{Done};
 ghost use Rattle.nr_programs.specs.declared.run.TheConstants.{DELTAS_KEPT, JOURNAL_ROOM};
@@ -26,8 +29,9 @@ ghost use Rattle.nr_programs.specs.declared.sharing.TheConstants.{MOST_FRONTS, M
 /// Where no line was refused memory or room, and nobody else placed a word, there is one transcript: that of the bytes of the
 /// recording and of the commands, and of nothing else.
 pub fn a_calm_session_has_one_transcript()
-    ensures calm { (recording commands : List ℕ) (ended : Bool) (met : List Met) → All (λ m. m ≡ calm) met
-        → transcript_by recording ended commands met ≡ transcript_by recording ended commands [] }
+    ensures calm { (recording commands : List ℕ) (ended : Bool) (supplies : List Supply)
+        → All (λ supply. supply ≡ enough) supplies
+        → transcript_by recording ended commands supplies ≡ transcript_by recording ended commands [] }
     ensures whole { (recording commands : List ℕ)
         → transcript recording commands ≡ transcript_by recording true commands [] }
 {}

@@ -1,6 +1,7 @@
 //! The programs over the bytes of the file and the streams, from a recording's text to the exit status.
 #![tactic(auto)]
 
+mod changes;
 pub mod headline;
 pub mod laws;
 mod opening;
@@ -11,6 +12,7 @@ pub mod short;
 mod upgrade;
 pub mod worked;
 
+pub use changes::changes_bytes;
 pub use opening::OpenFault;
 pub use run::{ExitStatus, JOURNAL_ROOM, check_bytes, refuse, run_bytes};
 pub use serving::serve_bytes;

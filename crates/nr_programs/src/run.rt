@@ -5,7 +5,8 @@ ghost use Rattle.std.specs.Process.{exit_status};
 ghost use Rattle.nr_rev.specs.Run.{Recording};
 ghost use Rattle.nr_programs.specs.Opening.{IsGoodText};
 ghost use Rattle.nr_recording.specs.Faults.{memory_line};
-ghost use Rattle.nr_programs.specs.Run.{Runs, Walks, PrintsFault, Checks, EndsPrinting, status_code, ok_line};
+ghost use Rattle.nr_programs.specs.Run.{PrintsFault, EndsPrinting, accepted_line, ok_line};
+ghost use Rattle.nr_programs.specs.Auxiliary.Run.{Runs, Walks, Checks, status_code};
 ghost use Rattle.nr_programs.specs.Transcript.{RunsTranscript};
 ghost use Rattle.nr_programs.specs.declared.run.ExitStatus.TheVariants as statuses;
 
@@ -17,7 +18,7 @@ use nr_recording::OutOfMemory;
 use nr_rev::Worlds;
 use nr_search::OneWorker;
 use nr_snaps::{Film, MOST_EVERY};
-use nr_text::{Parts, Sink, Source, Text, Token};
+use nr_text::{Buffered, Sink, Source, Text, Token, WriteFailed, send_all};
 use std::alloc::Global;
 use std::io::{Read, Write};
 use std::process::ExitCode;
@@ -126,11 +127,13 @@ where
     ensures { Walks input.old input.new output.old output.new film.now.recording result
         ⊎ PrintsFault memory_line input.old input.new output.old output.new result }
 {
-    let Ok((journal, pass)) = Journal::alone(alloc, JOURNAL_ROOM) else {
-        return refuse(&OutOfMemory, output);
+    let (journal, pass) = match Journal::alone(alloc, JOURNAL_ROOM) {
+        Ok(made) => made,
+        Err(refused) => return refuse(&OutOfMemory(refused), output),
     };
-    let Ok(mut front) = Front::new(alloc, pass, film, OneWorker::<R>::new(), DELTAS_KEPT) else {
-        return refuse(&OutOfMemory, output);
+    let mut front = match Front::new(alloc, pass, film, OneWorker::<R>::new(), DELTAS_KEPT) {
+        Ok(front) => front,
+        Err((_, refused)) => return refuse(&OutOfMemory(refused), output),
     };
     match answer(input, output, &mut front, &journal) {
         Ok(_) => ExitStatus::Done,
@@ -181,19 +184,20 @@ where
         output.old output.new result }
 {
     match open::<W>(alloc, bytes, MOST_EVERY) {
-        Ok(film) => accept(&film, output),
+        Ok(film) => print(&Accepted(film.len()), ExitStatus::Done, output),
         Err(fault) => refuse(&fault, output),
     }
 }
 
-// Prints that the film has so many steps.
-fn accept<W: Worlds + Drop, O: Write>(film: &Film<W>, output: &mut Sink<O>) -> ExitStatus
-where
-    W::Snapshot: Drop,
-    ensures { EndsPrinting (ok_line film.now.recording) statuses.Done
-        output.old output.new result }
-{
-    let steps = Token::Number(film.len() as u64);
-    let line = [Token::Text(b"ok "), steps, Token::Text(b" steps\n")];
-    print(&Parts(&line), ExitStatus::Done, output)
+/// A recording of so many steps is accepted.
+pub(crate) struct Accepted(pub(crate) usize);
+
+/// It is the line `ok 260 steps`.
+impl Text for Accepted {
+    ghost text = { λ accepted. accepted_line accepted.0 };
+
+    fn send<W: Write>(&self, w: &mut Buffered<W>) -> Result<(), WriteFailed> {
+        let steps = Token::Number(self.0 as u64);
+        send_all(&[Token::Text(b"ok "), steps, Token::Text(b" steps\n")], w)
+    }
 }

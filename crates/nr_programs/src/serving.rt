@@ -4,8 +4,9 @@ ghost use Rattle.std.specs.Prelude.{◌≡◌, IfOk, OnErr, true};
 ghost use Rattle.nr_rev.specs.Run.{Recording};
 ghost use Rattle.nr_programs.specs.Opening.{IsGoodText};
 ghost use Rattle.nr_programs.specs.Run.{EndsPrinting};
-ghost use Rattle.nr_serving.specs.Session.{words_of};
-ghost use Rattle.nr_programs.specs.Serving.{ServesAll, Shares, SharesAll, PrintsSession, placed_line, exit_status_of};
+ghost use Rattle.nr_serving.specs.Auxiliary.Session.{words_of};
+ghost use Rattle.nr_programs.specs.Serving.{ServesAll, Shares, SharesAll, placed_line, exit_status_of};
+ghost use Rattle.nr_programs.specs.Auxiliary.Serving.{PrintsSession};
 ghost use Rattle.nr_programs.specs.Sharing.{is_in_range};
 ghost use Rattle.nr_programs.specs.declared.run.ExitStatus.TheVariants as statuses;
 
@@ -119,13 +120,13 @@ where
 fn tell<O: Write>(shared: &Result<Ended, Unshared>, output: &mut Sink<O>) -> ExitStatus
     ensures { PrintsSession shared.now output.old output.new result }
 {
-    // of tags there are as many as fronts, at least
-    let Ok(ended) = shared else {
-        return refuse(&OutOfMemory, output);
+    let ended = match shared {
+        Ok(ended) => ended,
+        Err(unshared) => return refuse(unshared, output),
     };
     match &ended.history {
         Ok(history) => tell_placed(history.as_slice(), ended.failed, output),
-        Err(_) => refuse(&OutOfMemory, output),
+        Err(refused) => refuse(&OutOfMemory(*refused), output),
     }
 }
 

@@ -3,7 +3,8 @@
 ghost use Rattle.std.specs.Prelude.{◌≡◌, ◌∷◌, ◌++◌, [], true, codes, Ok};
 ghost use Rattle.nr_programs.specs.Opening.{opened_as};
 ghost use Rattle.nr_programs.specs.ShortRuns.{early_run, early_swap_run, empty_run, last_moment_run, overtaken_run, reopened_run, taken_run, three_firings_run, woken_run, of_version_one};
-ghost use Rattle.nr_programs.specs.Transcript.{calm, enough, no_memory_to_search, no_room, replies, replies_over, start};
+ghost use Rattle.nr_programs.specs.Among.{replies_among};
+ghost use Rattle.nr_programs.specs.Transcript.{enough, no_memory_to_search, no_room, replies, replies_over, start};
 
 /// A walk over each of the short recordings of scripts/recordings/: a wait that an event ends, there and back; a firing that a
 /// new deadline overtakes; an event that comes before its goroutine parks; a lock that is taken from a woken goroutine. And of
@@ -70,22 +71,22 @@ pub fn short_runs_have_their_replies()
 /// refused memory until `resume` has it.
 pub fn what_two_fronts_meet_is_answered()
     ensures forward_first { replies woken_run start true (codes "stepi 3\n") [] ≡ codes "at 3\n" }
-    ensures then_back { replies woken_run start true
+    ensures then_back { replies_among woken_run start true
         (codes "reverse-stepi\n")
         (record { others = 196609 ∷ []; supply = enough } ∷ [])
         ≡ codes "at 2\n" }
     ensures back_first { replies woken_run start true (codes "reverse-stepi\n") [] ≡ codes "at 0 start\n" }
-    ensures then_forward { replies woken_run start true
+    ensures then_forward { replies_among woken_run start true
         (codes "stepi 3\n")
         (record { others = 65794 ∷ []; supply = enough } ∷ [])
         ≡ codes "at 3\n" }
-    ensures journal_of_one { replies woken_run start true
+    ensures journal_of_one { replies_among woken_run start true
         (codes "reverse-stepi\ninfo position\n")
         (record { others = 196609 ∷ []; supply = no_room } ∷ [])
         ≡ codes "fault 303 journal full\nat 3 of 12 forward\n" }
     ensures search_without_memory { replies woken_run start true
         (codes "watch rg 0\ncontinue\nstepi\nresume\nresume\n")
-        (calm ∷ record { others = []; supply = no_memory_to_search } ∷ [])
+        (enough ∷ no_memory_to_search ∷ [])
         ≡ codes "mark 1\nfault 302 memory, placed 2\nfault 302 memory, placed 2\nat 2 by 1\n"
         ++ codes "nothing owed\n" }
 {}

@@ -53,12 +53,13 @@ where
     W::Snapshot: Drop,
     ensures { WritesAnswered film.now.recording output.old output.new result }
 {
-    let Ok(recording) = film.with_answers() else {
-        return refuse(&OutOfMemory, output);
+    let recording = match film.with_answers() {
+        Ok(recording) => recording,
+        Err(refused) => return refuse(&OutOfMemory(refused), output),
     };
     match write(alloc, &recording, output) {
         Ok(()) => ExitStatus::Done,
-        Err(WriteFault::Memory) => refuse(&OutOfMemory, output),
+        Err(WriteFault::Memory(refused)) => refuse(&OutOfMemory(refused), output),
         Err(WriteFault::Device) => ExitStatus::StreamFailed,
     }
 }

@@ -3,6 +3,7 @@
 
 ghost use Rattle.std.specs.Prelude.{◌≡◌, ◌∷◌, [], true, codes};
 ghost use Rattle.nr_programs.specs.Examples.{answers_commands, answers_replies, answers_run, first_commands, first_replies, first_run, leaked_reference_commands, leaked_reference_replies, leaked_reference_run, lost_wakeup_commands, lost_wakeup_replies, lost_wakeup_run, past_deadline_commands, past_deadline_replies, past_deadline_run, reused_descriptor_commands, reused_descriptor_replies, reused_descriptor_run, shut_write_side_commands, shut_write_side_replies, shut_write_side_run, stale_deadline_commands, stale_deadline_replies, stale_deadline_run, temporary_break_commands, temporary_break_replies, temporary_break_run};
+ghost use Rattle.nr_programs.specs.Among.{replies_among};
 ghost use Rattle.nr_programs.specs.Transcript.{enough, no_memory, no_memory_to_search, no_room, replies, start};
 
 /// The sessions of examples/, from the bytes of the commands to those of the replies. The first is the README's.
@@ -22,11 +23,11 @@ pub fn examples_have_their_replies()
 /// journal. And a command behind another front's `stepi 5`.
 pub fn what_lines_meet_is_answered()
     ensures refused_look { replies first_run start true (codes "print lock 0\nprint lock 0\n")
-        (record { others = []; supply = no_memory } ∷ []) ≡ codes "fault 301 memory\nlock 0 = absent\n" }
+        (no_memory ∷ []) ≡ codes "fault 301 memory\nlock 0 = absent\n" }
     ensures refused_search { replies first_run start true (codes "continue\nstepi\nresume\ninfo position\n")
-        (record { others = []; supply = no_memory_to_search } ∷ []) ≡ codes "fault 302 memory, placed 1\nfault 302 memory, placed 1\nat 10 end\nat 10 of 10 forward\n" }
+        (no_memory_to_search ∷ []) ≡ codes "fault 302 memory, placed 1\nfault 302 memory, placed 1\nat 10 end\nat 10 of 10 forward\n" }
     ensures full_journal { replies first_run start true (codes "stepi\nstepi 2\n")
-        (record { others = []; supply = no_room } ∷ []) ≡ codes "fault 303 journal full\nat 2\n" }
-    ensures word_of_another { replies first_run start true (codes "stepi\n")
+        (no_room ∷ []) ≡ codes "fault 303 journal full\nat 2\n" }
+    ensures word_of_another { replies_among first_run start true (codes "stepi\n")
         (record { others = 327937 ∷ []; supply = enough } ∷ []) ≡ codes "at 6\n" }
 {}

@@ -6,4 +6,4 @@ pub returns-in-Serve : goal.returns-in-Serve
 returns-in-Serve g c = rw c.in-Serve.is (refl, c.serve_bytes.ensures.serves)
 
 pub returns-in-Run : goal.returns-in-Run
-returns-in-Run g c = rw c.in-Run.is (refl, c.run_bytes.ensures.runs, c.run_bytes.ensures.transcript)
+returns-in-Run g c = rw c.in-Run.is (refl, c.run_bytes.ensures.transcript)

@@ -7,7 +7,7 @@ use Rattle.nr_programs.proofs.run.check_bytes.Goals as goal
 pub returns-in-Ok-clause-good : goal.returns-in-Ok-clause-good
 returns-in-Ok-clause-good g c = λ r is.
     let same : c.in-Ok.film.recording ≡ r = one_recording c.args.bytes.now c.in-Ok.film.recording r c.in-Ok.ensures.film is in
-    inl (subst (λ x. EndsPrinting (ok_line x) statuses.Done c.args.output.now c.accept.new.output c.accept.result) same c.accept.ensures)
+    inl (subst (λ x. EndsPrinting (ok_line x) statuses.Done c.args.output.now c.print.new.output c.print.result) same c.print.ensures)
 
 pub returns-in-Err-clause-good : goal.returns-in-Err-clause-good
 returns-in-Err-clause-good g c = λ r is.

@@ -1,6 +1,7 @@
 use Rattle.std.proofs.Common.{◌≡◌, inl, inr, refl}
+use Rattle.nr_rev.specs.Refusing.{refused_memory}
 use Rattle.nr_snaps.specs.declared.fault.LoadFault.TheVariants.{Memory}
-use Rattle.nr_programs.specs.Run.{Runs}
+use Rattle.nr_programs.specs.Auxiliary.Run.{Runs}
 use Rattle.nr_programs.specs.Transcript.{RunsTranscript}
 use Rattle.nr_programs.specs.declared.opening.OpenFault.TheVariants.{Load}
 use Rattle.nr_programs.proofs.OpeningLemmas.{one_recording, prints_memory}
@@ -12,7 +13,7 @@ pub returns-in-Ok-clause-runs : goal.returns-in-Ok-clause-runs
 returns-in-Ok-clause-runs g c =
     elim c.walk.ensures as (λ _. Runs c.args.bytes.now c.args.input.now c.walk.new.input c.args.output.now c.walk.new.output c.walk.result) [
       | inl walks ↦ inl (c.in-Ok.film.recording, c.in-Ok.ensures.film, walks)
-      | inr prints_it ↦ inr (Load Memory, tt, prints_it)
+      | inr prints_it ↦ inr (Load (Memory refused_memory), tt, prints_it)
     ]
 
 pub returns-in-Ok-clause-good : goal.returns-in-Ok-clause-good

@@ -1,5 +1,5 @@
 use Rattle.std.proofs.Common.{refl, subst, rules}
-use Rattle.nr_text.specs.Streams.{Prints}
+use Rattle.nr_text.specs.Auxiliary.Streams.{Prints}
 use Rattle.netrev.specs.Starting.{usage_text}
 use Rattle.netrev.proofs.StartingLemmas.{prints_prefix}
 use Rattle.netrev.proofs.starting.Unstarted.tell.Goals as goal

@@ -1,0 +1,64 @@
+-- Beside `Run`: what contracts and proofs cite, and no law of docs/THEOREM.md rests on.
+use Rattle.std.specs.Prelude.{◌≡◌, ◌⊎◌, ℕ, List, Result, Ok, Err}
+use Rattle.atomic_table.specs.Seated.{TableId}
+use Rattle.nr_rev.specs.Run.{Recording}
+use Rattle.nr_journal.specs.Rule.{journal_room}
+use Rattle.nr_journal.specs.Auxiliary.Rule.{entering_alone}
+use Rattle.nr_front.specs.FrontState.{FrontState}
+use Rattle.nr_front.specs.Auxiliary.FrontState.{opened_front}
+use Rattle.nr_front.specs.Auxiliary.Replica.{at_start}
+use Rattle.nr_lines.specs.Auxiliary.Engine.{AnswersLines, is_read_failure, is_write_failure}
+use Rattle.nr_text.specs.Streams.{Incoming, Outgoing}
+use Rattle.nr_lines.specs.declared.ending.End.{End}
+use Rattle.nr_lines.specs.declared.ending.LineEnd.{LineEnd}
+use Rattle.nr_programs.specs.Opening.{IsFirstFault, IsGoodText, fault_line}
+use Rattle.nr_programs.specs.declared.opening.OpenFault.{OpenFault}
+use Rattle.nr_programs.specs.declared.run.ExitStatus.{ExitStatus}
+use Rattle.nr_programs.specs.declared.run.ExitStatus.TheVariants.{Done, Refused, Usage, StreamFailed}
+use Rattle.nr_programs.specs.declared.opening.TheConstants.{COPY_EVERY}
+use Rattle.nr_programs.specs.declared.run.TheConstants.{DELTAS_KEPT, JOURNAL_ROOM}
+use Rattle.nr_programs.specs.Run.{EndsPrinting, PrintsFault, ok_line}
+
+-- the number of a status
+abbrev pub status_code : ExitStatus → ℕ
+status_code Done = 0
+status_code Refused = 1
+status_code Usage = 2
+status_code StreamFailed = 3
+
+-- serving fails by its streams alone
+abbrev pub status_after : Result End LineEnd → ExitStatus
+status_after (Ok ending) = Done
+status_after (Err stopped) = StreamFailed
+
+-- The lines that were read are answered by a front that had seen no word, over a journal whose only
+-- pass it has, with one worker and a walker that keeps its last DELTAS_KEPT deltas. A failure of a
+-- stream is reported where there was one, and only there.
+pub record Walks (from left : Incoming) (old new : Outgoing) (r : Recording) (status : ExitStatus) :
+    Type 0 where
+  pub table : TableId
+  pub room_is : journal_room table ≡ JOURNAL_ROOM
+  pub last : FrontState
+  pub ending : Result End LineEnd
+  pub serves :
+      AnswersLines from left old new
+      (opened_front (record { table = table; pass_state = entering_alone }) r 1
+      (at_start COPY_EVERY DELTAS_KEPT))
+      last ending
+  pub ends : status ≡ status_after ending
+  pub read_failed : left.failed ≡ is_read_failure ending
+  pub write_failed : new.failed ≡ is_write_failure ending
+
+-- The bytes are a recording whose steps all apply, and it is walked; or its first fault is printed.
+abbrev pub Runs : List ℕ → Incoming → Incoming → Outgoing → Outgoing → ExitStatus → Type 0
+Runs bytes input left old new status =
+    ((r : Recording) × IsGoodText bytes r × Walks input left old new r status)
+    ⊎ ((fault : OpenFault) × IsFirstFault bytes fault
+    × PrintsFault (fault_line fault) input left old new status)
+
+-- The bytes are a recording whose steps all apply, and that is printed; or its first fault is.
+abbrev pub Checks : List ℕ → Outgoing → Outgoing → ExitStatus → Type 0
+Checks bytes old new status =
+    ((r : Recording) × IsGoodText bytes r × EndsPrinting (ok_line r) Done old new status)
+    ⊎ ((fault : OpenFault) × IsFirstFault bytes fault
+    × EndsPrinting (fault_line fault) Refused old new status)

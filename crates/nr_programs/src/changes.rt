@@ -1,0 +1,162 @@
+//! The program `changes`, over the bytes of the file and the output.
+
+ghost use Rattle.std.specs.Prelude.{◌≡◌, ◌≤◌, ◌<◌, ◌+◌, ◌++◌, Ok, length, map};
+ghost use Rattle.nr_rev.specs.World.{empty_world};
+ghost use Rattle.nr_text.specs.Auxiliary.Text.{text_of_parts};
+ghost use Rattle.nr_programs.specs.Changes.{Changes, WritesChanges};
+ghost use Rattle.nr_programs.specs.Auxiliary.Changes.{StepsOnAt, as_lines, change_text};
+ghost use Rattle.nr_programs.specs.Run.{EndsPrinting};
+
+use crate::run::{Accepted, ExitStatus, print, refuse};
+use arrayvec::ArrayVec;
+use nr_changes::{CellWithValue, Changes, MOST_CELLS, TouchesCells, advance};
+use nr_command::send_printed;
+use nr_recording::{OutOfMemory, Recording, read};
+use nr_snaps::{LoadFault, differs};
+use nr_text::{Buffered, Parts, Sink, Text, Token, WriteFailed};
+use std::alloc::Global;
+use std::io::Write;
+
+/// How many lines are joined at most before they go out.
+const LINES_AT_ONCE: usize = 256;
+
+/// A line: a step, and a cell that it changed.
+#[derive(Clone, Copy, Default)]
+pub(crate) struct ChangeLine {
+    /// The number of the step, counted from 1.
+    step: usize,
+    /// The cell, with its value behind the step.
+    change: CellWithValue,
+}
+
+/// It is the step's number, and what `print` is answered: `7 lock 0 = 18`.
+impl Text for ChangeLine {
+    ghost text = { change_text };
+
+    fn send<W: Write>(&self, w: &mut Buffered<W>) -> Result<(), WriteFailed> {
+        Token::Number(self.step as u64).send(w)?;
+        w.send(b" ")?;
+        send_printed(self.change.cell, self.change.value, w)
+    }
+}
+
+/// Lines that are to go out.
+type Lines = ArrayVec<ChangeLine, LINES_AT_ONCE>;
+
+/// Opens the recording, and prints a line for each cell that a step changed, `7 lock 0 = 18`, step after step, the cells of
+/// a step in the order in which `docs/COMMANDS.md` lists them; then the line that `check` prints. Of a recording whose steps
+/// don't all apply, or answer otherwise than is recorded of them, the lines up to the first such step are printed, and then
+/// its fault; of a text that is no recording its fault alone. The steps are made once, and no copy of the world is kept.
+///
+/// `Refused`: a fault was the last line, or `fault 108 memory` the only one. `StreamFailed`: a write failed; then a prefix of
+/// these texts is written.
+pub fn changes_bytes<W: TouchesCells + Drop, O: Write>(
+    alloc: Global,
+    bytes: &[u8],
+    output: &mut Sink<O>,
+) -> ExitStatus
+where
+    W::Snapshot: Drop,
+    // What was written, whatever the bytes are.
+    ensures { Changes bytes.now output.old output.new result }
+{
+    let recording = match read(alloc, bytes) {
+        Ok(recording) => recording,
+        Err(fault) => return refuse(&fault, output),
+    };
+    let mut world = match W::fresh(alloc, recording.limits()) {
+        Ok(world) => world,
+        Err(refused) => return refuse(&OutOfMemory(refused), output),
+    };
+    print_changes(&mut world, &recording, output)
+}
+
+// Makes the steps of the recording, and prints what they changed.
+fn print_changes<W: TouchesCells, O: Write>(
+    world: &mut W,
+    recording: &Recording,
+    output: &mut Sink<O>,
+) -> ExitStatus
+    requires world { W.is_well_formed world.old }
+    requires start { W.world world.old ≡ empty_world recording.now.limits }
+    ensures { WritesChanges (Ok recording.now) output.old output.new result }
+{
+    let mut lines = Lines::new();
+    for n in 0..recording.len() {
+        if let Err(fault) = step_on(world, recording, n, &mut lines) {
+            return end(lines.as_slice(), &fault, ExitStatus::Refused, output);
+        }
+        if lines.len() + MOST_CELLS > LINES_AT_ONCE {
+            if output.print(&Parts(lines.as_slice())).is_err() {
+                return ExitStatus::StreamFailed;
+            }
+            lines.clear();
+        }
+    }
+    let accepted = Accepted(recording.len());
+    end(lines.as_slice(), &accepted, ExitStatus::Done, output)
+}
+
+// Makes the step after position n, and puts the lines of what it changed behind the others. A fault is the step's.
+fn step_on<W: TouchesCells>(
+    world: &mut W,
+    recording: &Recording,
+    n: usize,
+    lines: &mut Lines,
+) -> Result<(), LoadFault>
+    requires world { W.is_well_formed world.old }
+    requires below { n < length recording.now.steps }
+    requires room { length lines.old.items + 22 ≤ 256 }
+    ensures well_formed { W.is_well_formed world.new }
+    ensures steps { StepsOnAt recording.now n (W.world world.old) lines.old.items result (W.world world.new) lines.new.items }
+    ensures few { length lines.new.items ≤ 256 }
+{
+    let Some(step) = recording.step(n) else {
+        unreachable!()
+    };
+    let mut changes = Changes::new();
+    let given = match advance(world, step, &mut changes) {
+        Ok(given) => given,
+        Err(reason) => {
+            return Err(LoadFault::Refused {
+                step: n + 1,
+                reason,
+            });
+        }
+    };
+    if differs(recording.answer(n), given) {
+        return Err(LoadFault::OtherAnswer { step: n + 1 });
+    }
+    add_lines(n + 1, changes.as_slice(), lines);
+    Ok(())
+}
+
+// Puts a line for each of the changes of a step behind the others.
+fn add_lines(step: usize, changes: &[CellWithValue], lines: &mut Lines)
+    requires { length lines.old.items + length changes.now ≤ 256 }
+    ensures items { lines.new.items ≡ lines.old.items ++ as_lines step changes.now }
+    ensures few { length lines.new.items ≤ 256 }
+{
+    for change in changes {
+        lines.push(ChangeLine {
+            step,
+            change: *change,
+        });
+    }
+}
+
+// Prints the lines and the last one, and returns the given status where all went out.
+fn end<T: Text, O: Write>(
+    lines: &[ChangeLine],
+    last: &T,
+    wanted: ExitStatus,
+    output: &mut Sink<O>,
+) -> ExitStatus
+    ensures { EndsPrinting (text_of_parts change_text lines.now ++ T.text last.now) wanted
+        output.old output.new result }
+{
+    match output.print(&Parts(lines)) {
+        Ok(()) => print(last, wanted, output),
+        Err(_) => ExitStatus::StreamFailed,
+    }
+}
