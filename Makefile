@@ -1,15 +1,15 @@
 # netrev: see README.md. All that is needed is the toolchain (`rt`), make and the usual tools of a shell, and for the gate
-# a C compiler and Python (3.10 or later). What is written in Python is run by `python3 python NAME`.
+# a C compiler, Python (3.10 or later) and pytest. What is written in Python is run by `python3 python NAME`.
 
 BUILT = crates/netrev/out/netrev
-VERSION = $(shell sed -n 's/^VERSION = "\(.*\)"/\1/p' python/netrev_model/version.py)
+VERSION = $(shell sed -n 's/^VERSION = "\(.*\)"/\1/p' python/netrev_words/version.py)
 FILE = examples/first.jsonl
 PREFIX = /usr/local
 MINUTES = 5
 COUNT = 10000
 LIB = $(DESTDIR)$(PREFIX)/lib/netrev
 SHARE = $(DESTDIR)$(PREFIX)/share
-INSTALLED = $(notdir $(wildcard python/nrdb python/netrev_model python/netrev_go))
+INSTALLED = $(notdir $(wildcard python/nrdb python/netrev_words python/netrev_machine python/netrev_go))
 
 .PHONY: ready help look run hunt test lint refused loopback hostile upgrades system fuzz fuzz-around agree companion sizes netrev examples share bench pace real \
 	install install-files package deb try-deb clean
@@ -64,35 +64,32 @@ lint:
 # that takes memory, alone; and a shared session too.
 refused: ready
 	cd crates/nr_refused && rt run -- all
-	@python3 python tests.program.each_call
 	@sh scripts/refused.sh
-	@python3 python tests.program.refused_serving
+	@sh scripts/pytest.sh --beside $(addprefix python/tests/program/,each_call.py refused_serving.py)
 
 # Sessions of the built program over the loopback: up to 64 fronts at a time, and callers who misbehave.
 loopback: ready
-	@python3 python tests.program.loopback
+	@sh scripts/pytest.sh python/tests/program/loopback.py
 
 # Bad recordings and bad command lines: each reason, faulty lines, headers and answers, every beginning of the short recordings.
 hostile: ready
-	@python3 python tests.program.hostile
+	@sh scripts/pytest.sh --beside python/tests/program/hostile.py
 
 # `netrev upgrade` over the recordings that are here, compared with what is stored and with the fuzzer's model.
 upgrades: ready
-	@python3 python tests.program.upgrades
+	@sh scripts/pytest.sh --beside python/tests/program/upgrades.py
 
 # The built program against the system: streams that are closed or full, odd files, signals, and little memory.
 system: ready
-	@python3 python tests.program.system
-	@python3 python tests.program.lengths
-	@python3 python tests.program.endurance
+	@sh scripts/pytest.sh $(addprefix python/tests/program/,system.py lengths.py endurance.py)
 
 # The built program at the greatest sizes that a recording and a session may have: none may say that memory ran out.
 sizes: ready
-	@python3 python tests.program.sizes
+	@sh scripts/pytest.sh python/tests/program/sizes.py
 
 # The tests of nrdb, the companion, and of the fuzzer, with the built program; among them the hunts of examples/hunts.
 companion: ready
-	@python3 python tests.side_by_side tests/program
+	@sh scripts/pytest.sh --beside python/tests/program/nrdb python/tests/program/test_*.py
 
 # Random recordings and command lines, held against a model of the machine in Python: `make fuzz MINUTES=30 SEED=7`. What
 # differs is kept in out/fuzz (CONTRIBUTING.md). Not in the gate.
@@ -183,7 +180,7 @@ try-deb:
 # installed. An hour or so a release; `make real ONLY=net/rpc` for some, `ONLY='^net$$' TESTS='^TestUnix'` for some
 # of a package. Not in the gate but for a small part.
 real: ready
-	@python3 python unittest tests.go_tool tests.go_kept tests.go_planted tests.go_tests
+	@sh scripts/pytest.sh $(addprefix python/tests/,go_tool.py go_kept.py go_planted.py go_tests.py)
 	@python3 python netrev_go.real --only '$(ONLY)' --tests '$(TESTS)' --go "$(GO)"
 
 # Removes all that was built and checked here. What `make test` keeps on this machine stays.

@@ -5,14 +5,14 @@
 # this machine passed, and has not changed since, a kit that keeps it neither proves nor tries again, unless it is told
 # --anew, a word that no other kit knows. Its verdicts are kept in out/verdicts.json, for what docs/TRUSTED.md says of them. Where it passes, each edit that must fail has to have been refused for what it
 # means: not one that can't be tried, or that the prover gave up on, or that is refused only because a proof file names what
-# the edit takes away. And the program that was built has to stand scripts/refused.sh and what python/tests/program plays,
-# play examples/shared.sh and each example, and pass the tests of nrdb, the companion, which play the hunts of
-# examples/hunts, and those of the recorder and the fuzzer. Where a Go is at hand, the samples and ten tests are recorded with it
+# the edit takes away. Then all tests in Python are run, and the scripts among them (scripts/tests.sh): what python/tests/program plays
+# with the program that was built, scripts/refused.sh, each example and examples/shared.sh, the tests of nrdb, the companion,
+# which play the hunts of examples/hunts, and those of the recorder and the fuzzer. Where a Go is at hand, the samples and ten tests are recorded with it
 # and compared; where none is, that is said. Both worlds have to agree on the recordings of examples/
 # (scripts/agree.sh). The pages have to say what the tree has (scripts/pages.py), and black and mypy have nothing to say of what
 # is written in Python, where they are here (scripts/lint.sh). The last line is that of `rt ci`, with
 # one more failed for each of these that fails, and how many tests were skipped for want of a tool: those are named before it, and
-# none of them counts as passed. Where none does, the sum of the program that was played is in out/gate.sum,
+# none of them counts as passed. Where none fails, and pytest is here, the sum of the program that was played is in out/gate.sum,
 # for scripts/package.sh.
 set -eu
 cd "$(dirname "$0")/.."
@@ -39,15 +39,7 @@ if grep -E "BAD EDIT|only by a limit of the prover|only because a proof file nam
 	echo "These edits say nothing of a contract: change a value and keep the names." >&2
 	more=$((more + 1))
 fi
-# Side by side, those first that take longest; alone what measures time or memory, or is told a port that another may take.
-python3 python tests.side_by_side \
-	tests.program.hostile tests.program.each_call tests.program.refused_serving "sh scripts/refused.sh" \
-	"python3 python netrev_go.real --gate" \
-	tests.naming "sh scripts/lint.sh --if-there" tests/program tests.program.endurance \
-	tests.program.loopback tests.program.upgrades tests.program.lengths "sh scripts/agree.sh" \
-	"python3 scripts/pages.py" "python3 scripts/surface.py" \
-	--left-out out/left-out.txt \
-	--alone tests.program.system tests.program.sizes "sh examples/play_all.sh" || more=$((more + $?))
+sh scripts/tests.sh || more=$((more + $?))
 
 # what it took, crate by crate: `python3 scripts/minutes.py out/minutes.tsv`
 python3 scripts/minutes.py out/minutes.tsv | tail -n 2
@@ -58,7 +50,7 @@ skipped=$(wc -l < out/left-out.txt)
 
 last=$(tail -n 1 "$log")
 passed=${last%% passed*} failed=${last#*passed, }
-[ "$more" != 0 ] || sha256sum < crates/netrev/out/netrev > "$sum"
+[ "$more" != 0 ] || grep -q '^pytest: ' out/left-out.txt || sha256sum < crates/netrev/out/netrev > "$sum"
 skipped=$([ "$skipped" = 0 ] || echo ", $skipped skipped")
 echo "$passed passed, $((${failed%% failed*} + more)) failed$skipped"
 [ "$more" = 0 ]

@@ -17,7 +17,7 @@ COMMANDS = ROOT / "docs/COMMANDS.md"
 sys.path.insert(0, str(ROOT / "python"))
 
 from netrev_go import options  # noqa: E402
-from netrev_model.version import VERSION  # noqa: E402
+from netrev_words.version import VERSION  # noqa: E402
 from nrdb import cli  # noqa: E402
 
 TITLE = f'.TH NETREV 1 "" "netrev {VERSION}" "User commands"\n'

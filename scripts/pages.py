@@ -14,6 +14,7 @@ The gate runs all rules. These are of pages and Python, and of what pages say of
     shared-names         a name that two crates define is in the glossary's list, with each of these crates
     tables               a file that names most kinds, cells or commands is in a list of docs/ARCHITECTURE.md
     diagram              the crates of docs/ARCHITECTURE.md are those of crates.txt
+    imports              packages of Python import what the table of CONTRIBUTING.md says, and none that is below them there
     docstrings           no docstring leans on what is before it
     sentences            no sentence of a page has more than 40 words
 
@@ -38,6 +39,7 @@ from pathlib import Path
 from page_rules import (
     citations,
     definitions,
+    imports,
     links,
     lists,
     memory,
@@ -85,6 +87,7 @@ RULES: dict[str, Rule] = {
     "shared-names": definitions.shared_names,
     "tables": lists.named_many,
     "diagram": lists.diagram,
+    "imports": imports.imports,
     "docstrings": sentences.leaning_docstrings,
     "sentences": sentences.long_sentences,
     "source-words": words.in_source,

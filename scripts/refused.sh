@@ -129,7 +129,7 @@ play_example() {
 	refuse_each 0 "$work/nothing" check "$recording"
 	[ "$lines" = 0 ] || differs check "$recording"
 
-	python3 "$here/../python" tests.program.upgrades --text "$recording" > "$work/right"
+	python3 "$here/../python" tests.program.given "$recording" > "$work/right"
 	refuse_each 0 "$work/nothing" upgrade "$recording"
 }
 

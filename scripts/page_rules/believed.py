@@ -11,7 +11,9 @@ from dataclasses import dataclass, field
 from page_rules.tree import Tree
 
 # the first line of a definition: at the left, or in a `module _` that has parameters
-HEAD = re.compile(r"(?:  )?(?:(?:abbrev|unfoldable|opaque) (?:pub )?(?:abbrev )?|(?:pub )?(?:record|data) )(\S+)")
+HEAD = re.compile(
+    r"(?:  )?(?:(?:abbrev|unfoldable|opaque) (?:pub )?(?:abbrev )?|(?:pub )?(?:record|data) )([^\s(]\S*)(?=\s|$)(?! \{)"
+)
 PLAIN = re.compile(r"pub (\S+) :")
 PLAIN_IN_MODULE = re.compile(r"  pub (\S+) :")
 IN_MODULE = re.compile(r"^module _ ", re.MULTILINE)

@@ -25,34 +25,27 @@ def forgotten(tree: Tree) -> Iterator[Finding]:
                 yield Finding(path, number, f"{found[0]} leaks memory, and stands in {MAY_FORGET} alone")
 
 
-# what says that memory was refused, and carries no refusal of the library's
-SAYS = re.compile(r"\b\w+::(?:Memory|OutOfMemory)\b(?!\()|&OutOfMemory\b|(?<!: )\bAllocError\b(?=\)|\.)")
-# where an error says so: an arm of such an error, a conversion of one, or the way on where a call failed that fails by nothing else
-SAID = re.compile(r"\b(?:Memory|OutOfMemory)\b|^\s*Err\(_\)\s*$")
-CONVERTS = re.compile(r"fn from\(\w+: (?:Memory|AllocError)\) -> ")
-OTHERWISE = re.compile(r"^\s*let Ok\(.*\) = .* else \{$")
-# the type that carries a refusal
+# the library's refusal, made by hand
+MADE = re.compile(r"(?<!: )\bAllocError\b(?=\)|\.)")
+# where a library says that it was refused memory by a word of its own, which carries none
+SAID = re.compile(r"\b(?:\w+::OutOfMemory|Category::Memory)\b.*=>")
+# what is printed where memory was refused, and what prints it too, though no memory was refused
+PRINTED = re.compile(r'"fault 108 memory|\bUnshared::NoTag\b')
+MESSAGE = re.compile(r"\s*#\[error\(")
+# the type that carries a refusal, and the types that are printed so: they carry one, or are never made
 CARRIES = "crates/nr_rev/src/memory.rt"
-
-
-def _follows(before: str, line: str, place: int) -> bool:
-    """Whether what stands at this place of a line follows from an error, there or on the line before."""
-    arm, arrow, _ = line.partition("=>")
-    if arrow:
-        return place < len(arm) or SAID.search(arm) is not None
-    return (
-        re.match(r"\s*(?:pub )?use ", line) is not None
-        or CONVERTS.search(before) is not None
-        or OTHERWISE.search(before) is not None
-    )
+PRINTS = ("crates/nr_recording/src/fault.rt", "crates/nr_serving/src/session.rt")
 
 
 def refused(tree: Tree) -> Iterator[Finding]:
-    """Places of the program that say that memory was refused, where no error says so."""
+    """Places of the program that say that memory was refused, where no error says so.
+
+    An error that says it carries the library's refusal. So one that has none at hand would have to make it, or to print the line itself.
+    """
     for crate in verdict.below(tree, verdict.PROGRAM):
         for path in tree.matching(f"crates/{crate}/src/*.rt"):
-            lines = without_comments(tree.text(path)).split("\n")
-            for number, (before, line) in enumerate(zip(["", *lines], lines), 1):
-                for found in SAYS.finditer(line):
-                    if path != CARRIES and not _follows(before, line, found.start()):
-                        yield Finding(path, number, f"{found[0]}: nothing here says that memory was refused")
+            for number, line in enumerate(without_comments(tree.text(path)).split("\n"), 1):
+                if path != CARRIES and not SAID.search(line) and (found := MADE.search(line)):
+                    yield Finding(path, number, f"{found[0]}: nothing here says that memory was refused")
+                if path not in PRINTS and not MESSAGE.match(line) and (found := PRINTED.search(line)):
+                    yield Finding(path, number, f"{found[0].strip(chr(34))} stands in {' and '.join(PRINTS)} alone")

@@ -1,8 +1,10 @@
 """docs/THEOREM.md has the reading list: the definitions that its laws rest on, by crate and file, and how many lines they are.
 
-A file stands behind those that it rests on, and a crate behind those that it imports. Lines are those of definitions with their
-comments, without imports and what else a file has. What a law is only handed, as the premise that another contract has proved,
-counts and isn't opened: the law says what follows from it, whatever it says.
+A file stands behind those that it rests on, and a crate behind those that it imports. Lines are those of definitions, without
+imports; a law's are counted without comments, and a file's with them, as it is read. What a law is only handed, as the premise that
+another contract has proved, counts and isn't opened: the law says what follows from it, whatever it says.
+
+What the laws rest on stands in files of its own, which hold nothing else, and each crate lists these under one heading.
 """
 
 import re
@@ -18,6 +20,9 @@ PAGE = "docs/THEOREM.md"
 HEADING = "## What to read"
 # where else the numbers are, in words
 PAGES = (PAGE, "docs/TRUSTED.md")
+# under which a crate's specs/Lib.antt lists the files that the laws rest on
+BELIEVED = "-- what the laws of docs/THEOREM.md rest on, whole files"
+LISTED = re.compile(r"pub mod (\w+)")
 IN_WORDS = re.compile(r"([\d,]+) definitions in ([\d,]+) lines")
 
 
@@ -32,11 +37,12 @@ class Law:
 
 
 LAWS = (
-    Law("what `run` writes", ("nr_programs/Transcript:RunsTranscript",), 2500),
+    Law("what `run` writes", ("nr_programs/Transcript:RunsTranscript",), 1900),
+    Law("what `changes` writes", ("nr_programs/Changes:Changes",), 1500),
     Law(
         "a shared session",
         ("nr_programs/Serving:ServesAll", "nr_programs/Shared:AreAnswered", "nr_serving/Session:IsTheirs"),
-        2750,
+        2200,
         handed=("nr_serving/Session:BeginsFresh", "nr_serving/Session:IsHistory"),
     ),
     Law(
@@ -48,7 +54,7 @@ LAWS = (
             "nr_machine/Made:parts_reason",
             "nr_machine/Made:TakesMemory",
         ),
-        1600,
+        1300,
     ),
 )
 
@@ -58,8 +64,8 @@ class Count:
     """How many definitions some laws rest on, of how many lines, in how many files."""
 
     definitions: int
-    lines: int
-    comments: int
+    lines: int  # without comments
+    comments: int  # lines besides
     files: int
     types: int  # of Rust, that the definitions name
 
@@ -107,7 +113,7 @@ class ReadingList:
         here = self.defined(places)
         comments = sum(definition.comments for definition in map(self.beliefs.definition, here) if definition)
         types = {(place.crate, *f"{place.module}.{place.name}".split(".")[1:3]) for place in places if _is_type(place)}
-        return Count(len(here), self.lines(here), comments, len({place.path for place in here}), len(types))
+        return Count(len(here), self.lines(here) - comments, comments, len({place.path for place in here}), len(types))
 
     def _behind(self, path: str, by_file: dict[str, set[Place]], ordered: list[str]) -> None:
         """Adds a file to those that are ordered, behind those of its crate that it rests on."""
@@ -129,9 +135,28 @@ class ReadingList:
             self._behind(path, by_file, ordered)
         return [(path, sorted(by_file[path])) for path in ordered]
 
+    def strays(self) -> Iterator[tuple[str, str]]:
+        """Definitions that no law rests on, in files with some that the laws rest on: the file and the name."""
+        by_file: dict[str, list[Place]] = {}
+        for place in self.defined(self.all):
+            by_file.setdefault(place.path, []).append(place)
+        for path, places in sorted(by_file.items()):
+            others = set(self.beliefs.module(places[0]).definitions) - {place.name for place in places}
+            yield from ((path, name) for name in sorted(others))
+
+    def misplaced(self) -> Iterator[tuple[str, str]]:
+        """Files that a crate lists under the heading, and no law rests on, or the other way round: the list and the name."""
+        for crate in self.tree.crates:
+            wanted = {_file(path) for path, _ in self.files(crate)}
+            path = f"crates/{crate}/specs/Lib.antt"
+            text = self.tree.text(path) if self.tree.has(path) else ""
+            _, _, behind = text.partition(f"{BELIEVED}\n")
+            listed = set(LISTED.findall(behind.partition("\n--")[0]))
+            yield from ((path, name) for name in sorted(wanted ^ listed))
+
     def rows(self) -> Iterator[str]:
         """The two tables, as the page has them."""
-        yield "| Law | Definitions | Lines | At most | Of comment | Files | Types of Rust |"
+        yield "| Law | Definitions | Lines | At most | Of comment besides | Files | Types of Rust |"
         yield "|---|--:|--:|--:|--:|--:|--:|"
         yield from (self.count(places).row(law.says, law.most_lines) for law, places in zip(self.laws, self.of_laws))
         yield self.count(self.all).row("all of these", 0)
@@ -161,6 +186,10 @@ def reading_list(tree: Tree) -> Iterator[Finding]:
     found = ReadingList(tree, LAWS)
     for cited in found.missing:
         yield Finding(PAGE, 1, f"there is no definition {cited} for the laws to rest on")
+    for path, name in found.strays():
+        yield Finding(path, 1, f"no law rests on {name}, and laws rest on what stands beside it")
+    for path, name in found.misplaced():
+        yield Finding(path, 1, f"{name}: the files that the laws rest on, and no others, stand under {BELIEVED!r}")
     for law, places in zip(LAWS, found.of_laws):
         if (lines := found.count(places).lines) > law.most_lines:
             yield Finding(PAGE, 1, f"{law.says} rests on {lines:,} lines of definitions, and may on {law.most_lines:,}")

@@ -1,0 +1,112 @@
+"""What CONTRIBUTING.md's table of Python says of imports is so: each package imports those that its row names, which are above it.
+
+A row is a folder below python/, or some files of one, and a module is of the row whose path is longest. So no two import one another.
+"""
+
+import ast
+from collections.abc import Iterator
+from dataclasses import dataclass, field
+
+from page_rules.markdown import CODE, blocks
+from page_rules.tree import Finding, Tree
+
+PAGE = "CONTRIBUTING.md"
+HEADING = "What is written in Python"
+PYTHON = "python/"
+ALL = "all above"
+PLACES, IMPORTS = 0, 2  # columns
+# modules that import what is below them, until the machine that they follow has moved
+YET = {("nrdb/calls.py", "nrdb/suspects"), ("nrdb/timers.py", "nrdb/suspects")}
+
+
+@dataclass
+class Row:
+    """A row of the table: its places below python/, its line in the page, and the rows that it names by their first places."""
+
+    places: list[str]
+    line: int
+    named: list[str] = field(default_factory=list)
+    takes_all: bool = False
+
+    @property
+    def name(self) -> str:
+        return self.places[0]
+
+    def fits(self, path: str) -> int:
+        """How long the place is that a module is of, by its path below python/; 0 where it is of none."""
+        return max((len(place) for place in self.places if f"{path}/".startswith(f"{place}/")), default=0)
+
+
+def rows_of(tree: Tree) -> list[Row]:
+    """The table's rows, in its order."""
+    rows: list[Row] = []
+    for block in blocks(tree.text(PAGE)) if tree.has(PAGE) else ():
+        if block.kind != "cell" or block.heading != HEADING:
+            continue
+        codes = CODE.findall(block.text)
+        if block.column == PLACES and codes:
+            rows.append(Row(codes, block.line))
+        elif block.column == IMPORTS and rows and rows[-1].line == block.line:
+            rows[-1].named, rows[-1].takes_all = codes, block.text == ALL
+    return rows
+
+
+def imported(tree: Tree, path: str) -> Iterator[tuple[int, str]]:
+    """The lines of a module that import, and the modules below python/ that they name, by their paths."""
+    folder = path.split("/")[1:-1]
+    for node in ast.walk(ast.parse(tree.text(path))):
+        if isinstance(node, ast.Import):
+            names = [alias.name.split(".") for alias in node.names]
+        elif isinstance(node, ast.ImportFrom):
+            above = folder[: len(folder) - node.level + 1] if node.level else []
+            module = [*above, *(node.module.split(".") if node.module else [])]
+            names = [[*module, alias.name] for alias in node.names]
+        else:
+            continue
+        for name in names:
+            if found := _path_of(tree, name):
+                yield node.lineno, found
+
+
+def _path_of(tree: Tree, name: list[str]) -> str:
+    """The module that a dotted name is of, or has a name of; empty where it isn't below python/."""
+    for length in range(len(name), 0, -1):
+        path = "/".join(name[:length])
+        for file in (f"{path}.py", f"{path}/__init__.py"):
+            if tree.has(f"{PYTHON}{file}"):
+                return file
+    return ""
+
+
+def imports(tree: Tree) -> Iterator[Finding]:
+    """Imports that aren't as the table has them, and what it names that nothing imports."""
+    rows = rows_of(tree)
+    if not rows:
+        yield Finding(PAGE, 1, f"no table under {HEADING!r}")
+        return
+    met: set[tuple[str, str]] = set()
+    for path in tree.matching("python/*.py"):
+        own = _row_of(rows, path.removeprefix(PYTHON))
+        if own is None:
+            if "/" in path.removeprefix(PYTHON):
+                yield Finding(path, 1, f"the table of {PAGE} has no row for it")
+            continue
+        for line, other in sorted(set(imported(tree, path))):
+            row = _row_of(rows, other)
+            if row is None or row is own or (path.removeprefix(PYTHON), row.name) in YET:
+                continue
+            met.add((own.name, row.name))
+            if rows.index(row) > rows.index(own):
+                yield Finding(path, line, f"imports {other}, and {row.name} is below {own.name} in {PAGE}")
+            elif row.name not in own.named and not own.takes_all:
+                yield Finding(path, line, f"imports {other}, and the row of {own.name} in {PAGE} leaves {row.name} out")
+    for row in rows:
+        for name in row.named:
+            if (row.name, name) not in met:
+                yield Finding(PAGE, row.line, f"nothing of {row.name} imports {name}")
+
+
+def _row_of(rows: list[Row], path: str) -> Row | None:
+    """The row that a module is of: that with the longest place."""
+    longest = max(rows, key=lambda row: row.fits(path))
+    return longest if longest.fits(path) else None
