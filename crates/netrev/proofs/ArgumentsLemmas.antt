@@ -41,3 +41,8 @@ pub upgrade_asks : (program file : Text) → IsPlain file → Ask (program ∷ c
 unfolding clap_on_literals
 upgrade_asks program [] plain = record { faultless = refl; is_asked = refl }
 upgrade_asks program (x ∷ xs) plain = record { faultless = simp plain; is_asked = simp plain }
+
+pub changes_asks : (program file : Text) → IsPlain file → Ask (program ∷ codes "changes" ∷ file ∷ []) (codes "changes", file, None)
+unfolding clap_on_literals
+changes_asks program [] plain = record { faultless = refl; is_asked = refl }
+changes_asks program (x ∷ xs) plain = record { faultless = simp plain; is_asked = simp plain }

@@ -6,6 +6,7 @@ use Rattle.nr_rev.specs.Refusing.{refused_memory}
 use Rattle.nr_text.specs.Streams.{Incoming, Outgoing, Sends}
 use Rattle.nr_recording.specs.Faults.{memory_line}
 use Rattle.nr_serving.specs.Conversations.{FrontsLog}
+use Rattle.nr_programs.specs.Changes.{Changes}
 use Rattle.nr_programs.specs.Run.{EndsPrinting}
 use Rattle.nr_programs.specs.Auxiliary.Run.{Checks}
 use Rattle.nr_programs.specs.Serving.{ServesAll}
@@ -37,6 +38,7 @@ usage_text =
     codes "usage: netrev run FILE\n"
     ++ codes "       netrev check FILE\n"
     ++ codes "       netrev upgrade FILE\n"
+    ++ codes "       netrev changes FILE\n"
     ++ codes "       netrev serve FILE --port P [--fronts N] [--workers W] [--journal H]"
     ++ codes " [--connections C]\n"
 
@@ -45,6 +47,7 @@ abbrev pub IsInRange : Program → Type 0
 IsInRange (program.Run file) = Unit {0}
 IsInRange (program.Check file) = Unit {0}
 IsInRange (program.Upgrade file) = Unit {0}
+IsInRange (program.Changes file) = Unit {0}
 IsInRange (program.Serve file sharing) = is_in_range sharing ≡ true
 
 -- What a program does over the bytes of its file. Only `run` reads input, and it writes its
@@ -57,6 +60,8 @@ Plays (program.Check file) bytes input left before after old new status =
     (left ≡ input) × (after ≡ before) × Checks bytes old new status
 Plays (program.Upgrade file) bytes input left before after old new status =
     (left ≡ input) × (after ≡ before) × Upgrades bytes old new status
+Plays (program.Changes file) bytes input left before after old new status =
+    (left ≡ input) × (after ≡ before) × Changes bytes old new status
 Plays (program.Serve file sharing) bytes input left before after old new status =
     (left ≡ input) × ServesAll bytes sharing before after old new status
 

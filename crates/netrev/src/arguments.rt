@@ -19,7 +19,7 @@ use std::alloc::{AllocError, Global};
 
 /// How the program is called.
 pub const USAGE: &str =
-    "usage: netrev run FILE\n       netrev check FILE\n       netrev upgrade FILE\n       netrev serve FILE --port P [--fronts N] [--workers W] [--journal H] [--connections C]\n";
+    "usage: netrev run FILE\n       netrev check FILE\n       netrev upgrade FILE\n       netrev changes FILE\n       netrev serve FILE --port P [--fronts N] [--workers W] [--journal H] [--connections C]\n";
 
 /// How many words a session's journal has room for, where the number isn't given.
 pub const USUAL_JOURNAL: u32 = 4_096;
@@ -33,6 +33,8 @@ pub enum Program<'a> {
     Check { file: &'a str },
     /// Writes the recording in version 2, each step with the answer that it gives, to standard output.
     Upgrade { file: &'a str },
+    /// Writes the cells that each step changed, with their values, to standard output.
+    Changes { file: &'a str },
     /// Commands and replies over the loopback, of several people who share one session.
     Serve { file: &'a str, sharing: Sharing },
 }
@@ -46,6 +48,7 @@ impl<'a> Program<'a> {
             Program::Run { file }
             | Program::Check { file }
             | Program::Upgrade { file }
+            | Program::Changes { file }
             | Program::Serve { file, .. } => file,
         }
     }
@@ -122,6 +125,7 @@ fn command<'a>(alloc: Global) -> Result<Command<'a>, AllocError>
     let run = file_command(alloc, "run")?;
     let check = file_command(alloc, "check")?;
     let upgrade = file_command(alloc, "upgrade")?;
+    let changes = file_command(alloc, "changes")?;
     let serve = serve_command(alloc)?;
     Command::new(alloc, "netrev")
         .disable_help_flag(true)
@@ -130,6 +134,7 @@ fn command<'a>(alloc: Global) -> Result<Command<'a>, AllocError>
         .subcommand(run)?
         .subcommand(check)?
         .subcommand(upgrade)?
+        .subcommand(changes)?
         .subcommand(serve)
 }
 
@@ -177,6 +182,7 @@ fn matched_program<'a>(matches: &ArgMatches<'a>) -> Option<Program<'a>>
         "run" => Some(Program::Run { file }),
         "check" => Some(Program::Check { file }),
         "upgrade" => Some(Program::Upgrade { file }),
+        "changes" => Some(Program::Changes { file }),
         "serve" => match sharing_in(inner) {
             Some(sharing) => Some(Program::Serve { file, sharing }),
             None => None,
@@ -212,4 +218,6 @@ pub fn plain_arguments_ask()
         → Ask (program ∷ codes "check" ∷ file ∷ []) (codes "check", file, None) }
     ensures upgrade { (program file : List ℕ) → IsPlain file
         → Ask (program ∷ codes "upgrade" ∷ file ∷ []) (codes "upgrade", file, None) }
+    ensures changes { (program file : List ℕ) → IsPlain file
+        → Ask (program ∷ codes "changes" ∷ file ∷ []) (codes "changes", file, None) }
 {}

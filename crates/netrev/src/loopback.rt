@@ -66,7 +66,10 @@ impl<'a> Loopback<'a> {
     pub(crate) fn new(rt: &'a HostRuntime, program: Program<'_>) -> Loopback<'a> {
         let (port, connections) = match program {
             Program::Serve { sharing, .. } => (sharing.port, sharing.connections),
-            Program::Run { .. } | Program::Check { .. } | Program::Upgrade { .. } => (0, None),
+            Program::Run { .. }
+            | Program::Check { .. }
+            | Program::Upgrade { .. }
+            | Program::Changes { .. } => (0, None),
         };
         Loopback {
             rt,

@@ -3,6 +3,7 @@
 //! `netrev run FILE` reads commands from standard input and replies on standard output.
 //! `netrev check FILE` says whether the recording can be walked.
 //! `netrev upgrade FILE` writes the recording with the answer of each step.
+//! `netrev changes FILE` writes the cells that each step changed.
 //! `netrev serve FILE --port P` answers the commands of several people, who share one session, over the loopback.
 #![tactic(auto)]
 

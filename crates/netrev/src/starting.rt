@@ -8,9 +8,12 @@ ghost use Rattle.nr_programs.specs.declared.run.ExitStatus.{ExitStatus as Status
 ghost use Rattle.netrev.specs.declared.starting.Unstarted.TheVariants as reasons;
 
 use crate::arguments::{ArgumentsFault, Program, USAGE};
-use nr_programs::{ExitStatus, check_bytes, refuse, run_bytes, serve_bytes, upgrade_bytes};
+use nr_changes::TouchesCells;
+use nr_programs::{
+    ExitStatus, changes_bytes, check_bytes, refuse, run_bytes, serve_bytes, upgrade_bytes,
+};
 use nr_recording::OutOfMemory;
-use nr_rev::{Memory, Worlds};
+use nr_rev::Memory;
 use nr_serving::{LoggedPorts, Ports};
 use nr_text::{Sink, Source};
 use std::alloc::{AllocError, Global};
@@ -91,7 +94,7 @@ pub fn start<W, R, P, I, O>(
     ports: &mut LoggedPorts<P>,
 ) -> Result<ExitStatus, Unstarted>
 where
-    W: Worlds + Drop + Send + Sync,
+    W: TouchesCells + Drop + Send + Sync,
     W::Delta: Drop + Send,
     W::Snapshot: Drop + Sync,
     R: Threads + Sync,
@@ -126,7 +129,7 @@ fn play<W, R, P, I, O>(
     ports: &mut LoggedPorts<P>,
 ) -> ExitStatus
 where
-    W: Worlds + Drop + Send + Sync,
+    W: TouchesCells + Drop + Send + Sync,
     W::Delta: Drop + Send,
     W::Snapshot: Drop + Sync,
     R: Threads + Sync,
@@ -142,6 +145,7 @@ where
         Program::Run { .. } => run_bytes::<W, R, I, O>(rt, alloc, bytes, input, output),
         Program::Check { .. } => check_bytes::<W, O>(alloc, bytes, output),
         Program::Upgrade { .. } => upgrade_bytes::<W, O>(alloc, bytes, output),
+        Program::Changes { .. } => changes_bytes::<W, O>(alloc, bytes, output),
         Program::Serve { sharing, .. } => {
             serve_bytes::<W, R, P, O>(rt, alloc, bytes, sharing, ports, output)
         }

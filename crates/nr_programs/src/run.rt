@@ -190,6 +190,7 @@ where
 }
 
 /// A recording of so many steps is accepted.
+#[derive(Clone, Copy)]
 pub(crate) struct Accepted(pub(crate) usize);
 
 /// It is the line `ok 260 steps`.

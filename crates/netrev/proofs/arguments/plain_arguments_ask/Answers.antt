@@ -1,4 +1,4 @@
-use Rattle.netrev.proofs.ArgumentsLemmas.{run_asks, check_asks, upgrade_asks}
+use Rattle.netrev.proofs.ArgumentsLemmas.{run_asks, check_asks, upgrade_asks, changes_asks}
 use Rattle.netrev.proofs.arguments.plain_arguments_ask.Goals as goal
 
 pub returns-clause-run : goal.returns-clause-run
@@ -9,3 +9,6 @@ returns-clause-check c = check_asks
 
 pub returns-clause-upgrade : goal.returns-clause-upgrade
 returns-clause-upgrade c = upgrade_asks
+
+pub returns-clause-changes : goal.returns-clause-changes
+returns-clause-changes c = changes_asks
