@@ -1,26 +1,37 @@
 -- How far `changes` is: the lines that went out, those that wait, and those that steps which are left will give.
-use Rattle.std.proofs.Common.{◌≡◌, ℕ, ◌+◌, ◌<◌, ◌≤◌, Bool, true, false, ◌||◌, List, [], ◌∷◌, ◌++◌, length, map, take, drop, Option, Some, None, Result, Ok, Err, inl, inr, refl, sym, ap, subst, ◌∙◌, arith}
+use Rattle.std.proofs.Common.{◌≡◌, ℕ, ◌+◌, ◌≤◌, Bool, true, false, ◌||◌, List, [], ◌∷◌, ◌++◌, length, drop, Option, Some, None, Ok, Err, inl, inr, refl, sym, ap, subst, ◌∙◌, arith}
 use Rattle.std.specs.Prelude.{flat_map, slice_get}
 use Rattle.std.proofs.lemmas.Grind.{flat_map-append}
-use Rattle.std.proofs.lemmas.List.{append_assoc, append-nil, drop_all, drop_more, length-append, take-append-le}
+use Rattle.std.proofs.lemmas.List.{append_assoc, drop_all, drop_more, length-append, take-append-le}
 use Rattle.std.proofs.lemmas.Option.{get_or_from_slice_get, slice_get_within}
 use Rattle.nr_rev.specs.Run.{next_of}
 use Rattle.nr_rev.specs.Step.{outcome}
 use Rattle.nr_rev.specs.World.{World, empty_world}
+use Rattle.nr_rev.specs.declared.answer.Answer.{Answer}
+use Rattle.nr_rev.specs.declared.refusal.Refusal.{Refusal}
+use Rattle.nr_rev.specs.declared.step.Step.{Step}
 use Rattle.nr_changes.specs.Changes.{changes_between}
 use Rattle.nr_changes.specs.declared.changing.CellWithValue.{CellWithValue}
-use Rattle.nr_recording.specs.Recording.{Recorded, run_of}
+use Rattle.nr_recording.specs.Auxiliary.Reading.{IsFaultOf}
+use Rattle.nr_recording.specs.Faults.{read_fault_line}
+use Rattle.nr_recording.specs.Reading.{reading}
+use Rattle.nr_recording.specs.Recording.{Recorded, recorded_at, run_of}
+use Rattle.nr_recording.specs.declared.fault.ReadFault.{ReadFault}
+use Rattle.nr_recording.specs.declared.fault.ReadFault.TheVariants as read
 use Rattle.nr_recording.specs.declared.recording.RecordedStep.{RecordedStep}
 use Rattle.nr_snaps.proofs.AnswerLemmas.{steps_of_run}
+use Rattle.nr_snaps.specs.Answers.{Agrees, Differs}
 use Rattle.nr_snaps.specs.Fault.{load_fault_line}
 use Rattle.nr_snaps.specs.declared.fault.LoadFault.{LoadFault}
+use Rattle.nr_snaps.specs.declared.fault.LoadFault.TheVariants as load
 use Rattle.nr_text.proofs.StreamLemmas.{sends_none, sends_then}
 use Rattle.nr_text.proofs.TextLemmas.{text_of_parts_is}
 use Rattle.nr_text.specs.Auxiliary.Text.{text_of_parts}
 use Rattle.nr_text.specs.Streams.{Outgoing, Sends, WritesAll, WritesPrefix}
+use Rattle.nr_programs.proofs.FaultLemmas.{no_fault, other_answer, step_there}
 use Rattle.nr_programs.proofs.UpgradeLemmas.{behind}
-use Rattle.nr_programs.specs.Auxiliary.Changes.{StepsOn, StepsOnAt, as_lines, change_text}
-use Rattle.nr_programs.specs.Changes.{WritesChanges, change_line, change_lines, last_line, lines_of_changes, status_of_opened, unless_fault}
+use Rattle.nr_programs.specs.Auxiliary.Changes.{HasFault, StepsOn, as_lines, change_text}
+use Rattle.nr_programs.specs.Changes.{Changes, WritesChanges, change_line, change_lines, last_line, lines_of_changes, status_of_opened, unless_fault}
 use Rattle.nr_programs.specs.Opening.{fault_or, first_fault, opened_as, run_or, step_fault}
 use Rattle.nr_programs.specs.Run.{EndsPrinting, accepted_line}
 use Rattle.nr_programs.specs.declared.changes.ChangeLine.{ChangeLine}
@@ -45,10 +56,37 @@ flat_lines n (change ∷ changes) = ap (λ t. change_line n change ++ t) (flat_l
 texts_of_changes : (n : ℕ) (changes : List CellWithValue) → texts_of (as_lines n changes) ≡ lines_of_changes n changes
 texts_of_changes n changes = text_of_parts_is change_text (as_lines n changes) ∙ flat_lines n changes
 
+-- those of lines behind which a step's are
+texts_behind : (n : ℕ) (lines after : List ChangeLine) (changes : List CellWithValue) → after ≡ lines ++ as_lines n changes → texts_of after ≡ texts_of lines ++ lines_of_changes n changes
+texts_behind n lines after changes is = ap texts_of is ∙ texts-append lines (as_lines n changes) ∙ ap (λ t. texts_of lines ++ t) (texts_of_changes n changes)
+
+-- what is left is cut in two, and the first part waits
+moved_on : (sent lines after more later rest all : List ℕ) → after ≡ lines ++ more → rest ≡ more ++ later → sent ++ (lines ++ rest) ≡ all → sent ++ (after ++ later) ≡ all
+moved_on sent lines after more later rest all waits cut is =
+    ap (λ t. sent ++ (t ++ later)) waits ∙ ap (λ t. sent ++ t) (append_assoc lines more later) ∙ ap (λ t. sent ++ (lines ++ t)) (sym cut) ∙ is
+
 -- a failure that is none
-calm_still : (a b : Bool) → b ≡ a → b ≡ (a || false)
+pub calm_still : (a b : Bool) → b ≡ a → b ≡ (a || false)
 calm_still true b e = e
 calm_still false b e = e
+
+-- a part of a text is out, so of a longer one
+pub cut_short : (text more : List ℕ) (wanted : ExitStatus) (old new : Outgoing) (count : ℕ) → WritesPrefix old new text count → EndsPrinting (text ++ more) wanted old new StreamFailed
+cut_short text more wanted old new count part =
+    let longer : WritesPrefix old new (text ++ more) count = record {
+      n = part.n;
+      within = omega (arith, part.within, length-append text more);
+      count_is = part.count_is;
+      out = subst (Sends old new) (sym (take-append-le part.n text more (omega (arith, part.within)))) part.out;
+      failed = part.failed;
+    } in
+    inr (refl, (count, longer))
+
+-- what was read has a fault, which was printed
+pub refused_to_read : (bytes : List ℕ) (fault : ReadFault) (old new : Outgoing) (status : ExitStatus) → IsFaultOf fault (reading bytes) → EndsPrinting (read_fault_line fault) Refused old new status
+    → Changes bytes old new status
+refused_to_read bytes (read.Memory refused) old new status is printed = inr printed
+refused_to_read bytes (read.Line n fault) old new status is printed = subst (λ o. WritesChanges o old new status) (sym is) (inl printed)
 
 module _ (r : Recorded) where
   -- all lines of the recording
@@ -97,28 +135,28 @@ module _ (r : Recorded) where
       ap (first_fault (n + 1) w) (steps_there n s read)
       ∙ ap (λ f. fault_or f (first_fault (n + 1 + 1) (next_of w (outcome w s.step)) (drop (n + 1) r.steps))) is
 
+  -- the lines from there, where the step has no fault: its own, and those from the next position on
+  lines_on : (n : ℕ) (w next : World) (s : RecordedStep) → slice_get r.steps n ≡ Some s → step_fault (n + 1) s.answer (outcome w s.step) ≡ None → next ≡ next_of w (outcome w s.step)
+      → lines_from n w ≡ lines_of_changes (n + 1) (changes_between w next) ++ lines_from (n + 1) next
+  lines_on n w next s read none leads =
+      subst (λ x. lines_from n w ≡ lines_of_changes (n + 1) (changes_between w x) ++ lines_from (n + 1) x) (sym leads) (lines_by n w s None read none)
+
+  fault_on : (n : ℕ) (w next : World) (s : RecordedStep) → slice_get r.steps n ≡ Some s → step_fault (n + 1) s.answer (outcome w s.step) ≡ None → next ≡ next_of w (outcome w s.step)
+      → first_fault (n + 1) w (drop n r.steps) ≡ first_fault (n + 1 + 1) next (drop (n + 1) r.steps)
+  fault_on n w next s read none leads =
+      subst (λ x. first_fault (n + 1) w (drop n r.steps) ≡ first_fault (n + 1 + 1) x (drop (n + 1) r.steps)) (sym leads) (fault_by n w s None read none)
+
   -- a step is made, and its lines wait too
-  pub stepped : (n : ℕ) (w next : World) (lines after : List ChangeLine) (old new : Outgoing) → Progress n w lines old new → StepsOnAt r n w lines (Ok tt) next after → Progress (n + 1) next after old new
+  pub stepped : (n : ℕ) (w next : World) (lines after : List ChangeLine) (old new : Outgoing) → Progress n w lines old new → StepsOn r n w lines next after → Progress (n + 1) next after old new
   stepped n w next lines after old new before step =
-      let s = step.0 in
-      let came = next_of w (outcome w s.step) in
-      let more = lines_of_changes (n + 1) (changes_between w next) in
-      let later = lines_from (n + 1) next in
-      let from : lines_from n w ≡ more ++ later =
-      lines_by n w s None step.1 step.2
-      ∙ ap (λ x. lines_of_changes (n + 1) (changes_between w x) ++ change_lines (n + 1 + 1) x (drop (n + 1) r.steps)) (sym step.3) in
-      let texts : texts_of after ≡ texts_of lines ++ more =
-      ap texts_of step.4 ∙ texts-append lines (as_lines (n + 1) (changes_between w next)) ∙ ap (λ t. texts_of lines ++ t) (texts_of_changes (n + 1) (changes_between w next)) in
       record {
         sent = before.sent;
         out = before.out;
         calm = before.calm;
         rest =
-            ap (λ t. before.sent ++ (t ++ later)) texts
-            ∙ ap (λ t. before.sent ++ t) (append_assoc (texts_of lines) more later)
-            ∙ ap (λ t. before.sent ++ (texts_of lines ++ t)) (sym from)
-            ∙ before.rest;
-        fault = ap (λ x. first_fault (n + 1 + 1) x (drop (n + 1) r.steps)) step.3 ∙ sym (fault_by n w s None step.1 step.2) ∙ before.fault;
+            moved_on before.sent (texts_of lines) (texts_of after) (lines_of_changes (n + 1) (changes_between w next)) (lines_from (n + 1) next) (lines_from n w) all_lines
+            (texts_behind (n + 1) lines after (changes_between w next) step.listed) (lines_on n w next step.recorded step.read step.faultless step.leads) before.rest;
+        fault = sym (fault_on n w next step.recorded step.read step.faultless step.leads) ∙ before.fault;
       }
 
   -- the lines that waited went out
@@ -145,14 +183,7 @@ module _ (r : Recorded) where
       let last = last_line (opened_as (Ok r)) in
       let more = lines_from n w ++ last in
       let wanted = status_of_opened (opened_as (Ok r)) in
-      let longer : WritesPrefix mid new (texts_of lines ++ more) count = record {
-        n = part.n;
-        within = omega (arith, part.within, length-append (texts_of lines) more);
-        count_is = part.count_is;
-        out = subst (Sends mid new) (sym (take-append-le part.n (texts_of lines) more (omega (arith, part.within)))) part.out;
-        failed = part.failed;
-      } in
-      let ends : EndsPrinting (texts_of lines ++ more) wanted mid new StreamFailed = inr (refl, (count, longer)) in
+      let ends = cut_short (texts_of lines) more wanted mid new count part in
       inl (subst (λ t. EndsPrinting t wanted old new StreamFailed) (whole n w lines old mid last before)
       (behind before.sent (texts_of lines ++ more) wanted StreamFailed old mid new before.out (calm_still old.failed mid.failed before.calm) ends))
 
@@ -168,17 +199,14 @@ module _ (r : Recorded) where
       (behind before.sent (texts_of lines ++ last) wanted status old mid new before.out (calm_still old.failed mid.failed before.calm) printed))
 
   -- a step has a fault, which was printed
-  pub faulted : (n : ℕ) (w next : World) (fault : LoadFault) (lines after : List ChangeLine) (old mid new : Outgoing) (status : ExitStatus) → Progress n w lines old mid
-      → StepsOnAt r n w lines (Err fault) next after → EndsPrinting (texts_of after ++ load_fault_line fault) Refused mid new status → WritesChanges (Ok r) old new status
-  faulted n w next fault lines after old mid new status before step printed =
-      let s = step.0 in
-      let none : lines_from n w ≡ [] = lines_by n w s (Some fault) step.1 step.2 in
-      let found : first_fault 1 (empty_world r.limits) r.steps ≡ Some fault = sym before.fault ∙ fault_by n w s (Some fault) step.1 step.2 in
-      let refused = ap (λ f. run_or f r) found in
-      let same = ap texts_of step.3 in
+  pub faulted : (n : ℕ) (w : World) (fault : LoadFault) (lines after : List ChangeLine) (old mid new : Outgoing) (status : ExitStatus) → Progress n w lines old mid
+      → HasFault r n w lines after fault → EndsPrinting (texts_of after ++ load_fault_line fault) Refused mid new status → WritesChanges (Ok r) old new status
+  faulted n w fault lines after old mid new status before step printed =
+      let none : lines_from n w ≡ [] = lines_by n w step.recorded (Some fault) step.read step.faulty in
+      let found : first_fault 1 (empty_world r.limits) r.steps ≡ Some fault = sym before.fault ∙ fault_by n w step.recorded (Some fault) step.read step.faulty in
       ends_with n w lines old mid new status before none
-      (subst (λ o. EndsPrinting (texts_of lines ++ last_line o) (status_of_opened o) mid new status) (sym refused)
-      (subst (λ t. EndsPrinting (t ++ load_fault_line fault) Refused mid new status) same printed))
+      (subst (λ o. EndsPrinting (texts_of lines ++ last_line o) (status_of_opened o) mid new status) (sym (ap (λ f. run_or f r) found))
+      (subst (λ t. EndsPrinting (t ++ load_fault_line fault) Refused mid new status) (ap texts_of step.kept) printed))
 
   -- all steps are made, and that is printed
   pub ended : (n : ℕ) (w : World) (lines : List ChangeLine) (old mid new : Outgoing) (status : ExitStatus) → length r.steps ≤ n → Progress n w lines old mid
@@ -192,3 +220,48 @@ module _ (r : Recorded) where
       ends_with n w lines old mid new status before none
       (subst (λ o. EndsPrinting (texts_of lines ++ last_line o) (status_of_opened o) mid new status) (sym accepted)
       (subst (λ t. EndsPrinting (texts_of lines ++ t) Done mid new status) (sym many) printed))
+
+  -- ---- what came of a step
+
+  -- it was refused
+  pub is_refused : (n : ℕ) (w : World) (step : Step) (reason : Refusal) (lines : List ChangeLine) → slice_get (run_of r).steps n ≡ Some step → outcome w step ≡ Err reason
+      → HasFault r n w lines lines (load.Refused (n + 1) reason)
+  is_refused n w step reason lines read is =
+      let s = step_there r n step read in
+      record {
+        recorded = s.0;
+        read = s.1;
+        faulty = ap (λ x. step_fault (n + 1) s.0.answer (outcome w x)) s.2 ∙ ap (step_fault (n + 1) s.0.answer) is;
+        kept = refl;
+      }
+
+  -- it answered otherwise
+  pub is_otherwise : (n : ℕ) (w next : World) (step : Step) (given : Answer) (lines : List ChangeLine) → slice_get (run_of r).steps n ≡ Some step → outcome w step ≡ Ok (given, next)
+      → Differs (recorded_at r n) given → HasFault r n w lines lines (load.OtherAnswer (n + 1))
+  is_otherwise n w next step given lines read is differs =
+      let s = step_there r n step read in
+      record {
+        recorded = s.0;
+        read = s.1;
+        faulty =
+            ap (λ x. step_fault (n + 1) s.0.answer (outcome w x)) s.2
+            ∙ ap (step_fault (n + 1) s.0.answer) is
+            ∙ other_answer (n + 1) s.0.answer given next (subst (λ o. Differs o given) s.3 differs);
+        kept = refl;
+      }
+
+  -- it answered as is recorded
+  pub is_made : (n : ℕ) (w next : World) (step : Step) (given : Answer) (lines after : List ChangeLine) → slice_get (run_of r).steps n ≡ Some step → outcome w step ≡ Ok (given, next)
+      → Agrees (recorded_at r n) given → after ≡ lines ++ as_lines (n + 1) (changes_between w next) → StepsOn r n w lines next after
+  is_made n w next step given lines after read is agrees listed =
+      let s = step_there r n step read in
+      record {
+        recorded = s.0;
+        read = s.1;
+        faultless =
+            ap (λ x. step_fault (n + 1) s.0.answer (outcome w x)) s.2
+            ∙ ap (step_fault (n + 1) s.0.answer) is
+            ∙ no_fault (n + 1) s.0.answer given next (subst (λ o. Agrees o given) s.3 agrees);
+        leads = sym (ap (λ x. next_of w (outcome w x)) s.2 ∙ ap (next_of w) is);
+        listed = listed;
+      }

@@ -1,10 +1,10 @@
 //! The program `changes`, over the bytes of the file and the output.
 
-ghost use Rattle.std.specs.Prelude.{◌≡◌, ◌≤◌, ◌<◌, ◌+◌, ◌++◌, Ok, length, map};
+ghost use Rattle.std.specs.Prelude.{◌≡◌, ◌≤◌, ◌<◌, ◌+◌, ◌++◌, Ok, IfErr, OnOk, length};
 ghost use Rattle.nr_rev.specs.World.{empty_world};
 ghost use Rattle.nr_text.specs.Auxiliary.Text.{text_of_parts};
 ghost use Rattle.nr_programs.specs.Changes.{Changes, WritesChanges};
-ghost use Rattle.nr_programs.specs.Auxiliary.Changes.{StepsOnAt, as_lines, change_text};
+ghost use Rattle.nr_programs.specs.Auxiliary.Changes.{HasFault, StepsOn, as_lines, change_text};
 ghost use Rattle.nr_programs.specs.Run.{EndsPrinting};
 
 use crate::run::{Accepted, ExitStatus, print, refuse};
@@ -13,7 +13,7 @@ use nr_changes::{CellWithValue, Changes, MOST_CELLS, TouchesCells, advance};
 use nr_command::send_printed;
 use nr_recording::{OutOfMemory, Recording, read};
 use nr_snaps::{LoadFault, differs};
-use nr_text::{Buffered, Parts, Sink, Text, Token, WriteFailed};
+use nr_text::{Buffered, Parts, Sink, Text, Token, WriteFailed, send_all};
 use std::alloc::Global;
 use std::io::Write;
 
@@ -34,8 +34,8 @@ impl Text for ChangeLine {
     ghost text = { change_text };
 
     fn send<W: Write>(&self, w: &mut Buffered<W>) -> Result<(), WriteFailed> {
-        Token::Number(self.step as u64).send(w)?;
-        w.send(b" ")?;
+        let step = Token::Number(self.step as u64);
+        send_all(&[step, Token::Text(b" ")], w)?;
         send_printed(self.change.cell, self.change.value, w)
     }
 }
@@ -83,14 +83,15 @@ fn print_changes<W: TouchesCells, O: Write>(
 {
     let mut lines = Lines::new();
     for n in 0..recording.len() {
-        if let Err(fault) = step_on(world, recording, n, &mut lines) {
-            return end(lines.as_slice(), &fault, ExitStatus::Refused, output);
+        match step_on(world, recording, n, &mut lines) {
+            Ok(()) => {}
+            Err(fault) => return end(lines.as_slice(), &fault, ExitStatus::Refused, output),
         }
         if lines.len() + MOST_CELLS > LINES_AT_ONCE {
-            if output.print(&Parts(lines.as_slice())).is_err() {
-                return ExitStatus::StreamFailed;
+            match output.print(&Parts(lines.as_slice())) {
+                Ok(()) => lines.clear(),
+                Err(_) => return ExitStatus::StreamFailed,
             }
-            lines.clear();
         }
     }
     let accepted = Accepted(recording.len());
@@ -106,9 +107,13 @@ fn step_on<W: TouchesCells>(
 ) -> Result<(), LoadFault>
     requires world { W.is_well_formed world.old }
     requires below { n < length recording.now.steps }
+    requires few { length recording.now.steps ≤ 1000000 }
     requires room { length lines.old.items + 22 ≤ 256 }
     ensures well_formed { W.is_well_formed world.new }
-    ensures steps { StepsOnAt recording.now n (W.world world.old) lines.old.items result (W.world world.new) lines.new.items }
+    ensures steps { OnOk result (StepsOn recording.now n (W.world world.old) lines.old.items
+        (W.world world.new) lines.new.items) }
+    ensures fault { IfErr result
+        (HasFault recording.now n (W.world world.old) lines.old.items lines.new.items) }
     ensures few { length lines.new.items ≤ 256 }
 {
     let Some(step) = recording.step(n) else {

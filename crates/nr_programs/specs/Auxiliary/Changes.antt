@@ -1,5 +1,5 @@
 -- Beside `Changes`: what contracts and proofs cite, and no law of docs/THEOREM.md rests on.
-use Rattle.std.specs.Prelude.{◌≡◌, ℕ, ◌+◌, List, ◌++◌, map, slice_get, Some, None, Result, Ok, Err}
+use Rattle.std.specs.Prelude.{◌≡◌, ℕ, ◌+◌, List, ◌++◌, map, slice_get, Some, None}
 use Rattle.nr_rev.specs.Run.{next_of}
 use Rattle.nr_rev.specs.Step.{outcome}
 use Rattle.nr_rev.specs.World.{World}
@@ -20,20 +20,20 @@ change_text line = change_line line.step line.change
 abbrev pub as_lines : ℕ → List CellWithValue → List ChangeLine
 as_lines n changes = map (λ change. record { step = n; change = change }) changes
 
--- What came of the step of this number: it has no fault, and its lines are behind the others; or it
--- has a fault.
-abbrev pub StepsOn : RecordedStep → ℕ → World → List ChangeLine → Result (Unit {0}) LoadFault
-    → World → List ChangeLine → Type 0
-StepsOn recorded n w before (Ok _) next after =
-    (step_fault n recorded.answer (outcome w recorded.step) ≡ None)
-    × (next ≡ next_of w (outcome w recorded.step))
-    × (after ≡ before ++ as_lines n (changes_between w next))
-StepsOn recorded n w before (Err fault) next after =
-    (step_fault n recorded.answer (outcome w recorded.step) ≡ Some fault) × (after ≡ before)
+-- The step after position n leads from a world to the next one, has no fault, and its lines are
+-- behind the others.
+pub record StepsOn (r : Recorded) (n : ℕ) (w : World) (before : List ChangeLine) (next : World)
+    (after : List ChangeLine) : Type 0 where
+  pub recorded : RecordedStep
+  pub read : slice_get r.steps n ≡ Some recorded
+  pub faultless : step_fault (n + 1) recorded.answer (outcome w recorded.step) ≡ None
+  pub leads : next ≡ next_of w (outcome w recorded.step)
+  pub listed : after ≡ before ++ as_lines (n + 1) (changes_between w next)
 
--- what came of the step after position n
-abbrev pub StepsOnAt : Recorded → ℕ → World → List ChangeLine → Result (Unit {0}) LoadFault → World
-    → List ChangeLine → Type 0
-StepsOnAt r n w before result next after =
-    (recorded : RecordedStep) × (slice_get r.steps n ≡ Some recorded)
-    × StepsOn recorded (n + 1) w before result next after
+-- It has this fault, and there are no lines more.
+pub record HasFault (r : Recorded) (n : ℕ) (w : World) (before after : List ChangeLine)
+    (fault : LoadFault) : Type 0 where
+  pub recorded : RecordedStep
+  pub read : slice_get r.steps n ≡ Some recorded
+  pub faulty : step_fault (n + 1) recorded.answer (outcome w recorded.step) ≡ Some fault
+  pub kept : after ≡ before
