@@ -28,7 +28,7 @@ def changes_at(path: Path) -> RecordedChanges:
 
 
 def changes_in(recording: bytes) -> RecordedChanges:
-    """The same of a recording's text."""
+    """What each step changed of the recording with this text, as the model says it."""
     lines, _ = changes(recording, Observer())
     return RecordedChanges.read(f"{line}\n".encode() for line in lines)
 
