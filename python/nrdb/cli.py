@@ -269,15 +269,10 @@ def made(session: Session, path: str, write: Callable[[Session, str], str]) -> i
     return DONE
 
 
-def write_reduced(session: Session, path: str) -> str:
-    """Writes the least recording with its first suspect; what to say of it."""
-    return reduced_file(session, [path])
-
-
 WRITERS: dict[str, Callable[[Session, str], str]] = {
     "timeline": write_timeline,
     "trace": write_trace,
-    "reduce": write_reduced,
+    "reduce": lambda session, path: reduced_file(session, [path]),
 }
 
 

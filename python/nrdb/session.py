@@ -155,12 +155,10 @@ class Session:
         try:
             self.tell_of_others()
             return self.answer(line)
-        except (Ambiguous, Misused) as wrong:
+        except (Ambiguous, Lost, Misused) as wrong:
             self.printer.note(str(wrong))
         except Refused as refused:
             self.printer.note(f"netrev answered: {refused}")
-        except Lost as lost:
-            self.printer.note(str(lost))
         return True
 
     def answer(self, line: str) -> bool:
@@ -240,14 +238,12 @@ class Session:
 
     def tell_changes(self, changes: RecordedChanges, recording: Recording, position: int, hit: list[Listed]) -> None:
         """Tells whose timers the steps beside the position are about, which marks hit, and what the last step changed."""
-        timers = timers_beside(recording, position)
-        if timers.rows:
+        if (timers := timers_beside(recording, position)).rows:
             self.printer.table(timers)
         if hit:
             self.printer.table(marks_table(changes, hit, position))
         told = [mark.what for mark in hit if mark.sort == "watch"]
-        changed = changed_table(changes, position, told)
-        if changed and changed.rows:
+        if (changed := changed_table(changes, position, told)) and changed.rows:
             self.printer.table(changed)
 
     def show_displays(self) -> None:
