@@ -13,6 +13,7 @@ from netrev_words.built import BUILT, netrev_program
 from netrev_words.plain import plain
 from netrev_words.version import VERSION
 
+from .arriving_changes import ArrivingChanges
 from .prompt.answers import ANSWERS
 from .dap import serve_port, serve_streams
 from .exploring import explored
@@ -165,7 +166,8 @@ def begun(wanted: argparse.Namespace, netrev: Netrev, interrupts: Interrupts, pr
     if wanted.join and wanted.file and (fault := fault_of(wanted.netrev, wanted.file)):
         raise NoRecording(f"{wanted.file} isn't a recording: {fault}")
     scout = Scout(lambda: Own(wanted.netrev, wanted.file, interrupts)) if wanted.file else None
-    session = Session(netrev, recording, scout, printer, interrupts, ANSWERS)
+    recorded = ArrivingChanges(wanted.netrev, wanted.file, interrupts, printer.note) if wanted.file else None
+    session = Session(netrev, recording, scout, printer, interrupts, ANSWERS, recorded=recorded)
     session.program, session.path = wanted.netrev, wanted.file or ""
     first = session.ask("info position")
     if not POSITION.fullmatch(first):
@@ -176,8 +178,9 @@ def begun(wanted: argparse.Namespace, netrev: Netrev, interrupts: Interrupts, pr
             printer.note(recording.lines.why_unused(wanted.file))
         status = played(session, wanted)
     finally:
-        if scout:
+        if scout and recorded:
             scout.drop()
+            recorded.drop()
     ended = netrev.close()
     return status if wanted.web is not None else ended or status  # (the page may have gone on with another netrev)
 
@@ -266,23 +269,18 @@ def made(session: Session, path: str, write: Callable[[Session, str], str]) -> i
     return DONE
 
 
-def write_reduced(session: Session, path: str) -> str:
-    """Writes the least recording with its first suspect; what to say of it."""
-    return reduced_file(session, [path])
-
-
 WRITERS: dict[str, Callable[[Session, str], str]] = {
     "timeline": write_timeline,
     "trace": write_trace,
-    "reduce": write_reduced,
+    "reduce": lambda session, path: reduced_file(session, [path]),
 }
 
 
 def typed(session: Session) -> None:
     """Takes lines from the terminal, or from an input that is none."""
     if sys.stdin.isatty():
-        if session.scout:
-            session.scout.prepare()
+        if session.recorded:
+            session.recorded.prepare()
         Terminal(session).run()
         return
     for line in map(str.rstrip, sys.stdin):

@@ -6,6 +6,7 @@ from typing import Iterator, Optional
 
 from netrev_words.vocabulary import Of
 
+from ..arriving_changes import ArrivingChanges
 from ..prompt.answers import ANSWERS
 from ..backwards import last_steps
 from ..interrupts import Interrupts
@@ -100,8 +101,9 @@ def debuggee(program: str, path: str) -> Iterator[Debuggee]:
         raise Unanswerable(str(wrong)) from None
     with closing(netrev):
         scout = Scout(lambda: Own(program, path, interrupts))
+        recorded = ArrivingChanges(program, path, interrupts, printer.note)
         try:
-            session = Session(netrev, recording, scout, printer, interrupts, ANSWERS)
+            session = Session(netrev, recording, scout, printer, interrupts, ANSWERS, recorded=recorded)
             first = session.ask("info position")
             if not POSITION.fullmatch(first):
                 raise Unanswerable("\n".join([first, *explained(program, path, first)]))
@@ -109,4 +111,5 @@ def debuggee(program: str, path: str) -> Iterator[Debuggee]:
             yield Debuggee(session, recording, printer, path)
         finally:
             scout.drop()
+            recorded.drop()
             netrev.drop()

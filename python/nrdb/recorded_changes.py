@@ -1,0 +1,210 @@
+"""What `netrev changes` says of a recording: the cells that each step changed, with what they show behind it. It is held in arrays
+of numbers, and each name and value once, since a million steps change some millions of cells."""
+
+from array import array
+from bisect import bisect_left, bisect_right
+from typing import Callable, Iterable, Iterator, NamedTuple, Optional, Sequence
+
+AT_START = {"clock": "0", "waiters": "0", "timers": "0", "firings": "0", "gor 0": "idle"}
+
+
+class Change(NamedTuple):
+    """A step, a cell that it changed, and what that shows behind it."""
+
+    step: int
+    cell: str
+    value: str
+
+
+class Texts(dict[str, int]):
+    """Texts, each once, and their numbers in the order in which they came."""
+
+    def __init__(self) -> None:
+        super().__init__()
+        self.all: list[str] = []
+
+    def __missing__(self, text: str) -> int:
+        number = self[text] = len(self.all)
+        self.all.append(text)
+        return number
+
+
+class NoChanges(ValueError):
+    """A text isn't what `netrev changes` says, or isn't all of it."""
+
+
+def value_at_start(cell: str) -> str:
+    """What a cell shows before the first step."""
+    return AT_START.get(cell, "absent")
+
+
+class RecordedChanges:
+    """The changes of a recording's steps, which may still be read: whoever asks for more than is there waits for it."""
+
+    def __init__(self) -> None:
+        self._steps, self._cells, self._values = array("I"), array("I"), array("I")  # of each change
+        self._names, self._texts = Texts(), Texts()
+        self._places: list[array[int]] = []  # of each cell the places of its changes in those arrays
+        self._rest = b""
+        self._is_whole, self._length, self._fault = False, 0, ""
+
+    @classmethod
+    def read(cls, pieces: Iterable[bytes]) -> "RecordedChanges":
+        """The changes in a whole output, which comes in pieces; NoChanges where it isn't one, or isn't whole."""
+        changes = cls()
+        for piece in pieces:
+            changes.take(piece)
+        if not changes.is_whole:
+            raise NoChanges("the changes have no end")
+        return changes
+
+    # what is asked
+
+    @property
+    def length(self) -> int:
+        """How many steps can be made: all of them, or those before the first fault."""
+        self._wait(None)
+        return self._length
+
+    @property
+    def fault(self) -> str:
+        """The line of the recording's first fault; empty where it has none."""
+        self._wait(None)
+        return self._fault
+
+    def at(self, step: int) -> list[tuple[str, str]]:
+        """The cells that a step changed, each with its value behind it, in netrev's order."""
+        self._wait(step)
+        first, last = bisect_left(self._steps, step), bisect_right(self._steps, step)
+        names, texts = self._names.all, self._texts.all
+        return [(names[self._cells[place]], texts[self._values[place]]) for place in range(first, last)]
+
+    def value(self, cell: str, position: int) -> str:
+        """What a cell shows at a position."""
+        self._wait(position)
+        places = self._places_of(cell)
+        at = bisect_left(places, bisect_right(self._steps, position))
+        return self._texts.all[self._values[places[at - 1]]] if at else value_at_start(cell)
+
+    def values(self, position: int, cells: Iterable[str]) -> list[str]:
+        """What cells show at a position."""
+        return [self.value(cell, position) for cell in cells]
+
+    def steps_of(self, cell: str, until: Optional[int] = None) -> "array[int]":
+        """The steps that changed a cell, rising; up to a position, where one is named."""
+        return array("I", map(self._steps.__getitem__, self._places_up_to(cell, until)))
+
+    def nearest(
+        self, cells: Sequence[str], are_wanted: Callable[[list[str]], bool], position: int, backwards: bool
+    ) -> Optional[int]:
+        """The nearest position that way behind a step that changed one of the cells, and gave them values that are wanted; or
+        None."""
+        steps = sorted({step for cell in cells for step in self.steps_of(cell, position if backwards else None)})
+        ways = reversed(steps[: bisect_left(steps, position)]) if backwards else steps[bisect_right(steps, position) :]
+        return next((step for step in ways if are_wanted(self.values(step, cells))), None)
+
+    def changes_of(self, cell: str, until: Optional[int] = None) -> list[tuple[int, str]]:
+        """The steps that changed a cell, each with its value behind it; up to a position, where one is named."""
+        places, texts = self._places_up_to(cell, until), self._texts.all
+        return [(self._steps[place], texts[self._values[place]]) for place in places]
+
+    def cells(self) -> list[str]:
+        """The cells that any step changed, in the order in which they first did."""
+        self._wait(None)
+        return list(self._names.all)
+
+    def __iter__(self) -> Iterator[Change]:
+        """All changes, step by step."""
+        self._wait(None)
+        cells = map(self._names.all.__getitem__, self._cells)
+        return map(Change, self._steps, cells, map(self._texts.all.__getitem__, self._values))
+
+    def by_step(self) -> Iterator[list[tuple[str, str]]]:
+        """Of each step in turn what it changed, as `at` has it."""
+        every = iter(self)
+        change = next(every, None)
+        for step in range(1, self.length + 1):
+            changed: list[tuple[str, str]] = []
+            while change and change.step == step:
+                changed.append((change.cell, change.value))
+                change = next(every, None)
+            yield changed
+
+    def _places_of(self, cell: str) -> "array[int]":
+        """The places of a cell's changes, which rise."""
+        number = self._names.get(cell)
+        return array("I") if number is None or number >= len(self._places) else self._places[number]
+
+    def _places_up_to(self, cell: str, until: Optional[int]) -> "array[int]":
+        self._wait(until)
+        places = self._places_of(cell)
+        return places if until is None else places[: bisect_left(places, bisect_right(self._steps, until))]
+
+    def _wait(self, position: Optional[int]) -> None:
+        """Comes back when what leads to a position is there, or all."""
+
+    # how they are read
+
+    def prepare(self) -> None:
+        """Begins to read them, where that hasn't been begun."""
+
+    def drop(self) -> None:
+        """Ends reading them."""
+
+    @property
+    def is_whole(self) -> bool:
+        """Whether all has been read."""
+        return self._is_whole
+
+    def has(self, position: Optional[int]) -> bool:
+        """Whether what leads to a position has been read, or all."""
+        return self._is_whole or (position is not None and bool(self._steps) and position < self._steps[-1])
+
+    def take(self, piece: bytes) -> None:
+        """Takes a piece of the output, which may end within a line."""
+        whole, feed, self._rest = (self._rest + piece).rpartition(b"\n")
+        if not feed:
+            return
+        if self._is_whole:
+            raise NoChanges("a line behind the last one")
+        try:
+            self._take_text(whole.decode("ascii"))
+        except (ValueError, IndexError):
+            raise NoChanges("a line that is no change") from None
+
+    def _take_text(self, lines: str) -> None:
+        """Takes whole lines, of which the last may be that of the end."""
+        before, _, last = lines.rpartition("\n")
+        is_end = " = " not in last
+        if told := before if is_end else lines:
+            self._take_lines(told)
+        if is_end:
+            self._take_end(last)
+
+    def _take_lines(self, lines: str) -> None:
+        """Takes whole lines of changes. Their steps come last: whoever reads meanwhile looks at these."""
+        parts = lines.replace(" = ", "\n").split("\n")
+        numbers, names = zip(*[head.split(" ", 1) for head in parts[::2]])
+        steps, cells = array("I", map(int, numbers)), array("I", map(self._names.__getitem__, names))
+        values = array("I", map(self._texts.__getitem__, parts[1::2]))
+        if len(values) != len(steps):
+            raise NoChanges("a line without a value")
+        self._places += (array("I") for _ in range(len(self._places), len(self._names)))
+        for place, cell in enumerate(cells, len(self._cells)):
+            self._places[cell].append(place)
+        self._cells.extend(cells)
+        self._values.extend(values)
+        self._steps.extend(steps)
+
+    def _take_end(self, line: str) -> None:
+        """Takes the last line: how many steps there are, or the fault."""
+        first, *words = line.split()
+        if first == "ok":
+            self._length = int(words[0])
+        elif first in ("step", "line", "fault"):
+            self._fault = line
+            self._length = int(words[0].rstrip(":")) - 1 if first == "step" else 0
+        else:
+            raise NoChanges(line)
+        self._texts.clear()  # (the texts themselves stay)
+        self._is_whole = True
