@@ -1,0 +1,175 @@
+"""What `netrev changes` says of a recording: the cells that each step changed, with what they show behind it. It is held in arrays
+of numbers, and each name and value once, since a million steps change some millions of cells."""
+
+from array import array
+from bisect import bisect_left, bisect_right
+from typing import Iterable, Iterator, NamedTuple, Optional
+
+AT_START = {"clock": "0", "waiters": "0", "timers": "0", "firings": "0", "gor 0": "idle"}
+
+
+class Change(NamedTuple):
+    """A step, a cell that it changed, and what that shows behind it."""
+
+    step: int
+    cell: str
+    value: str
+
+
+class Texts(dict[str, int]):
+    """Texts, each once, and their numbers in the order in which they came."""
+
+    def __init__(self) -> None:
+        super().__init__()
+        self.all: list[str] = []
+
+    def __missing__(self, text: str) -> int:
+        number = self[text] = len(self.all)
+        self.all.append(text)
+        return number
+
+
+class NoChanges(ValueError):
+    """A text isn't what `netrev changes` says, or isn't all of it."""
+
+
+def value_at_start(cell: str) -> str:
+    """What a cell shows before the first step."""
+    return AT_START.get(cell, "absent")
+
+
+class RecordedChanges:
+    """The changes of a recording's steps, which may still be read: whoever asks for more than is there waits for it."""
+
+    def __init__(self) -> None:
+        self._steps, self._cells, self._values = array("I"), array("I"), array("I")  # of each change
+        self._names, self._texts = Texts(), Texts()
+        self._places: list[array[int]] = []  # of each cell the places of its changes in those arrays
+        self._rest = b""
+        self._is_whole, self._length, self._fault = False, 0, ""
+
+    @classmethod
+    def read(cls, pieces: Iterable[bytes]) -> "RecordedChanges":
+        """The changes in a whole output, which comes in pieces; NoChanges where it isn't one, or isn't whole."""
+        changes = cls()
+        for piece in pieces:
+            changes.take(piece)
+        if not changes.is_whole:
+            raise NoChanges("the changes have no end")
+        return changes
+
+    # what is asked
+
+    @property
+    def length(self) -> int:
+        """How many steps can be made: all of them, or those before the first fault."""
+        self._wait(None)
+        return self._length
+
+    @property
+    def fault(self) -> str:
+        """The line of the recording's first fault; empty where it has none."""
+        self._wait(None)
+        return self._fault
+
+    def at(self, step: int) -> list[tuple[str, str]]:
+        """The cells that a step changed, each with its value behind it, in netrev's order."""
+        self._wait(step)
+        first, last = bisect_left(self._steps, step), bisect_right(self._steps, step)
+        names, texts = self._names.all, self._texts.all
+        return [(names[self._cells[place]], texts[self._values[place]]) for place in range(first, last)]
+
+    def value(self, cell: str, position: int) -> str:
+        """What a cell shows at a position."""
+        self._wait(position)
+        places = self._places_of(cell)
+        at = bisect_left(places, bisect_right(self._steps, position))
+        return self._texts.all[self._values[places[at - 1]]] if at else value_at_start(cell)
+
+    def values(self, position: int, cells: Iterable[str]) -> list[str]:
+        """What cells show at a position."""
+        return [self.value(cell, position) for cell in cells]
+
+    def steps_of(self, cell: str) -> "array[int]":
+        """The steps that changed a cell, rising."""
+        self._wait(None)
+        return array("I", [self._steps[place] for place in self._places_of(cell)])
+
+    def changes_of(self, cell: str) -> Iterator[tuple[int, str]]:
+        """The steps that changed a cell, each with its value behind it."""
+        self._wait(None)
+        texts = self._texts.all
+        return ((self._steps[place], texts[self._values[place]]) for place in self._places_of(cell))
+
+    def cells(self) -> list[str]:
+        """The cells that any step changed, in the order in which they first did."""
+        self._wait(None)
+        return list(self._names.all)
+
+    def __iter__(self) -> Iterator[Change]:
+        """All changes, step by step."""
+        self._wait(None)
+        cells = map(self._names.all.__getitem__, self._cells)
+        return map(Change, self._steps, cells, map(self._texts.all.__getitem__, self._values))
+
+    def _places_of(self, cell: str) -> "array[int]":
+        """The places of a cell's changes, which rise."""
+        number = self._names.get(cell)
+        return array("I") if number is None or number >= len(self._places) else self._places[number]
+
+    def _wait(self, position: Optional[int]) -> None:
+        """Comes back when what leads to a position is there, or all."""
+
+    # how they are read
+
+    @property
+    def is_whole(self) -> bool:
+        """Whether all has been read."""
+        return self._is_whole
+
+    def has(self, position: Optional[int]) -> bool:
+        """Whether what leads to a position has been read, or all."""
+        return self._is_whole or (position is not None and bool(self._steps) and position < self._steps[-1])
+
+    def take(self, piece: bytes) -> None:
+        """Takes a piece of the output, which may end within a line."""
+        whole, feed, self._rest = (self._rest + piece).rpartition(b"\n")
+        if not feed:
+            return
+        if self._is_whole:
+            raise NoChanges("a line behind the last one")
+        lines = whole.decode("ascii")
+        before, _, last = lines.rpartition("\n")
+        is_end = " = " not in last
+        if told := before if is_end else lines:
+            self._take_lines(told)
+        if is_end:
+            self._take_end(last)
+
+    def _take_lines(self, lines: str) -> None:
+        """Takes whole lines of changes. Their steps come last: whoever reads meanwhile looks at these."""
+        parts = lines.replace(" = ", "\n").split("\n")
+        heads = [head.split(" ", 1) for head in parts[::2]]
+        values = list(map(self._texts.__getitem__, parts[1::2]))
+        steps, cells = array("I", [int(head[0]) for head in heads]), [self._names[head[1]] for head in heads]
+        if len(values) != len(steps):
+            raise NoChanges("a line without a value")
+        self._places += (array("I") for _ in range(len(self._places), len(self._names)))
+        for place, cell in enumerate(cells, len(self._cells)):
+            self._places[cell].append(place)
+        self._cells.extend(cells)
+        self._values.extend(values)
+        self._steps.extend(steps)
+
+    def _take_end(self, line: str) -> None:
+        """Takes the last line: how many steps there are, or the fault."""
+        first, *words = line.split()
+        if first == "ok":
+            self._length = int(words[0])
+        elif first in ("step", "line", "fault"):
+            self._fault = line
+            self._length = int(words[0].rstrip(":")) - 1 if first == "step" else 0
+        else:
+            raise NoChanges(line)
+        self._texts.clear()  # (the texts themselves stay)
+        self._is_whole = True
