@@ -3,6 +3,7 @@ when, who set which deadline, which event was taken by whom, and how long everyb
 
 from array import array
 from bisect import bisect_left, bisect_right
+from itertools import count
 from typing import Any, Callable, Iterator, NamedTuple, Optional
 
 from netrev_words.vocabulary import KINDS
@@ -113,10 +114,11 @@ class Use:
         events = self.events[side]
         return events[-1] if events else 0
 
-    def setting(self, side: str, step: int) -> Optional[Setting]:
-        """The last setting of a side before a step."""
-        before = self.settings[: bisect_left(self.settings, (step,))]
-        return next((one for one in reversed(before) if side in one.mode), None)
+    def settings_since(self, side: str, step: int) -> list[Setting]:
+        """The last setting of a side before a step, and those of the other side alone that came between."""
+        last = bisect_left(self.settings, (step,))
+        first = next(at for at in range(last - 1, -1, -1) if side in self.settings[at].mode)
+        return self.settings[first:last]
 
     def passing(self, side: str, position: int) -> Optional[Passing]:
         """When a side's deadline passed last, up to a position."""
@@ -134,11 +136,11 @@ def code_of(info: int, side: str) -> int:
     return EVENT_ERROR if side == "r" and info & 2 else 0
 
 
-def by_step(changes: RecordedChanges, length: int) -> Iterator[list[Change]]:
-    """The changes of each step."""
+def by_step(changes: RecordedChanges) -> Iterator[list[Change]]:
+    """The changes of each step, one after the other."""
     arriving = iter(changes)
     change = next(arriving, None)
-    for number in range(1, length + 1):
+    for number in count(1):
         found = []
         while change is not None and change[0] == number:
             found.append(change)
@@ -176,14 +178,16 @@ class Notes:
         self.open: set[int] = set()
         self.stale: dict[int, tuple[int, int]] = {}
         self.timeouts: list[Timeout] = []
-        self.refused_writes: list[tuple[int, int, int]] = []  # those behind a CloseWrite: the step, by whom, and the socket
+        self.refused_writes: list[
+            tuple[int, int, int]
+        ] = []  # those behind a CloseWrite: the step, by whom, and the socket
         self.longest_holds: dict[str, int] = {}  # of each kind, of those that ended
         self.pauses: dict[str, Pauses] = {}  # of each place
         self._go_through(seen)
 
     def _go_through(self, seen: Optional[Seen]) -> None:
         now, since, has_answers = self.now, self.since, self.recording.has_answers  # (there may be a million steps)
-        changed = by_step(self.changes, self.recording.length)
+        changed = by_step(self.changes)
         for values in self.recording.arrays():
             self.step += 1
             kind, *arguments = values

@@ -54,7 +54,9 @@ class Heap:
         self._heap: list[Armed] = []  # some of them are given up
         self._armed: dict[tuple[int, str], Armed] = {}
         self._running: set[tuple[int, str]] = set()  # the sides that have a timer, armed or popped
-        self._set: dict[tuple[int, str], tuple[int, int]] = {}  # of each side the step that set its deadline, and by whom
+        self._set: dict[
+            tuple[int, str], tuple[int, int]
+        ] = {}  # of each side the step that set its deadline, and by whom
         self._socket: dict[int, int] = {}
         self._firings: list[Armed] = []
         self._number = 0
@@ -83,9 +85,7 @@ class Heap:
             return
         for side in step.argument("mode"):
             self._set[d, side] = n, step.argument("g")
-        before, now = (
-            [int(self._changes.value(f"{side}d {d}", position)) for side in "rw"] for position in (n - 1, n)
-        )
+        before, now = ([int(self._changes.value(f"{side}d {d}", position)) for side in "rw"] for position in (n - 1, n))
         was_both, both = before[0] == before[1] > 0, now[0] == now[1] > 0
         for side, old, deadline in zip("rw", before, now):
             is_wanted = deadline > 0 and not (side == "w" and both)

@@ -1,8 +1,6 @@
 """Steps of descriptors: opening, closing, the wait of a goroutine, and events."""
 
-from ..words import counted
-from .found import Evidence, Rule, Suspect, Weight
-from .state import IDLE, PLACES, READ, WRITE, Descriptor, Socket, State, Taking, Timeout
+from .state import IDLE, PLACES, READ, WRITE, Descriptor, State, Taking, Timeout
 
 
 def pollopen(state: State, g: int, s: int) -> None:
@@ -34,33 +32,10 @@ def waitbegin(state: State, g: int, d: int, side: str) -> None:
     descriptor, place = state.descriptors[d], PLACES[side][0]
     if code := descriptor.check(place):
         return ends(state, g, d, place, code)
-    row, thrown = state.goroutines[g], descriptor.thrown[place]
-    if place == READ and thrown and thrown.goroutine == g and row.tried < thrown.step:
-        state.suspects.append(event_thrown_away(state, d, thrown))
+    row = state.goroutines[g]
     state.put(g, ("entering", d, side))
     descriptor.inside[place] = g
     row.entered = state.step
-
-
-def event_thrown_away(state: State, d: int, thrown: Taking) -> Suspect:
-    """A goroutine waits for reading behind a pollreset that threw a readiness away, and has not read in between."""
-    socket = state.sockets[state.descriptors[d].socket]
-    says = (
-        f"step {thrown.step}, by goroutine {thrown.goroutine}, threw away the event of step {thrown.event}, and no sysread "
-        f"came before the wait of step {state.step}"
-    )
-    return Suspect(
-        Rule.LOST_WAKE_UP,
-        thrown.step,
-        Weight.POSSIBLE if socket.bytes[READ] or socket.peer else Weight.DOUBTFUL,
-        [says],
-        goroutine=thrown.goroutine,
-        descriptor=d,
-        socket=state.descriptors[d].socket,
-        evidence=[Evidence(thrown.step - 1, f"rg {d}", "ready"), Evidence(thrown.step, f"rg {d}", "nil")],
-        looks=[f"goto {thrown.step - 1}", f"history rg {d}"],
-        steps=[thrown.event, thrown.step, state.step],
-    )
 
 
 def blockarm(state: State, g: int) -> None:
@@ -159,37 +134,7 @@ def pollevent(state: State, d: int, tag: int, mode: str, error: int) -> None:
     if tag != descriptor.fdseq or not descriptor.is_open:
         descriptor.stale = state.step, tag
         return
-    if error and descriptor.uses > 1:
-        state.suspects.append(error_on_reused(state, d, mode))
     descriptor.error = bool(error)
     for place in PLACES[mode]:
         descriptor.events[place] = state.step
         unblock(state, d, place, True, "event")
-
-
-def error_on_reused(state: State, d: int, mode: str) -> Suspect:
-    """An event with an error came for a descriptor that was another socket's before."""
-    descriptor = state.descriptors[d]
-    return Suspect(
-        Rule.ERROR_EVENT,
-        state.step,
-        Weight.SHOWN,
-        [
-            f"an event with an error came at step {state.step} for descriptor {d}",
-            f"it was opened for socket {descriptor.socket} at step {descriptor.opened}, and was socket "
-            f"{descriptor.before}'s before: an event for that one?",
-        ],
-        goroutine=descriptor.inside[PLACES[mode][0]],
-        descriptor=d,
-        socket=descriptor.socket,
-        evidence=[Evidence(state.step, f"fdseq {d}", str(descriptor.fdseq))],
-        looks=[f"goto {state.step - 1}", f"history info {d}", f"history fdseq {d}"],
-        steps=[descriptor.opened, state.step],
-    )
-
-
-def unread(socket: Socket) -> str:
-    """What lies in a socket for who reads it, in words; empty where nothing does."""
-    if socket.bytes[READ]:
-        return f"{counted(socket.bytes[READ], 'byte')} unread"
-    return f"the peer closed at step {socket.peer}" if socket.peer else ""

@@ -2,7 +2,6 @@
 
 from typing import Optional
 
-from .found import Evidence, Rule, Suspect, Weight
 from .state import GONE, IDLE, PLACES, READ, WRITE, Goroutine, Hold, Socket, State
 
 
@@ -38,27 +37,9 @@ def sysread(state: State, g: int, s: int, most: int) -> None:
 def syswrite(state: State, g: int, s: int, digits: str) -> None:
     socket = state.sockets[s]
     state.goroutines[g].tried = state.step
-    if socket.shut:
-        state.suspects.append(write_behind_shut(state, g, s, *socket.shut))
-    else:
+    if not socket.shut:
         state.moved = min(len(digits) // 2, socket.room[WRITE] - socket.bytes[WRITE])
         socket.bytes[WRITE] += state.moved
-
-
-def write_behind_shut(state: State, g: int, s: int, shut: int, by: int) -> Suspect:
-    """A write to a socket whose write side was shut before."""
-    says = f"goroutine {g} wrote to socket {s} at step {state.step}, which is answered EPIPE"
-    return Suspect(
-        Rule.WRITE_BEHIND_SHUT,
-        state.step,
-        Weight.LIKELY,
-        [says, f"goroutine {by} closed its write side at step {shut}"],
-        goroutine=g,
-        socket=s,
-        evidence=[Evidence(shut - 1, f"shut {s}", "0"), Evidence(state.step - 1, f"shut {s}", "1")],
-        looks=[f"goto {shut}", f"history shut {s}"],
-        steps=[shut, state.step],
-    )
 
 
 def drain(state: State, s: int, count: int) -> None:

@@ -3,7 +3,6 @@ shows: which step set what, who holds what since when, and who was woken by whom
 
 from typing import Any, NamedTuple, Optional, Union
 
-from .found import Suspect
 
 READ, WRITE = 0, 1
 LETTERS = "rw"
@@ -142,7 +141,6 @@ class State:
         self.armed: dict[tuple[int, int], tuple[Any, ...]] = {}
         self.firings: list[tuple[Any, ...]] = []
         self.next_number = 1
-        self.suspects: list[Suspect] = []
         self.timeouts: list[Timeout] = []
         self.longest_holds: dict[str, int] = {}  # of each kind, of those that ended
         self.pauses: dict[str, list[int]] = {}  # of each place: how many ended, and the longest of them

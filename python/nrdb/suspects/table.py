@@ -1,13 +1,13 @@
 """The table of `info suspects`."""
 
+from ..notes import Timeout
 from ..output import Row, Table, Values
 from ..recording import Recording
 from ..scout import Scout
 from ..where import OF_GO
 from ..words import counted
 from .found import Suspect
-from .of_calls import all_suspects_of
-from .state import Timeout
+from .ranking import all_suspects_of
 
 MOST = 12  # suspects that are shown
 
@@ -34,7 +34,7 @@ def _rows(scout: Scout, recording: Recording, at: int, suspect: Suspect) -> list
     evidence = _evidence(scout, suspect)
     lines = _lines(recording, suspect)
     values: Values = {
-        "rule": suspect.rule.value,
+        "rule": suspect.rule,
         "weight": int(suspect.weight),
         "step": suspect.step,
         "says": suspect.sentence(),
@@ -44,7 +44,7 @@ def _rows(scout: Scout, recording: Recording, at: int, suspect: Suspect) -> list
     }
     further = [f"   netrev: {'; '.join(evidence)}", *(f"   Go:     {line}" for line in lines)]
     further.append(f"   look:   {'; '.join(suspect.looks)}")
-    first = Row(values, f"{at}. {suspect.rule.value}: {suspect.sentence()}")
+    first = Row(values, f"{at}. {suspect.rule}: {suspect.sentence()}")
     return [first, *(Row({}, line) for line in further)]
 
 

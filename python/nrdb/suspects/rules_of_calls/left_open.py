@@ -3,18 +3,18 @@ in a call there who would meet the end of the stream. Somebody may come back to 
 
 from typing import Iterator
 
-from ..causes.index import Cause, Index
-from ..causes.leftovers import left_open
-from .found import Evidence, RuleOfCalls, Suspect, Weight
+from ...causes.index import Cause
+from ...causes.leftovers import left_open
+from ..found import Evidence, Suspect, Weight
+from ..run import Run
 
 SINCE = 50
 
 
-def sockets_left_open(index: Index) -> Iterator[Suspect]:
-    """Those of a recording that says which sockets are one connection's ends."""
-    for cause in left_open(index):
-        if index.recording.length - cause.steps[-1] >= SINCE:
-            yield suspect_of(index, cause)
+def rule(run: Run) -> Iterator[Suspect]:
+    for cause in left_open(run.calls):  # (where the recording says which sockets are one connection's ends)
+        if run.end - cause.steps[-1] >= SINCE:
+            yield suspect_of(run.end, cause)
 
 
 def beheaded(says: str) -> str:
@@ -22,10 +22,9 @@ def beheaded(says: str) -> str:
     return (says.replace("Its", "its", 1) if says.startswith("Its ") else says).removesuffix(".")
 
 
-def suspect_of(index: Index, cause: Cause) -> Suspect:
-    call, length = cause.call, index.recording.length
+def suspect_of(length: int, cause: Cause) -> Suspect:
+    call = cause.call
     return Suspect(
-        RuleOfCalls.LEFT_OPEN,
         cause.steps[-1],
         Weight.SHOWN,
         [f"perhaps: {cause.says[0].removesuffix('.')}", *(beheaded(says) for says in cause.says[1:])],
