@@ -75,9 +75,10 @@ loopback: ready
 hostile: ready
 	@sh scripts/pytest.sh --beside python/tests/program/hostile.py
 
-# `netrev upgrade` over the recordings that are here, compared with what is stored and with the fuzzer's model.
+# `netrev upgrade` and `netrev changes` over the recordings that are here, compared with what is stored, with the fuzzer's model, and
+# with what `print` says.
 upgrades: ready
-	@sh scripts/pytest.sh --beside python/tests/program/upgrades.py
+	@sh scripts/pytest.sh --beside $(addprefix python/tests/program/,upgrades.py changes.py)
 
 # The built program against the system: streams that are closed or full, odd files, signals, and little memory.
 system: ready

@@ -16,6 +16,7 @@ UNBUILT = f"{NETREV} is no program: `make netrev` builds it, and NETREV=FILE nam
 
 def pytest_addoption(parser: pytest.Parser) -> None:
     parser.addoption("--seed", type=int, default=1, help="of the random lines in program/loopback.py")
+    parser.addoption("--random", type=int, default=50, help="how many random recordings program/changes.py plays")
 
 
 def pytest_configure() -> None:

@@ -33,6 +33,9 @@ netrev \- walk a recorded schedule of a Go program's network poller in both dire
 .B netrev upgrade
 .I FILE
 .br
+.B netrev changes
+.I FILE
+.br
 .B netrev serve
 .I FILE
 .BI \-\-port " P"

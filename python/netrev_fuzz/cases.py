@@ -22,7 +22,7 @@ Made = tuple[bytes, Optional[bytes]]  # a recording's text, and the script where
 
 
 class Case(NamedTuple):
-    """A recording, which of `run`, `check` and `upgrade` is to play it, and for `run` what is written to its standard
+    """A recording, which of `run`, `check`, `upgrade` and `changes` is to play it, and for `run` what is written to its standard
     input."""
 
     seed: str
@@ -162,7 +162,8 @@ def make(seed: str) -> Case:
     recording, script = sort(dice)
     if script is None and dice.random() < 0.1:
         script = Speaker(dice, []).script(3)
-    program = dice.choice(["check", "upgrade"]) if script is None else dice.choice(["run"] * 5 + ["upgrade"])
-    if program == "upgrade":
+    others = ["upgrade", "changes"]
+    program = dice.choice(["check", *others]) if script is None else dice.choice(["run"] * 8 + others)
+    if program in others:
         script = b""
     return Case(seed, sort.__name__.replace("_", " "), program, recording, script or b"")

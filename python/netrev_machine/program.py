@@ -1,4 +1,4 @@
-"""netrev as the model plays it: what `run`, `check` and `upgrade` print over the bytes of a recording."""
+"""netrev as the model plays it: what `run`, `check`, `upgrade` and `changes` print over the bytes of a recording."""
 
 from typing import Iterable, NamedTuple, Optional
 
@@ -7,6 +7,7 @@ from netrev_words.reading import Fault, read_text
 from netrev_words.recording import Answer, Recording as Text
 from netrev_words.writing import write_plain
 
+from .changing import changes
 from .machine import World
 from .observing import Observer
 from .replaying import positions
@@ -62,6 +63,9 @@ def held_together(
 def printed(program: str, recording: bytes, script: bytes, observer: Observer) -> Optional[Printed]:
     """What `netrev PROGRAM` prints over this recording, of `run` to this script; None where the model has no opinion."""
     try:
+        if program == "changes":
+            lines, is_good = changes(recording, observer)
+            return Printed(0 if is_good else 1, "".join(f"{line}\n" for line in lines).encode())
         replayed = replay(recording, observer, program == "run", program == "upgrade")
     except Fault as fault:
         observer.printed(str(fault))

@@ -1,9 +1,9 @@
 """A recording that was read, step by step through the machine."""
 
-from typing import Iterator, Optional
+from typing import Callable, Iterator, Optional
 
 from netrev_words.reading import Fault
-from netrev_words.recording import Answer, Recording
+from netrev_words.recording import Answer, Recording, Step
 
 from .machine import Refused, World
 from .observing import Observer
@@ -15,14 +15,12 @@ def differs(recorded: Answer, answer: Answer) -> bool:
     return recorded != answer
 
 
-def positions(recording: Recording, observer: Observer) -> Iterator[tuple[World, Optional[Answer]]]:
-    """The state of each position in turn with the answer that led to it, or the Fault of the first step that doesn't apply
-    or whose recorded answer is another. The observer is told what is met."""
-    world = World(recording.limits)
-    yield world, None
+def answers(recording: Recording, observer: Observer, make: Callable[[Step], Answer]) -> Iterator[Answer]:
+    """The answer of each step in turn, as it is made, or the Fault of the first one that doesn't apply or whose recorded answer is
+    another. The observer is told what is met."""
     for number, (step, recorded) in enumerate(zip(recording.steps, recording.answers), 1):
         try:
-            world, answer = apply(world, step)
+            answer = make(step)
         except Refused as refused:
             observer.refused(step[0], refused.reason)
             raise Fault(f"step {number}: fault 107 reason {refused.reason}") from refused
@@ -30,4 +28,18 @@ def positions(recording: Recording, observer: Observer) -> Iterator[tuple[World,
             observer.differed(step[0], recorded, answer)
             raise Fault(f"step {number}: fault 109 answer")
         observer.applied(step[0], answer)
+        yield answer
+
+
+def positions(recording: Recording, observer: Observer) -> Iterator[tuple[World, Optional[Answer]]]:
+    """The state of each position in turn with the answer that led to it, or the first Fault."""
+    world = World(recording.limits)
+    yield world, None
+
+    def make(step: Step) -> Answer:
+        nonlocal world
+        world, answer = apply(world, step)
+        return answer
+
+    for answer in answers(recording, observer, make):
         yield world, answer

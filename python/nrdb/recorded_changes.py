@@ -138,7 +138,13 @@ class RecordedChanges:
             return
         if self._is_whole:
             raise NoChanges("a line behind the last one")
-        lines = whole.decode("ascii")
+        try:
+            self._take_text(whole.decode("ascii"))
+        except (ValueError, IndexError):
+            raise NoChanges("a line that is no change") from None
+
+    def _take_text(self, lines: str) -> None:
+        """Takes whole lines, of which the last may be that of the end."""
         before, _, last = lines.rpartition("\n")
         is_end = " = " not in last
         if told := before if is_end else lines:

@@ -1,7 +1,7 @@
 //! Plays the programs on recordings: what came of it is a plain value, which tests compare.
 use crate::texts::SCRIPT;
 use nr_machine::World;
-use nr_programs::{ExitStatus, check_bytes, run_bytes, upgrade_bytes};
+use nr_programs::{ExitStatus, changes_bytes, check_bytes, run_bytes, upgrade_bytes};
 use nr_replay_tests::{AtBrim, Cup};
 use nr_text::{Sink, Source};
 use std::alloc::{AllocError, Global};
@@ -87,6 +87,7 @@ pub(crate) fn run_over<R: Threads + Sync>(
 pub(crate) enum Program {
     Check,
     Upgrade,
+    Changes,
 }
 
 impl Program {
@@ -96,6 +97,7 @@ impl Program {
         match self {
             Program::Check => check_bytes::<World, _>(alloc, bytes, output),
             Program::Upgrade => upgrade_bytes::<World, _>(alloc, bytes, output),
+            Program::Changes => changes_bytes::<World, _>(alloc, bytes, output),
         }
     }
 
@@ -133,6 +135,11 @@ pub(crate) fn check(alloc: Global, header: &str, steps: &str) -> Result<Played, 
 /// Writes a header and steps with their answers.
 pub(crate) fn upgrade(alloc: Global, header: &str, steps: &str) -> Result<Played, AllocError> {
     Program::Upgrade.play(alloc, header, steps)
+}
+
+/// Writes what each step of a header and steps changed.
+pub(crate) fn changes(alloc: Global, header: &str, steps: &str) -> Result<Played, AllocError> {
+    Program::Changes.play(alloc, header, steps)
 }
 
 /// A header and steps.

@@ -56,11 +56,12 @@ pub(crate) enum Call {
     WithAnswers,
     Check,
     Upgrade,
+    Changes,
     Serve,
 }
 
 /// Their names.
-pub(crate) static CALLS: [(&str, Call); 43] = [
+pub(crate) static CALLS: [(&str, Call); 44] = [
     ("read", Call::Read),
     ("write", Call::Write),
     ("load", Call::Load),
@@ -103,6 +104,7 @@ pub(crate) static CALLS: [(&str, Call); 43] = [
     ("with-answers", Call::WithAnswers),
     ("check-bytes", Call::Check),
     ("upgrade-bytes", Call::Upgrade),
+    ("changes-bytes", Call::Changes),
     ("serve-bytes", Call::Serve),
 ];
 
@@ -132,6 +134,7 @@ impl Call {
             Call::WithAnswers => films::answer_film_twice(rt),
             Call::Check => Some(texts::check_twice(rt)),
             Call::Upgrade => Some(texts::upgrade_twice(rt)),
+            Call::Changes => Some(texts::change_twice(rt)),
             Call::Fresh => Some(worlds::make_twice::<World>(rt)),
             Call::FreshPlain => Some(worlds::make_twice::<PlainWorld>(rt)),
             Call::Serve => Some(serving::serve_twice(rt, handles)),

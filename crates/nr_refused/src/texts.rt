@@ -2,7 +2,7 @@
 
 use crate::twice::{Came, Twice, grant, refuse};
 use nr_machine::World;
-use nr_programs::{ExitStatus, check_bytes, upgrade_bytes};
+use nr_programs::{ExitStatus, changes_bytes, check_bytes, upgrade_bytes};
 use nr_recording::{ReadFault, Recording, WriteFault, read, write};
 use nr_rev::Memory;
 use nr_snaps::Film;
@@ -40,6 +40,40 @@ const ANSWERED: &str = r#"{"buf":16,"desc":2,"gor":4,"netrev":2,"sock":2}
 ["sysread",0,0,8,["got",2]]
 ["rwunlock",0,0,"r","notlast"]
 "#;
+
+/// The cells that each step of `TEXT` changed.
+const CHANGED: &str = "1 lock 0 = 0
+1 rsem 0 = 0
+1 wsem 0 = 0
+1 in 0 = 0
+1 out 0 = 0
+1 shut 0 = 0
+2 rg 0 = nil
+2 wg 0 = nil
+2 rd 0 = 0
+2 wd 0 = 0
+2 rseq 0 = 1
+2 wseq 0 = 1
+2 fdseq 0 = 1
+2 info 0 = 0
+3 lock 0 = 10
+4 gor 0 = entering 0 r
+5 gor 0 = armed 0 r
+5 rg 0 = wait
+6 gor 0 = parking 0 r
+7 waiters = 1
+7 gor 0 = parked 0 r
+7 rg 0 = g0
+8 in 0 = 2
+9 waiters = 0
+9 gor 0 = swapping 0 r
+9 rg 0 = ready
+10 gor 0 = idle
+10 rg 0 = nil
+11 in 0 = 0
+12 lock 0 = 0
+ok 12 steps
+";
 
 /// Room for more bytes than any text has that is written here.
 const ROOM: usize = 1_024;
@@ -200,6 +234,40 @@ fn came_of_upgrading(status: ExitStatus, out: Option<&[u8]>) -> Came {
             Some(lines) => Came::Refused.leaving(are_first_lines(lines, ANSWERED)),
             None => Came::Wrong,
         },
+        _ => Came::Wrong,
+    }
+}
+
+/// Says twice what the steps of the text changed.
+pub(crate) fn change_twice(rt: &HostRuntime) -> Twice {
+    let mut room = [0u8; ROOM];
+    refuse(rt);
+    let (status, count) = change_into(rt.alloc(), room.as_mut_slice());
+    grant(rt);
+    let first = came_of_changing(status, room.get(..count));
+    let (status, count) = change_into(rt.alloc(), room.as_mut_slice());
+    Twice {
+        first,
+        again: came_of_changing(status, room.get(..count)),
+    }
+}
+
+// Says what the steps of the text changed, and how many bytes are out.
+fn change_into(alloc: Global, room: &mut [u8]) -> (ExitStatus, usize) {
+    let all = room.len();
+    let mut out = Sink::new(room);
+    let status = changes_bytes::<World, _>(alloc, TEXT.as_bytes(), &mut out);
+    let left = out.into_inner().len();
+    (status, all.saturating_sub(left))
+}
+
+// Where memory was refused, the line of that fault is all.
+fn came_of_changing(status: ExitStatus, out: Option<&[u8]>) -> Came {
+    match (status, out) {
+        (ExitStatus::Done, Some(out)) => Came::of(out == CHANGED.as_bytes()),
+        (ExitStatus::Refused, Some(out)) => {
+            Came::Refused.leaving(out == b"fault 108 memory\n".as_slice())
+        }
         _ => Came::Wrong,
     }
 }

@@ -51,6 +51,7 @@ pytestmark = pytest.mark.alone
 USAGE = b"""usage: netrev run FILE
        netrev check FILE
        netrev upgrade FILE
+       netrev changes FILE
        netrev serve FILE --port P [--fronts N] [--workers W] [--journal H] [--connections C]
 """
 GOOD = b"ok 10 steps\n"

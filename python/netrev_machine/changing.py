@@ -1,0 +1,36 @@
+"""What `netrev changes` prints over a recording, by the machine in place: the cells that each step changed."""
+
+from typing import cast
+
+from netrev_words.reading import Fault, read_text
+
+from .cells import value
+from .changed import changed_cells
+from .in_place import Machine
+from .machine import World
+from .observing import Observer
+from .replaying import answers
+
+
+def lines_of(machine: Machine, number: int) -> list[str]:
+    """A line for each cell that the last step changed, whose number this is."""
+    return [f"{number} {cell} = {_shown(machine, cell)}" for cell in changed_cells(machine)]
+
+
+def _shown(machine: Machine, cell: str) -> object:
+    name, *number = cell.split()
+    return value(cast(World, machine), name, *map(int, number))  # (it reads as one)
+
+
+def changes(recording: bytes, observer: Observer) -> tuple[list[str], bool]:
+    """The lines, with the last one, and whether there is no fault; Doubtful where the model has no opinion."""
+    lines: list[str] = []
+    try:
+        text = read_text(recording)
+        machine = Machine(text.limits)
+        for number, _ in enumerate(answers(text, observer, machine.step), 1):
+            lines += lines_of(machine, number)
+    except Fault as fault:
+        observer.printed(str(fault))
+        return [*lines, str(fault)], False
+    return [*lines, f"ok {len(text.steps)} steps"], True

@@ -1,0 +1,158 @@
+"""What `netrev changes` says, held and asked: against the model, whole and in pieces, with faults, where netrev fails, and interrupted."""
+
+import os
+import sys
+import time
+from pathlib import Path
+from typing import Iterator
+
+import pytest
+
+from netrev_machine.cells import look
+from netrev_machine.changing import changes as said_by_model
+from netrev_machine.observing import Observer
+from netrev_machine.program import replay
+from netrev_words.vocabulary import CELLS, Of
+from nrdb.arriving_changes import SILENT, ArrivingChanges
+from nrdb.interrupts import Interrupted, Interrupts
+from nrdb.recorded_changes import NoChanges, RecordedChanges
+from nrdb.scout import Lost
+from tests.examples import EXAMPLES
+
+WITH_FAULTS = ("other-answer",)
+RECORDINGS = sorted(path for path in EXAMPLES.glob("*.jsonl") if path.stem not in WITH_FAULTS)
+FEW = b"1 gor 1 = idle\n3 lock 0 = 0\n3 in 0 = 0\n4 lock 0 = 8\nok 5 steps\n"
+
+
+def said(path: Path) -> bytes:
+    """What netrev says of a recording, as the model has it."""
+    lines, _ = said_by_model(path.read_bytes(), Observer())
+    return "".join(f"{line}\n" for line in lines).encode()
+
+
+def in_pieces(text: bytes, size: int) -> Iterator[bytes]:
+    return (text[at : at + size] for at in range(0, len(text), size))
+
+
+@pytest.mark.parametrize("path", RECORDINGS, ids=lambda path: path.stem)
+def test_values_are_those_that_prints_say_at_each_position(path: Path) -> None:
+    changes = RecordedChanges.read([said(path)])
+    worlds = replay(path.read_bytes(), Observer()).worlds
+    assert changes.length == len(worlds) - 1 and not changes.fault
+    last = worlds[-1]
+    counts = {
+        Of.GOROUTINE: len(last.goroutines) + 1,
+        Of.SOCKET: len(last.sockets) + 1,
+        Of.DESCRIPTOR: len(last.descs) + 1,
+    }
+    cells = [
+        spelled
+        for cell in CELLS.values()
+        for spelled in ([cell.name] if cell.of is Of.ALL else [f"{cell.name} {at}" for at in range(counts[cell.of])])
+    ]
+    for position, world in enumerate(worlds):
+        assert changes.values(position, cells) == [look(world, f"print {cell}").split(" = ")[1] for cell in cells]
+    for cell in cells:
+        steps = changes.steps_of(cell)
+        assert [(step, changes.value(cell, step)) for step in steps] == list(changes.changes_of(cell))
+        assert all(changes.value(cell, step) != changes.value(cell, step - 1) for step in steps)
+    every = [(step, cell, value) for step in range(1, changes.length + 1) for cell, value in changes.at(step)]
+    assert every == list(changes) and {cell for _, cell, _ in every} == set(changes.cells())
+
+
+@pytest.mark.parametrize("size", [1, 7, 64])
+def test_pieces_may_end_within_lines(size: int) -> None:
+    changes = RecordedChanges.read(in_pieces(FEW, size))
+    assert list(changes) == [(1, "gor 1", "idle"), (3, "lock 0", "0"), (3, "in 0", "0"), (4, "lock 0", "8")]
+    assert changes.length == 5 and changes.at(2) == [] and changes.at(3) == [("lock 0", "0"), ("in 0", "0")]
+    assert list(changes.steps_of("lock 0")) == [3, 4] and list(changes.steps_of("wg 7")) == []
+
+
+def test_before_the_first_change_the_empty_world_shows() -> None:
+    changes = RecordedChanges.read([FEW])
+    cells = ["clock", "waiters", "timers", "firings", "least", "gor 0", "gor 1", "lock 0", "rd 3"]
+    assert changes.values(0, cells) == ["0", "0", "0", "0", "absent", "idle", "absent", "absent", "absent"]
+
+
+def test_an_empty_recording_has_no_changes() -> None:
+    changes = RecordedChanges.read([b"ok 0 steps\n"])
+    assert (changes.length, changes.fault, list(changes), changes.value("clock", 0)) == (0, "", [], "0")
+
+
+def test_a_fault_ends_the_changes() -> None:
+    changes = RecordedChanges.read([b"1 gor 1 = idle\nstep 3: fault 107 reason 2\n"])
+    assert (changes.length, changes.fault, changes.value("gor 1", 2)) == (2, "step 3: fault 107 reason 2", "idle")
+    unread = RecordedChanges.read([b"line 1: fault 101 syntax\n"])
+    assert (unread.length, unread.fault, list(unread)) == (0, "line 1: fault 101 syntax", [])
+
+
+@pytest.mark.parametrize("text", [b"", b"1 gor 1 = idle\n", b"ok 5 ste", b"ok 0 steps\nok 0 steps\n", b"hello\n"])
+def test_a_text_without_its_end_is_none(text: bytes) -> None:
+    with pytest.raises(NoChanges):
+        RecordedChanges.read([text])
+
+
+@pytest.fixture
+def netrev(tmp_path: Path) -> Path:
+    """The place of a program that plays netrev."""
+    return tmp_path / "netrev"
+
+
+def arriving(netrev: Path, script: str, interrupts: "Interrupts | None" = None) -> tuple[ArrivingChanges, list[str]]:
+    """The changes that this script of the shell says, and what is told meanwhile."""
+    netrev.write_text(f"#!/bin/sh\n{script}\n")
+    netrev.chmod(0o755)
+    told: list[str] = []
+    return ArrivingChanges(str(netrev), "some.jsonl", interrupts or Interrupts(), told.append), told
+
+
+def test_what_has_come_is_there_before_the_end(netrev: Path) -> None:
+    changes, told = arriving(netrev, "echo 1 gor 1 = idle; echo 3 lock 0 = 0; sleep 60")
+    assert changes.value("gor 1", 2) == "idle" and changes.at(1) == [("gor 1", "idle")] and not told
+    changes.drop()
+
+
+def test_who_waits_long_is_told_so_once(netrev: Path) -> None:
+    changes, told = arriving(netrev, "sleep 1.3; echo 3 lock 0 = 0; echo ok 3 steps")
+    assert list(changes.steps_of("lock 0")) == [3] and told == [SILENT]
+    changes.drop()
+
+
+def test_an_interrupted_wait_can_be_begun_anew(netrev: Path, tmp_path: Path) -> None:
+    interrupts = Interrupts()
+    script = f"echo 1 gor 1 = idle; while ! [ -e {tmp_path}/go ]; do sleep 0.05; done; echo ok 1 steps"
+    changes, _ = arriving(netrev, script, interrupts)
+    with interrupts.held():
+        interrupts.came()
+        with pytest.raises(Interrupted):
+            changes.steps_of("gor 1")
+    assert changes.value("gor 1", 0) == "absent"
+    (tmp_path / "go").touch()
+    assert list(changes.steps_of("gor 1")) == [1] and changes.length == 1
+    changes.drop()
+
+
+@pytest.mark.parametrize(
+    "script, why",
+    [
+        ("echo 1 gor 1 = idle; exit 2", "it ended with status 2"),
+        ("kill -9 $$", "it ended with status -9"),
+        ("echo fault 108 memory; exit 1", "fault 108 memory"),
+        ("echo hello", "a line that is no change"),
+        ("echo 1 = 2", "a line that is no change"),
+    ],
+)
+def test_a_netrev_that_fails_is_told(netrev: Path, script: str, why: str) -> None:
+    changes, _ = arriving(netrev, script)
+    with pytest.raises(Lost, match=f"{netrev} changes some.jsonl: {why}"):
+        changes.value("gor 1", 1)
+    with pytest.raises(Lost):
+        changes.steps_of("gor 1")
+    changes.drop()
+
+
+def test_a_netrev_that_is_not_there_is_told(tmp_path: Path) -> None:
+    changes = ArrivingChanges(str(tmp_path / "none"), "some.jsonl", Interrupts(), print)
+    with pytest.raises(Lost, match="No such file"):
+        changes.value("clock", 1)
+    changes.drop()
