@@ -4,6 +4,7 @@ file, the program or the connection failed; and 4 where --suspects, --explore or
 import argparse
 import io
 import os
+import shutil
 import subprocess
 import sys
 from contextlib import closing
@@ -13,6 +14,7 @@ from netrev_words.built import BUILT, netrev_program
 from netrev_words.plain import plain
 from netrev_words.version import VERSION
 
+from .arriving_changes import ArrivingChanges
 from .prompt.answers import ANSWERS
 from .dap import serve_port, serve_streams
 from .exploring import explored
@@ -165,6 +167,10 @@ def begun(wanted: argparse.Namespace, netrev: Netrev, interrupts: Interrupts, pr
     if wanted.join and wanted.file and (fault := fault_of(wanted.netrev, wanted.file)):
         raise NoRecording(f"{wanted.file} isn't a recording: {fault}")
     scout = Scout(lambda: Own(wanted.netrev, wanted.file, interrupts)) if wanted.file else None
+    is_here = wanted.file and shutil.which(wanted.netrev)
+    changes = ArrivingChanges(wanted.netrev, wanted.file, interrupts, printer.note) if is_here else None
+    if recording:
+        recording.changes = changes
     session = Session(netrev, recording, scout, printer, interrupts, ANSWERS)
     session.program, session.path = wanted.netrev, wanted.file or ""
     first = session.ask("info position")
@@ -178,6 +184,8 @@ def begun(wanted: argparse.Namespace, netrev: Netrev, interrupts: Interrupts, pr
     finally:
         if scout:
             scout.drop()
+        if changes:
+            changes.drop()
     ended = netrev.close()
     return status if wanted.web is not None else ended or status  # (the page may have gone on with another netrev)
 
@@ -236,7 +244,7 @@ def suspected(session: Session) -> int:
     try:
         with session.interrupts.held():
             table = suspects_table(session.looks(), session.text())
-    except (Interrupted, Misused, Refused) as stopped:
+    except (Interrupted, Lost, Misused, Refused) as stopped:
         session.printer.note(str(stopped) or "interrupted")
         return FAILED
     session.printer.table(table)
@@ -248,7 +256,7 @@ def schedules_tried(session: Session, is_of_failures: bool) -> int:
     try:
         with session.interrupts.held():
             said = explored(session, is_of_failures=is_of_failures)
-    except (Interrupted, Misused, Refused) as stopped:
+    except (Interrupted, Lost, Misused, Refused) as stopped:
         session.printer.note(str(stopped) or "interrupted")
         return FAILED
     session.printer.note(said.text)

@@ -7,6 +7,7 @@ from typing import Iterator, Optional
 from netrev_words.vocabulary import Of
 
 from ..prompt.answers import ANSWERS
+from ..arriving_changes import ArrivingChanges
 from ..backwards import last_steps
 from ..interrupts import Interrupts
 from ..netrev import Own
@@ -100,6 +101,7 @@ def debuggee(program: str, path: str) -> Iterator[Debuggee]:
         raise Unanswerable(str(wrong)) from None
     with closing(netrev):
         scout = Scout(lambda: Own(program, path, interrupts))
+        recording.changes = changes = ArrivingChanges(program, path, interrupts, printer.note)
         try:
             session = Session(netrev, recording, scout, printer, interrupts, ANSWERS)
             first = session.ask("info position")
@@ -109,4 +111,5 @@ def debuggee(program: str, path: str) -> Iterator[Debuggee]:
             yield Debuggee(session, recording, printer, path)
         finally:
             scout.drop()
+            changes.drop()
             netrev.drop()
