@@ -113,16 +113,17 @@ class Book:
 Handler = Callable[[Book, Notes, list[Call], dict[str, Any]], None]
 
 
-def _fails(notes: Notes, call: Call, outcome: Outcome, side: str = "r") -> None:
+def _fails(notes: Notes, call: Call, outcome: Outcome) -> None:
     """A call has this outcome; which step brought that about is known of a timeout, of a close and of a shut write side."""
     call.outcome = outcome
     if outcome is Outcome.CLOSED and call.socket in notes.closer:
         call.cause = notes.closer[call.socket].step
-    elif outcome is Outcome.BROKEN_PIPE:
+    elif outcome is Outcome.BROKEN_PIPE and call.socket in notes.shut:
         call.cause = notes.shut[call.socket].step
     elif outcome is Outcome.TIMED_OUT:
-        use = notes.use_of[call.descriptor]
-        call.cause, call.passed = use.last_setting[side].step, use.passings[side][-1].step
+        timeout = notes.timeouts[-1]
+        call.cause = notes.use_of[timeout.descriptor].last_setting[timeout.side].step
+        call.passed = timeout.passing.step
 
 
 def _opens(book: Book, notes: Notes, calls: list[Call], arguments: dict[str, Any]) -> None:
@@ -183,7 +184,7 @@ def _checks(book: Book, notes: Notes, calls: list[Call], arguments: dict[str, An
     code = notes.code(book.descriptors[-1], side)
     top = calls[-1] if calls else book.begin(notes, calls, WAITING[side], arguments)
     if code:
-        _fails(notes, top, CODES[code], side)
+        _fails(notes, top, CODES[code])
     if top.name in WAITING.values():
         top.is_ending = True
 
@@ -193,7 +194,7 @@ def _checks_again(book: Book, notes: Notes, calls: list[Call], arguments: dict[s
     if not calls or notes.status(arguments["g"]) != "idle":
         return
     if notes.timeouts and notes.timeouts[-1].step == notes.step:
-        _fails(notes, calls[-1], Outcome.TIMED_OUT, notes.timeouts[-1].side)
+        _fails(notes, calls[-1], Outcome.TIMED_OUT)
     else:
         _fails(notes, calls[-1], CODES[notes.code(book.descriptors[-1], "r")])
 

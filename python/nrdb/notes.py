@@ -65,7 +65,7 @@ class Timeout(NamedTuple):
     goroutine: int
     descriptor: int
     side: str
-    passing: Optional[Passing]
+    passing: Passing
 
 
 class Hold(NamedTuple):

@@ -9,11 +9,13 @@ from netrev_fuzz.injections import Bug, Count, counted
 from netrev_machine.machine import World
 from netrev_machine.steps import apply
 from netrev_words.recording import Limits
+from nrdb.notes import Notes
 from nrdb.recording import Recording
 from nrdb.suspects.found import Suspect
-from nrdb.suspects.loading import RULES
+from nrdb.suspects.loading import RULES, RULES_OF_CALLS
 from nrdb.suspects.ranking import suspects_of
-from tests.examples import ALL, REFUSED
+from nrdb.suspects.run import Run
+from tests.examples import ALL, EXAMPLES, REFUSED
 
 LIMITS = Limits(gor=4, sock=2, desc=2, buf=16)
 Steps = list[list[Any]]
@@ -112,6 +114,20 @@ class Rules(unittest.TestCase):
             with self.subTest(rule):
                 self.assertEqual([suspect.rule for suspect in shown(recording_of(pair.bad))], [rule])
                 self.assertEqual([suspect.sentence() for suspect in shown(recording_of(pair.good))], [])
+
+    def test_each_finds_its_bug_by_itself(self) -> None:
+        for rule in RULES:
+            with self.subTest(rule.name):
+                found = list(rule.suspects(Run(Notes(recording_of(PAIRS[rule.name].bad)))))
+                self.assertEqual({suspect.rule for suspect in found}, {rule.name})
+                near = rule.suspects(Run(Notes(recording_of(PAIRS[rule.name].good))))
+                self.assertEqual([suspect.sentence() for suspect in near if suspect.is_shown], [])
+
+    def test_the_page_has_the_definition_of_each(self) -> None:
+        page = (EXAMPLES.parent / "docs" / "NRDB.md").read_text(encoding="utf-8")
+        table = page.partition("| Rule | Definition |\n|---|---|\n")[2].partition("\n\n")[0].splitlines()
+        rows = [f"| {rule.name} | {rule.definition} |" for rule in (*RULES, *RULES_OF_CALLS)]
+        self.assertEqual(sorted(table), sorted(rows))
 
     def test_the_bug_of_each_example_is_named_first(self) -> None:
         for example in ALL:

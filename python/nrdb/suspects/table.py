@@ -25,8 +25,7 @@ def is_by_go(recording: Recording, timeout: Timeout) -> bool:
     """Whether Go's own code ended a wait of its own by a deadline in the past, as net/http ends the read between two requests: for the
     program that is no timeout."""
     calls = recording.lines.of(timeout.step).calls
-    is_past = timeout.passing is not None and timeout.passing.kind == "setdeadline"
-    return is_past and bool(calls) and all(call.of == OF_GO for call in calls)
+    return timeout.passing.kind == "setdeadline" and bool(calls) and all(call.of == OF_GO for call in calls)
 
 
 def _rows(scout: Scout, recording: Recording, at: int, suspect: Suspect) -> list[Row]:

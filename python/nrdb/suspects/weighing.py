@@ -86,7 +86,7 @@ def hangs(run: Run, g: int, d: int) -> str:
 def of_a_deadline(run: Run, suspect: Suspect) -> Suspect:
     """Of a deadline that passed: whether a call ended with that timeout."""
     for timeout in run.notes.timeouts:
-        if timeout.descriptor == suspect.descriptor and timeout.passing and timeout.passing.step == suspect.step:
+        if timeout.descriptor == suspect.descriptor and timeout.passing.step == suspect.step:
             suspect.weight += TIMED_OUT
             suspect.says.append(f"step {timeout.step} by goroutine {timeout.goroutine} ends with that timeout")
             suspect.steps.append(timeout.step)

@@ -1,4 +1,4 @@
-"""Left open: the other end of a connection was closed, SINCE steps or more before the end, and nobody closes this one, nor is anybody
+"""Left open: the other end of a connection was closed, 50 steps or more before the end, and nobody closes this one, nor is anybody
 in a call there who would meet the end of the stream. Somebody may come back to it, so it says perhaps."""
 
 from typing import Iterator

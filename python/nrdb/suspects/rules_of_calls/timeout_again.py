@@ -1,4 +1,4 @@
-"""Timeout again and again: a goroutine's calls at one side of a connection time out by the same deadline, MANY in a row, and nobody
+"""Timeout again and again: a goroutine's calls at one side of a connection time out by the same deadline, 20 in a row, and nobody
 sets another: as long as the deadline stands each further call ends at once."""
 
 from typing import Iterator
