@@ -16,6 +16,7 @@ from netrev_machine.observing import Observer
 from netrev_machine.program import replay
 from netrev_machine.session import Session as ModelSession, recording_of
 from netrev_words.writing import write_plain
+from nrdb.arriving_changes import ArrivingChanges
 from nrdb.interrupts import GivenUp, Interrupts
 from nrdb.netrev import Ended
 from nrdb.output import JsonPrinter
@@ -121,7 +122,8 @@ def followed(program: str, path: str, lines: Sequence[str], weather: Weather, ju
         return Slow(program, path, interrupts, weather.blow)
 
     calm, weather.chance = weather.chance, 0.0
-    session = Session(opened(), Recording.read(path), Scout(opened), JsonPrinter(out), interrupts, ANSWERS)
+    printer, recorded = JsonPrinter(out), ArrivingChanges(program, path, interrupts, lambda _: None)
+    session = Session(opened(), Recording.read(path), Scout(opened), printer, interrupts, ANSWERS, recorded=recorded)
     try:
         session.begin(session.ask("info position"))
         weather.chance = calm
@@ -138,6 +140,7 @@ def followed(program: str, path: str, lines: Sequence[str], weather: Weather, ju
                 return "" if weather.met else f"{line}: {ended}, and nothing had happened"
     finally:
         weather.chance = 0.0
+        recorded.drop()
         session.looks().drop()
         session.netrev.drop()
     met["sessions that came to the end of their lines"] += 1

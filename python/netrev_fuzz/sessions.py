@@ -4,6 +4,7 @@ from contextlib import contextmanager
 from pathlib import Path
 from typing import Iterator
 
+from nrdb.arriving_changes import ArrivingChanges
 from nrdb.interrupts import Interrupts
 from nrdb.netrev import Own
 from nrdb.output import Printer
@@ -21,11 +22,15 @@ def session_over(program: str, path: Path, printer: Printer) -> Iterator[Session
     def netrev() -> Own:
         return Own(program, str(path), interrupts)
 
-    session = Session(netrev(), Recording.read(str(path)), Scout(netrev), printer, interrupts, ANSWERS)
+    recorded = ArrivingChanges(program, str(path), interrupts, printer.note)
+    session = Session(
+        netrev(), Recording.read(str(path)), Scout(netrev), printer, interrupts, ANSWERS, recorded=recorded
+    )
     session.program, session.path = program, str(path)
     try:
         session.begin(session.ask("info position"))
         yield session
     finally:
         session.looks().drop()
+        recorded.drop()
         session.netrev.drop()

@@ -26,7 +26,6 @@ class ArrivingChanges(RecordedChanges):
         self._failure = ""
 
     def prepare(self) -> None:
-        """Starts netrev, if it isn't there yet, and waits for nothing."""
         if self._process is not None:
             return
         try:
@@ -39,10 +38,9 @@ class ArrivingChanges(RecordedChanges):
         self._reader.start()
 
     def drop(self) -> None:
-        """Ends netrev, whatever it does."""
         if self._process is not None:
             self._process.kill()
-            self._reader.join()
+            self._reader.join(SILENCE)
 
     def _wait(self, position: Optional[int]) -> None:
         if self._is_settled(position) and not self._failure:

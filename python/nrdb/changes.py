@@ -3,8 +3,8 @@
 from typing import Optional
 
 from .output import Row, Table, Values
+from .recorded_changes import RecordedChanges
 from .recording import Recording
-from .scout import Change, Scout
 from .shapes import Listed
 from .timers import timer_words
 from .words import in_words
@@ -12,38 +12,34 @@ from .words import in_words
 MOST = 40
 
 
-def history_table(scout: Scout, recording: Recording, cell: str, position: int, most: Optional[int] = MOST) -> Table:
+def history_table(
+    changes: RecordedChanges, recording: Recording, cell: str, position: int, most: Optional[int] = MOST
+) -> Table:
     """The last changes of the cell up to the position, at most so many where `most` isn't None."""
-    changes, has_more = scout.changes_before(cell, position, most)
-    rows = [_row(recording, cell, change) for change in changes]
-    if has_more:
+    steps = changes.steps_of(cell, position)
+    shown = steps if most is None else steps[-most:]
+    rows = [_row(recording, cell, step, *(changes.value(cell, at) for at in (step - 1, step))) for step in shown]
+    if len(shown) < len(steps):
         rest = f"earlier ones: history {cell} all"
     else:
         rest = "" if rows else f"{cell} hasn't changed up to position {position}"
     return Table("history", rows, rest)
 
 
-def _row(recording: Recording, cell: str, change: Change) -> Row:
-    step = recording.step(change.step)
-    words = in_words(cell, change.new)
-    values = {
-        "cell": cell,
-        "step": change.step,
-        "line": step.line,
-        "does": str(step),
-        "old": change.old,
-        "new": change.new,
-    }
-    told = f"{change.step:>7}  {str(step):<30} {change.old} -> {change.new}"
+def _row(recording: Recording, cell: str, number: int, old: str, new: str) -> Row:
+    step = recording.step(number)
+    words = in_words(cell, new)
+    values = {"cell": cell, "step": number, "line": step.line, "does": str(step), "old": old, "new": new}
+    told = f"{number:>7}  {str(step):<30} {old} -> {new}"
     behind = [f"({words})" if words else "", timer_words(recording, step)]
     return Row({**values, "words": words or None}, "   ".join([told, *filter(None, behind)]))
 
 
-def marks_table(scout: Scout, marks: list[Listed], position: int) -> Table:
+def marks_table(changes: RecordedChanges, marks: list[Listed], position: int) -> Table:
     """Of these marks what each is, and of a watch what changed behind the last step."""
     watched = [mark.what for mark in marks if mark.sort == "watch"]
-    before = dict(zip(watched, scout.values(position - 1, watched))) if watched and position else {}
-    now = dict(zip(watched, scout.values(position, watched))) if before else {}
+    before = dict(zip(watched, changes.values(position - 1, watched))) if position else {}
+    now = dict(zip(watched, changes.values(position, watched)))
     rows = []
     for mark in marks:
         number, sort, what = mark

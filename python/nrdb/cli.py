@@ -167,11 +167,10 @@ def begun(wanted: argparse.Namespace, netrev: Netrev, interrupts: Interrupts, pr
     if wanted.join and wanted.file and (fault := fault_of(wanted.netrev, wanted.file)):
         raise NoRecording(f"{wanted.file} isn't a recording: {fault}")
     scout = Scout(lambda: Own(wanted.netrev, wanted.file, interrupts)) if wanted.file else None
-    is_here = wanted.file and shutil.which(wanted.netrev)
-    changes = ArrivingChanges(wanted.netrev, wanted.file, interrupts, printer.note) if is_here else None
-    if recording:
-        recording.changes = changes
-    session = Session(netrev, recording, scout, printer, interrupts, ANSWERS)
+    recorded = ArrivingChanges(wanted.netrev, wanted.file, interrupts, printer.note) if wanted.file else None
+    session = Session(netrev, recording, scout, printer, interrupts, ANSWERS, recorded=recorded)
+    if recording and shutil.which(wanted.netrev):
+        recording.changes = recorded
     session.program, session.path = wanted.netrev, wanted.file or ""
     first = session.ask("info position")
     if not POSITION.fullmatch(first):
@@ -182,10 +181,9 @@ def begun(wanted: argparse.Namespace, netrev: Netrev, interrupts: Interrupts, pr
             printer.note(recording.lines.why_unused(wanted.file))
         status = played(session, wanted)
     finally:
-        if scout:
+        if scout and recorded:
             scout.drop()
-        if changes:
-            changes.drop()
+            recorded.drop()
     ended = netrev.close()
     return status if wanted.web is not None else ended or status  # (the page may have gone on with another netrev)
 
@@ -289,8 +287,8 @@ WRITERS: dict[str, Callable[[Session, str], str]] = {
 def typed(session: Session) -> None:
     """Takes lines from the terminal, or from an input that is none."""
     if sys.stdin.isatty():
-        if session.scout:
-            session.scout.prepare()
+        if session.recorded:
+            session.recorded.prepare()
         Terminal(session).run()
         return
     for line in map(str.rstrip, sys.stdin):

@@ -3,13 +3,12 @@ when, who set which deadline, which event was taken by whom, and how long everyb
 
 from array import array
 from bisect import bisect_left, bisect_right
-from itertools import count
-from typing import Any, Callable, Iterator, NamedTuple, Optional
+from typing import Any, Callable, NamedTuple, Optional
 
 from netrev_words.vocabulary import KINDS
 
 from .modelled_changes import changes_of
-from .recorded_changes import AT_START, Change, RecordedChanges
+from .recorded_changes import AT_START
 from .recording import Recording
 
 # (whose first argument is the goroutine that makes the step)
@@ -136,18 +135,7 @@ def code_of(info: int, side: str) -> int:
     return EVENT_ERROR if side == "r" and info & 2 else 0
 
 
-def by_step(changes: RecordedChanges) -> Iterator[list[Change]]:
-    """The changes of each step, one after the other."""
-    arriving = iter(changes)
-    change = next(arriving, None)
-    for number in count(1):
-        found = []
-        while change is not None and change[0] == number:
-            found.append(change)
-            change = next(arriving, None)
-        yield found
-
-
+Change = tuple[str, str]  # a cell and its value behind a step
 Seen = Callable[["Notes", str, list[Any]], None]  # who looks behind each step: at its kind, and at its arguments
 
 
@@ -187,18 +175,16 @@ class Notes:
 
     def _go_through(self, seen: Optional[Seen]) -> None:
         now, since, has_answers = self.now, self.since, self.recording.has_answers  # (there may be a million steps)
-        changed = by_step(self.changes)
-        for values in self.recording.arrays():
-            self.step += 1
+        for number, (values, changes) in enumerate(zip(self.recording.arrays(), self.changes.by_step()), 1):
+            self.step = number
             kind, *arguments = values
             if has_answers:
                 arguments.pop()
-            changes = next(changed)
             if kind in BY_GOROUTINE:
                 self._begins(arguments[0])
             if note := NOTES.get(kind):
                 note(self, changes, *arguments)
-            for number, cell, value in changes:
+            for cell, value in changes:
                 now[cell] = value
                 since[cell] = number
             if seen is not None:
@@ -238,14 +224,14 @@ class Notes:
 
     def reads(self, changes: list[Change], g: int, s: int, most: int) -> None:
         self.tried[g], self.moved = self.step, 0
-        for _, cell, value in changes:
+        for cell, value in changes:
             self.moved = int(self.now[cell]) - int(value)
 
     def writes(self, changes: list[Change], g: int, s: int, digits: str) -> None:
         self.tried[g], self.moved = self.step, 0
         if s in self.shut:
             self.refused_writes.append((self.step, g, s))
-        for _, cell, value in changes:
+        for cell, value in changes:
             self.moved = int(value) - int(self.now[cell])
 
     def shuts(self, changes: list[Change], g: int, s: int) -> None:
@@ -254,7 +240,7 @@ class Notes:
     def refers(self, kind: str, changes: list[Change], g: int, s: int, side: str = "") -> None:
         """A goroutine takes a reference where the lock word has one more, and the lock of a side with it, if one is named."""
         cell = f"lock {s}"
-        for _, name, value in changes:
+        for name, value in changes:
             if name == cell and int(value) & REFERENCES > int(self.now[cell]) & REFERENCES:
                 self.holds.setdefault(s, []).append(Hold(g, self.step, kind, side))
                 self.held[g] = self.held.get(g, 0) + 1
@@ -274,7 +260,7 @@ class Notes:
         self.longest_holds[hold.kind] = max(self.longest_holds.get(hold.kind, 0), self.step - hold.step)
 
     def opens(self, changes: list[Change], g: int, s: int) -> None:
-        d = next(int(cell[len("rseq ") :]) for _, cell, _ in changes if cell.startswith("rseq "))
+        d = next(int(cell[len("rseq ") :]) for cell, _ in changes if cell.startswith("rseq "))
         use = Use(d, s, self.step)
         if d in self.use_of:
             self.before[use] = self.use_of[d].socket
@@ -345,7 +331,7 @@ class Notes:
             use.events[side].append(self.step)
 
     def fires(self, changes: list[Change], i: int) -> None:
-        for _, cell, _ in changes:
+        for cell, _ in changes:
             name, _, number = cell.partition(" ")
             if name in ("rd", "wd"):
                 self.use_of[int(number)].passings[name[0]].append(Passing(self.step, "fire"))

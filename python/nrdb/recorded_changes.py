@@ -3,7 +3,7 @@ of numbers, and each name and value once, since a million steps change some mill
 
 from array import array
 from bisect import bisect_left, bisect_right
-from typing import Iterable, Iterator, NamedTuple, Optional
+from typing import Callable, Iterable, Iterator, NamedTuple, Optional, Sequence
 
 AT_START = {"clock": "0", "waiters": "0", "timers": "0", "firings": "0", "gor 0": "idle"}
 
@@ -90,16 +90,23 @@ class RecordedChanges:
         """What cells show at a position."""
         return [self.value(cell, position) for cell in cells]
 
-    def steps_of(self, cell: str) -> "array[int]":
-        """The steps that changed a cell, rising."""
-        self._wait(None)
-        return array("I", [self._steps[place] for place in self._places_of(cell)])
+    def steps_of(self, cell: str, until: Optional[int] = None) -> "array[int]":
+        """The steps that changed a cell, rising; up to a position, where one is named."""
+        return array("I", map(self._steps.__getitem__, self._places_up_to(cell, until)))
 
-    def changes_of(self, cell: str) -> Iterator[tuple[int, str]]:
-        """The steps that changed a cell, each with its value behind it."""
-        self._wait(None)
-        texts = self._texts.all
-        return ((self._steps[place], texts[self._values[place]]) for place in self._places_of(cell))
+    def nearest(
+        self, cells: Sequence[str], are_wanted: Callable[[list[str]], bool], position: int, backwards: bool
+    ) -> Optional[int]:
+        """The nearest position that way behind a step that changed one of the cells, and gave them values that are wanted; or
+        None."""
+        steps = sorted({step for cell in cells for step in self.steps_of(cell, position if backwards else None)})
+        ways = reversed(steps[: bisect_left(steps, position)]) if backwards else steps[bisect_right(steps, position) :]
+        return next((step for step in ways if are_wanted(self.values(step, cells))), None)
+
+    def changes_of(self, cell: str, until: Optional[int] = None) -> list[tuple[int, str]]:
+        """The steps that changed a cell, each with its value behind it; up to a position, where one is named."""
+        places, texts = self._places_up_to(cell, until), self._texts.all
+        return [(self._steps[place], texts[self._values[place]]) for place in places]
 
     def cells(self) -> list[str]:
         """The cells that any step changed, in the order in which they first did."""
@@ -112,15 +119,37 @@ class RecordedChanges:
         cells = map(self._names.all.__getitem__, self._cells)
         return map(Change, self._steps, cells, map(self._texts.all.__getitem__, self._values))
 
+    def by_step(self) -> Iterator[list[tuple[str, str]]]:
+        """Of each step in turn what it changed, as `at` has it."""
+        self._wait(None)
+        names, texts, steps, place = self._names.all, self._texts.all, self._steps, 0
+        for step in range(1, self._length + 1):
+            changed: list[tuple[str, str]] = []
+            while place < len(steps) and steps[place] == step:
+                changed.append((names[self._cells[place]], texts[self._values[place]]))
+                place += 1
+            yield changed
+
     def _places_of(self, cell: str) -> "array[int]":
         """The places of a cell's changes, which rise."""
         number = self._names.get(cell)
         return array("I") if number is None or number >= len(self._places) else self._places[number]
 
+    def _places_up_to(self, cell: str, until: Optional[int]) -> "array[int]":
+        self._wait(until)
+        places = self._places_of(cell)
+        return places if until is None else places[: bisect_left(places, bisect_right(self._steps, until))]
+
     def _wait(self, position: Optional[int]) -> None:
         """Comes back when what leads to a position is there, or all."""
 
     # how they are read
+
+    def prepare(self) -> None:
+        """Begins to read them, where that hasn't been begun."""
+
+    def drop(self) -> None:
+        """Ends reading them."""
 
     @property
     def is_whole(self) -> bool:
@@ -155,9 +184,9 @@ class RecordedChanges:
     def _take_lines(self, lines: str) -> None:
         """Takes whole lines of changes. Their steps come last: whoever reads meanwhile looks at these."""
         parts = lines.replace(" = ", "\n").split("\n")
-        heads = [head.split(" ", 1) for head in parts[::2]]
-        values = list(map(self._texts.__getitem__, parts[1::2]))
-        steps, cells = array("I", [int(head[0]) for head in heads]), [self._names[head[1]] for head in heads]
+        numbers, names = zip(*[head.split(" ", 1) for head in parts[::2]])
+        steps, cells = array("I", map(int, numbers)), array("I", map(self._names.__getitem__, names))
+        values = array("I", map(self._texts.__getitem__, parts[1::2]))
         if len(values) != len(steps):
             raise NoChanges("a line without a value")
         self._places += (array("I") for _ in range(len(self._places), len(self._names)))

@@ -6,9 +6,7 @@ and the next walk starts another; where it ended by itself the walk is begun ane
 """
 
 from contextlib import closing
-from dataclasses import dataclass
-from itertools import islice
-from typing import Callable, Generator, Iterator, NamedTuple, Optional, Sequence, TypeVar
+from typing import Callable, Generator, NamedTuple, Optional, Sequence, TypeVar
 
 from .netrev import Ended, Netrev
 from .shapes import MARK, matched, move_of, value_of
@@ -28,15 +26,6 @@ class Stop(NamedTuple):
 
     position: int
     values: list[str]
-
-
-@dataclass(frozen=True)
-class Change:
-    """A change of a cell: the step that made it, which is the position behind it, and the values before and after."""
-
-    step: int
-    old: str
-    new: str
 
 
 class Scout:
@@ -70,11 +59,6 @@ class Scout:
         """The values of the cells at the position."""
         return self.look(position, lambda netrev: netrev.values(cells))
 
-    def changes_before(self, cell: str, position: int, most: Optional[int] = None) -> tuple[list[Change], bool]:
-        """The last changes of the cell up to the position, at most so many, in the order of their steps; and whether
-        there are earlier ones."""
-        return self._anew(lambda: self._changes(cell, position, most))
-
     def find(
         self, cells: Sequence[str], are_wanted: Callable[[list[str]], bool], position: int, backwards: bool
     ) -> Optional[int]:
@@ -87,15 +71,6 @@ class Scout:
                 return next((stop for stop, values in stops if are_wanted(values)), None)
 
         return self._anew(found)
-
-    def rows(self, first: int, last: int, looks: Sequence[str]) -> Iterator[list[str]]:
-        """What these looks show at each of the positions, one after the other."""
-        for position in range(first, last + 1):
-            yield self._anew(lambda: self._row(position, looks))
-
-    def behind(self, position: int, looks: Sequence[Sequence[str]]) -> list[list[str]]:
-        """What these looks show behind each of the steps that follow the position, as many as there are lists of them."""
-        return self._anew(lambda: self._behind(position, looks))
 
     def _anew(self, walk: Callable[[], Seen]) -> Seen:
         """What comes of a walk, that of a second one where netrev ended in the first."""
@@ -115,41 +90,6 @@ class Scout:
         except BaseException:
             self.drop()
             raise
-
-    def _changes(self, cell: str, position: int, most: Optional[int]) -> tuple[list[Change], bool]:
-        wanted = None if most is None else most + 1
-        with closing(self._stops_up_to(cell, position)) as found:
-            stops = list(islice(found, wanted))
-        is_all = wanted is None or len(stops) < wanted
-        first = self._at(0).values([cell])[0] if is_all else stops.pop().values[0]
-        stops.reverse()
-        olds = [first, *(stop.values[0] for stop in stops)]
-        return [Change(stop.position, old, stop.values[0]) for stop, old in zip(stops, olds)], not is_all
-
-    def _row(self, position: int, looks: Sequence[str]) -> list[str]:
-        *replies, moved = self._at(position).ask_all([*looks, "stepi"])
-        self._placed += 1
-        self._stands = move_of("stepi", moved).position
-        return [value_of(look, reply) for look, reply in zip(looks, replies)]
-
-    def _behind(self, position: int, looks: Sequence[Sequence[str]]) -> list[list[str]]:
-        netrev = self._at(position)
-        replies = iter(netrev.ask_all([line for asked in looks for line in ("stepi", *asked)]))
-        self._placed += len(looks)
-        self._stands = position + len(looks)
-        shown = []
-        for asked in looks:
-            move_of("stepi", next(replies))
-            shown.append([value_of(line, next(replies)) for line in asked])
-        return shown
-
-    def _stops_up_to(self, cell: str, position: int) -> Generator[Stop, None, None]:
-        """The positions behind changes of the cell, backwards, from this position on, each with the value there."""
-        if position:
-            before, now = (self._at(place).values([cell])[0] for place in (position - 1, position))
-            if before != now:
-                yield Stop(position, [now])
-        yield from self._stops([cell], position, "reverse-continue")
 
     def _stops(self, cells: Sequence[str], position: int, way: str) -> Generator[Stop, None, None]:
         """The positions that way behind changes of one of the cells, each with their values there."""

@@ -16,6 +16,7 @@ from .line_hints import hint
 from .program.breaks import Breaks, names_a_place
 from .netrev import Joined, Netrev, Reply
 from .output import Place, Printer, Row, Table
+from .recorded_changes import RecordedChanges
 from .recording import Recording
 from .scout import Lost, Scout
 from .shapes import MOVED, OF_CELL, OF_DUMP, POSITION, VALUE, Listed, Position, Refused, move_of, position_of
@@ -66,6 +67,7 @@ class Session:
     breaks: Breaks = field(default_factory=Breaks)  # at places of the program
     frame: Optional[int] = None  # of the stack, from the innermost; None for the program's own line
     is_before: bool = False  # a place of the program: the stack is that of the next step
+    recorded: Optional[RecordedChanges] = None  # where the recording is there
 
     def begin(self, reply: str) -> None:
         """Tells where the session stands, with netrev's first reply, to `info position`. Mismatched where the recording
@@ -106,6 +108,12 @@ class Session:
         if self.scout is None:
             raise Misused(UNNAMED)
         return self.scout
+
+    def changes(self) -> RecordedChanges:
+        """What each step changed; Misused where a session was joined without the recording."""
+        if self.recorded is None:
+            raise Misused(UNNAMED)
+        return self.recorded
 
     def run(self, line: str) -> bool:
         """Answers a line. False where the session has ended."""
@@ -166,7 +174,7 @@ class Session:
         """Sends a line to netrev, and shows its reply. A line that netrev knows goes as it was typed."""
         sent = " ".join(words) if words[0] in COMMANDS else line
         # (a stop takes away the temporary breaks that it names, so what stands before it is asked for too)
-        stood = self.netrev.marks() if words[0] in STOPPING and self.scout else []
+        stood = self.netrev.marks() if words[0] in STOPPING and self.recorded else []
         reply = self.back_to_a_break(sent, self.netrev.ask(sent)) if words[0] in STOPPING else self.netrev.ask(sent)
         self.show(line, reply, words[0] == "dump")
         if MOVED.fullmatch(reply.first):
@@ -221,8 +229,8 @@ class Session:
         self.stood, self.frame, self.is_before = position, None, False
         self.attached.hits(numbers)
         self.printer.place(self.place(position))
-        if self.scout and self.recording:
-            self.tell_changes(self.scout, self.recording, position, self.hit(numbers, stood))
+        if self.recorded and self.recording:
+            self.tell_changes(self.recorded, self.recording, position, self.hit(numbers, stood))
         self.show_displays()
 
     def hit(self, numbers: Sequence[str], stood: Sequence[Listed]) -> list[Listed]:
@@ -230,15 +238,15 @@ class Session:
         listed = {mark.number: mark for mark in [*stood, *self.netrev.marks()]} if numbers else {}
         return [listed[number] for number in numbers if number in listed]
 
-    def tell_changes(self, scout: Scout, recording: Recording, position: int, hit: list[Listed]) -> None:
+    def tell_changes(self, changes: RecordedChanges, recording: Recording, position: int, hit: list[Listed]) -> None:
         """Tells whose timers the steps beside the position are about, which marks hit, and what the last step changed."""
         timers = timers_beside(recording, position)
         if timers.rows:
             self.printer.table(timers)
         if hit:
-            self.printer.table(marks_table(scout, hit, position))
+            self.printer.table(marks_table(changes, hit, position))
         told = [mark.what for mark in hit if mark.sort == "watch"]
-        changed = changed_table(scout, recording, position, told)
+        changed = changed_table(changes, position, told)
         if changed and changed.rows:
             self.printer.table(changed)
 

@@ -18,8 +18,11 @@ from nrdb.recording import Recording
 from nrdb.scout import Scout
 from nrdb.session import Session
 
+from .modelled import changes_at
+
 EXAMPLE = Path(__file__).resolve().parents[2] / "examples/leaked-reference.jsonl"
 TEXT = Recording.read(str(EXAMPLE))
+CHANGES = changes_at(EXAMPLE)
 BEGINNING = ("goto 14", "watch lock 0", "display rg 0")
 PROBES = (
     "where",
@@ -111,7 +114,9 @@ class Disturbances(unittest.TestCase, Generic[Of]):
         def opened() -> Of:
             return self.opened(weather)
 
-        session = Session(opened(), TEXT, Scout(opened), JsonPrinter(out), weather.interrupts, ANSWERS)
+        session = Session(
+            opened(), TEXT, Scout(opened), JsonPrinter(out), weather.interrupts, ANSWERS, recorded=CHANGES
+        )
         played = Played(session, weather, out)
         session.begin(session.ask("info position"))
         played.run(*BEGINNING)

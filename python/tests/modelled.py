@@ -4,12 +4,14 @@ from collections import deque
 from pathlib import Path
 from typing import Callable, Optional
 
+from netrev_machine.changing import changes
 from netrev_machine.debugger import Recording
 from netrev_machine.observing import Observer
 from netrev_machine.program import replay
 from netrev_machine.session import Session, recording_of
 from nrdb.interrupts import Interrupts
 from nrdb.netrev import Netrev
+from nrdb.recorded_changes import RecordedChanges
 
 Happens = Callable[["Modelled"], None]
 
@@ -18,6 +20,17 @@ def recording_at(path: Path) -> Recording:
     """What the model's debugger knows of the recording."""
     replayed = replay(path.read_bytes(), Observer())
     return recording_of(replayed.text.steps, replayed.worlds)
+
+
+def changes_at(path: Path) -> RecordedChanges:
+    """What each step of the recording changed, as the model says it."""
+    return changes_in(path.read_bytes())
+
+
+def changes_in(recording: bytes) -> RecordedChanges:
+    """The same of a recording's text."""
+    lines, _ = changes(recording, Observer())
+    return RecordedChanges.read(f"{line}\n".encode() for line in lines)
 
 
 class Modelled(Netrev):

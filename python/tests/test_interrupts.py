@@ -2,11 +2,13 @@
 it would have told, or it ends. It never tells anything else."""
 
 import unittest
+from typing import Optional
 
 from nrdb.interrupts import Interrupts
 from nrdb.netrev import Ended
+from nrdb.scout import Scout
 
-from .disturbed import EXAMPLE, Disturbances, Weather
+from .disturbed import EXAMPLE, TEXT, Disturbances, Weather
 from .modelled import Modelled, recording_at
 
 MODEL = recording_at(EXAMPLE)
@@ -64,14 +66,20 @@ class EveryPoint(Disturbances[Modelled]):
         self.assertGreater(given_up, 100)
 
     def test_a_scout_that_is_gone_is_begun_anew(self) -> None:
-        went_on = 0
-        for command in ("history lock 0 all", "until gor 0 *"):
-            count, right = self.points(command)
-            for point, _, told, goes_on in self.disturbed(command, killed, count):
-                if goes_on:  # (else it was the session's own)
-                    went_on += 1
-                    self.assertEqual(told, right, (command, point))
-        self.assertGreater(went_on, 20)
+        def found(weather: Weather[Modelled]) -> list[Optional[int]]:
+            scout = Scout(lambda: self.opened(weather))
+            return [
+                scout.find(["lock 0"], lambda _: True, TEXT.length, True),
+                scout.find(["gor 0"], lambda values: values == ["gone"], 0, False),
+            ]
+
+        weather: Weather[Modelled] = Weather(Interrupts())
+        right = found(weather)
+        self.assertGreater(weather.count, 10)
+        for point in range(weather.count):
+            disturbed: Weather[Modelled] = Weather(Interrupts())
+            disturbed.left, disturbed.action = point, killed
+            self.assertEqual(found(disturbed), right, point)
 
 
 class Unread(unittest.TestCase):

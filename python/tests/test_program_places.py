@@ -19,7 +19,7 @@ from nrdb.scout import Scout
 from nrdb.session import Session
 from nrdb.web.shared import OF_THE_PAGE
 from tests.go_caused import SOURCE, bug_line
-from tests.modelled import Modelled, recording_at
+from tests.modelled import Modelled, changes_at, recording_at
 from tests.test_causes import CAUSED, in_the_folder_of_the_source
 
 FILE = CAUSED / "once-bad.jsonl"
@@ -35,7 +35,9 @@ def session_of(said: io.StringIO) -> Session:
         return Modelled(MODEL, interrupts, lambda _: None)
 
     printer = TextPrinter(said)
-    session = Session(opened(), recording, Scout(opened), printer, interrupts, ANSWERS, path=str(FILE))
+    session = Session(
+        opened(), recording, Scout(opened), printer, interrupts, ANSWERS, path=str(FILE), recorded=changes_at(FILE)
+    )
     session.begin(session.ask("info position"))
     return session
 

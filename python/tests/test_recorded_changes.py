@@ -107,7 +107,7 @@ def arriving(netrev: Path, script: str, interrupts: "Interrupts | None" = None) 
 
 
 def test_what_has_come_is_there_before_the_end(netrev: Path) -> None:
-    changes, told = arriving(netrev, "echo 1 gor 1 = idle; echo 3 lock 0 = 0; sleep 60")
+    changes, told = arriving(netrev, "echo 1 gor 1 = idle; echo 3 lock 0 = 0; exec sleep 60")
     assert changes.value("gor 1", 2) == "idle" and changes.at(1) == [("gor 1", "idle")] and not told
     changes.drop()
 

@@ -16,6 +16,8 @@ from netrev_words.writing import write_plain
 from nrdb.recording import Recording
 from nrdb.timeline.trace import Tracing
 
+from .modelled import changes_in
+
 EXAMPLES = Path(__file__).resolve().parents[2] / "examples"
 REQUIRED = {
     "M": {"pid", "name", "args"},
@@ -69,7 +71,9 @@ def faults_of(events: list[Event]) -> list[str]:
 
 def traced(recording: Recording) -> list[Event]:
     """The events of the trace of a recording, as JSON gives them back."""
-    events: list[Event] = json.loads(json.dumps(list(Tracing(recording).events("run.jsonl", lambda: None))))
+    events: list[Event] = json.loads(
+        json.dumps(list(Tracing(recording, changes_in(recording.data)).events("run.jsonl", lambda: None)))
+    )
     return events
 
 

@@ -22,7 +22,7 @@ from nrdb.scout import Scout
 from nrdb.session import Session
 from nrdb.world import World
 
-from .modelled import Modelled, recording_at
+from .modelled import Modelled, changes_at, changes_in, recording_at
 
 
 def waiters(count: int, sockets: int = 1) -> str:
@@ -61,7 +61,8 @@ class Asked(unittest.TestCase):
         def opened() -> Modelled:
             return Counting(model, interrupts, lambda _: None)
 
-        session = Session(opened(), Recording.read(str(path)), Scout(opened), JsonPrinter(out), interrupts, ANSWERS)
+        recording, scout = Recording.read(str(path)), Scout(opened)
+        session = Session(opened(), recording, scout, JsonPrinter(out), interrupts, ANSWERS, recorded=changes_at(path))
         session.begin(session.ask("info position"))
         session.run(f"goto {session.length}")
         return session, out
@@ -155,9 +156,10 @@ class Backwards(unittest.TestCase):
     def test_takings_are_those_of_all_steps(self) -> None:
         met: Counter[bool] = Counter()
         for world in self.worlds():
+            changes = changes_in(world.recording.data)
             right = {}
             for socket in range(4):
-                held = holders_of(world, socket).held
+                held = holders_of(world.recording, changes, socket, world.position)
                 for side in "rw":
                     found = [one.step for one in held if one.side == [side]][-1:]
                     if found:  # (a `decref` of somebody who has a lock alone takes that for what it gives up)

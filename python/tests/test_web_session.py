@@ -3,7 +3,7 @@ said while netrev is gone and when it is there again."""
 
 import unittest
 from pathlib import Path
-from typing import Any, Callable
+from typing import Any, Callable, Optional
 from unittest import mock
 
 from nrdb.interrupts import Interrupts
@@ -18,12 +18,13 @@ from nrdb.web.running import MOST_WAITING, Running, window_of
 from nrdb.web.serving import Unavailable
 from nrdb.web.shared import NO_END, NO_FILES, NO_LINES, Saying, Shared
 
-from .modelled import Modelled, recording_at
+from .modelled import Modelled, changes_at, recording_at
 
 EXAMPLES = Path(__file__).resolve().parents[2] / "examples"
 FIRST, OTHER = EXAMPLES / "first.jsonl", EXAMPLES / "lost-wakeup.jsonl"
 MODEL, OTHER_MODEL = recording_at(FIRST), recording_at(OTHER)
 TEXT = Recording.read(str(FIRST))
+CHANGES = changes_at(FIRST)
 
 
 class Streams:
@@ -53,7 +54,7 @@ class Played(unittest.TestCase):
         self.streams, self.interrupts = Streams(), Interrupts()
         self.netrev = self.modelled()
         scout = Scout(self.modelled)
-        session = Session(self.netrev, TEXT, scout, Saying(self.streams), self.interrupts, ANSWERS)
+        session = Session(self.netrev, TEXT, scout, Saying(self.streams), self.interrupts, ANSWERS, recorded=CHANGES)
         session.begin(session.ask("info position"))
         self.opened: Callable[[Printer], Netrev] = self.refused
         self.running = Running(Shared.over(session, self.streams), lambda p: self.opened(p), self.streams)  # type: ignore
@@ -177,11 +178,12 @@ class NotHere(Played):
 
 class Stopped(Played):
     def test_a_walk_is_stopped_and_the_session_goes_on(self) -> None:
-        came = iter([self.interrupts.came])  # Ctrl-C where nrdb runs, once
-        walking = Modelled(MODEL, self.interrupts, lambda _: next(came, lambda: None)())
-        self.running.session.scout = Scout(lambda: walking)
-        self.assertEqual(self.says("history lock 0 all"), ["| interrupted; the session goes on"])
-        self.running.session.scout = Scout(self.modelled)
+        def stopped(_: Optional[int]) -> None:
+            self.interrupts.came()  # Ctrl-C where nrdb runs
+            self.interrupts.check()
+
+        with mock.patch.object(CHANGES, "_wait", stopped):
+            self.assertEqual(self.says("history lock 0 all"), ["| interrupted; the session goes on"])
         self.assertEqual(self.says("stepi 2")[0], "at 2")
 
 

@@ -6,8 +6,8 @@ from typing import Iterator, Optional
 
 from netrev_words.vocabulary import Of
 
-from ..prompt.answers import ANSWERS
 from ..arriving_changes import ArrivingChanges
+from ..prompt.answers import ANSWERS
 from ..backwards import last_steps
 from ..interrupts import Interrupts
 from ..netrev import Own
@@ -101,9 +101,9 @@ def debuggee(program: str, path: str) -> Iterator[Debuggee]:
         raise Unanswerable(str(wrong)) from None
     with closing(netrev):
         scout = Scout(lambda: Own(program, path, interrupts))
-        recording.changes = changes = ArrivingChanges(program, path, interrupts, printer.note)
+        recording.changes = recorded = ArrivingChanges(program, path, interrupts, printer.note)
         try:
-            session = Session(netrev, recording, scout, printer, interrupts, ANSWERS)
+            session = Session(netrev, recording, scout, printer, interrupts, ANSWERS, recorded=recorded)
             first = session.ask("info position")
             if not POSITION.fullmatch(first):
                 raise Unanswerable("\n".join([first, *explained(program, path, first)]))
@@ -111,5 +111,5 @@ def debuggee(program: str, path: str) -> Iterator[Debuggee]:
             yield Debuggee(session, recording, printer, path)
         finally:
             scout.drop()
-            changes.drop()
+            recorded.drop()
             netrev.drop()

@@ -86,12 +86,11 @@ class GoLines:
         return [one.number for one in every if position in one.positions and self._holds(one, position)]
 
     def _holds(self, hits: Hits, position: int) -> bool:
-        """Whether a condition holds at a position, as the scout has it."""
+        """Whether a condition holds at a position."""
         if hits.condition is None:
             return True
         session = self._debuggee.session
-        (value,) = session.looks().values(position, [hits.condition.cell])
-        return hits.condition.is_met(session, value)
+        return hits.condition.is_met(session, session.changes().value(hits.condition.cell, position))
 
 
 def refused(why: str) -> Body:

@@ -14,7 +14,7 @@ const KEYS = [
   ["Esc", "forget what was found"],
 ];
 const SOURCE = [
-  "Each value is netrev's own reply. Behind each step those cells were asked that such a step can change, and all cells at",
+  "Each value is netrev's own: it told what each step changed, and was asked for all cells and queues at",
   `${D.compared} positions, which agreed. Arrows, suspects, connections and lines of the program are nrdb's, unproved.`,
 ].join(" ");
 

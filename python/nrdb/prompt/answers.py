@@ -156,12 +156,13 @@ def answer_until(session: Session, words: list[str], name: str = "until") -> Non
     is_back = name == "reverse-until"
 
     def are_wanted(shown: list[str]) -> bool:
+        session.interrupts.check()
         return all(
             fnmatchcase(now, value) or fnmatchcase(session.words_of(cell, now), value)
             for now, (cell, value) in zip(shown, wanted.items())
         )
 
-    found = session.looks().find(list(wanted), are_wanted, session.stands().position, is_back)
+    found = session.changes().nearest(list(wanted), are_wanted, session.stands().position, is_back)
     if found is None:
         said = " and ".join(f"{cell} the value {value}" for cell, value in wanted.items())
         session.printer.note(f"no {'earlier' if is_back else 'later'} step gives {said}")
@@ -198,7 +199,7 @@ def answer_undisplay(session: Session, words: list[str]) -> None:
 def answer_history(session: Session, words: list[str]) -> None:
     cell, rest = taken_cell("history", words)
     most = taken_most("history", rest)
-    table = history_table(session.looks(), session.text(), cell, session.stands().position, most)
+    table = history_table(session.changes(), session.text(), cell, session.stands().position, most)
     session.printer.table(table)
 
 
@@ -238,7 +239,7 @@ def answer_info(session: Session, words: list[str]) -> None:
         return answer_errors(session, rest)
     number = number_of(rest[0]) if len(rest) == 1 else None
     if topic == "holders" and number is not None:
-        return session.printer.table(holders_table(session.world(), number))
+        return session.printer.table(holders_table(session.world(), session.changes(), number))
     is_all = rest == ["all"]
     if topic not in TABLES or (rest and not is_all and number is None):
         raise Misused(f"info {TOPICS[topic].usage}: {TOPICS[topic].says}")

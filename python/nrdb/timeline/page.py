@@ -60,7 +60,7 @@ def plainly(value: Any) -> Any:
 def collected(session: Session, recording: Recording, window: Window) -> Data:
     """What the page shows."""
     scout = session.looks()
-    runs, compared = runs_of(scout, recording, window)
+    runs, compared = runs_of(scout, session.changes(), window)
     connections = Connections(recording, window.last)
     return {
         "name": Path(session.path).name,

@@ -1,18 +1,22 @@
-"""What each cell shows over the positions: netrev's replies, of few cells at each position, and of all of them at some."""
+"""What each cell shows over the positions, by what netrev says of each step's changes; and the queues, which are no cells, by the
+statuses of the goroutines in them."""
 
 from dataclasses import dataclass
-from itertools import islice
+from itertools import count, takewhile
+from typing import Iterator
 
 from netrev_words.vocabulary import CELLS, Of
 
-from ..recording import Recording
+from ..recorded_changes import RecordedChanges
 from ..scout import Scout
-from ..world import COUNTED_BY, made_at
-from .asking import OF_DESCRIPTOR, OF_SOCKET, QUEUES, asked
+from ..session import Misused
+from ..world import COUNTED_BY
 
 Runs = dict[str, list[tuple[int, str]]]  # of each cell the positions at which it has another value, with that value
-AT_ONCE = 1_024  # steps
 COMPARED = 16  # positions at which all cells are asked
+QUEUES = ("rq", "wq")
+NAMES = {of: [cell.name for cell in CELLS.values() if cell.of is of] for of in Of}
+NAMES[Of.SOCKET] += QUEUES
 
 
 @dataclass(frozen=True)
@@ -28,59 +32,66 @@ class Window:
         return [*range(self.first, self.last, every), self.last]
 
 
-def runs_of(scout: Scout, recording: Recording, window: Window) -> tuple[Runs, int]:
-    """The runs of all cells, and at how many positions all were asked: where those that were asked before weren't enough,
-    that is at each."""
-    cells = cells_at(scout, window.last)
-    runs = _by_steps(scout, recording, window, cells)
+def runs_of(scout: Scout, changes: RecordedChanges, window: Window) -> tuple[Runs, int]:
+    """The runs of all cells and queues, and at how many positions netrev was asked for all of them."""
+    queues = queues_of(changes, window.last)
+    runs: Runs = {}
+    for cell in cells_at(changes, window.last):
+        is_queue = cell.startswith(QUEUES)
+        made = changes.steps_of(f"lock {cell.split()[1]}")[0] if is_queue else 0
+        run = [(made, "-"), *queues.get(cell, ())] if is_queue else changes.changes_of(cell, window.last)
+        start = [value for position, value in run if position <= window.first][-1:]
+        first = start[0] if start else "absent" if is_queue else changes.value(cell, window.first)
+        runs[cell] = [(window.first, first), *(change for change in run if change[0] > window.first)]
     compared = window.compared()
-    if all(_agrees(scout, runs, position) for position in compared):
-        return runs, len(compared)
-    return _by_positions(scout, window, cells), window.last - window.first + 1
+    for position in compared:
+        _compare(scout, runs, position)
+    return runs, len(compared)
 
 
-def cells_at(scout: Scout, position: int) -> list[str]:
+def cells_at(changes: RecordedChanges, position: int) -> Iterator[str]:
     """All cells of what is made at the position, and the queues."""
-    made = scout.look(position, lambda netrev: {of: made_at(netrev, of) for of in COUNTED_BY})
-    cells = [cell.name for cell in CELLS.values() if cell.of is Of.ALL]
-    for of, names in ((Of.GOROUTINE, ("gor",)), (Of.SOCKET, OF_SOCKET), (Of.DESCRIPTOR, OF_DESCRIPTOR)):
-        cells += [f"{name} {number}" for number in range(made[of]) for name in names]
-    return cells
+    yield from NAMES[Of.ALL]
+    for of, name in COUNTED_BY.items():
+        made = takewhile(lambda number: changes.value(f"{name} {number}", position) != "absent", count())
+        yield from (f"{name} {number}" for number in made for name in NAMES[of])
 
 
-def _look(cell: str) -> str:
-    return f"dump {cell}" if cell.startswith(QUEUES) else f"print {cell}"
-
-
-def _all_at(scout: Scout, position: int, cells: list[str]) -> dict[str, str]:
-    """What all these cells show at a position."""
-    looks = [_look(cell) for cell in cells]
-    return dict(zip(cells, scout.look(position, lambda netrev: netrev.looks(looks))))
-
-
-def _by_steps(scout: Scout, recording: Recording, window: Window, cells: list[str]) -> Runs:
-    """The runs, where behind each step those cells are asked that it can change."""
-    there = set(cells_at(scout, window.first))
-    before = {cell: "absent" for cell in cells} | _all_at(
-        scout, window.first, [cell for cell in cells if cell in there]
-    )
-    runs: Runs = {cell: [(window.first, value)] for cell, value in before.items()}
-    position, steps = window.first, asked(recording, window.first, window.last)
-    while batch := list(islice(steps, AT_ONCE)):
-        shown = scout.behind(position, [[_look(cell) for cell in asked_for] for asked_for in batch])
-        for asked_for, values in zip(batch, shown):
-            position += 1
-            for cell, value in zip(asked_for, values):
-                if before[cell] != value:
-                    before[cell] = value
-                    runs[cell].append((position, value))
+def queues_of(changes: RecordedChanges, last: int) -> Runs:
+    """Of each queue in which somebody ever stood the changes up to a position. Whoever comes stands last."""
+    moves: list[tuple[int, str, str]] = []  # the step, the queue, and who comes or goes
+    for cell in changes.cells():
+        if cell.startswith("gor "):
+            before = ""
+            for step, status in changes.changes_of(cell, last):
+                moves += [(step, _queue(told), cell[4:]) for told in (before, status) if told.startswith("queued ")]
+                before = status
+    runs: Runs = {}
+    standing: dict[str, list[str]] = {}
+    for step, queue, goroutine in sorted(moves, key=lambda move: move[0]):
+        now = standing.setdefault(queue, [])
+        if goroutine in now:
+            now.remove(goroutine)
+        else:
+            now.append(goroutine)
+        runs.setdefault(queue, []).append((step, " ".join(now) or "-"))
     return runs
 
 
-def _agrees(scout: Scout, runs: Runs, position: int) -> bool:
-    """Whether all cells have the values there that the runs say."""
-    shown = _all_at(scout, position, list(runs))
-    return all(value_at(runs[cell], position) == value for cell, value in shown.items())
+def _queue(status: str) -> str:
+    """The queue in which a goroutine of this status stands."""
+    _, socket, side = status.split()
+    return f"{side}q {socket}"
+
+
+def _compare(scout: Scout, runs: Runs, position: int) -> None:
+    """Holds all cells and queues against what netrev shows at the position; Misused where something else is there."""
+    looks = [f"dump {cell}" if cell.startswith(QUEUES) else f"print {cell}" for cell in runs]
+    for (cell, run), shown in zip(runs.items(), scout.look(position, lambda netrev: netrev.looks(looks))):
+        if shown != (told := value_at(run, position)):
+            raise Misused(
+                f"netrev shows {cell} = {shown} at {position}, and nrdb reckons with {told}: an error of nrdb's"
+            )
 
 
 def value_at(run: list[tuple[int, str]], position: int) -> str:
@@ -90,16 +101,3 @@ def value_at(run: list[tuple[int, str]], position: int) -> str:
         middle = (low + high) // 2
         low, high = (middle, high) if run[middle][0] <= position else (low, middle)
     return run[low][1]
-
-
-def _by_positions(scout: Scout, window: Window, cells: list[str]) -> Runs:
-    """The runs, where all cells are asked at each position."""
-    runs: Runs = {cell: [] for cell in cells}
-    before = [""] * len(cells)
-    looks = [_look(cell) for cell in cells]
-    for position, shown in enumerate(scout.rows(window.first, window.last, looks), window.first):
-        for cell, old, new in zip(cells, before, shown):
-            if old != new:
-                runs[cell].append((position, new))
-        before = shown
-    return runs

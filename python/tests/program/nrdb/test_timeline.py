@@ -8,7 +8,6 @@ import unittest
 from pathlib import Path
 from unittest.mock import patch
 
-from nrdb.timeline.asking import AT_SOCKET
 
 from .support import EXAMPLES, HUNTS, nrdb, recordings, shown
 
@@ -119,16 +118,12 @@ class Timeline(unittest.TestCase):
             told[: recording.length + 1], [recording.lines.words(step) for step in range(recording.length + 1)]
         )
 
-    def test_where_too_few_were_asked_all_are(self):
-        path = HUNTS / "blocked-control.jsonl"
-        with tempfile.TemporaryDirectory() as folder, patch.dict(AT_SOCKET, {"rwlock": ()}):
+    def test_nothing_is_written_where_netrev_shows_something_else(self):
+        with tempfile.TemporaryDirectory() as folder, patch("nrdb.timeline.runs._queue", lambda status: "wq 0"):
             file = Path(folder) / "page.html"
-            nrdb("--batch", "-ex", f"timeline {file} 990 1040", path)
-            data = data_in(file.read_text())
-        self.assertEqual(data["compared"], 51)
-        values = shown(path).at(1017)
-        told = {cell: value_at(runs, 1017) for cell, runs in data["cells"].items()}
-        self.assertEqual(told, {cell: values[cell] for cell in told})
+            said = nrdb("--batch", "-ex", f"timeline {file}", EXAMPLES / "leaked-reference.jsonl")
+            self.assertIn("an error of nrdb's", said)
+            self.assertFalse(file.exists())
 
 
 def brightness(colour):

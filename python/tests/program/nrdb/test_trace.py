@@ -6,7 +6,7 @@ import unittest
 from pathlib import Path
 from unittest.mock import patch
 
-from nrdb.suspects.following import HANDLERS
+from nrdb.recorded_changes import RecordedChanges
 from nrdb.timeline.trace import COMPARED
 from tests.test_trace import faults_of
 
@@ -32,9 +32,9 @@ class Trace(unittest.TestCase):
 
     def test_nothing_is_written_where_netrev_answers_otherwise(self) -> None:
         path = EXAMPLES / "lost-wakeup.jsonl"
-        with patch.dict(HANDLERS, {"blockcheck": lambda state, g: None}):
+        with patch.object(RecordedChanges, "value", lambda changes, cell, position: "parking 0 r"):
             said = nrdb("--trace", self.path, path, status=3)
-        self.assertIn("| netrev answers gor 0 = parking 0 r at 8, and nrdb follows armed 0 r: an error of nrdb's", said)
+        self.assertIn("| netrev answers gor 0 = idle at 1, and said parking 0 r", said)
         self.assertFalse(self.path.exists())
 
     def test_a_file_that_cannot_be_written(self) -> None:

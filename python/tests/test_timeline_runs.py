@@ -1,0 +1,45 @@
+"""What the timeline shows of each cell and queue: over random recordings what the machine's model shows at each position."""
+
+import random
+
+from netrev_fuzz.randomsteps import Author
+from netrev_machine.cells import CELLS_OF_ALL, SHOWS_DESC, SHOWS_GOROUTINE, SHOWS_SOCKET, dumped, value
+from netrev_machine.machine import World
+from netrev_machine.observing import Observer
+from netrev_machine.program import replay
+from netrev_machine.session import recording_of
+from netrev_words.writing import write_plain
+from nrdb.interrupts import Interrupts
+from nrdb.scout import Scout
+from nrdb.timeline.runs import QUEUES, Window, runs_of, value_at
+
+from .modelled import Modelled, changes_in
+
+SEEDS, STEPS = range(12), 150
+
+
+def shown(world: World) -> dict[str, str]:
+    """The values of all cells and queues of a state."""
+    cells = {name: str(value(world, name)) for name in CELLS_OF_ALL}
+    for shows, made in ((SHOWS_GOROUTINE, world.goroutines), (SHOWS_SOCKET, world.sockets), (SHOWS_DESC, world.descs)):
+        cells |= {f"{name} {at}": str(value(world, name, at)) for at in range(len(made)) for name in shows}
+    return cells | {f"{name} {at}": dumped(world, name, at) for at in range(len(world.sockets)) for name in QUEUES}
+
+
+def test_runs_are_what_the_model_shows() -> None:
+    queued = 0
+    for seed in SEEDS:
+        made, _ = Author(random.Random(f"runs-{seed}")).recording(STEPS)
+        text = write_plain(made)
+        replayed = replay(text, Observer())
+        model = recording_of(replayed.text.steps, replayed.worlds)
+        scout, changes = Scout(lambda: Modelled(model, Interrupts(), lambda _: None)), changes_in(text)
+        length = len(replayed.worlds) - 1
+        for window in (Window(0, length), Window(length // 3, length // 2), Window(length, length)):
+            runs, _ = runs_of(scout, changes, window)
+            for position in range(window.first, window.last + 1):
+                right = dict.fromkeys(runs, "absent") | shown(replayed.worlds[position])
+                assert {cell: value_at(run, position) for cell, run in runs.items()} == right
+            assert all(left[1] != right[1] for run in runs.values() for left, right in zip(run, run[1:]))
+            queued += sum(len(run) > 2 for cell, run in runs.items() if cell.startswith(QUEUES))
+    assert queued > 5
