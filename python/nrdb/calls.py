@@ -56,8 +56,8 @@ class Book:
             handler(self, notes, calls, arguments)
         if calls and notes.step in self._errors:
             calls[-1].outcome, calls[-1].error = Outcome.SYSTEM_ERROR, self._errors[notes.step]
-        status = notes.status(g)
-        if status in ASLEEP:
+        status = notes.now[f"gor {g}"]
+        if status.startswith(ASLEEP):
             self._asleep[g] = notes.step, int(notes.now["clock"])
         while calls and calls[-1].is_ending and not calls[-1].destroys and status == "idle":
             calls.pop().last = notes.step

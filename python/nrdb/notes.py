@@ -192,13 +192,15 @@ class Notes:
 
     def _begins(self, g: int) -> None:
         """A goroutine makes a step: its pause, if it could have gone on before, has ended."""
-        cell = f"gor {g}"
+        cell, last = f"gor {g}", self.last[g]
         status = self.now[cell]
         if status != "idle" or self.held.get(g):
             place = status.partition(" ")[0]
-            if place not in self.pauses:
-                self.pauses[place] = Pauses()
-            self.pauses[place].ends(self.step - max(self.last[g], self.since.get(cell, 0)))
+            known = self.pauses.get(place)
+            if known is None:
+                known = self.pauses[place] = Pauses()
+            since = self.since.get(cell, 0)
+            known.ends(self.step - (last if last > since else since))
         self.last[g] = self.step
 
     # what is there behind the last step

@@ -122,11 +122,12 @@ class RecordedChanges:
     def by_step(self) -> Iterator[list[tuple[str, str]]]:
         """Of each step in turn what it changed, as `at` has it."""
         self._wait(None)
-        names, texts, steps, place = self._names.all, self._texts.all, self._steps, 0
+        names, texts, place, end = self._names.all, self._texts.all, 0, len(self._steps)
+        steps, cells, values = self._steps, self._cells, self._values
         for step in range(1, self._length + 1):
             changed: list[tuple[str, str]] = []
-            while place < len(steps) and steps[place] == step:
-                changed.append((names[self._cells[place]], texts[self._values[place]]))
+            while place < end and steps[place] == step:
+                changed.append((names[cells[place]], texts[values[place]]))
                 place += 1
             yield changed
 

@@ -1,5 +1,5 @@
-"""Timeout again and again: a goroutine's calls at one side of a connection time out by the same deadline, 20 in a row, and nobody
-sets another: as long as the deadline stands each further call ends at once."""
+"""Timeout again and again: a goroutine's calls at one side of a connection time out by the same deadline, 20 in a
+row, and nobody sets another: by that deadline each further call ends at once too."""
 
 from typing import Iterator
 
