@@ -2,7 +2,7 @@
 
 from typing import Iterator, NamedTuple
 
-from ..notes import Use
+from ..noted import Use
 from .found import Evidence, Suspect
 from .run import Run
 

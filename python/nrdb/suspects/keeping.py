@@ -2,7 +2,7 @@
 
 from typing import Iterator, NamedTuple
 
-from ..notes import Hold
+from ..noted import Hold
 from ..words import SIDES as NAMES
 from ..words import counted
 from .found import Evidence, Suspect, Weight

@@ -3,7 +3,8 @@
 from typing import Iterable, NamedTuple
 
 from ..calls import book_of
-from ..notes import Notes, Timeout
+from ..noted import Timeout
+from ..notes import Notes
 from ..recording import Recording
 from .found import Suspect
 from .loading import EARLIER_DEADLINE, LEFT_BEHIND, RULES, RULES_OF_CALLS, Rule

@@ -4,7 +4,8 @@ from functools import cached_property
 from typing import Optional
 
 from ..causes.index import Index, index_of
-from ..notes import INSIDE, Notes, Use
+from ..noted import Use
+from ..notes import INSIDE, Notes
 from ..words import counted
 
 SIDES = {"Read": "r", "Write": "w"}  # of the calls that a deadline ends

@@ -1,6 +1,6 @@
 """The table of `info suspects`."""
 
-from ..notes import Timeout
+from ..noted import Timeout
 from ..output import Row, Table, Values
 from ..recording import Recording
 from ..scout import Scout

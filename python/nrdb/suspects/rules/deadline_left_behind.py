@@ -3,7 +3,7 @@ to the other side. It weighs more where a call ended with that timeout."""
 
 from typing import Iterator, Optional
 
-from ...notes import Use
+from ...noted import Use
 from ...words import SIDES as NAMES
 from ..found import Evidence, Suspect, Weight
 from ..run import Run

@@ -2,7 +2,7 @@
 
 from typing import Iterator, Optional
 
-from ...notes import Setting, Use
+from ...noted import Setting, Use
 from ...words import SIDES as NAMES
 from ..found import Evidence, Suspect, Weight
 from ..run import Run

@@ -3,7 +3,7 @@ and it waits again though bytes are unread. It weighs more where the goroutine h
 
 from typing import Iterator
 
-from ...notes import Taking, Use, Wait
+from ...noted import Taking, Use, Wait
 from ..coming import waiting_for_what_came
 from ..found import Evidence, Suspect, Weight
 from ..run import Run
