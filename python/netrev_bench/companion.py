@@ -1,7 +1,7 @@
 """How long nrdb takes to answer, on recordings of the shape `mix`:  python3 python netrev_bench.companion [STEPS ..]
 
-Each line is asked at three quarters of the recording, by a session whose scout has read the recording too, but for the
-first `history`, which waits for that. A time is from the line to the last of what is said of it. NETREV can be set.
+Each line is asked at three quarters of the recording, by a session that has read up to there what each step changed, but for the
+first `goto`, which waits for that. A time is from the line to the last of what is said of it. NETREV can be set.
 """
 
 import json
@@ -63,8 +63,7 @@ def measured(steps, folder):
     write_recording("mix", steps, recording)
     companion = Companion(recording)
     times = {"begin": companion.ask()}
-    companion.ask(f"goto {steps * 3 // 4}")
-    times["the first history"] = companion.ask("history clock 1")
+    times["the first goto"] = companion.ask(f"goto {steps * 3 // 4}")
     times.update((line, companion.ask(line)) for line in LINES)
     companion.end()
     return times

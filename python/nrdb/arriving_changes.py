@@ -16,7 +16,8 @@ SILENT = "netrev goes through all steps of the recording; nrdb waits"
 
 
 class ArrivingChanges(RecordedChanges):
-    """What `netrev changes FILE` says. netrev is started when it is needed first. Lost is raised where it fails."""
+    """What `netrev changes FILE` says. netrev is started when it is needed first. Where it fails Lost is raised, and the next who
+    asks begins anew."""
 
     def __init__(self, program: str, path: str, interrupts: Interrupts, tell: Callable[[str], None]) -> None:
         super().__init__()
@@ -54,8 +55,10 @@ class ArrivingChanges(RecordedChanges):
             if until and time.monotonic() > until:
                 self._tell(SILENT)
                 until = 0
-        if self._failure:
-            raise Lost(f"{' '.join(self._words)}: {self._failure}")
+        if why := self._failure:
+            super().__init__()
+            self._process, self._failure = None, ""
+            raise Lost(f"{' '.join(self._words)}: {why}")
 
     def _is_settled(self, position: Optional[int]) -> bool:
         return bool(self._failure) or (self.has(position) and not self._fault)

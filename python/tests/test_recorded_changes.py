@@ -151,6 +151,17 @@ def test_a_netrev_that_fails_is_told(netrev: Path, script: str, why: str) -> Non
     changes.drop()
 
 
+def test_a_netrev_that_was_killed_is_begun_anew(netrev: Path, tmp_path: Path) -> None:
+    once = (
+        f"echo 1 gor 1 = idle; [ -e {tmp_path}/killed ] || {{ touch {tmp_path}/killed; kill -9 $$; }}; echo ok 1 steps"
+    )
+    changes, _ = arriving(netrev, once)
+    with pytest.raises(Lost):
+        changes.steps_of("gor 1")
+    assert list(changes) == [(1, "gor 1", "idle")] and changes.length == 1
+    changes.drop()
+
+
 def test_a_netrev_that_is_not_there_is_told(tmp_path: Path) -> None:
     changes = ArrivingChanges(str(tmp_path / "none"), "some.jsonl", Interrupts(), print)
     with pytest.raises(Lost, match="No such file"):

@@ -310,9 +310,9 @@ class Ends(unittest.TestCase):
                 editor("threads")
 
     def test_nothing_is_left_behind(self):
-        with Adapter() as editor:
+        with Adapter() as editor, tempfile.TemporaryDirectory() as folder:
             editor.begin(LOST)
-            editor("evaluate", expression="history rg 0", context="repl")  # by the scout
+            editor("evaluate", expression=f"timeline {folder}/lost.html", context="repl")  # with the scout
             left = children(editor.process.pid)
             self.assertEqual(len(left), 2)
             editor("disconnect")

@@ -8,6 +8,7 @@ import unittest
 from pathlib import Path
 from unittest.mock import patch
 
+from nrdb.recorded_changes import AT_START
 
 from .support import EXAMPLES, HUNTS, nrdb, recordings, shown
 
@@ -119,10 +120,10 @@ class Timeline(unittest.TestCase):
         )
 
     def test_nothing_is_written_where_netrev_shows_something_else(self):
-        with tempfile.TemporaryDirectory() as folder, patch("nrdb.timeline.runs._queue", lambda status: "wq 0"):
+        with tempfile.TemporaryDirectory() as folder, patch.dict(AT_START, {"gor 0": "gone"}):
             file = Path(folder) / "page.html"
             said = nrdb("--batch", "-ex", f"timeline {file}", EXAMPLES / "leaked-reference.jsonl")
-            self.assertIn("an error of nrdb's", said)
+            self.assertIn("netrev shows gor 0 = idle at 0, and nrdb reckons with gone: an error of nrdb's", said)
             self.assertFalse(file.exists())
 
 

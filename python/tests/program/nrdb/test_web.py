@@ -4,6 +4,7 @@ killed. tests.test_web has the requests that aren't the page's."""
 import socket
 import subprocess
 import unittest
+from contextlib import suppress
 from pathlib import Path
 
 from tests.program.sharing import NETREV, PORTS, Server
@@ -109,8 +110,9 @@ class Alone(unittest.TestCase):
         with Web(FIRST) as web, Listener(web.address) as one:
             one.said("stepi 4")
             for child in children(web.process.pid):
-                if "run" in Path(f"/proc/{child}/cmdline").read_text().split("\0"):
-                    subprocess.run(["kill", "-KILL", str(child)], check=True)
+                with suppress(OSError):  # (the one that tells the changes has ended soon)
+                    if "run" in Path(f"/proc/{child}/cmdline").read_text().split("\0"):
+                        subprocess.run(["kill", "-KILL", str(child)], check=True)
             self.assertEqual(one.named("netrev")["says"], GONE)
             self.assertTrue(one.named("netrev")["there"])
             self.assertEqual(one.said("info position"), ["at 0 of 10 forward"])
