@@ -17,7 +17,6 @@ from nrdb.exploring.finding import HANG, Exploring
 from nrdb.exploring.making import script_of
 from nrdb.recording import Recording
 from nrdb.suspects.ranking import suspects_of
-from nrdb.suspects.found import Rule
 from nrdb.where import Lines
 
 PATIENCE = 120  # seconds that a program may run
@@ -95,4 +94,4 @@ def explored(recording: Recording, most: int) -> Outcome:
 
 def named(what: object) -> str:
     """The words for a rule, or for a call that hangs."""
-    return what.value if isinstance(what, Rule) else str(what or HANG)
+    return str(what or HANG)

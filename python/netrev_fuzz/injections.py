@@ -7,7 +7,7 @@ from typing import Any, Callable, NamedTuple, Optional
 
 from netrev_words.recording import Limits
 from nrdb.recording import Recording
-from nrdb.suspects.found import Rule, Suspect
+from nrdb.suspects.found import Suspect
 from nrdb.suspects.ranking import suspects_of
 
 from .little_go import Program, Turns
@@ -33,16 +33,16 @@ class Bug(Enum):
 
 
 RULES = {
-    Bug.RELEASE: {Rule.MISSED_RELEASE},
-    Bug.IDLE: {Rule.LEAKED_REFERENCE},
-    Bug.GONE: {Rule.LEAKED_REFERENCE},
-    Bug.NO_EVENT: {Rule.NO_EVENT},
-    Bug.OLD_TAG: {Rule.STALE_EVENT},
-    Bug.TAKEN_BACK: {Rule.TAKEN_BACK},
-    Bug.NO_TRY: {Rule.LOST_WAKE_UP},
-    Bug.LEFT_BEHIND: {Rule.LEFT_BEHIND},
-    Bug.LOCK: {Rule.LOCK_HELD, Rule.LEAKED_REFERENCE},
-    Bug.NOT_EVICTED: {Rule.NOT_EVICTED},
+    Bug.RELEASE: {"missed release"},
+    Bug.IDLE: {"leaked reference"},
+    Bug.GONE: {"leaked reference"},
+    Bug.NO_EVENT: {"no event"},
+    Bug.OLD_TAG: {"stale event"},
+    Bug.TAKEN_BACK: {"deadline taken back too soon"},
+    Bug.NO_TRY: {"lost wake-up"},
+    Bug.LEFT_BEHIND: {"deadline left behind"},
+    Bug.LOCK: {"lock held", "leaked reference"},
+    Bug.NOT_EVICTED: {"close without evict"},
 }
 HANGING = (Bug.NO_EVENT, Bug.OLD_TAG, Bug.NO_TRY, Bug.TAKEN_BACK)  # whose symptom is a goroutine that hangs at the end
 

@@ -8,9 +8,8 @@ from typing import Any, Callable, Optional
 from netrev_words.vocabulary import KINDS
 
 from .one_call import CLOSE, CLOSE_WRITE, CONTROL, OPEN, Call, Outcome
+from .notes import Notes
 from .recording import Recording
-from .suspects.following import follow
-from .suspects.state import PLACES, State
 from .timers import timers_of
 
 ASLEEP = ("parked", "queued")
@@ -35,15 +34,16 @@ class Book:
         self._open: dict[int, list[Call]] = {}  # the calls that each goroutine is in, the innermost last
         self._asleep: dict[int, tuple[int, int]] = {}  # since which step, and the clock then
         self._named: dict[int, tuple[int, int]] = {}  # the socket and descriptor that a goroutine named last
+        self._made = 0  # sockets
         self._descriptor_of: dict[int, int] = {}
         self._socket_of: dict[tuple[int, int], int] = {}  # of a use of a descriptor, by its tag
-        follow(recording, self._see)
+        self.notes = Notes(recording, self._see)
 
-    def _see(self, state: State, kind: str, values: list[Any]) -> None:
+    def _see(self, notes: Notes, kind: str, values: list[Any]) -> None:
         """Behind each step."""
         arguments = dict(zip(KINDS[kind].arguments, values))
         g = arguments.get("g", NONE)
-        place = self._place(state, kind, arguments, g)
+        place = self._place(notes, kind, arguments, g)
         self.goroutines.append(g)
         self.sockets.append(place[0])
         self.descriptors.append(place[1])
@@ -51,27 +51,28 @@ class Book:
             return
         calls = self._open.setdefault(g, [])
         if g in self._asleep:
-            self._wakes(state, calls, *self._asleep.pop(g))
+            self._wakes(notes, calls, *self._asleep.pop(g))
         if handler := HANDLERS.get(kind):
-            handler(self, state, calls, arguments)
-        if calls and state.step in self._errors:
-            calls[-1].outcome, calls[-1].error = Outcome.SYSTEM_ERROR, self._errors[state.step]
-        status = state.goroutines[g].status[0]
-        if status in ASLEEP:
-            self._asleep[g] = state.step, state.clock
+            handler(self, notes, calls, arguments)
+        if calls and notes.step in self._errors:
+            calls[-1].outcome, calls[-1].error = Outcome.SYSTEM_ERROR, self._errors[notes.step]
+        status = notes.now[f"gor {g}"]
+        if status.startswith(ASLEEP):
+            self._asleep[g] = notes.step, int(notes.now["clock"])
         while calls and calls[-1].is_ending and not calls[-1].destroys and status == "idle":
-            calls.pop().last = state.step
+            calls.pop().last = notes.step
 
-    def _place(self, state: State, kind: str, arguments: dict[str, Any], g: int) -> tuple[int, int]:
+    def _place(self, notes: Notes, kind: str, arguments: dict[str, Any], g: int) -> tuple[int, int]:
         """The socket and the descriptor of a step."""
         if kind == "sockopen":
-            return len(state.sockets) - 1, NONE
+            self._made += 1
+            return self._made - 1, NONE
         if kind == "pollopen":
-            opened = next(d for d, one in enumerate(state.descriptors) if one.is_open and one.opened == state.step)
+            opened = notes.uses[-1].descriptor
             self._descriptor_of[arguments["s"]] = opened
-            self._socket_of[opened, state.descriptors[opened].fdseq] = arguments["s"]
+            self._socket_of[opened, int(notes.now[f"fdseq {opened}"])] = arguments["s"]
         if kind in ("pop", "fire"):
-            timer = self._timers[state.step]
+            timer = self._timers[notes.step]
             return timer.socket, timer.descriptor
         if kind == "pollevent":
             return self._socket_of.get((arguments["d"], arguments["tag"]), NONE), arguments["d"]
@@ -79,17 +80,17 @@ class Book:
             place = arguments["s"], self._descriptor_of.get(arguments["s"], NONE)
         elif "d" in arguments:
             d = arguments["d"]
-            place = (state.descriptors[d].socket if d < len(state.descriptors) else NONE), d
+            place = (notes.use_of[d].socket if d in notes.use_of else NONE), d
         else:
             return self._named.get(g, (NONE, NONE)) if kind not in ("exit", "spawn", "tick") else (NONE, NONE)
         self._named[g] = place
         return place
 
     @staticmethod
-    def _wakes(state: State, calls: list[Call], step: int, clock: int) -> None:
+    def _wakes(notes: Notes, calls: list[Call], step: int, clock: int) -> None:
         if calls:
-            calls[-1].waited += state.step - step - 1
-            calls[-1].slept += state.clock - clock
+            calls[-1].waited += notes.step - step - 1
+            calls[-1].slept += int(notes.now["clock"]) - clock
 
     def sleeps_at_the_end(self, call: Call) -> bool:
         """Whether the recording ends while a call's goroutine sleeps in it."""
@@ -100,127 +101,124 @@ class Book:
         """The socket's descriptor is free."""
         self._descriptor_of.pop(socket, None)
 
-    def begin(self, state: State, calls: list[Call], name: str, arguments: dict[str, Any], side: str = "") -> Call:
+    def begin(self, notes: Notes, calls: list[Call], name: str, arguments: dict[str, Any], side: str = "") -> Call:
         """A call begins with this step."""
         g = arguments["g"]
-        call = Call(g, name, *self._named[g], state.step, side=side)
+        call = Call(g, name, *self._named[g], notes.step, side=side)
         calls.append(call)
         self.calls.append(call)
         return call
 
 
-Handler = Callable[[Book, State, list[Call], dict[str, Any]], None]
+Handler = Callable[[Book, Notes, list[Call], dict[str, Any]], None]
 
 
-def _fails(state: State, call: Call, outcome: Outcome, place: int = 0) -> None:
+def _fails(notes: Notes, call: Call, outcome: Outcome) -> None:
     """A call has this outcome; which step brought that about is known of a timeout, of a close and of a shut write side."""
     call.outcome = outcome
-    socket = state.sockets[call.socket]
-    if outcome is Outcome.CLOSED and socket.closer:
-        call.cause = socket.closer[0]
-    elif outcome is Outcome.BROKEN_PIPE and socket.shut:
-        call.cause = socket.shut[0]
+    if outcome is Outcome.CLOSED and call.socket in notes.closer:
+        call.cause = notes.closer[call.socket].step
+    elif outcome is Outcome.BROKEN_PIPE and call.socket in notes.shut:
+        call.cause = notes.shut[call.socket].step
     elif outcome is Outcome.TIMED_OUT:
-        descriptor = state.descriptors[call.descriptor]
-        setting, passing = descriptor.settings[place], descriptor.passings[place]
-        call.cause, call.passed = setting.step if setting else 0, passing.step if passing else 0
+        timeout = notes.timeouts[-1]
+        call.cause = notes.use_of[timeout.descriptor].last_setting[timeout.side].step
+        call.passed = timeout.passing.step
 
 
-def _opens(book: Book, state: State, calls: list[Call], arguments: dict[str, Any]) -> None:
-    book.begin(state, calls, OPEN, arguments).is_ending = True
+def _opens(book: Book, notes: Notes, calls: list[Call], arguments: dict[str, Any]) -> None:
+    book.begin(notes, calls, OPEN, arguments).is_ending = True
 
 
-def _locks(book: Book, state: State, calls: list[Call], arguments: dict[str, Any]) -> None:
+def _locks(book: Book, notes: Notes, calls: list[Call], arguments: dict[str, Any]) -> None:
     s, side = arguments["s"], arguments["side"]
     top = calls[-1] if calls else None
     if not (top and top.is_asking):
-        top = book.begin(state, calls, LOCKING[side], arguments, side)
-    top.is_asking = state.goroutines[arguments["g"]].status[0] == "acquiring"
-    if not top.is_asking and state.sockets[s].closed:
+        top = book.begin(notes, calls, LOCKING[side], arguments, side)
+    top.is_asking = notes.status(arguments["g"]) == "acquiring"
+    if not top.is_asking and notes.is_closed(s):
         top.is_ending = True
-        _fails(state, top, Outcome.CLOSED)
+        _fails(notes, top, Outcome.CLOSED)
 
 
-def _unlocks(book: Book, state: State, calls: list[Call], arguments: dict[str, Any]) -> None:
+def _unlocks(book: Book, notes: Notes, calls: list[Call], arguments: dict[str, Any]) -> None:
     s, side = arguments["s"], arguments["side"]
-    _gives(state, s, next((call for call in reversed(calls) if call.side == side and call.socket == s), None))
+    _gives(notes, s, next((call for call in reversed(calls) if call.side == side and call.socket == s), None))
 
 
-def _gives(state: State, s: int, call: Optional[Call]) -> None:
+def _gives(notes: Notes, s: int, call: Optional[Call]) -> None:
     """A call gives up its reference."""
     if call:
         call.is_ending = True
-        call.destroys = state.sockets[s].closed and not state.sockets[s].holds
+        call.destroys = notes.is_closed(s) and not notes.holds[s]
 
 
-def _refers(book: Book, state: State, calls: list[Call], arguments: dict[str, Any]) -> None:
-    call = book.begin(state, calls, CONTROL, arguments)
-    if state.sockets[arguments["s"]].closed:
+def _refers(book: Book, notes: Notes, calls: list[Call], arguments: dict[str, Any]) -> None:
+    call = book.begin(notes, calls, CONTROL, arguments)
+    if notes.is_closed(arguments["s"]):
         call.is_ending = True
-        _fails(state, call, Outcome.CLOSED)
+        _fails(notes, call, Outcome.CLOSED)
 
 
-def _unrefers(book: Book, state: State, calls: list[Call], arguments: dict[str, Any]) -> None:
+def _unrefers(book: Book, notes: Notes, calls: list[Call], arguments: dict[str, Any]) -> None:
     s = arguments["s"]
-    _gives(state, s, next((call for call in reversed(calls) if not call.side and call.socket == s), None))
+    _gives(notes, s, next((call for call in reversed(calls) if not call.side and call.socket == s), None))
 
 
-def _closes(book: Book, state: State, calls: list[Call], arguments: dict[str, Any]) -> None:
-    call = book.begin(state, calls, CLOSE, arguments)
-    if state.sockets[arguments["s"]].closer != (state.step, arguments["g"]):
+def _closes(book: Book, notes: Notes, calls: list[Call], arguments: dict[str, Any]) -> None:
+    call = book.begin(notes, calls, CLOSE, arguments)
+    if notes.closer[arguments["s"]] != (notes.step, arguments["g"]):
         call.is_ending = True
-        _fails(state, call, Outcome.CLOSED)
+        _fails(notes, call, Outcome.CLOSED)
 
 
-def _destroys(book: Book, state: State, calls: list[Call], arguments: dict[str, Any]) -> None:
+def _destroys(book: Book, notes: Notes, calls: list[Call], arguments: dict[str, Any]) -> None:
     book.frees(book.sockets[-1])
     if calls:
         calls[-1].destroys = False
 
 
-def _checks(book: Book, state: State, calls: list[Call], arguments: dict[str, Any]) -> None:
+def _checks(book: Book, notes: Notes, calls: list[Call], arguments: dict[str, Any]) -> None:
     """A step that checks a descriptor's side; outside of a call, as `Dial` waits, it is one of its own."""
-    d, side = book.descriptors[-1], arguments["side"]
-    code = state.descriptors[d].check(PLACES[side][0])
-    top = calls[-1] if calls else book.begin(state, calls, WAITING[side], arguments)
+    side = arguments["side"]
+    code = notes.code(book.descriptors[-1], side)
+    top = calls[-1] if calls else book.begin(notes, calls, WAITING[side], arguments)
     if code:
-        _fails(state, top, CODES[code], PLACES[side][0])
+        _fails(notes, top, CODES[code])
     if top.name in WAITING.values():
         top.is_ending = True
 
 
-def _checks_again(book: Book, state: State, calls: list[Call], arguments: dict[str, Any]) -> None:
+def _checks_again(book: Book, notes: Notes, calls: list[Call], arguments: dict[str, Any]) -> None:
     """`waitcheck`: the side is that of the wait which it ends."""
-    row = state.goroutines[arguments["g"]]
-    if not calls or row.status[0] != "idle":
+    if not calls or notes.status(arguments["g"]) != "idle":
         return
-    if state.timeouts[-1:] and state.timeouts[-1].step == state.step:
-        _fails(state, calls[-1], Outcome.TIMED_OUT, state.timeouts[-1].place)
+    if notes.timeouts and notes.timeouts[-1].step == notes.step:
+        _fails(notes, calls[-1], Outcome.TIMED_OUT)
     else:
-        descriptor = state.descriptors[book.descriptors[-1]]
-        _fails(state, calls[-1], Outcome.CLOSED if descriptor.closing else Outcome.EVENT_ERROR)
+        _fails(notes, calls[-1], CODES[notes.code(book.descriptors[-1], "r")])
 
 
-def _reads(book: Book, state: State, calls: list[Call], arguments: dict[str, Any]) -> None:
+def _reads(book: Book, notes: Notes, calls: list[Call], arguments: dict[str, Any]) -> None:
     if calls:
-        calls[-1].moved = (calls[-1].moved or 0) + state.moved
-        if not state.moved and state.sockets[arguments["s"]].peer:
+        calls[-1].moved = (calls[-1].moved or 0) + notes.moved
+        if not notes.moved and arguments["s"] in notes.peer:
             calls[-1].outcome = Outcome.EOF
 
 
-def _writes(book: Book, state: State, calls: list[Call], arguments: dict[str, Any]) -> None:
-    if calls and state.sockets[arguments["s"]].shut:
-        _fails(state, calls[-1], Outcome.BROKEN_PIPE)
+def _writes(book: Book, notes: Notes, calls: list[Call], arguments: dict[str, Any]) -> None:
+    if calls and arguments["s"] in notes.shut:
+        _fails(notes, calls[-1], Outcome.BROKEN_PIPE)
     elif calls:
-        calls[-1].moved = (calls[-1].moved or 0) + state.moved
+        calls[-1].moved = (calls[-1].moved or 0) + notes.moved
 
 
-def _sets(book: Book, state: State, calls: list[Call], arguments: dict[str, Any]) -> None:
+def _sets(book: Book, notes: Notes, calls: list[Call], arguments: dict[str, Any]) -> None:
     if calls and calls[-1].name == CONTROL:
         calls[-1].name = SETTING[arguments["mode"]]
 
 
-def _shuts(book: Book, state: State, calls: list[Call], arguments: dict[str, Any]) -> None:
+def _shuts(book: Book, notes: Notes, calls: list[Call], arguments: dict[str, Any]) -> None:
     if calls and calls[-1].name == CONTROL:
         calls[-1].name = CLOSE_WRITE
 

@@ -4,6 +4,7 @@ file, the program or the connection failed; and 4 where --suspects, --explore or
 import argparse
 import io
 import os
+import shutil
 import subprocess
 import sys
 from contextlib import closing
@@ -168,6 +169,8 @@ def begun(wanted: argparse.Namespace, netrev: Netrev, interrupts: Interrupts, pr
     scout = Scout(lambda: Own(wanted.netrev, wanted.file, interrupts)) if wanted.file else None
     recorded = ArrivingChanges(wanted.netrev, wanted.file, interrupts, printer.note) if wanted.file else None
     session = Session(netrev, recording, scout, printer, interrupts, ANSWERS, recorded=recorded)
+    if recording and shutil.which(wanted.netrev):
+        recording.changes = recorded
     session.program, session.path = wanted.netrev, wanted.file or ""
     first = session.ask("info position")
     if not POSITION.fullmatch(first):
@@ -239,7 +242,7 @@ def suspected(session: Session) -> int:
     try:
         with session.interrupts.held():
             table = suspects_table(session.looks(), session.text())
-    except (Interrupted, Misused, Refused) as stopped:
+    except (Interrupted, Lost, Misused, Refused) as stopped:
         session.printer.note(str(stopped) or "interrupted")
         return FAILED
     session.printer.table(table)
@@ -251,7 +254,7 @@ def schedules_tried(session: Session, is_of_failures: bool) -> int:
     try:
         with session.interrupts.held():
             said = explored(session, is_of_failures=is_of_failures)
-    except (Interrupted, Misused, Refused) as stopped:
+    except (Interrupted, Lost, Misused, Refused) as stopped:
         session.printer.note(str(stopped) or "interrupted")
         return FAILED
     session.printer.note(said.text)

@@ -121,13 +121,14 @@ class RecordedChanges:
 
     def by_step(self) -> Iterator[list[tuple[str, str]]]:
         """Of each step in turn what it changed, as `at` has it."""
-        every = iter(self)
-        change = next(every, None)
-        for step in range(1, self.length + 1):
+        self._wait(None)
+        names, texts, place, end = self._names.all, self._texts.all, 0, len(self._steps)
+        steps, cells, values = self._steps, self._cells, self._values
+        for step in range(1, self._length + 1):
             changed: list[tuple[str, str]] = []
-            while change and change.step == step:
-                changed.append((change.cell, change.value))
-                change = next(every, None)
+            while place < end and steps[place] == step:
+                changed.append((names[cells[place]], texts[values[place]]))
+                place += 1
             yield changed
 
     def _places_of(self, cell: str) -> "array[int]":

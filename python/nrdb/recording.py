@@ -15,6 +15,7 @@ from typing import Any, Iterable, Iterator, NamedTuple, Optional, Sequence
 from netrev_words.files import check_name
 from netrev_words.vocabulary import KINDS
 
+from .recorded_changes import RecordedChanges
 from .where import Lines
 
 BLANK_LINE = re.compile(rb"^[ \t\r]*$", re.MULTILINE)
@@ -74,6 +75,7 @@ class Recording:
         self._numbers: Sequence[int] = [number for number in numbers if number not in blank] if blank else numbers
         self.header_line = self._numbers[0] if self._numbers else 1
         self.lines = Lines()
+        self.changes: Optional[RecordedChanges] = None  # that its steps make, as netrev says them, where that was asked
 
     @classmethod
     def read(cls, path: str) -> "Recording":

@@ -4,7 +4,6 @@ import re
 from pathlib import Path
 from typing import NamedTuple, Optional
 
-from nrdb.suspects.found import Rule
 
 EXAMPLES = Path(__file__).resolve().parents[2] / "examples"
 LIST = EXAMPLES / "README.md"
@@ -16,7 +15,7 @@ class Example(NamedTuple):
     """A row of the list."""
 
     name: str  # in the folder, without its ending
-    suspect: Optional[Rule]  # the rule whose suspect is named first
+    suspect: Optional[str]  # the rule whose suspect is named first
     refused_at: Optional[int]  # the step that netrev refuses
 
     @property
@@ -34,7 +33,7 @@ def example_of(name: str, said: str) -> Example:
     refused = REFUSED_AT.fullmatch(said)
     if refused:
         return Example(name, None, int(refused[1]))
-    return Example(name, None if said == "none" else Rule(said), None)
+    return Example(name, None if said == "none" else said, None)
 
 
 ALL = tuple(example_of(row[1], row[3]) for row in map(ROW.fullmatch, LIST.read_text().splitlines()) if row)

@@ -19,7 +19,7 @@ from netrev_go.trying import ready
 from netrev_go.where import write_where
 from nrdb.causes import first_words
 from nrdb.recording import Recording
-from nrdb.suspects.of_calls import all_suspects_of
+from nrdb.suspects.ranking import all_suspects_of
 
 SOURCE, OVERSIGHTS = SAMPLES / "causes/main.go", SAMPLES / "oversights/main.go"
 NAMES = {

@@ -14,10 +14,10 @@ from nrdb.causes.tables import hangs_table
 from nrdb.causes.words import duration
 from nrdb.following import errors_table
 from nrdb.recording import Recording
-from nrdb.suspects.found import RuleOfCalls
-from nrdb.suspects.left_open import SINCE
-from nrdb.suspects.of_calls import all_suspects_of
-from nrdb.suspects.spinning import MANY
+from nrdb.suspects.rules_of_calls.left_open import SINCE
+from nrdb.suspects.loading import RULES_OF_CALLS
+from nrdb.suspects.ranking import all_suspects_of
+from nrdb.suspects.rules_of_calls.timeout_again import MANY
 from nrdb.where import Lines
 from tests.go_caused import NAMES, SOURCE, bug_line, source_of
 from tests.test_suspects import OPEN, Steps, recording_of
@@ -55,17 +55,17 @@ class Pair(NamedTuple):
 
 
 PAIRS = {
-    RuleOfCalls.EARLIER_DEADLINE: Pair(
+    "deadline of an earlier call": Pair(
         OPEN + SETS + GETS + UNLOCKS + PASSES + LATE,
         OPEN + GETS + UNLOCKS + SETS + PASSES + LATE,
     ),
-    RuleOfCalls.SPIN: Pair(OPEN + SETS + PASSES + LATE * MANY, OPEN + SETS + PASSES + LATE * (MANY - 1)),
-    RuleOfCalls.BOTH_WRITE: Pair(TWO_ENDS + writes(0) + writes(1), TWO_ENDS + writes(0) + writes(1)[:-1]),
-    RuleOfCalls.LEFT_OPEN: Pair(
+    "timeout again and again": Pair(OPEN + SETS + PASSES + LATE * MANY, OPEN + SETS + PASSES + LATE * (MANY - 1)),
+    "both ends write": Pair(TWO_ENDS + writes(0) + writes(1), TWO_ENDS + writes(0) + writes(1)[:-1]),
+    "left open": Pair(
         TWO_ENDS + GETS + UNLOCKS + CLOSES + [["tick", time] for time in range(1, SINCE + 6)],
         TWO_ENDS + GETS + CLOSES + [["tick", time] for time in range(1, SINCE + 6)],
     ),
-    RuleOfCalls.TWO_READERS: Pair(
+    "two readers": Pair(
         TWO_ENDS + GETS + TAKES_TURN + [["rwunlock", 0, 0, "r"]],
         TWO_ENDS + GETS + UNLOCKS + SECOND + [["rwunlock", 0, 0, "r"]],
     ),
@@ -130,7 +130,7 @@ class Causes(unittest.TestCase):
         recording = Recording.read(str(CAUSED / "both-bad.jsonl"))
         rows = hangs_table(recording, recording.length).rows
         self.assertEqual(rows[0].text, "Two calls wait for one another.")
-        self.assertEqual(rules_of(recording), [RuleOfCalls.BOTH_WRITE])
+        self.assertEqual(rules_of(recording), ["both ends write"])
         self.assertEqual(hangs_table(recording, 10).rows, [])
 
     def test_who_reads_what_another_writes_is_in_no_ring(self) -> None:
@@ -176,21 +176,21 @@ class Causes(unittest.TestCase):
 
 class Rules(unittest.TestCase):
     def test_each_finds_its_bug_and_not_what_is_nearly_that(self) -> None:
-        self.assertEqual(set(PAIRS), set(RuleOfCalls))
+        self.assertEqual(set(PAIRS), {rule.name for rule in RULES_OF_CALLS})
         for rule, pair in PAIRS.items():
-            with self.subTest(rule.value):
+            with self.subTest(rule):
                 self.assertIn(rule, rules_of(with_lines(pair.bad)))
                 self.assertNotIn(rule, rules_of(with_lines(pair.good)))
 
     def test_those_of_lines_and_of_other_ends_say_nothing_without(self) -> None:
-        for rule in set(RuleOfCalls) - {RuleOfCalls.SPIN}:
+        for rule in {rule.name for rule in RULES_OF_CALLS} - {"timeout again and again"}:
             self.assertNotIn(rule, rules_of(recording_of(PAIRS[rule].bad)), rule)
 
     def test_go_s_own_code_is_not_suspected(self) -> None:
-        for rule in set(RuleOfCalls) - {RuleOfCalls.BOTH_WRITE}:
+        for rule in {rule.name for rule in RULES_OF_CALLS} - {"both ends write"}:
             self.assertNotIn(rule, rules_of(with_lines(PAIRS[rule].bad, "go")), rule)
 
     def test_they_come_after_the_others_and_say_perhaps(self) -> None:
-        for rule in (RuleOfCalls.EARLIER_DEADLINE, RuleOfCalls.LEFT_OPEN, RuleOfCalls.TWO_READERS):
+        for rule in ("deadline of an earlier call", "left open", "two readers"):
             found = all_suspects_of(with_lines(PAIRS[rule].bad)).suspects
             self.assertTrue(found[-1].sentence().startswith("perhaps: "), rule)

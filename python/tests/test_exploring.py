@@ -27,7 +27,6 @@ from nrdb.exploring.telling import LEFT_UNKNOWN, UNKNOWN, UNLESS, Telling, summa
 from nrdb.interrupts import Interrupted
 from nrdb.recording import Recording
 from nrdb.session import Misused
-from nrdb.suspects.found import Rule
 from nrdb.suspects.ranking import suspects_of
 from tests.test_suspects import COMES, LOOKS, OPEN, PARK, READ, recording_of
 
@@ -211,9 +210,9 @@ class Races(unittest.TestCase):
     def test_a_race_is_found_in_a_good_recording(self) -> None:
         self.assertEqual(suspects_of(recording_of(GOOD)).suspects, [])
         exploring = explored(script_of(recording_of(GOOD)), 40)
-        finding = exploring.found[Rule.TAKEN_BACK, 1, 0]
+        finding = exploring.found["deadline taken back too soon", 1, 0]
         again = suspects_of(Steps(finding.played.steps)).suspects
-        self.assertEqual((again[0].rule, again[0].goroutine), (Rule.TAKEN_BACK, 1))
+        self.assertEqual((again[0].rule, again[0].goroutine), ("deadline taken back too soon", 1))
         self.assertEqual(len(finding.schedule.delays), 1)
         self.assertEqual(finding.played.world.goroutines[1], ("parked", 0, "r"))
 
@@ -224,13 +223,13 @@ class Races(unittest.TestCase):
         for seed in range(1, 41):
             exploring.found.clear()
             exploring.play(Schedule(drawn(exploring.delays, in_order, seed), seed))
-            if any(key[0] is Rule.TAKEN_BACK for key in exploring.found):
+            if any(key[0] == "deadline taken back too soon" for key in exploring.found):
                 found.append(seed)
         self.assertEqual(found, SEEDS)
 
     def test_a_finding_is_left_with_the_delays_that_it_needs(self) -> None:
         exploring = explored(script_of(recording_of(GOOD)), 40)
-        finding = exploring.found[Rule.TAKEN_BACK, 1, 0]
+        finding = exploring.found["deadline taken back too soon", 1, 0]
         more = finding.schedule._replace(delays=(Delay(4, 11), *finding.schedule.delays))
         least = exploring.least(finding._replace(schedule=more))
         self.assertEqual((least.key, least.schedule.delays), (finding.key, finding.schedule.delays))
@@ -260,7 +259,7 @@ class Words(unittest.TestCase):
         self.telling = Telling(self.recording, book_of(self.recording), self.exploring.script)
 
     def test_a_finding_says_who_stands_still_until_when_and_that_it_is_possible(self) -> None:
-        finding = self.exploring.found[Rule.TAKEN_BACK, 1, 0]
+        finding = self.exploring.found["deadline taken back too soon", 1, 0]
         lines = self.telling.finding(1, finding, 3, "x-other-1.jsonl")
         self.assertEqual(
             lines[1:],

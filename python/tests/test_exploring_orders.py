@@ -15,7 +15,6 @@ from nrdb.exploring.schedules import single_delays
 from nrdb.exploring.scripts import Script
 from nrdb.exploring.telling import IF_RAW, LEFT_UNKNOWN, UNLESS, Telling
 from nrdb.suspects.ranking import suspects_of
-from nrdb.suspects.found import Rule
 from nrdb.where import Lines
 from tests.test_exploring import EXAMPLES, GOOD, answered, explored
 from tests.test_suspects import OPEN, recording_of
@@ -23,20 +22,20 @@ from tests.test_suspects import OPEN, recording_of
 Pairs = list[tuple[int, int]]
 BEGUN, ENDED, SET, TAKES_BACK = 4, 16, 11, 17  # steps of GOOD: the read's first and last, and both calls' first
 RACES = sorted((EXAMPLES / "races").glob("*.jsonl"))
-TAKEN = {Rule.TAKEN_BACK, HANG}
-SORTS: dict[str, set[object]] = {
+TAKEN = {"deadline taken back too soon", HANG}
+SORTS: dict[str, set[str]] = {
     "taken-back": TAKEN,
     "http-watchdog": TAKEN,
     "tls-handshake": TAKEN,
     "rpc-keepalive": TAKEN,
     "early-cancel": {HANG},
     "http-idle": {HANG},
-    "left-behind": {Rule.LEFT_BEHIND},
-    "http-hijack": {Rule.LEFT_BEHIND},
-    "rpc-call": {Rule.LEFT_BEHIND},
-    "behind-shut": {Rule.WRITE_BEHIND_SHUT},
-    "tls-shut": {Rule.WRITE_BEHIND_SHUT},
-    "lost-wake-up": {Rule.LOST_WAKE_UP},
+    "left-behind": {"deadline left behind"},
+    "http-hijack": {"deadline left behind"},
+    "rpc-call": {"deadline left behind"},
+    "behind-shut": {"write behind CloseWrite"},
+    "tls-shut": {"write behind CloseWrite"},
+    "lost-wake-up": {"lost wake-up"},
 }
 LATE = OPEN + [["incref", 0, 0], ["setdeadline", 0, 0, "rw", 50], ["decref", 0, 0]]
 LATE += [["incref", 0, 0], ["setdeadline", 0, 0, "r", 900], ["decref", 0, 0]]
@@ -53,12 +52,12 @@ def script_with(orders: Optional[Pairs]) -> Script:
 class Kept(unittest.TestCase):
     def test_what_the_program_orders_is_no_finding(self) -> None:
         found = explored(script_with(None), 400).found
-        self.assertEqual({key[0] for key in found}, {Rule.TAKEN_BACK, HANG})
+        self.assertEqual({key[0] for key in found}, {"deadline taken back too soon", HANG})
         self.assertEqual(explored(script_with([(ENDED, TAKES_BACK)]), 400).found, {})
 
     def test_what_it_orders_otherwise_takes_nothing_away(self) -> None:
         found = explored(script_with([(BEGUN, SET)]), 400).found
-        self.assertEqual({key[0] for key in found}, {Rule.TAKEN_BACK, HANG})
+        self.assertEqual({key[0] for key in found}, {"deadline taken back too soon", HANG})
 
     def test_in_each_schedule_each_order_is_kept(self) -> None:
         for path in RACES:
@@ -140,7 +139,7 @@ class Hanging(unittest.TestCase):
 class Late(unittest.TestCase):
     def test_a_deadline_can_pass_that_did_not(self) -> None:
         exploring = explored(script_of(recording_of(LATE)), 40)
-        self.assertEqual([key[0] for key in exploring.found], [Rule.LEFT_BEHIND])
+        self.assertEqual([key[0] for key in exploring.found], ["deadline left behind"])
         (finding,) = exploring.found.values()
         self.assertEqual(finding.schedule.delays, (Delay(len(LATE) - 2, len(LATE) + 1),))
         self.assertEqual([made.step[0] for made in finding.played.steps if not made.number], ["tick", "pop", "fire"])

@@ -9,10 +9,13 @@ from netrev_fuzz.injections import Bug, Count, counted
 from netrev_machine.machine import World
 from netrev_machine.steps import apply
 from netrev_words.recording import Limits
+from nrdb.notes import Notes
 from nrdb.recording import Recording
-from nrdb.suspects.found import Rule, Suspect
+from nrdb.suspects.found import Suspect
+from nrdb.suspects.loading import RULES, RULES_OF_CALLS
 from nrdb.suspects.ranking import suspects_of
-from tests.examples import ALL, REFUSED
+from nrdb.suspects.run import Run
+from tests.examples import ALL, EXAMPLES, REFUSED
 
 LIMITS = Limits(gor=4, sock=2, desc=2, buf=16)
 Steps = list[list[Any]]
@@ -46,41 +49,41 @@ class Pair(NamedTuple):
 
 
 PAIRS = {
-    Rule.LOST_WAKE_UP: Pair(
+    "lost wake-up": Pair(
         OPEN + COMES + READ[:2] + PARK,
         OPEN + COMES + READ[:2] + [["sysread", 1, 0, 16]] + PARK,
     ),
-    Rule.NO_EVENT: Pair(OPEN + READ + PARK + COMES[:1] + WHILE, OPEN + READ + PARK + COMES + WHILE),
-    Rule.STALE_EVENT: Pair(
+    "no event": Pair(OPEN + READ + PARK + COMES[:1] + WHILE, OPEN + READ + PARK + COMES + WHILE),
+    "stale event": Pair(
         OPEN + READ + PARK + COMES[:1] + [["pollevent", 0, 7, "r", 0]],
         OPEN + READ + PARK + [["pollevent", 0, 7, "r", 0]] + COMES,
     ),
-    Rule.TAKEN_BACK: Pair(
+    "deadline taken back too soon": Pair(
         OPEN + READ + PARK + PAST + BACK + LOOKS + PARK[1:],
         OPEN + READ + PARK + PAST + LOOKS + BACK,
     ),
-    Rule.LEFT_BEHIND: Pair(OPEN + BOTH + PASSES, OPEN + BOTH + [["setdeadline", 0, 0, "w", 0]] + PASSES[:2]),
-    Rule.MISSED_RELEASE: Pair(
+    "deadline left behind": Pair(OPEN + BOTH + PASSES, OPEN + BOTH + [["setdeadline", 0, 0, "w", 0]] + PASSES[:2]),
+    "missed release": Pair(
         OPEN + QUEUED + [["rwunlock", 0, 0, "r"]] + WHILE,
         OPEN + QUEUED + [["rwunlock", 0, 0, "r"], ["release", 0]] + WHILE,
     ),
-    Rule.LEAKED_REFERENCE: Pair(
+    "leaked reference": Pair(
         OPEN + [["incref", 1, 0]] + WHILE,
         OPEN + [["incref", 1, 0]] + WHILE[:6] + [["decref", 1, 0]] + WHILE[6:],
     ),
-    Rule.LOCK_HELD: Pair(
+    "lock held": Pair(
         OPEN + QUEUED + WHILE,
         OPEN + QUEUED + WHILE[:9] + [["sysread", 0, 0, 16]] + WHILE[9:],
     ),
-    Rule.NOT_EVICTED: Pair(
+    "close without evict": Pair(
         OPEN + [["increfclose", 0, 0]] + WHILE,
         OPEN + [["increfclose", 0, 0], ["evict", 0, 0], ["decref", 0, 0]] + WHILE,
     ),
-    Rule.WRITE_BEHIND_SHUT: Pair(
+    "write behind CloseWrite": Pair(
         OPEN + [["closewrite", 0, 0], ["syswrite", 1, 0, "6869"]],
         OPEN + [["syswrite", 1, 0, "6869"], ["closewrite", 0, 0]],
     ),
-    Rule.ERROR_EVENT: Pair(
+    "error event on a reused descriptor": Pair(
         OPEN + USED_AGAIN + [["pollevent", 0, 2, "rw", 1]],
         OPEN + USED_AGAIN + [["pollevent", 0, 2, "rw", 0], ["pollevent", 0, 1, "rw", 1]],
     ),
@@ -106,11 +109,25 @@ def shown(recording: Recording) -> list[Suspect]:
 
 class Rules(unittest.TestCase):
     def test_each_finds_its_bug_and_not_one_that_nearly_is(self) -> None:
-        self.assertEqual(set(PAIRS), set(Rule))
+        self.assertEqual(set(PAIRS), {rule.name for rule in RULES})
         for rule, pair in PAIRS.items():
-            with self.subTest(rule.value):
+            with self.subTest(rule):
                 self.assertEqual([suspect.rule for suspect in shown(recording_of(pair.bad))], [rule])
                 self.assertEqual([suspect.sentence() for suspect in shown(recording_of(pair.good))], [])
+
+    def test_each_finds_its_bug_by_itself(self) -> None:
+        for rule in RULES:
+            with self.subTest(rule.name):
+                found = list(rule.suspects(Run(Notes(recording_of(PAIRS[rule.name].bad)))))
+                self.assertEqual({suspect.rule for suspect in found}, {rule.name})
+                near = rule.suspects(Run(Notes(recording_of(PAIRS[rule.name].good))))
+                self.assertEqual([suspect.sentence() for suspect in near if suspect.is_shown], [])
+
+    def test_the_page_has_the_definition_of_each(self) -> None:
+        page = (EXAMPLES.parent / "docs" / "NRDB.md").read_text(encoding="utf-8")
+        table = page.partition("| Rule | Definition |\n|---|---|\n")[2].partition("\n\n")[0].splitlines()
+        rows = [f"| {rule.name} | {rule.definition} |" for rule in (*RULES, *RULES_OF_CALLS)]
+        self.assertEqual(sorted(table), sorted(rows))
 
     def test_the_bug_of_each_example_is_named_first(self) -> None:
         for example in ALL:

@@ -6,7 +6,6 @@ import unittest
 from typing import Any, Optional
 
 from nrdb.suspects.ranking import suspects_of
-from nrdb.suspects.found import Rule
 from nrdb.where import Lines
 from tests.test_suspects import COMES, OPEN, PARK, READ, WHILE, Steps, recording_of
 
@@ -53,33 +52,33 @@ class InCalls(unittest.TestCase):
 
     def test_without_lines_it_is(self) -> None:
         for steps in (TAKES, WRITES):
-            self.assertEqual(found(steps, None), [Rule.LEAKED_REFERENCE])
-        self.assertEqual(found(TAKES + SLEEPS, None), [Rule.LOCK_HELD])
+            self.assertEqual(found(steps, None), ["leaked reference"])
+        self.assertEqual(found(TAKES + SLEEPS, None), ["lock held"])
 
     def test_without_lines_it_is_not_behind_a_pollreset(self) -> None:
         for steps in (RESETS, RESETS + SLEEPS):
             self.assertEqual(found(steps, None), [])
             self.assertNotEqual(found(steps, ["(*FD).RawWrite"]), [])
         for before in ([["incref", 1, 0]], [["rwlock", 1, 0, "r"]]):
-            self.assertEqual(found(before + RESETS, None), [Rule.LEAKED_REFERENCE])
+            self.assertEqual(found(before + RESETS, None), ["leaked reference"])
 
     def test_one_in_which_the_program_runs_is(self) -> None:
         for name in ("(*FD).RawWrite", "(*FD).RawControl", "(*FD).Fsync"):
-            self.assertEqual(found(TAKES, [name]), [Rule.LEAKED_REFERENCE], name)
+            self.assertEqual(found(TAKES, [name]), ["leaked reference"], name)
 
     def test_one_that_was_left_with_the_lock_is(self) -> None:
-        self.assertEqual(found(WRITES, ["(*FD).Write", "(*FD).Write", "(*FD).Close"]), [Rule.LEAKED_REFERENCE])
+        self.assertEqual(found(WRITES, ["(*FD).Write", "(*FD).Write", "(*FD).Close"]), ["leaked reference"])
 
     def test_a_reference_without_a_lock_is(self) -> None:
         for name in ("(*FD).Write", "(*FD).RawControl"):
-            self.assertEqual(found([["incref", 1, 0]], [name]), [Rule.LEAKED_REFERENCE])
+            self.assertEqual(found([["incref", 1, 0]], [name]), ["leaked reference"])
 
     def test_one_in_a_shutdown_that_the_end_cut_off_is_not(self) -> None:
         self.assertEqual(found([["incref", 1, 0]], ["(*FD).Shutdown"]), [])
-        self.assertEqual(found([["incref", 1, 0]], None), [Rule.LEAKED_REFERENCE])
+        self.assertEqual(found([["incref", 1, 0]], None), ["leaked reference"])
 
     def test_a_listener_that_waits_in_accept_has_lost_no_wake_up(self) -> None:
         waits = COMES + READ[:2] + PARK
         self.assertEqual(found(waits, ["(*FD).Accept"]), [])
         for functions in (["(*FD).RawRead"], None):
-            self.assertEqual(found(waits, functions), [Rule.LOST_WAKE_UP])
+            self.assertEqual(found(waits, functions), ["lost wake-up"])

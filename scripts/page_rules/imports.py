@@ -15,8 +15,6 @@ HEADING = "What is written in Python"
 PYTHON = "python/"
 ALL = "all above"
 PLACES, IMPORTS = 0, 2  # columns
-# modules that import what is below them, until the machine that they follow has moved
-YET = {("nrdb/calls.py", "nrdb/suspects"), ("nrdb/timers.py", "nrdb/suspects")}
 
 
 @dataclass
@@ -93,7 +91,7 @@ def imports(tree: Tree) -> Iterator[Finding]:
             continue
         for line, other in sorted(set(imported(tree, path))):
             row = _row_of(rows, other)
-            if row is None or row is own or (path.removeprefix(PYTHON), row.name) in YET:
+            if row is None or row is own:
                 continue
             met.add((own.name, row.name))
             if rows.index(row) > rows.index(own):

@@ -101,7 +101,7 @@ def debuggee(program: str, path: str) -> Iterator[Debuggee]:
         raise Unanswerable(str(wrong)) from None
     with closing(netrev):
         scout = Scout(lambda: Own(program, path, interrupts))
-        recorded = ArrivingChanges(program, path, interrupts, printer.note)
+        recording.changes = recorded = ArrivingChanges(program, path, interrupts, printer.note)
         try:
             session = Session(netrev, recording, scout, printer, interrupts, ANSWERS, recorded=recorded)
             first = session.ask("info position")

@@ -73,7 +73,7 @@ class Filters:
         shown = [one for one in suspects_of(self._recording).suspects if one.is_shown]
         failed = [call for call in book_of(self._recording).calls if call.last and call.outcome.is_error]
         found: dict[Filter, list[Wrong]] = {one: [] for one in Filter}
-        found[Filter.SUSPECTS] = [Wrong(one.step, one.rule.value, one.sentence()) for one in shown]
+        found[Filter.SUSPECTS] = [Wrong(one.step, one.rule, one.sentence()) for one in shown]
         for call in failed:
             sort = Filter.TIMEOUTS if call.outcome is Outcome.TIMED_OUT else Filter.ERRORS
             found[sort].append(Wrong(call.last, call.outcome.value, f"goroutine {call.goroutine}'s {call.words()}"))

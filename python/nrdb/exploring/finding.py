@@ -9,9 +9,9 @@ from netrev_machine.machine import Status, World
 from netrev_words.recording import Answer, Limits, Step
 
 from ..recording import Recording
+from ..suspects.found import Suspect
+from ..suspects.loading import LEFT_BEHIND, LOST_WAKE_UP, TAKEN_BACK, WRITE_BEHIND_SHUT
 from ..suspects.ranking import suspects_of
-from ..suspects.found import Rule, Suspect
-from ..suspects.ranking import WOKEN_WRONGLY
 from .arrivals import with_events
 from .control import Place
 from .failing import FAILS, Failed, failing_delays, Reason, faults_of, reason_of
@@ -25,7 +25,7 @@ COPIES, MOST_COPIES = 200, 2_000  # of the recorded run, from which schedules go
 APART = 5  # steps between two copies, as long as there aren't more of them
 LONGER = 4  # how much longer than the recording a schedule may be
 HANG = "a call that hangs"
-ORDERED = (Rule.LOST_WAKE_UP, Rule.TAKEN_BACK, Rule.LEFT_BEHIND, Rule.WRITE_BEHIND_SHUT)  # what an order decides
+ORDERED = (LOST_WAKE_UP, TAKEN_BACK, LEFT_BEHIND, WRITE_BEHIND_SHUT)  # what an order decides
 
 Key = tuple[Any, ...]
 
@@ -216,12 +216,12 @@ class Exploring:
         """Whether it is one that an order decides, and who was woken wrongly doesn't go on by itself."""
         if not suspect.is_shown or suspect.rule not in ORDERED:
             return False
-        if suspect.rule not in WOKEN_WRONGLY or suspect.goroutine is None:
+        if suspect.rule not in (LOST_WAKE_UP, TAKEN_BACK) or suspect.goroutine is None:
             return True
         status = played.world.goroutines[suspect.goroutine]
         if status[0] != "parked":
             return False
-        is_cut_off = suspect.rule is Rule.TAKEN_BACK and waits_for_ever(status, played.world)
+        is_cut_off = suspect.rule == TAKEN_BACK and waits_for_ever(status, played.world)
         return is_cut_off or self._has_come(status, played.world)
 
     @staticmethod

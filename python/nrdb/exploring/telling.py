@@ -5,7 +5,7 @@ from typing import Optional
 from ..calls import Book
 from ..one_call import Call
 from ..recording import Recording
-from ..suspects.found import Rule
+from ..suspects.loading import LOST_WAKE_UP
 from ..words import counted
 from .failing import FAILS, Failed, Reason, Why
 from .finding import Exploring, Finding
@@ -38,7 +38,7 @@ class Telling:
         """What isn't known of a finding."""
         unless = UNLESS + (UNKNOWN if self.script.orders is None else LEFT_UNKNOWN)
         g = finding.suspect.goroutine if finding.suspect else None
-        if g is None or finding.key[0] is not Rule.LOST_WAKE_UP:
+        if g is None or finding.key[0] != LOST_WAKE_UP:
             return unless
         operation = self.script.goroutines[g][finding.played.places[g].operation]
         return f"{unless}; {IF_RAW}" if operation.is_raw else unless
@@ -88,7 +88,7 @@ class Telling:
         if finding.played.failed and finding.reason:
             return f"{FAILS}, in {file}: {self._fails(finding.played.failed, finding.reason, finding)}"
         if finding.suspect:
-            return f"{finding.suspect.rule.value}, in {file}: {finding.suspect.sentence()}"
+            return f"{finding.suspect.rule}, in {file}: {finding.suspect.sentence()}"
         g = finding.hangs
         operation = self.script.goroutines[g][finding.played.places[g].operation]
         before = [one for one in self.script.goroutines[g][: finding.played.places[g].operation + 1] if one.steps]

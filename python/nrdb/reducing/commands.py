@@ -19,7 +19,7 @@ def reduced_file(session: Session, words: list[str]) -> str:
     made = reduced(session, words[0], wanted_by(session, words[1:]))
     said = made.words(session.text().length)
     found = [suspect for suspect in suspects_of(Recording.read(made.path)).suspects if suspect.is_shown]
-    return "\n".join([said, *(f"{one.rule.value}: {one.sentence()}" for one in found[:1])])
+    return "\n".join([said, *(f"{one.rule}: {one.sentence()}" for one in found[:1])])
 
 
 def answer_reduce(session: Session, words: list[str]) -> None:

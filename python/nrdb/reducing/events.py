@@ -6,9 +6,9 @@ from typing import Any, NamedTuple, Optional
 from netrev_words.recording import Answer
 from netrev_words.vocabulary import KINDS
 
+from ..notes import BY_GOROUTINE, Notes
 from ..recording import Recording
-from ..suspects.following import HANDLERS
-from ..suspects.state import GONE, IDLE, State
+from ..timers import timers_of
 
 Timer = tuple[int, str]  # the use of a descriptor, and the side
 NUMBERED = ("spawn", "sockopen", "pollopen")  # whose answer is the number of what is made
@@ -55,17 +55,13 @@ class Events:
         self.uses: list[Use] = []
         self._of: dict[int, int] = {}  # of each descriptor its last use
         self._firings: list[Timer] = []
-        state = State()
+        notes, timers = Notes(recording, self._rests), timers_of(recording)
         for number, (kind, *arguments, answer) in enumerate(recording.arrays(), 1):
-            state.step = number
-            self.all.append(self._event(state, number, kind, arguments, answer))
-            HANDLERS[kind](state, *arguments)
-            self.rests.append(_rest(state, kind, arguments))
+            self.all.append(self._event(notes, number, kind, arguments, answer))
             if kind == "pop":
-                _, _, d, place, *_ = state.firings[-1]
-                self._firings.append((self._of[d], "rw"[place]))
+                self._firings.append((self._of[timers[number].descriptor], timers[number].sides[0]))
                 self.all[-1] = self.all[-1]._replace(timer=self._firings[-1])
-        self.kept_for_ever = {hold.step for socket in state.sockets for hold in socket.holds}
+        self.kept_for_ever = {hold.step for holds in notes.holds.values() for hold in holds}
 
     def use_at(self, descriptor: int, step: int) -> Optional[int]:
         """The last use of a descriptor that was opened up to that step."""
@@ -79,8 +75,15 @@ class Events:
         use = event.timer[0] if event.timer else event.named("d")
         return None if use is None else self.uses[use].socket
 
-    def _event(self, state: State, number: int, kind: str, arguments: list[Any], answer: Any) -> Event:
-        """The event of a step, before it is made."""
+    def _rests(self, notes: Notes, kind: str, arguments: list[Any]) -> None:
+        """Keeps what is kept of who has made a step."""
+        if kind not in BY_GOROUTINE:
+            return self.rests.append(Rest(True, 0))
+        g = arguments[0]
+        self.rests.append(Rest(notes.status(g) in ("idle", "gone"), notes.held.get(g, 0)))
+
+    def _event(self, notes: Notes, number: int, kind: str, arguments: list[Any], answer: Any) -> Event:
+        """The event of a step."""
         told = (answer,) if isinstance(answer, str) else tuple(answer)
         timer, behind, named = None, 0, list(arguments)
         for at, form in enumerate(KINDS[kind].arguments):
@@ -91,16 +94,8 @@ class Events:
         if kind == "fire":
             timer = self._firings.pop(arguments[0])
         elif kind == "pollevent":
-            behind = state.descriptors[arguments[0]].fdseq - arguments[1]
+            behind = int(notes.changes.value(f"fdseq {arguments[0]}", number)) - arguments[1]
         elif kind == "pollopen":
             self._of[told[1]] = len(self.uses)
             self.uses.append(Use(told[1], arguments[1], number))
         return Event(number, kind, tuple(named), told, timer, behind)
-
-
-def _rest(state: State, kind: str, arguments: list[Any]) -> Rest:
-    """What is kept of the goroutine that has made a step."""
-    if KINDS[kind].arguments[:1] != ("g",):
-        return Rest(True, 0)
-    row = state.goroutines[arguments[0]]
-    return Rest(row.status in (IDLE, GONE), row.holds)

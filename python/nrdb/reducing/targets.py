@@ -7,10 +7,10 @@ from typing import Any, Iterator, Optional, Sequence
 from netrev_machine.cells import value as value_of_cell
 from netrev_words.vocabulary import CELLS, Of
 
+from ..notes import INSIDE
 from ..recording import Recording
 from ..suspects.ranking import suspects_of
 from ..suspects.found import Suspect
-from ..suspects.state import INSIDE
 from ..words import in_words
 from .events import Events
 from .playing import Player
@@ -62,7 +62,7 @@ class SuspectTarget(Target):
         named = (("g", self.goroutine), ("s", self.socket), ("d", self.use))
         mine = [None if which is None else player.numbers[form].get(which, -1) for form, which in named]
         return any(
-            one.rule is self.suspect.rule
+            one.rule == self.suspect.rule
             and one.weight >= self.suspect.weight
             and [one.goroutine, one.socket, one.descriptor] == mine
             for one in found

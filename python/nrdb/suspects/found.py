@@ -1,34 +1,8 @@
 """What a rule finds: a suspect, with the step at fault, what is said of it, what speaks for it, and what netrev is asked."""
 
 from dataclasses import dataclass, field
-from enum import Enum, IntEnum
-from typing import NamedTuple, Optional, Union
-
-
-class Rule(Enum):
-    """The rules, by the names that they are shown under."""
-
-    LOST_WAKE_UP = "lost wake-up"
-    NO_EVENT = "no event"
-    STALE_EVENT = "stale event"
-    TAKEN_BACK = "deadline taken back too soon"
-    LEFT_BEHIND = "deadline left behind"
-    MISSED_RELEASE = "missed release"
-    LEAKED_REFERENCE = "leaked reference"
-    LOCK_HELD = "lock held"
-    NOT_EVICTED = "close without evict"
-    WRITE_BEHIND_SHUT = "write behind CloseWrite"
-    ERROR_EVENT = "error event on a reused descriptor"
-
-
-class RuleOfCalls(Enum):
-    """The rules that look at calls and at what NAME.where says: they come after the others, and one that isn't sure says so."""
-
-    EARLIER_DEADLINE = "deadline of an earlier call"
-    SPIN = "timeout again and again"
-    BOTH_WRITE = "both ends write"
-    LEFT_OPEN = "left open"
-    TWO_READERS = "two readers"
+from enum import IntEnum
+from typing import NamedTuple, Optional
 
 
 class Weight(IntEnum):
@@ -58,7 +32,6 @@ class Evidence(NamedTuple):
 class Suspect:
     """A suspicious thing. What it says is in clauses, the first of which tells the whole."""
 
-    rule: Union[Rule, RuleOfCalls]
     step: int
     weight: int
     says: list[str]
@@ -68,6 +41,7 @@ class Suspect:
     evidence: list[Evidence] = field(default_factory=list)
     looks: list[str] = field(default_factory=list)
     steps: list[int] = field(default_factory=list)  # those that it tells of, in the order of the story
+    rule: str = ""  # by the name that it is shown under
 
     @property
     def is_shown(self) -> bool:

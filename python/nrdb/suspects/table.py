@@ -1,13 +1,13 @@
 """The table of `info suspects`."""
 
+from ..noted import Timeout
 from ..output import Row, Table, Values
 from ..recording import Recording
 from ..scout import Scout
 from ..where import OF_GO
 from ..words import counted
 from .found import Suspect
-from .of_calls import all_suspects_of
-from .state import Timeout
+from .ranking import all_suspects_of
 
 MOST = 12  # suspects that are shown
 
@@ -25,8 +25,7 @@ def is_by_go(recording: Recording, timeout: Timeout) -> bool:
     """Whether Go's own code ended a wait of its own by a deadline in the past, as net/http ends the read between two requests: for the
     program that is no timeout."""
     calls = recording.lines.of(timeout.step).calls
-    is_past = timeout.passing is not None and timeout.passing.kind == "setdeadline"
-    return is_past and bool(calls) and all(call.of == OF_GO for call in calls)
+    return timeout.passing.kind == "setdeadline" and bool(calls) and all(call.of == OF_GO for call in calls)
 
 
 def _rows(scout: Scout, recording: Recording, at: int, suspect: Suspect) -> list[Row]:
@@ -34,7 +33,7 @@ def _rows(scout: Scout, recording: Recording, at: int, suspect: Suspect) -> list
     evidence = _evidence(scout, suspect)
     lines = _lines(recording, suspect)
     values: Values = {
-        "rule": suspect.rule.value,
+        "rule": suspect.rule,
         "weight": int(suspect.weight),
         "step": suspect.step,
         "says": suspect.sentence(),
@@ -44,7 +43,7 @@ def _rows(scout: Scout, recording: Recording, at: int, suspect: Suspect) -> list
     }
     further = [f"   netrev: {'; '.join(evidence)}", *(f"   Go:     {line}" for line in lines)]
     further.append(f"   look:   {'; '.join(suspect.looks)}")
-    first = Row(values, f"{at}. {suspect.rule.value}: {suspect.sentence()}")
+    first = Row(values, f"{at}. {suspect.rule}: {suspect.sentence()}")
     return [first, *(Row({}, line) for line in further)]
 
 

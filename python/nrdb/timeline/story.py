@@ -6,12 +6,12 @@ from typing import Any
 
 from netrev_words.vocabulary import KINDS
 
+from ..notes import INSIDE
 from ..recording import Recording
 from ..scout import Scout
 from ..session import Session
 from ..suspects.ranking import suspects_of
 from ..suspects.table import suspects_table
-from ..suspects.state import INSIDE
 from .runs import Runs, Window
 
 Data = dict[str, Any]  # what the page's script reads

@@ -15,7 +15,6 @@ from nrdb.one_call import Outcome
 from nrdb.recording import Recording
 from nrdb.reducing.writing import answered_by
 from nrdb.suspects.ranking import suspects_of
-from nrdb.suspects.found import Rule
 from tests.go_caused import bug_line
 from tests.program.sharing import NETREV
 
@@ -44,7 +43,7 @@ class Exploring(unittest.TestCase):
             self.assertEqual(checked(Path(name)), f"ok {steps} steps\n")
         for name in ("cancelled-read-other-1.jsonl", "cancelled-read-other-1-short.jsonl"):
             suspect = suspects_of(Recording.read(name)).suspects[0]
-            self.assertEqual((suspect.rule, suspect.goroutine), (Rule.TAKEN_BACK, 1))
+            self.assertEqual((suspect.rule, suspect.goroutine), ("deadline taken back too soon", 1))
         self.assertLess(Recording.read("cancelled-read-other-1-short.jsonl").length, Recording.read(files[0][0]).length)
         self.assertEqual(said.count(UNLESS), said.count("short: "))
         self.assertEqual(len(re.findall(r"^\| \d\. ", said, re.MULTILINE)), said.count(UNLESS))

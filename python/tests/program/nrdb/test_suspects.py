@@ -34,14 +34,14 @@ class Suspects(unittest.TestCase):
         for name, rule in KNOWN.items():
             with self.subTest(name):
                 said = nrdb("--suspects", EXAMPLES / f"{name}.jsonl", status=SOME)
-                self.assertIn(f"| 1. {rule.value}: ", said)
+                self.assertIn(f"| 1. {rule}: ", said)
                 self.assertIn("|    netrev: at ", said)
                 self.assertNotIn(DOUBT, said)
 
     def test_recordings_of_a_rule_are_accepted_and_answered_so(self) -> None:
         for rule, pair in PAIRS.items():
             for steps, status in ((pair.bad, SOME), (pair.good, 0)):
-                with self.subTest(rule.value, status=status):
+                with self.subTest(rule, status=status):
                     self.path.write_bytes(recording_of(steps).data)
                     self.assertEqual(checked(self.path), f"ok {len(steps)} steps\n")
                     self.assertNotIn(DOUBT, nrdb("--suspects", self.path, status=status))

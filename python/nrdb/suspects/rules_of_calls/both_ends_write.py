@@ -3,15 +3,14 @@ end makes; and who would read there waits too, so nobody reads."""
 
 from typing import Iterator
 
-from ..causes.hanging import chain_of, is_waiting
-from ..causes.index import Index
-from ..causes.words import told
-from .found import Evidence, RuleOfCalls, Suspect, Weight
+from ...causes.hanging import chain_of, is_waiting
+from ...causes.words import told
+from ..found import Evidence, Suspect, Weight
+from ..run import Run
 
 
-def writes_in_a_ring(index: Index) -> Iterator[Suspect]:
-    """The rings of a recording's end, each once."""
-    length, known = index.recording.length, set[frozenset[int]]()
+def rule(run: Run) -> Iterator[Suspect]:
+    index, length, known = run.calls, run.end, set[frozenset[int]]()
     for call in index.book.calls:
         if call.last or call.name != "Write" or not is_waiting(index, call):
             continue
@@ -24,7 +23,6 @@ def writes_in_a_ring(index: Index) -> Iterator[Suspect]:
             f"{told(index.recording, one)} waits on socket {one.socket} since step {one.first}" for one in ring[:-1]
         ]
         yield Suspect(
-            RuleOfCalls.BOTH_WRITE,
             max(members),
             Weight.STRONG,
             [*says, "each for what the next would do"],

@@ -3,14 +3,15 @@ gets which bytes of the stream is chance. A listener, and a socket of datagrams,
 
 from typing import Iterator
 
-from ..causes.index import Index, went_well
-from ..causes.words import is_of_go, told
-from ..one_call import Call
-from .found import Evidence, RuleOfCalls, Suspect, Weight
+from ...causes.index import Index, went_well
+from ...causes.words import is_of_go, told
+from ...one_call import Call
+from ..found import Evidence, Suspect, Weight
+from ..run import Run
 
 
-def readers_of_one_stream(index: Index) -> Iterator[Suspect]:
-    """Those of a recording that says which sockets are streams, by their other ends or names."""
+def rule(run: Run) -> Iterator[Suspect]:
+    index = run.calls  # (which sockets are streams is known by their other ends or names)
     for socket, calls in index.by_socket.items():
         if index.other_end(socket) is None:
             continue
@@ -28,7 +29,6 @@ def suspect_of(index: Index, first: Call, second: Call) -> Suspect:
         f"{told(index.recording, second)}, {second.steps()}",
     ]
     return Suspect(
-        RuleOfCalls.TWO_READERS,
         second.first,
         Weight.SHOWN,
         says,

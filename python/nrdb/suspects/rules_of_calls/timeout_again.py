@@ -1,20 +1,19 @@
-"""A timeout again and again: a goroutine's calls at one side of a connection time out by the same deadline, MANY in a row, and nobody
-sets another: as long as the deadline stands each further call ends at once."""
+"""Timeout again and again: a goroutine's calls at one side of a connection time out by the same deadline, 20 in a
+row, and nobody sets another: by that deadline each further call ends at once too."""
 
 from typing import Iterator
 
-from ..causes.index import Index
-from ..causes.words import is_of_go, told
-from ..one_call import Call, Outcome
-from .earlier import SIDES
-from .found import Evidence, RuleOfCalls, Suspect, Weight
-from .state import LETTERS
+from ...causes.index import Index
+from ...causes.words import is_of_go, told
+from ...one_call import Call, Outcome
+from ..found import Evidence, Suspect, Weight
+from ..run import SIDES, Run
 
 MANY = 20
 
 
-def spins(index: Index) -> Iterator[Suspect]:
-    """Those of a recording."""
+def rule(run: Run) -> Iterator[Suspect]:
+    index = run.calls
     for calls in index.by_socket.values():
         for name in SIDES:
             row: list[Call] = []
@@ -32,13 +31,12 @@ def is_next(last: Call, call: Call) -> bool:
 
 def suspect_of(index: Index, row: list[Call]) -> Suspect:
     first, last = row[0], row[-1]
-    letter = LETTERS[SIDES[first.name]]
+    letter = SIDES[first.name]
     says = [
         f"{told(index.recording, first)} timed out {len(row)} times in a row, from step {first.last} to {last.last}",
         f"all by the deadline of step {first.cause}, and nobody set another",
     ]
     return Suspect(
-        RuleOfCalls.SPIN,
         last.last,
         Weight.LIKELY,
         says,

@@ -1,22 +1,20 @@
-"""A deadline of an earlier call: a Read or Write of the program's timed out by a deadline to come that the program had set before it
+"""Deadline of an earlier call: a Read or Write of the program's timed out by a deadline to come that the program had set before it
 began, and under which another call of that side of the connection had ended well. It was that call's, and nobody moved it for this
 one; or it is the whole connection's, which is by design in some programs: perhaps."""
 
 from typing import Iterator
 
-from ..causes.failing import cause_of
-from ..causes.index import Index, went_well
-from ..causes.words import told
-from ..one_call import Call, Outcome
-from .found import Evidence, RuleOfCalls, Suspect, Weight
-from .state import LETTERS, NAMES, READ, WRITE
+from ...causes.failing import cause_of
+from ...causes.index import Index, went_well
+from ...causes.words import told
+from ...one_call import Call, Outcome
+from ...words import SIDES as NAMES
+from ..found import Evidence, Suspect, Weight
+from ..run import SIDES, Run
 
-SIDES = {"Read": READ, "Write": WRITE}
 
-
-def earlier_deadlines(index: Index) -> Iterator[Suspect]:
-    """Those of a recording whose lines are known."""
-    recording = index.recording
+def rule(run: Run) -> Iterator[Suspect]:
+    index, recording = run.calls, run.recording
     for call in index.book.calls:
         if call.name not in SIDES or call.outcome is not Outcome.TIMED_OUT or not 0 < call.cause < call.first:
             continue
@@ -33,14 +31,13 @@ def calls_under(index: Index, call: Call) -> list[Call]:
 
 
 def suspect_of(index: Index, call: Call, before: list[Call]) -> Suspect:
-    place = SIDES[call.name]
-    cell = f"{LETTERS[place]}d {call.descriptor}"
+    side = SIDES[call.name]
+    cell = f"{side}d {call.descriptor}"
     says = [
-        f"perhaps: {told(index.recording, call)} timed out at step {call.last} by the {NAMES[place]} deadline of step {call.cause}",
+        f"perhaps: {told(index.recording, call)} timed out at step {call.last} by the {NAMES[side]} deadline of step {call.cause}",
         f"{len(before)} earlier {call.name} of that connection had ended well under it",
     ]
     return Suspect(
-        RuleOfCalls.EARLIER_DEADLINE,
         call.last,
         Weight.SHOWN,
         says,

@@ -1,0 +1,124 @@
+"""What is noted of a recording: each sort of note, and the uses of descriptors, which most are of."""
+
+from array import array
+from bisect import bisect_left, bisect_right
+from typing import NamedTuple, Optional
+
+CLOSING, TIMED_OUT, EVENT_ERROR = 1, 2, 3  # the codes of a side
+
+
+class Setting(NamedTuple):
+    """A `setdeadline`: its step, who made it, for which sides, and the time that it was given."""
+
+    step: int
+    goroutine: int
+    mode: str
+    time: int
+
+
+class Passing(NamedTuple):
+    """A deadline has passed: at which step, of which kind."""
+
+    step: int
+    kind: str
+
+
+class Taking(NamedTuple):
+    """A readiness for reading was taken: at which step, by whom, and which step's event it was."""
+
+    step: int
+    goroutine: int
+    event: int
+
+
+class Wait(NamedTuple):
+    """A wait of a side began: at which step, whose it is, and the step at which that goroutine had last read or written."""
+
+    step: int
+    goroutine: int
+    tried: int
+
+
+class ErrorEvent(NamedTuple):
+    """An event with an error: its step and its sides."""
+
+    step: int
+    mode: str
+
+
+class Timeout(NamedTuple):
+    """A call ended since its deadline had passed."""
+
+    step: int
+    goroutine: int
+    descriptor: int
+    side: str
+    passing: Passing
+
+
+class Hold(NamedTuple):
+    """A reference of a socket: who holds it, since which step, of which kind, and the side of the lock with it, or none."""
+
+    goroutine: int
+    step: int
+    kind: str
+    side: str
+
+
+class By(NamedTuple):
+    """A step, and who made it."""
+
+    step: int
+    goroutine: int
+
+
+class Pauses:
+    """How many pauses of a place ended, and the longest of them."""
+
+    count = longest = 0
+
+    def ends(self, steps: int) -> None:
+        self.count += 1
+        if steps > self.longest:
+            self.longest = steps
+
+
+class Use:
+    """A use of a descriptor: for which socket, since which step, and what happened in it."""
+
+    def __init__(self, descriptor: int, socket: int, opened: int) -> None:
+        self.descriptor, self.socket, self.opened = descriptor, socket, opened
+        self.settings: list[Setting] = []
+        self.last_setting: dict[str, Setting] = {}  # of each side
+        self.passings: dict[str, list[Passing]] = {"r": [], "w": []}
+        self.events = {"r": array("I"), "w": array("I")}
+        self.errors: list[ErrorEvent] = []
+        self.waits: dict[str, list[Wait]] = {"r": [], "w": []}
+        self.thrown: list[Taking] = []  # readinesses for reading that a pollreset threw away
+        self.taken: Optional[Taking] = None  # the last one that was taken, or thrown away
+
+    def last_event(self, side: str) -> int:
+        """The step of the last event of a side; 0 where none came."""
+        events = self.events[side]
+        return events[-1] if events else 0
+
+    def settings_since(self, side: str, step: int) -> list[Setting]:
+        """The last setting of a side before a step, and those of the other side alone that came between."""
+        last = bisect_left(self.settings, (step,))
+        first = next(at for at in range(last - 1, -1, -1) if side in self.settings[at].mode)
+        return self.settings[first:last]
+
+    def passing(self, side: str, position: int) -> Optional[Passing]:
+        """When a side's deadline passed last, up to a position."""
+        passings = self.passings[side]
+        at = bisect_right(passings, position, key=lambda one: one.step)
+        return passings[at - 1] if at else None
+
+
+def code_of(info: int, side: str) -> int:
+    """The code that a side has by a descriptor's `info`: of what it is told first, or 0."""
+    if info & 1:
+        return CLOSING
+    if info & (4 if side == "r" else 8):
+        return TIMED_OUT
+    return EVENT_ERROR if side == "r" and info & 2 else 0

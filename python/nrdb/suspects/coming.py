@@ -1,0 +1,47 @@
+"""Who waits in the end for what has come: goroutines that are parked for reading, though bytes are unread or the peer has closed."""
+
+from typing import Iterator, NamedTuple
+
+from ..noted import Use
+from .found import Evidence, Suspect
+from .run import Run
+
+
+class Waiting(NamedTuple):
+    """A goroutine that is parked for reading, since which step, what lies there in words, and the step at which that came."""
+
+    goroutine: int
+    use: Use
+    since: int
+    lies: str
+    came: int
+
+    @property
+    def begins(self) -> str:
+        """It in words."""
+        return f"goroutine {self.goroutine} is parked for reading since step {self.since}, {self.lies}"
+
+    @property
+    def has_event(self) -> bool:
+        """Whether an event told of it."""
+        return self.use.last_event("r") >= self.came
+
+    def has_stale_event(self, run: Run) -> bool:
+        """Whether an event that came for it was dropped."""
+        return not self.has_event and run.notes.stale.get(self.use.descriptor, (0, 0))[0] > self.came
+
+    def suspect(self, run: Run, step: int, weight: int, says: list[str]) -> Suspect:
+        """A suspect for whom it hangs."""
+        shown = Evidence(run.end, f"gor {self.goroutine}", run.notes.now[f"gor {self.goroutine}"])
+        d, s = self.use.descriptor, self.use.socket
+        return Suspect(step, weight, says, goroutine=self.goroutine, descriptor=d, socket=s, evidence=[shown])
+
+
+def waiting_for_what_came(run: Run) -> Iterator[Waiting]:
+    """All of them."""
+    notes = run.notes
+    for g, (d, side) in run.statuses("parked"):
+        use = notes.use_of[int(d)]
+        if side == "r" and (lies := run.unread(use.socket)):
+            has_bytes = notes.now[f"in {use.socket}"] != "0"
+            yield Waiting(g, use, run.since(g), lies, (notes.arrived if has_bytes else notes.peer)[use.socket])

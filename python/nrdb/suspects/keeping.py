@@ -1,0 +1,60 @@
+"""What is kept in the end: references that their holders don't give up, since they are gone, have stopped, or have gone on."""
+
+from typing import Iterator, NamedTuple
+
+from ..noted import Hold
+from ..words import SIDES as NAMES
+from ..words import counted
+from .found import Evidence, Suspect, Weight
+from .run import TWICE, Run
+
+BRIEF = 20  # a reference that is held for so few steps says nothing
+
+
+class Kept(NamedTuple):
+    """A reference of a socket that is held in the end: whether its holder is gone, or idle, how long that has paused for too long, and
+    for how long it is held for too long."""
+
+    socket: int
+    hold: Hold
+    is_gone: bool
+    pause: str
+    age: str
+
+    def is_unevicted(self, run: Run) -> bool:
+        """Whether it is of a close that hasn't evicted its descriptor."""
+        is_of_close = self.hold.kind == "increfclose" and self.socket not in run.notes.evicted
+        return not self.is_gone and is_of_close and bool(self.pause or self.age)
+
+    def suspect(self, run: Run, how: str, open_and_closed: tuple[Weight, Weight]) -> Suspect:
+        """The suspect: how it is held, and its weights where the socket is open and where it is closed."""
+        (g, step, kind, side), s, notes = self.hold, self.socket, run.notes
+        lock = f" {NAMES[side]}" if side else ""
+        says = [f"goroutine {g} holds a reference of socket {s} since step {step} ({kind}{lock}) {how}"]
+        closer = notes.closer.get(s)
+        if closer and closer != (step, g):
+            says.append(f"goroutine {closer.goroutine} closed it at step {closer.step}, and it can't be freed")
+        return Suspect(
+            step,
+            open_and_closed[notes.is_closed(s)],
+            says,
+            goroutine=g,
+            socket=s,
+            evidence=[Evidence(run.end, cell, notes.now[cell]) for cell in (f"gor {g}", f"lock {s}")],
+            looks=[f"goto {run.end}", f"info holders {s}"],
+            steps=[step, *([closer.step] if closer else [])],
+        )
+
+
+def kept(run: Run) -> Iterator[Kept]:
+    """All of them. (Who sleeps for a lock tells of it.)"""
+    asleep = {(int(s), side) for _, (s, side) in run.statuses("queued")}
+    for s in sorted(run.notes.holds):
+        for hold in run.notes.holds[s]:
+            status = run.notes.status(hold.goroutine)
+            if (s, hold.side) in asleep or status not in ("idle", "gone"):
+                continue
+            longest = max(run.notes.longest_holds.get(hold.kind, 0), BRIEF)
+            is_old = run.end - hold.step > TWICE * longest
+            age = f"the longest that ended took {counted(longest, 'step')}" if is_old else ""
+            yield Kept(s, hold, status == "gone", run.stalled(hold.goroutine) if status == "idle" else "", age)

@@ -1,0 +1,51 @@
+"""Deadline taken back too soon: a deadline that has passed is moved, while who was woken by it has not looked why."""
+
+from typing import Iterator, Optional
+
+from ...noted import Setting, Use
+from ...words import SIDES as NAMES
+from ..found import Evidence, Suspect, Weight
+from ..run import Run
+from ..weighing import of_a_goroutine
+
+NOT_LOOKED = ("armed", "parking", "swapping", "checking")  # inside a wait, and what woke it isn't looked at yet
+
+
+def rule(run: Run) -> Iterator[Suspect]:
+    for use in run.notes.uses:
+        for setting in use.settings if any(use.passings.values()) else ():
+            for side in setting.mode if setting.time >= 0 else "":
+                who = not_looked(run, use, side, setting.step - 1)
+                if who is not None:
+                    yield of_a_goroutine(run, suspect_of(run, use, side, setting, who))
+
+
+def not_looked(run: Run, use: Use, side: str, position: int) -> Optional[int]:
+    """Who was woken by a side's deadline, which has passed, and hasn't looked why."""
+    if run.number(f"{side}d {use.descriptor}", position) >= 0:
+        return None
+    who, word = run.inside(use, side, position), run.changes.value(f"{side}g {use.descriptor}", position)
+    place = "" if who is None else run.status(who, position)[0]
+    is_woken = place in ("swapping", "checking") or word == "nil"
+    return who if place in NOT_LOOKED and is_woken and word != "ready" else None
+
+
+def suspect_of(run: Run, use: Use, side: str, setting: Setting, who: int) -> Suspect:
+    d, step, passing = use.descriptor, setting.step, use.passing(side, setting.step - 1)
+    assert passing  # (the deadline is negative)
+    status, how = run.changes.value(f"gor {who}", step - 1), "took it back" if setting.time == 0 else "moved it"
+    says = (
+        f"the {NAMES[side]} deadline of descriptor {d} passed at step {passing.step} ({passing.kind}), and step {step} by goroutine "
+        f"{setting.goroutine} {how} before goroutine {who}, {status.split()[0]}, had looked why it was woken"
+    )
+    return Suspect(
+        step,
+        Weight.POSSIBLE,
+        [says],
+        goroutine=who,
+        descriptor=d,
+        socket=use.socket,
+        evidence=[Evidence(step - 1, f"gor {who}", status), Evidence(step - 1, f"{side}d {d}")],
+        looks=[f"goto {step - 1}", f"history info {d}"],
+        steps=[passing.step, step],
+    )

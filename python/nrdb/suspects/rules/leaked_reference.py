@@ -1,0 +1,26 @@
+"""Leaked reference: who holds a reference is gone, has paused for more than twice the longest pause that ended in this recording, or has
+gone on and holds it for more than twice the longest such hold. One that Go's own calls have over a system call isn't suspected, as a lock
+isn't (Shutdown, Fstat and options of sockets have such references)."""
+
+from typing import Iterator
+
+from ..found import Suspect, Weight
+from ..keeping import kept
+from ..run import Run
+from ..weighing import of_a_holder
+
+
+def rule(run: Run) -> Iterator[Suspect]:
+    for one in kept(run):
+        weights = (Weight.LIKELY, Weight.STRONG)
+        if one.is_gone:
+            weights, how = (Weight.STRONG, Weight.CERTAIN), "and is gone"
+        elif one.is_unevicted(run):
+            continue
+        elif one.pause:
+            how = f"and has done nothing since step {run.notes.last[one.hold.goroutine]}: {one.pause}"
+        elif one.age and not one.hold.side:
+            weights, how = (Weight.POSSIBLE, Weight.STRONG), f"and has gone on since: {one.age}"
+        else:
+            continue
+        yield of_a_holder(run, one.suspect(run, how, weights))

@@ -1,0 +1,40 @@
+"""Lock held: a goroutine sleeps for a lock whose holder is gone, or has paused for more than twice the longest pause that ended in this
+recording. A lock that Go's own Read, Write or SendFile has over a system call isn't suspected, where `NAME.where` says that the recording
+ended in it. Without `NAME.where` none is, whose holder's last step is the `pollreset`: the try follows, in Go's own calls."""
+
+from typing import Iterator
+
+from ...words import SIDES as NAMES
+from ..found import Evidence, Suspect, Weight
+from ..run import Run
+from ..weighing import of_a_holder
+
+
+def rule(run: Run) -> Iterator[Suspect]:
+    for g, (s, side) in run.statuses("queued"):
+        holder = next((hold for hold in reversed(run.notes.holds.get(int(s), [])) if hold.side == side), None)
+        if holder and (how := how_it_is_held(run, holder.goroutine)):
+            cells = [f"gor {one}" for one in (holder.goroutine, g)]
+            suspect = Suspect(
+                holder.step,
+                Weight.CERTAIN,
+                [
+                    f"goroutine {g} sleeps for socket {s}'s {NAMES[side]} lock since step {run.since(g)}",
+                    f"goroutine {holder.goroutine} took it at step {holder.step} and {how}",
+                ],
+                goroutine=holder.goroutine,
+                socket=int(s),
+                evidence=[Evidence(run.end, cell, run.notes.now[cell]) for cell in cells],
+                looks=[f"goto {run.end}", f"info holders {s}"],
+                steps=[holder.step, run.since(g)],
+            )
+            yield of_a_holder(run, suspect)
+
+
+def how_it_is_held(run: Run, g: int) -> str:
+    """Why a holder won't give up its lock, in words; empty where it may."""
+    status = run.notes.status(g)
+    if status == "gone":
+        return "is gone"
+    pause = run.stalled(g) if status == "idle" else ""
+    return f"has done nothing since step {run.notes.last[g]}: {pause}" if pause else ""

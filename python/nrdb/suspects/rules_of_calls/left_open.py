@@ -1,0 +1,35 @@
+"""Left open: the other end of a connection was closed, 50 steps or more before the end, and nobody closes this one, nor is anybody
+in a call there who would meet the end of the stream. Somebody may come back to it, so it says perhaps."""
+
+from typing import Iterator
+
+from ...causes.index import Cause
+from ...causes.leftovers import left_open
+from ..found import Evidence, Suspect, Weight
+from ..run import Run
+
+SINCE = 50
+
+
+def rule(run: Run) -> Iterator[Suspect]:
+    for cause in left_open(run.calls):  # (where the recording says which sockets are one connection's ends)
+        if run.end - cause.steps[-1] >= SINCE:
+            yield suspect_of(run.end, cause)
+
+
+def beheaded(says: str) -> str:
+    """A sentence as a clause."""
+    return (says.replace("Its", "its", 1) if says.startswith("Its ") else says).removesuffix(".")
+
+
+def suspect_of(length: int, cause: Cause) -> Suspect:
+    call = cause.call
+    return Suspect(
+        cause.steps[-1],
+        Weight.SHOWN,
+        [f"perhaps: {cause.says[0].removesuffix('.')}", *(beheaded(says) for says in cause.says[1:])],
+        socket=call.socket,
+        evidence=[Evidence(length, f"lock {call.socket}")],
+        looks=cause.looks,
+        steps=cause.steps,
+    )

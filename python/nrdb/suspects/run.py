@@ -1,0 +1,69 @@
+"""What rules look at: a recording's changes, the notes beside them, and Go's calls; with what several rules ask of these."""
+
+from functools import cached_property
+from typing import Optional
+
+from ..causes.index import Index, index_of
+from ..noted import Use
+from ..notes import INSIDE, Notes
+from ..words import counted
+
+SIDES = {"Read": "r", "Write": "w"}  # of the calls that a deadline ends
+MANY = 3  # pauses of a place that ended, from which on the longest of them says something
+SHORT = 10  # a pause of so few steps says nothing, however long others were
+TWICE = 2  # longer than the longest that ended, by which a pause or a hold is too long
+
+
+class Run:
+    """A recorded run, as rules look at it."""
+
+    def __init__(self, notes: Notes) -> None:
+        self.notes, self.changes, self.recording = notes, notes.changes, notes.recording
+        self.end = notes.step  # the last position
+
+    @cached_property
+    def calls(self) -> Index:
+        """Go's calls."""
+        return index_of(self.recording)
+
+    def number(self, cell: str, position: int) -> int:
+        """What a cell shows that holds a number."""
+        return int(self.changes.value(cell, position))
+
+    def status(self, g: int, position: int) -> list[str]:
+        """Where a goroutine is, its words apart."""
+        return self.changes.value(f"gor {g}", position).split()
+
+    def statuses(self, place: str) -> list[tuple[int, list[str]]]:
+        """The goroutines that are at a place in the end, each with what stands behind that."""
+        found = ((g, self.notes.now[f"gor {g}"].split()) for g in self.notes.last)
+        return [(g, words) for g, (at, *words) in found if at == place]
+
+    def since(self, g: int) -> int:
+        """Since which step a goroutine is where it is in the end."""
+        return self.notes.since.get(f"gor {g}", 0)
+
+    def inside(self, use: Use, side: str, position: int) -> Optional[int]:
+        """Who is inside the wait of a side."""
+        wait = next((one for one in reversed(use.waits[side]) if one.step <= position), None)
+        if wait is None:
+            return None
+        place, *at = self.status(wait.goroutine, position)
+        return wait.goroutine if place in INSIDE and at == [str(use.descriptor), side] else None
+
+    def unread(self, s: int) -> str:
+        """What lies in a socket for who reads it in the end, in words; empty where nothing does."""
+        if number := int(self.notes.now[f"in {s}"]):
+            return f"{counted(number, 'byte')} unread"
+        return f"the peer closed at step {self.notes.peer[s]}" if s in self.notes.peer else ""
+
+    def stalled(self, g: int) -> str:
+        """How long a goroutine has paused that could go on, where that is longer than any pause of its place that ended; else
+        empty."""
+        known = self.notes.pauses.get(self.notes.status(g))
+        longest = known.longest if known and known.count >= MANY else None
+        pause = self.end - max(self.notes.last[g], self.since(g))
+        if pause <= max(TWICE * (longest or 0), SHORT):
+            return ""
+        behind = "" if longest is None else f", and the longest that ended was {longest}"
+        return f"a pause of {counted(pause, 'step')}{behind}"

@@ -1,0 +1,94 @@
+"""What a suspect weighs by what became of whom it is about: whether it hangs for it, a call ended by it, or it is in a call of Go's own."""
+
+from ..recording import Recording
+from ..notes import INSIDE
+from .found import HANGS, STILL_THERE, TIMED_OUT, WENT_ON, Suspect, Weight
+from .run import Run
+
+METHODS = ("Read", "Pread", "ReadFrom", "ReadMsg", "Write", "Pwrite", "WriteTo", "WriteMsg", "Writev", "Accept")
+# Go's own calls that hold a lock over a system call, those that hold a reference alone, and those in which a function of the program's
+# runs meanwhile
+OF_GO = frozenset(
+    (*(f"internal/poll.(*FD).{name}" for name in METHODS), "internal/poll.SendFile", "internal/poll.Splice")
+)
+CONTROLS = frozenset(
+    f"internal/poll.(*FD).{name}" for name in ("Shutdown", "SetsockoptInt", "SetsockoptLinger", "Fstat")
+)
+OF_THE_PROGRAM = frozenset(f"internal/poll.(*FD).Raw{name}" for name in ("Read", "Write", "Control"))
+
+
+def of_a_holder(run: Run, suspect: Suspect) -> Suspect:
+    """Of who holds a lock or a reference: doubtful where Go's own call gives it up behind its system call."""
+    if is_in_a_system_call(run, suspect):
+        suspect.weight = Weight.DOUBTFUL
+    return suspect
+
+
+def is_in_a_system_call(run: Run, suspect: Suspect) -> bool:
+    """Whether the recording ended while who holds a lock or a reference was in a call of Go's own, which gives it up behind its system call: by the
+    program's lines, it took the lock in that call and has left it at no step since. Where no lines are known, its last step was the
+    `pollreset`, behind which Go's own calls try."""
+    g, recording = suspect.goroutine, run.recording
+    if g is None:
+        return False
+    if not recording.lines:
+        return is_about_to_try(run, suspect.step, g)
+    holding = {"rwlock": OF_GO, "incref": CONTROLS}.get(recording.step(suspect.step).kind, frozenset[str]())
+    took, last = (call_of_poll(recording, step) for step in (suspect.step, run.notes.last[g]))
+    return took == last and took in holding
+
+
+def is_about_to_try(run: Run, took: int, g: int) -> bool:
+    """Whether a goroutine's last step is the `pollreset` of the call that took a lock at that step."""
+    holds = (hold for holds in run.notes.holds.values() for hold in holds)
+    locks = (hold.step for hold in holds if hold.goroutine == g and hold.side)
+    return run.notes.last[g] == run.notes.reset.get(g, 0) and max(locks, default=0) == took
+
+
+def is_accepting(recording: Recording, suspect: Suspect) -> bool:
+    """Whether a listener waits in Go's own Accept, which tries again behind each pollreset: no wake-up is lost in it."""
+    return call_of_poll(recording, suspect.steps[-1]) == "internal/poll.(*FD).Accept"
+
+
+def call_of_poll(recording: Recording, step: int) -> str:
+    """Which of these calls a step is in, the innermost; nothing where it is in none, or that isn't known."""
+    known = OF_GO | CONTROLS | OF_THE_PROGRAM
+    return next((call.function for call in recording.lines.of(step).calls if call.function in known), "")
+
+
+def of_a_goroutine(run: Run, suspect: Suspect) -> Suspect:
+    """Of a goroutine that was woken for nothing, or not at all: whether it hangs for it."""
+    g, d = suspect.goroutine, suspect.descriptor
+    if g is None or d is None:
+        return suspect
+    place, *at = run.notes.now[f"gor {g}"].split()
+    if how := hangs(run, g, d):
+        suspect.weight += HANGS
+        suspect.says.append(f"goroutine {g} hangs: {how}")
+    elif place in INSIDE and at[0] == str(d) and run.since(g) >= suspect.step:
+        suspect.weight += STILL_THERE
+        suspect.says.append(f"goroutine {g} is {place} there since step {run.since(g)}")
+    else:
+        suspect.weight += WENT_ON
+    return suspect
+
+
+def hangs(run: Run, g: int, d: int) -> str:
+    """How a goroutine hangs in the wait of a descriptor, in words; empty where it doesn't."""
+    place, *at = run.notes.now[f"gor {g}"].split()
+    if place != "parked" or at[0] != str(d):
+        return ""
+    if at[1] == "r" and (lies := run.unread(run.notes.use_of[d].socket)):
+        return f"parked since step {run.since(g)}, {lies}"
+    return "" if run.notes.now[f"{at[1]}d {d}"] != "0" else f"parked since step {run.since(g)} without a deadline"
+
+
+def of_a_deadline(run: Run, suspect: Suspect) -> Suspect:
+    """Of a deadline that passed: whether a call ended with that timeout."""
+    for timeout in run.notes.timeouts:
+        if timeout.descriptor == suspect.descriptor and timeout.passing.step == suspect.step:
+            suspect.weight += TIMED_OUT
+            suspect.says.append(f"step {timeout.step} by goroutine {timeout.goroutine} ends with that timeout")
+            suspect.steps.append(timeout.step)
+            break
+    return suspect
