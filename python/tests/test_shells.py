@@ -23,7 +23,8 @@ SHELLS = {
 }
 # what is typed before the key, and what stands there behind it
 COMPLETED = (
-    ("netrev ch", "check"),
+    ("netrev che", "check"),
+    ("netrev cha", "changes"),
     ("netrev check reco", "check recording.jsonl"),
     ("nrdb --timel", "--timeline"),
     ("nrdb reco", "recording.jsonl"),
