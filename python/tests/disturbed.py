@@ -32,7 +32,7 @@ PROBES = (
     "reverse-until lock 0 8",
     "info holders 0",
 )
-SMALL = (("netrev.AT_ONCE", 60), ("scout.AT_ONCE", 2), ("scout.JOURNAL", 30))
+SMALL = (("netrev.AT_ONCE", 60), ("scout.JOURNAL", 5))
 Events = list[dict[str, Any]]
 Of = TypeVar("Of", bound=Netrev)
 Action = Callable[["Weather[Of]", Of], None]

@@ -66,16 +66,13 @@ class EveryPoint(Disturbances[Modelled]):
         self.assertGreater(given_up, 100)
 
     def test_a_scout_that_is_gone_is_begun_anew(self) -> None:
-        def found(weather: Weather[Modelled]) -> list[Optional[int]]:
+        def found(weather: Weather[Modelled]) -> list[list[str]]:
             scout = Scout(lambda: self.opened(weather))
-            return [
-                scout.find(["lock 0"], lambda _: True, TEXT.length, True),
-                scout.find(["gor 0"], lambda values: values == ["gone"], 0, False),
-            ]
+            return [scout.values(position, ["lock 0", "gor 0"]) for position in (TEXT.length, 0, 3)]
 
         weather: Weather[Modelled] = Weather(Interrupts())
         right = found(weather)
-        self.assertGreater(weather.count, 10)
+        self.assertGreater(weather.count, 5)
         for point in range(weather.count):
             disturbed: Weather[Modelled] = Weather(Interrupts())
             disturbed.left, disturbed.action = point, killed

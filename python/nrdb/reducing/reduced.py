@@ -125,15 +125,15 @@ def wanted_by(session: Session, words: list[str]) -> Wanted:
 def _last_with(session: Session, cell: str, value: str) -> int:
     """The session's position, if the cell has such a value there, else the last one of the recording at which it has. What isn't
     there has none."""
-    scout, length = session.looks(), session.text().length
+    changes, length = session.changes(), session.text().length
 
     def is_wanted(shown: str) -> bool:
         return shown != "absent" and (fnmatchcase(shown, value) or fnmatchcase(session.words_of(cell, shown), value))
 
     for position in (session.stands().position, length):
-        if is_wanted(scout.values(position, [cell])[0]):
+        if is_wanted(changes.value(cell, position)):
             return position
-    found: Optional[int] = scout.find([cell], lambda values: is_wanted(values[0]), length, True)
+    found: Optional[int] = changes.nearest([cell], lambda values: is_wanted(values[0]), length, True)
     if found is None:
         raise Misused(f"no step gives {cell} the value {value}")
     return found

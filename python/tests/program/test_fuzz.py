@@ -21,7 +21,7 @@ from netrev_fuzz.slow import Slow
 from netrev_machine import polling, replaying, steps
 from netrev_machine.machine import Refused
 from nrdb.interrupts import GivenUp, Interrupts
-from nrdb.scout import Scout
+from nrdb.recorded_changes import RecordedChanges
 from tests.disturbed import EXAMPLE
 
 from .sharing import NETREV
@@ -139,8 +139,11 @@ class Companion(unittest.TestCase):
         self.assertGreater(met["events"], 100)
         self.assertGreater(met["ctrl-c"] + met["slow ctrl-c"], 3)
 
-    def test_a_mark_that_a_walk_leaves_is_found(self):
-        with mock.patch.object(Scout, "_unwatch", lambda scout, mark: None):
+    def test_a_value_of_the_position_before_is_found(self):
+        value = RecordedChanges.value
+        with mock.patch.object(
+            RecordedChanges, "value", lambda changes, cell, at: value(changes, cell, max(at - 1, 0))
+        ):
             self.assertNotEqual(self.played(12)[0], [])
 
 

@@ -89,7 +89,7 @@ class Page(unittest.TestCase):
         self.assertIn(f"{len(own)} steps", told["of"])
         self.assertIn(told["enter"], own)
         self.assertEqual((told["address"], told["hidden"]), (77, True))
-        self.assertIn("netrev's own reply", told["help"])
+        self.assertIn("Each value is netrev's own", told["help"])
 
     def test_suspects_clicks_and_hovering_tell_in_words(self) -> None:
         told = used(
