@@ -3,7 +3,7 @@ waits for it."""
 
 import subprocess
 import time
-from threading import Condition, Thread
+from threading import Condition, Thread, current_thread
 from typing import Callable, Optional
 
 from .interrupts import Interrupts
@@ -23,25 +23,31 @@ class ArrivingChanges(RecordedChanges):
         super().__init__()
         self._words, self._interrupts, self._tell = [program, "changes", path], interrupts, tell
         self._process: Optional["subprocess.Popen[bytes]"] = None
+        self._reader: Optional[Thread] = None
         self._came = Condition()
         self._failure = ""
 
     def prepare(self) -> None:
-        if self._process is not None:
+        if self._is_begun():
             return
         try:
-            self._process = subprocess.Popen(
+            process = subprocess.Popen(
                 self._words, stdin=subprocess.DEVNULL, stdout=subprocess.PIPE, bufsize=0, start_new_session=True
             )
         except OSError as error:
             raise Lost(f"{error.filename}: {error.strerror}") from None
-        self._reader = Thread(target=self._read, args=[self._process], daemon=True)
+        self._process, self._reader = process, Thread(target=self._read, args=[process], daemon=True)
         self._reader.start()
 
     def drop(self) -> None:
         if self._process is not None:
             self._process.kill()
+        if self._reader is not None and self._is_begun():
             self._reader.join(SILENCE)
+
+    def _is_begun(self) -> bool:
+        """Whether a thread reads. One that Ctrl-C kept from being started reads nothing, and another takes its place."""
+        return self._reader is not None and self._reader.ident is not None
 
     def _wait(self, position: Optional[int]) -> None:
         if self._is_settled(position) and not self._failure:
@@ -57,28 +63,34 @@ class ArrivingChanges(RecordedChanges):
                 until = 0
         if why := self._failure:
             super().__init__()
-            self._process, self._failure = None, ""
+            self._process, self._reader, self._failure = None, None, ""
             raise Lost(f"{' '.join(self._words)}: {why}")
 
     def _is_settled(self, position: Optional[int]) -> bool:
         return bool(self._failure) or (self.has(position) and not self._fault)
 
     def _read(self, process: "subprocess.Popen[bytes]") -> None:
-        """Reads all that netrev says, in the thread."""
+        """Reads all that netrev says, in the thread, unless another reads in its place."""
         assert process.stdout
         failure = ""
         try:
-            while piece := process.stdout.read(READ):
+            while self._is_current() and (piece := process.stdout.read(READ)):
                 self.take(piece)
                 with self._came:
                     self._came.notify_all()
         except NoChanges as wrong:
             failure = str(wrong)
+        if failure or not self._is_current():
             process.kill()
         status = process.wait()
         process.stdout.close()
+        if not self._is_current():
+            return
         if not failure and (not self.is_whole or self._fault):
             failure = self._fault or f"it ended with status {status}"
         with self._came:
             self._failure = failure
             self._came.notify_all()
+
+    def _is_current(self) -> bool:
+        return self._reader is current_thread()

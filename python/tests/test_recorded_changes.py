@@ -4,7 +4,9 @@ import os
 import sys
 import time
 from pathlib import Path
+from threading import Thread
 from typing import Iterator
+from unittest import mock
 
 import pytest
 
@@ -159,6 +161,15 @@ def test_a_netrev_that_was_killed_is_begun_anew(netrev: Path, tmp_path: Path) ->
     with pytest.raises(Lost):
         changes.steps_of("gor 1")
     assert list(changes) == [(1, "gor 1", "idle")] and changes.length == 1
+    changes.drop()
+
+
+def test_a_reader_that_was_not_started_is_replaced(netrev: Path) -> None:
+    changes, _ = arriving(netrev, "echo 1 gor 1 = idle; echo ok 1 steps")
+    with mock.patch.object(Thread, "start", side_effect=KeyboardInterrupt), pytest.raises(KeyboardInterrupt):
+        changes.prepare()
+    changes.drop()
+    assert list(changes) == [(1, "gor 1", "idle")]
     changes.drop()
 
 
