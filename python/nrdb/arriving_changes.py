@@ -8,7 +8,8 @@ from typing import Callable, Optional
 
 from .interrupts import Interrupts
 from .netrev import READ, SILENCE
-from .recorded_changes import NoChanges, RecordedChanges
+from .changed_lines import NoChanges
+from .recorded_changes import RecordedChanges
 from .scout import Lost
 
 LOOKS = 0.05  # seconds between two looks whether Ctrl-C came

@@ -1,10 +1,13 @@
-"""What `netrev changes` says of a recording: the cells that each step changed, with what they show behind it. It is held in arrays
-of numbers, and each name and value once, since a million steps change some millions of cells."""
+"""What `netrev changes` says of a recording: the cells that each step changed, with what they show behind it. The lines are kept as they
+came. Whoever asks much has them in arrays of numbers, and each name and value once, since a million steps change some millions of cells."""
 
 from array import array
 from bisect import bisect_left, bisect_right
 from typing import Callable, Iterable, Iterator, NamedTuple, Optional, Sequence
 
+from .changed_lines import ChangedLines, NoChanges
+
+FEW = 300  # questions, up to which the answer is looked for in the lines
 AT_START = {"clock": "0", "waiters": "0", "timers": "0", "firings": "0", "gor 0": "idle"}
 
 
@@ -29,10 +32,6 @@ class Texts(dict[str, int]):
         return number
 
 
-class NoChanges(ValueError):
-    """A text isn't what `netrev changes` says, or isn't all of it."""
-
-
 def value_at_start(cell: str) -> str:
     """What a cell shows before the first step."""
     return AT_START.get(cell, "absent")
@@ -45,6 +44,11 @@ class RecordedChanges:
         self._steps, self._cells, self._values = array("I"), array("I"), array("I")  # of each change
         self._names, self._texts = Texts(), Texts()
         self._places: list[array[int]] = []  # of each cell the places of its changes in those arrays
+        self._lines, self._held, self._asked = (
+            ChangedLines(),
+            0,
+            0,
+        )  # how many pieces are in arrays, and how much was asked
         self._rest = b""
         self._is_whole, self._length, self._fault = False, 0, ""
 
@@ -75,6 +79,8 @@ class RecordedChanges:
     def at(self, step: int) -> list[tuple[str, str]]:
         """The cells that a step changed, each with its value behind it, in netrev's order."""
         self._wait(step)
+        if self._is_asked_little():
+            return self._lines.at(step)
         first, last = bisect_left(self._steps, step), bisect_right(self._steps, step)
         names, texts = self._names.all, self._texts.all
         return [(names[self._cells[place]], texts[self._values[place]]) for place in range(first, last)]
@@ -82,6 +88,9 @@ class RecordedChanges:
     def value(self, cell: str, position: int) -> str:
         """What a cell shows at a position."""
         self._wait(position)
+        if self._is_asked_little():
+            shown = self._lines.value(cell, position)
+            return value_at_start(cell) if shown is None else shown
         places = self._places_of(cell)
         at = bisect_left(places, bisect_right(self._steps, position))
         return self._texts.all[self._values[places[at - 1]]] if at else value_at_start(cell)
@@ -92,7 +101,7 @@ class RecordedChanges:
 
     def steps_of(self, cell: str, until: Optional[int] = None) -> "array[int]":
         """The steps that changed a cell, rising; up to a position, where one is named."""
-        return array("I", map(self._steps.__getitem__, self._places_up_to(cell, until)))
+        return array("I", (step for step, _ in self.changes_of(cell, until)))
 
     def nearest(
         self, cells: Sequence[str], are_wanted: Callable[[list[str]], bool], position: int, backwards: bool
@@ -105,23 +114,30 @@ class RecordedChanges:
 
     def changes_of(self, cell: str, until: Optional[int] = None) -> list[tuple[int, str]]:
         """The steps that changed a cell, each with its value behind it; up to a position, where one is named."""
-        places, texts = self._places_up_to(cell, until), self._texts.all
-        return [(self._steps[place], texts[self._values[place]]) for place in places]
+        self._wait(until)
+        if self._is_asked_little():
+            return list(self._lines.changes_of(cell, until))
+        places, texts = self._places_of(cell), self._texts.all
+        end = len(places) if until is None else bisect_left(places, bisect_right(self._steps, until))
+        return [(self._steps[place], texts[self._values[place]]) for place in places[:end]]
 
     def cells(self) -> list[str]:
         """The cells that any step changed, in the order in which they first did."""
         self._wait(None)
+        self._hold()
         return list(self._names.all)
 
     def __iter__(self) -> Iterator[Change]:
         """All changes, step by step."""
         self._wait(None)
+        self._hold()
         cells = map(self._names.all.__getitem__, self._cells)
         return map(Change, self._steps, cells, map(self._texts.all.__getitem__, self._values))
 
     def by_step(self) -> Iterator[list[tuple[str, str]]]:
         """Of each step in turn what it changed, as `at` has it."""
         self._wait(None)
+        self._hold()
         names, texts, place, end = self._names.all, self._texts.all, 0, len(self._steps)
         steps, cells, values = self._steps, self._cells, self._values
         for step in range(1, self._length + 1):
@@ -136,10 +152,21 @@ class RecordedChanges:
         number = self._names.get(cell)
         return array("I") if number is None or number >= len(self._places) else self._places[number]
 
-    def _places_up_to(self, cell: str, until: Optional[int]) -> "array[int]":
-        self._wait(until)
-        places = self._places_of(cell)
-        return places if until is None else places[: bisect_left(places, bisect_right(self._steps, until))]
+    def _is_asked_little(self) -> bool:
+        """Whether little was asked, so that the lines are searched. Else what has come is in the arrays."""
+        self._asked += 1
+        if self._asked > FEW:
+            self._hold()
+        return self._asked <= FEW
+
+    def _hold(self) -> None:
+        """Holds in arrays what has come."""
+        while self._held < len(self._lines.pieces):
+            try:
+                self._take_lines(self._lines.pieces[self._held].decode("ascii").removesuffix("\n"))
+            except (ValueError, IndexError):
+                raise NoChanges("a line that is no change") from None
+            self._held += 1
 
     def _wait(self, position: Optional[int]) -> None:
         """Comes back when what leads to a position is there, or all."""
@@ -159,7 +186,7 @@ class RecordedChanges:
 
     def has(self, position: Optional[int]) -> bool:
         """Whether what leads to a position has been read, or all."""
-        return self._is_whole or (position is not None and bool(self._steps) and position < self._steps[-1])
+        return self._is_whole or (position is not None and position < self._lines.last)
 
     def take(self, piece: bytes) -> None:
         """Takes a piece of the output, which may end within a line."""
@@ -168,22 +195,18 @@ class RecordedChanges:
             return
         if self._is_whole:
             raise NoChanges("a line behind the last one")
-        try:
-            self._take_text(whole.decode("ascii"))
-        except (ValueError, IndexError):
-            raise NoChanges("a line that is no change") from None
-
-    def _take_text(self, lines: str) -> None:
-        """Takes whole lines, of which the last may be that of the end."""
-        before, _, last = lines.rpartition("\n")
-        is_end = " = " not in last
-        if told := before if is_end else lines:
-            self._take_lines(told)
+        before, _, last = whole.rpartition(b"\n")
+        is_end = b" = " not in last
+        if told := before if is_end else whole:
+            self._lines.take(told + b"\n")
         if is_end:
-            self._take_end(last)
+            try:
+                self._take_end(last.decode("ascii"))
+            except (ValueError, IndexError):
+                raise NoChanges("a line that is no change") from None
 
     def _take_lines(self, lines: str) -> None:
-        """Takes whole lines of changes. Their steps come last: whoever reads meanwhile looks at these."""
+        """Takes whole lines of changes into the arrays."""
         parts = lines.replace(" = ", "\n").split("\n")
         numbers, names = zip(*[head.split(" ", 1) for head in parts[::2]])
         steps, cells = array("I", map(int, numbers)), array("I", map(self._names.__getitem__, names))
@@ -207,5 +230,4 @@ class RecordedChanges:
             self._length = int(words[0].rstrip(":")) - 1 if first == "step" else 0
         else:
             raise NoChanges(line)
-        self._texts.clear()  # (the texts themselves stay)
         self._is_whole = True

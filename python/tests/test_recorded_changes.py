@@ -15,9 +15,11 @@ from netrev_machine.changing import changes as said_by_model
 from netrev_machine.observing import Observer
 from netrev_machine.program import replay
 from netrev_words.vocabulary import CELLS, Of
+from nrdb import recorded_changes
 from nrdb.arriving_changes import SILENT, ArrivingChanges
+from nrdb.changed_lines import NoChanges
 from nrdb.interrupts import Interrupted, Interrupts
-from nrdb.recorded_changes import NoChanges, RecordedChanges
+from nrdb.recorded_changes import RecordedChanges
 from nrdb.scout import Lost
 from tests.examples import EXAMPLES
 
@@ -36,9 +38,13 @@ def in_pieces(text: bytes, size: int) -> Iterator[bytes]:
     return (text[at : at + size] for at in range(0, len(text), size))
 
 
+@pytest.mark.parametrize("few", [0, 10**9], ids=["in arrays", "in lines"])
 @pytest.mark.parametrize("path", RECORDINGS, ids=lambda path: path.stem)
-def test_values_are_those_that_prints_say_at_each_position(path: Path) -> None:
-    changes = RecordedChanges.read([said(path)])
+def test_values_are_those_that_prints_say_at_each_position(
+    path: Path, few: int, monkeypatch: pytest.MonkeyPatch
+) -> None:
+    monkeypatch.setattr(recorded_changes, "FEW", few)
+    changes = RecordedChanges.read(in_pieces(said(path), 500))
     worlds = replay(path.read_bytes(), Observer()).worlds
     assert changes.length == len(worlds) - 1 and not changes.fault
     last = worlds[-1]

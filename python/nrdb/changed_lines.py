@@ -1,0 +1,67 @@
+"""The lines of `netrev changes` as they came, and what is found in them by searching bytes: nothing is taken apart before it is asked for."""
+
+import re
+from array import array
+from bisect import bisect_left, bisect_right
+from typing import Iterator, Optional
+
+LINE = re.compile(rb"\d+ [a-z]+(?: \d+)? = [ -~]+")
+
+
+class NoChanges(ValueError):
+    """A text isn't what `netrev changes` says, or isn't all of it."""
+
+
+class ChangedLines:
+    """Lines of changes, in pieces of whole lines. One thread may take more of them while another asks."""
+
+    def __init__(self) -> None:
+        self.pieces: list[bytes] = []
+        self._lasts = array("I")  # of each piece its last step
+
+    def take(self, lines: bytes) -> None:
+        """Takes whole lines, each with its line feed; NoChanges where they can't be such."""
+        first, last = lines[: lines.index(b"\n")], lines[lines.rfind(b"\n", 0, -1) + 1 : -1]
+        if lines.count(b"\n") != lines.count(b" = ") or not (LINE.fullmatch(first) and LINE.fullmatch(last)):
+            raise NoChanges("a line that is no change")
+        self.pieces.append(lines)
+        self._lasts.append(int(last[: last.index(b" ")]))
+
+    @property
+    def last(self) -> int:
+        """The last step that has a line, 0 where none has."""
+        return self._lasts[-1] if self._lasts else 0
+
+    def at(self, step: int) -> list[tuple[str, str]]:
+        """The cells that a step changed, each with its value behind it."""
+        line = re.compile(rb"^%d (.*) = (.*)$" % step, re.MULTILINE)
+        found: list[tuple[str, str]] = []
+        for place in range(bisect_left(self._lasts, step), len(self._lasts)):
+            found += [(cell.decode(), value.decode()) for cell, value in line.findall(self.pieces[place])]
+            if self._lasts[place] > step:
+                break
+        return found
+
+    def changes_of(self, cell: str, until: Optional[int] = None) -> Iterator[tuple[int, str]]:
+        """The steps that changed a cell, rising, each with its value behind it; up to a position, where one is named."""
+        line = re.compile(rb"^(\d+) %s = (.*)$" % cell.encode(), re.MULTILINE)
+        end = len(self._lasts) if until is None else bisect_right(self._lasts, until) + 1
+        for piece in self.pieces[:end]:
+            for number, value in line.findall(piece):
+                step = int(number)
+                if until is not None and step > until:
+                    return
+                yield step, value.decode()
+
+    def value(self, cell: str, position: int) -> Optional[str]:
+        """What a cell shows at a position, None where no step changed it up to there."""
+        named = b" %s = " % cell.encode()
+        for place in range(min(bisect_right(self._lasts, position), len(self._lasts) - 1), -1, -1):
+            piece = self.pieces[place]
+            at = piece.rfind(named)
+            while at >= 0:
+                begin = piece.rfind(b"\n", 0, at) + 1
+                if int(piece[begin:at]) <= position:
+                    return piece[at + len(named) : piece.index(b"\n", at)].decode()
+                at = piece.rfind(named, 0, at)
+        return None
