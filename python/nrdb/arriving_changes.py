@@ -67,6 +67,12 @@ class ArrivingChanges(RecordedChanges):
             self._process, self._reader, self._failure = None, None, ""
             raise Lost(f"{' '.join(self._words)}: {why}")
 
+    def _hold(self) -> None:
+        try:
+            super()._hold()
+        except NoChanges as wrong:
+            raise Lost(f"{' '.join(self._words)}: {wrong}") from None
+
     def _is_settled(self, position: Optional[int]) -> bool:
         return bool(self._failure) or (self.has(position) and not self._fault)
 

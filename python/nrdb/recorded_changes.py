@@ -44,11 +44,9 @@ class RecordedChanges:
         self._steps, self._cells, self._values = array("I"), array("I"), array("I")  # of each change
         self._names, self._texts = Texts(), Texts()
         self._places: list[array[int]] = []  # of each cell the places of its changes in those arrays
-        self._lines, self._held, self._asked = (
-            ChangedLines(),
-            0,
-            0,
-        )  # how many pieces are in arrays, and how much was asked
+        self._lines = ChangedLines()
+        self._held = 0  # how many of its pieces are in the arrays
+        self._asked = 0
         self._rest = b""
         self._is_whole, self._length, self._fault = False, 0, ""
 

@@ -170,6 +170,13 @@ def test_a_netrev_that_was_killed_is_begun_anew(netrev: Path, tmp_path: Path) ->
     changes.drop()
 
 
+def test_a_line_in_the_middle_that_is_no_change_is_told(netrev: Path) -> None:
+    changes, _ = arriving(netrev, "printf '1 gor 1 = idle\\nno number = 3\\n2 clock = 5\\nok 2 steps\\n'")
+    with pytest.raises(Lost, match="a line that is no change"):
+        list(changes)
+    changes.drop()
+
+
 def test_a_reader_that_was_not_started_is_replaced(netrev: Path) -> None:
     changes, _ = arriving(netrev, "echo 1 gor 1 = idle; echo ok 1 steps")
     with mock.patch.object(Thread, "start", side_effect=KeyboardInterrupt), pytest.raises(KeyboardInterrupt):
