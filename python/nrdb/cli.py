@@ -5,7 +5,6 @@ import argparse
 import io
 import os
 import shutil
-import subprocess
 import sys
 from contextlib import closing
 from typing import Any, Callable, NoReturn, Optional, Sequence
@@ -23,7 +22,7 @@ from .netrev import Ended, Joined, Netrev, Own, Reply
 from .output import JsonPrinter, Printer, TextPrinter
 from .recording import NoRecording, Recording
 from .reducing import reduced_file
-from .refusals import explained
+from .refusals import explained, fault_of
 from .scout import Lost, Scout
 from .session import Mismatched, Misused, Session
 from .shapes import POSITION, Refused, Strange
@@ -186,16 +185,6 @@ def begun(wanted: argparse.Namespace, netrev: Netrev, interrupts: Interrupts, pr
             recorded.drop()
     ended = netrev.close()
     return status if wanted.web is not None else ended or status  # (the page may have gone on with another netrev)
-
-
-def fault_of(netrev: str, path: str) -> str:
-    """The first fault of a recording; nothing where netrev takes it, or isn't here to say."""
-    try:
-        words = [netrev, "check", path]
-        ended = subprocess.run(words, stdin=subprocess.DEVNULL, stdout=subprocess.PIPE, check=False)
-    except OSError:
-        return ""
-    return ended.stdout.decode("utf-8", "surrogateescape").strip() if ended.returncode == REFUSED else ""
 
 
 def refused(wanted: argparse.Namespace, netrev: Netrev, first: str, printer: Printer) -> int:

@@ -20,6 +20,8 @@ class Interrupts:
     def __init__(self) -> None:
         self._came = False
         self._is_given_up = False
+        self._stops_at_once = False
+        self._shields = 0
 
     @contextmanager
     def held(self) -> Iterator[None]:
@@ -31,12 +33,43 @@ class Interrupts:
         finally:
             signal.signal(signal.SIGINT, before)
 
+    @contextmanager
+    def at_once(self) -> Iterator[None]:
+        """Within, netrev is asked nothing, and Ctrl-C raises Interrupted wherever it comes, but where that is `shielded`."""
+        self.check()
+        before, self._stops_at_once = self._stops_at_once, True
+        try:
+            yield
+        finally:
+            self._stops_at_once = before
+        self.check()
+
+    @contextmanager
+    def shielded(self) -> Iterator[None]:
+        """Within, nothing is left half done: Ctrl-C is remembered. Two give the session up here too."""
+        self._shields += 1
+        try:
+            yield
+        finally:
+            self._shields -= 1
+
+    def clear(self) -> None:
+        """Forgets that Ctrl-C came: what it was for is done."""
+        self._came = False
+
+    def give_up(self) -> None:
+        """Raises GivenUp, and so does whoever asks anything later."""
+        self._is_given_up = True
+        self.check_given_up()
+
     def came(self) -> None:
         """Ctrl-C was pressed."""
         if self._came:
             self._is_given_up = True
         self._came = True
         self.check_given_up()
+        if self._stops_at_once and not self._shields:
+            self.check()
 
     def _handle(self, *_: object) -> None:
         self.came()
