@@ -12,7 +12,7 @@ SHARE = $(DESTDIR)$(PREFIX)/share
 INSTALLED = $(notdir $(wildcard python/nrdb python/netrev_words python/netrev_machine python/netrev_go))
 
 .PHONY: ready help look run hunt test lint refused loopback hostile upgrades system fuzz fuzz-around agree companion sizes netrev examples share bench pace real \
-	install install-files package deb try-deb clean
+	install install-files vsix package deb try-deb clean
 
 # The program that NETREV names is taken as it is; else the one that is built here, once it is proved.
 ifdef NETREV
@@ -160,6 +160,11 @@ install-files:
 		python3 scripts/completion.py bash $$name > $(SHARE)/bash-completion/completions/$$name && \
 		python3 scripts/completion.py zsh $$name > $(SHARE)/zsh/vendor-completions/_$$name || exit 1; \
 	done
+
+# Packs the extension for VS Code as out/netrev.vsix, without node, and checks it.
+vsix:
+	@mkdir -p out
+	@python3 scripts/vsix.py out/netrev.vsix && echo out/netrev.vsix
 
 # Makes out/netrev-VERSION-linux-x86_64.tar.gz of the program that the gate left, or of NETREV=FILE, with nrdb and the examples,
 # for machines without the toolchain, and tries it: `make package`, or `make package VERSION=other`. The gate has to have passed with that program.
