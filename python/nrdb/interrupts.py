@@ -3,7 +3,7 @@ questions whether it came. A second one, while netrev doesn't answer, gives the 
 
 import signal
 from contextlib import contextmanager
-from typing import Iterator
+from typing import Callable, Iterator
 
 
 class Interrupted(Exception):
@@ -22,11 +22,12 @@ class Interrupts:
         self._is_given_up = False
         self._stops_at_once = False
         self._shields = 0
+        self._first: Callable[[], None] = lambda: None
 
     @contextmanager
-    def held(self) -> Iterator[None]:
-        """Within, Ctrl-C is remembered, and told by `check`; a second one raises GivenUp."""
-        self._came = False
+    def held(self, first: Callable[[], None] = lambda: None) -> Iterator[None]:
+        """Within, Ctrl-C is remembered, and told by `check`; a second one raises GivenUp. `first` is called at the first."""
+        self._came, self._first = False, first
         before = signal.signal(signal.SIGINT, self._handle)
         try:
             yield
@@ -72,6 +73,8 @@ class Interrupts:
             self.check()
 
     def _handle(self, *_: object) -> None:
+        if not self._came:
+            self._first()
         self.came()
 
     def check(self) -> None:
