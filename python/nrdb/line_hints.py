@@ -229,7 +229,7 @@ def of_info(words: list[str]) -> str:
 def of_set(words: list[str]) -> str:
     """Of what should be set."""
     if words and words[0] not in ("exec-direction", "direction"):
-        return "the one setting is exec-direction: set exec-direction reverse"
+        return "the settings are exec-direction and pagination: set exec-direction reverse"
     return "set exec-direction reverse, or forward"
 
 
