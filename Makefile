@@ -47,7 +47,7 @@ run: ready
 	@echo
 	@sh examples/play.sh first
 
-# A session at a prompt with history, completion and further views: `make hunt FILE=my.jsonl` (docs/NRDB.md).
+# A session at a prompt with history, completion and further views: `make hunt FILE=my.jsonl` (docs/use/NRDB.md).
 hunt: ready
 	@./nrdb $(FILE)
 

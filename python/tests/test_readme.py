@@ -13,7 +13,7 @@ README = (ROOT / "README.md").read_text(encoding="utf-8")
 
 class Readme(unittest.TestCase):
     def test_each_page_is_linked(self) -> None:
-        pages = {f"docs/{page.name}" for page in (ROOT / "docs").glob("*.md")}
+        pages = {str(page.relative_to(ROOT)) for page in (ROOT / "docs").rglob("*.md")}
         self.assertGreaterEqual(len(pages), 15)
         self.assertEqual(pages - set(re.findall(r"\]\(([\w/.-]+)", README)), set())
 
