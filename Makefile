@@ -29,7 +29,7 @@ export NETREV := $(abspath $(NETREV))
 # Tells what there is to make.
 help:
 	@awk '/^# / { text = text (text ? " " : "") substr($$0, 3); next } \
-		/^[a-z]+:/ && text { sub(/:.*/, ""); sub(/[.:;]( .*)?$$/, "", text); printf "make %-10s %s\n", $$0, text } \
+		/^[a-z-]+:/ && text { sub(/:.*/, ""); sub(/[.:;]( .*)?$$/, "", text); printf "make %-11s %s\n", $$0, text } \
 		{ text = "" }' Makefile
 
 # A prompt on a recording without waiting for proofs: `make look FILE=my.jsonl`. With SCRIPT=my.script it plays those commands.
@@ -174,10 +174,10 @@ package:
 	@sh scripts/try_package.sh out/netrev-$(VERSION)-linux-x86_64.tar.gz
 
 # Makes out/netrev_VERSION_amd64.deb of that archive, and looks it over with lintian where that is here; `make deb` as `make package`.
-# `make try-deb` installs it in a throw-away root (debootstrap), and records and hunts there.
 deb: package
 	@sh scripts/deb.sh $(VERSION)
 
+# Installs the Debian package in a throw-away root (debootstrap), and records and hunts there.
 try-deb:
 	@sh scripts/try_deb.sh out/netrev_$(VERSION)_amd64.deb
 
