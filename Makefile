@@ -9,7 +9,7 @@ MINUTES = 5
 COUNT = 10000
 LIB = $(DESTDIR)$(PREFIX)/lib/netrev
 SHARE = $(DESTDIR)$(PREFIX)/share
-INSTALLED = $(notdir $(wildcard python/nrdb python/netrev_words python/netrev_machine python/netrev_go))
+INSTALLED = $(shell sed -n 's/^include = \[\(.*\)\]/\1/p' pyproject.toml | tr -d '"*,')
 
 .PHONY: ready help look run hunt test lint refused loopback hostile upgrades system fuzz fuzz-around agree companion sizes netrev examples share bench pace real \
 	install install-files vsix package deb try-deb clean

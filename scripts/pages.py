@@ -1,5 +1,5 @@
 #!/usr/bin/env python3
-"""Reads the pages against the tree:  scripts/pages.py [--diagram] [RULE ..]
+"""Reads the pages against the tree:  scripts/pages.py [--diagram] [--write] [RULE ..]
 
 The gate runs all rules. These are of pages and Python, and of what pages say of the source:
 
@@ -27,7 +27,8 @@ And these of the source itself:
     forgotten            `mem::forget`, and all that leaks memory, is in one file
     refused              no function of the program says that memory was refused but where an error says so
 
-`--diagram` prints the diagram of the crates. RULE .. runs just these. Prints each finding with its file and line, and ends with
+`--diagram` prints the diagram of the crates. `--write` puts into CONTRIBUTING.md's table which packages import which, and then
+reads the pages. RULE .. runs just these. Prints each finding with its file and line, and ends with
 status 1 where there is one.
 """
 
@@ -103,12 +104,16 @@ def main(given_words: list[str] | None = None) -> int:
     """Runs the rules that are asked for, by these words or by those of the command line."""
     given = argparse.ArgumentParser(description=__doc__, formatter_class=argparse.RawDescriptionHelpFormatter)
     given.add_argument("--diagram", action="store_true", help="print the diagram of the crates")
+    given.add_argument("--write", action="store_true", help="put the imports into the table of CONTRIBUTING.md first")
     given.add_argument("--root", type=Path, default=Path(__file__).resolve().parent.parent, help=argparse.SUPPRESS)
     given.add_argument("rules", nargs="*", metavar="RULE", help="just these")
     asked = given.parse_args(given_words)
     if unknown := [name for name in asked.rules if name not in RULES]:
         given.error(f"there is no rule {', '.join(unknown)}")
     tree = Tree(asked.root)
+    if asked.write:
+        (asked.root / imports.PAGE).write_text(imports.written(tree), encoding="utf-8")
+        tree = Tree(asked.root)
     if asked.diagram:
         print(lists.drawn(tree), end="")
         return 0

@@ -159,6 +159,18 @@ class Pages(SmallTree):
     def test_each_rule_is_named_where_it_is_said_what_they_are(self) -> None:
         self.assertEqual([rule for rule in PAGES.RULES if rule not in str(PAGES.__doc__)], [])
 
+    def test_the_table_of_imports_is_written(self) -> None:
+        page = TREE["CONTRIBUTING.md"]
+        self.assertIn("counts | `words` |", page)
+        for wrong in ("counts | |", "counts | `words`, `nothing` |"):
+            self.write("CONTRIBUTING.md", page.replace("counts | `words` |", wrong))
+            self.assertEqual(self.run_over("imports")[0], 1)
+            self.assertEqual(self.run_over("--write", "imports")[0], 0)
+            self.assertEqual((self.top / "CONTRIBUTING.md").read_text(encoding="utf-8"), page)
+        self.write("python/words/plain.py", TREE["python/words/plain.py"] + "\nimport nrdb.counting\n")
+        self.assertEqual(self.run_over("--write", "imports")[0], 1)
+        self.assertEqual((self.top / "CONTRIBUTING.md").read_text(encoding="utf-8"), page)
+
     def test_a_page_that_is_gone_is_missed(self) -> None:
         (self.top / "docs/believe/THEOREM.md").unlink()
         status, printed = self.run_over()
