@@ -33,11 +33,12 @@ def shown(text: str) -> str:
 
 
 class Outcome(NamedTuple):
-    """What comes of a request: the body of its response, and then that the session has stopped, or an event."""
+    """What comes of a request: the body of its response, and then that the session has stopped, an event, or its end."""
 
     body: Body = {}
     stop: Optional[Stop] = None
     event: str = ""
+    ends: bool = False
 
 
 class Adapter:
@@ -91,9 +92,9 @@ class Adapter:
             self._refused(work, shown(str(why)))
         except Interrupted:
             self._refused(work, CANCELLED)
-        except GivenUp:
+        except GivenUp:  # (the request that ends it comes next, and is answered before all is closed)
             work.refuses(ENDS)
-            self._end(ENDS)
+            self._target_or_none = None
         except (Ended, Strange, Lost) as why:
             said = str(why) if isinstance(why, (Strange, Lost)) else "netrev has ended"
             work.refuses(plain(said))
@@ -104,6 +105,8 @@ class Adapter:
                 self._stopped(outcome.stop)
             if outcome.event:
                 self._wire.event(outcome.event)
+            if outcome.ends:
+                self._close()
 
     def _worked(self, request: Request, work: Work) -> Outcome:
         """What comes of a request, while the editor is heard."""
@@ -214,12 +217,10 @@ class Adapter:
         return Outcome(stop=self._target.moves.goto(0, "entry"))
 
     def _terminate(self, request: Request) -> Outcome:
-        self._close()
-        return Outcome(event="terminated")
+        return Outcome(event="terminated", ends=True)
 
     def _disconnect(self, request: Request) -> Outcome:
-        self._close()
-        return Outcome()
+        return Outcome(ends=True)
 
     # --- moves
 

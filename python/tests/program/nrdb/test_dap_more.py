@@ -17,7 +17,7 @@ LOST = str(EXAMPLES / "lost-wakeup.jsonl")
 HIJACKED = EXAMPLES / "real/hijacked.jsonl"
 SAMPLE = EXAMPLES.parent / "tools/go/samples/hijacked"
 SOON = 0.5  # seconds
-LONG = 1_000_000  # steps
+LONG = 999_998  # steps behind the first
 
 
 class Points(unittest.TestCase):
@@ -246,22 +246,22 @@ class Stopped(unittest.TestCase):
                 self.assertEqual(stops[0]["reason"], "pause")
             self.send(editor, 1_002, "evaluate", expression="info position", context="repl")
             found, _ = self.responses(editor, 1_002)
-            self.assertRegex(found[1_002][0]["body"]["result"], r"at \d+ of 1000001 forward")
+            self.assertRegex(found[1_002][0]["body"]["result"], r"at \d+ of 999999 forward")
 
     def test_an_end_is_heard(self):
-        for command in ("continue", "evaluate", "launch"):
+        for command, soon in (("continue", SOON), ("evaluate", SOON), ("launch", 4 * SOON)):
             with self.subTest(command=command), Adapter() as editor:
                 if command != "launch":
                     self.begun(editor)
                 more: dict[str, Any] = (
-                    {"expression": "explore 3000", "context": "repl"} if command == "evaluate" else {"threadId": 1}
+                    {"expression": "info suspects", "context": "repl"} if command == "evaluate" else {"threadId": 1}
                 )
                 self.send(editor, 1_000, command, program=str(self.recording), **more)
                 time.sleep(0.2)
                 self.send(editor, 1_001, "disconnect")
                 begun = time.monotonic()
                 found, _ = self.responses(editor, 1_001)
-                self.assertLess(found[1_001][1] - begun, SOON)
+                self.assertLess(found[1_001][1] - begun, soon)
                 self.assertEqual(editor.process.wait(timeout=60), 0)
 
     def test_a_cancel_stops_what_it_names(self):
