@@ -7,7 +7,7 @@ from ..interrupts import Interrupted, Interrupts
 from ..netrev import Reply
 from ..shapes import MARK, Listed, Move, move_of
 from .debuggee import Debuggee, Maker
-from .filters import Filters, Wrong
+from .filters import Filters, Failure
 from .go_lines import GoLines
 from .logpoints import LogPoints
 from .marks import Marks
@@ -194,6 +194,6 @@ class Moves:
         return why
 
 
-def told(wrong: Sequence[Wrong]) -> str:
+def told(wrong: Sequence[Failure]) -> str:
     """What went wrong, each in its sentence."""
     return "; ".join(f"{one.sort}: {one.says}" for one in wrong)
