@@ -1,0 +1,131 @@
+"""Plays netrev and netrev_plain, whose world is made of lists, with the same recordings and lines: both print the same, byte for byte.
+Each case has a name in plain words, which begins so:
+
+    recording  each recording that is here is checked, upgraded and walked, both ways
+    bad        recordings that are refused, each for the fault that `tests/program/hostile.py` has for it
+    sizes      as much of everything as a recording may have, in few steps
+    random     random cases of the fuzzer's: each cell at each position both ways, random lines, damaged recordings, upgrades;
+               `--random N` says how many (`pytest python/tests/program/agree.py`), and `--seed` from which seed on
+
+What is proved of both is the same text. Here it is seen of what compilers made of the two worlds: a mistake in one of them shows as a
+difference, wherever it is.
+"""
+
+import os
+import random
+import subprocess
+from pathlib import Path
+from typing import Sequence
+
+import pytest
+from netrev_fuzz.cases import SORTS, Made
+from netrev_fuzz.lines import Speaker, every_cell
+from netrev_words.reading import read_text
+from netrev_words.recording import Step
+
+from .hostile import faulty_headers, faulty_lines, refused_steps, text_of, versions_and_answers
+from .sharing import NETREV, ROOT, expect, is_program
+from .sizes import BUFFER, DESCRIPTORS, GOROUTINES, HEADER, SOCKETS
+from .upgrades import RECORDINGS
+
+PLAIN = os.path.abspath(os.environ.get("NETREV_PLAIN", ROOT / "crates/netrev_plain/out/netrev_plain"))
+WAITS = 300  # seconds
+SHORT = 300  # steps, up to which each cell is looked at at each position
+RUN_ALONE = ("full_journal", "many_steps")  # sorts of cases that take long, which `sizes` has
+
+
+def ended(program: str, words: Sequence[object], script: bytes) -> tuple[int, bytes]:
+    """The status of a program, and its output."""
+    ran = subprocess.run([program, *map(str, words)], input=script, capture_output=True, timeout=WAITS, check=False)
+    return ran.returncode, ran.stdout
+
+
+def agree(words: Sequence[object], script: bytes = b"") -> tuple[int, bytes]:
+    """Sees that both programs print the same, and end so; that is returned."""
+    came = ended(NETREV, words, script)
+    expect("what the world of lists shows", came, ended(PLAIN, words, script))
+    return came
+
+
+def walk(steps: Sequence[Step], seed: str) -> bytes:
+    """Lines that go to the end and back, and random ones."""
+    return b"continue\nreverse-continue\n" + Speaker(random.Random(seed), steps).script(60)
+
+
+@pytest.fixture(autouse=True)
+def plain() -> None:
+    """Both are built, or the test says which one isn't."""
+    assert is_program(PLAIN), f"{PLAIN} is no program: `make agree` builds it, and NETREV_PLAIN=FILE names another"
+
+
+@pytest.mark.parametrize("path", [pytest.param(path, id=f"recording {path.relative_to(ROOT)}") for path in RECORDINGS])
+def test_recording(path: Path) -> None:
+    status, _ = agree(["check", path])
+    agree(["upgrade", path])
+    if status:
+        agree(["run", path], b"info position\n")
+        return
+    recording = read_text(path.read_bytes())
+    agree(["run", path], walk(recording.steps, path.name))
+    if len(recording.steps) <= SHORT:
+        agree(["run", path], every_cell(recording.limits, len(recording.steps), True))
+
+
+def bad_texts() -> list[bytes]:
+    """The recordings that the rows of hostile.py refuse."""
+    rows = (*refused_steps(), *faulty_lines(), *faulty_headers(), *versions_and_answers())
+    return [text_of(row.values[0]) for row in rows]
+
+
+def test_bad(folder: Path) -> None:
+    path = folder / "bad.jsonl"
+    texts = bad_texts()
+    assert len(texts) > 100
+    for text in texts:
+        path.write_bytes(text)
+        for program in ("check", "upgrade", "run"):
+            agree([program, path])
+
+
+def sizes(count: int) -> list[str]:
+    """Steps that open all sockets and descriptors, make goroutines up to the limit, and fill buffers, so many times."""
+    full = "00" * 65_536
+    steps = [f'["sockopen",{BUFFER},{BUFFER}]'] * SOCKETS + ['["spawn"]'] * (GOROUTINES - 1)
+    steps += [f'["pollopen",0,{number}]' for number in range(DESCRIPTORS)]
+    steps += [f'["setdeadline",0,{number},"rw",{number + 1}]' for number in range(DESCRIPTORS)]
+    steps += [f'["arrive",{SOCKETS - 1},"{full}"]', f'["syswrite",0,{SOCKETS - 1},"{full}"]'] * count
+    return steps + [f'["sysread",0,{SOCKETS - 1},{BUFFER}]', f'["drain",{SOCKETS - 1},{BUFFER}]', '["tick",64]', '["pop"]']
+
+
+@pytest.mark.long
+def test_sizes(folder: Path) -> None:
+    path = folder / "greatest.jsonl"
+    header = HEADER % (1, GOROUTINES, SOCKETS, DESCRIPTORS, BUFFER)
+    path.write_text("\n".join((header, *sizes(BUFFER // 65_536))) + "\n", "ascii")
+    last = SOCKETS - 1
+    looks = f"print in {last}\nprint out {last}\nprint lock {last}\nprint timers\nprint gor {GOROUTINES - 1}\n"
+    script = f"stepi 999999\n{looks}reverse-stepi 3\n{looks}reverse-stepi 2\n{looks}reverse-continue\n{looks}"
+    status, output = agree(["run", path], script.encode())
+    assert status == 0 and b"in 255 = 1048576" in output, "buffers are full before the read"
+    agree(["check", path])
+
+
+def case(seed: str) -> tuple[str, Made]:
+    """The sort of a random case, and what it is made of."""
+    dice = random.Random(seed)
+    sorts = {sort: weight for sort, weight in SORTS.items() if sort.__name__ not in RUN_ALONE}
+    sort = dice.choices(list(sorts), list(sorts.values()))[0]
+    return sort.__name__, sort(dice)
+
+
+def test_random(folder: Path, request: pytest.FixtureRequest) -> None:
+    """Random cases. Where one differs its seed is told."""
+    first, count = request.config.getoption("--seed"), request.config.getoption("--random")
+    path = folder / "random.jsonl"
+    for seed in range(first, first + count):
+        sort, (text, script) = case(f"agree {seed}")
+        print(f"--seed {seed} --random 1: {sort}")
+        path.write_bytes(text)
+        agree(["check", path])
+        agree(["upgrade", path])
+        agree(["run", path], script if script is not None else b"continue\nreverse-continue\n")
