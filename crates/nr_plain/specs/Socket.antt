@@ -28,7 +28,10 @@ abbrev pub state_of : Socket → SocketState
 state_of socket =
     record {
       lock = socket.lock;
-      counts = record { read = socket.semaphores.read.count; write = socket.semaphores.write.count };
+      counts = record {
+        read = socket.semaphores.read.count;
+        write = socket.semaphores.write.count;
+      };
       capacities = record {
         read = socket.buffers.read.capacity;
         write = socket.buffers.write.capacity;
