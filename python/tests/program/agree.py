@@ -13,6 +13,7 @@ difference, wherever it is.
 
 import os
 import random
+import re
 import subprocess
 from pathlib import Path
 from typing import Sequence
@@ -22,6 +23,7 @@ from netrev_fuzz.cases import SORTS, Made
 from netrev_fuzz.lines import Speaker, every_cell
 from netrev_words.reading import read_text
 from netrev_words.recording import Step
+from netrev_words.vocabulary import CELLS, KINDS
 
 from .hostile import faulty_headers, faulty_lines, refused_steps, text_of, versions_and_answers
 from .sharing import NETREV, ROOT, expect, is_program
@@ -31,6 +33,8 @@ from .upgrades import RECORDINGS
 PLAIN = os.path.abspath(os.environ.get("NETREV_PLAIN", ROOT / "crates/netrev_plain/out/netrev_plain"))
 WAITS = 300  # seconds
 SHORT = 300  # steps, up to which each cell is looked at at each position
+MANY = 1_000  # random cases, among which is each kind of step and each cell
+SHOWN = re.compile(rb"^(\w+)(?: \d+)? = ", re.MULTILINE)  # a cell with its value
 RUN_ALONE = ("full_journal", "many_steps")  # sorts of cases that take long, which `sizes` has
 
 
@@ -94,7 +98,12 @@ def sizes(count: int) -> list[str]:
     steps += [f'["pollopen",0,{number}]' for number in range(DESCRIPTORS)]
     steps += [f'["setdeadline",0,{number},"rw",{number + 1}]' for number in range(DESCRIPTORS)]
     steps += [f'["arrive",{SOCKETS - 1},"{full}"]', f'["syswrite",0,{SOCKETS - 1},"{full}"]'] * count
-    return steps + [f'["sysread",0,{SOCKETS - 1},{BUFFER}]', f'["drain",{SOCKETS - 1},{BUFFER}]', '["tick",64]', '["pop"]']
+    return steps + [
+        f'["sysread",0,{SOCKETS - 1},{BUFFER}]',
+        f'["drain",{SOCKETS - 1},{BUFFER}]',
+        '["tick",64]',
+        '["pop"]',
+    ]
 
 
 @pytest.mark.long
@@ -122,10 +131,17 @@ def test_random(folder: Path, request: pytest.FixtureRequest) -> None:
     """Random cases. Where one differs its seed is told."""
     first, count = request.config.getoption("--seed"), request.config.getoption("--random")
     path = folder / "random.jsonl"
+    kinds: set[str] = set()
+    cells: set[str] = set()
     for seed in range(first, first + count):
         sort, (text, script) = case(f"agree {seed}")
         print(f"--seed {seed} --random 1: {sort}")
         path.write_bytes(text)
-        agree(["check", path])
+        status, _ = agree(["check", path])
         agree(["upgrade", path])
-        agree(["run", path], script if script is not None else b"continue\nreverse-continue\n")
+        _, output = agree(["run", path], script if script is not None else b"continue\nreverse-continue\n")
+        kinds.update(step[0] for step in read_text(text).steps if not status)
+        cells.update(name.decode() for name in SHOWN.findall(output))
+    if count >= MANY:
+        expect("kinds that no case has", set(), set(KINDS) - kinds)
+        expect("cells that no case shows", set(), {cell.name for cell in CELLS.values()} - cells)
