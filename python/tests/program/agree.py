@@ -19,7 +19,7 @@ from pathlib import Path
 from typing import Sequence
 
 import pytest
-from netrev_fuzz.cases import SORTS, Made
+from netrev_fuzz.cases import SORTS, Made, large_buffers
 from netrev_fuzz.lines import Speaker, every_cell
 from netrev_words.reading import read_text
 from netrev_words.recording import Step
@@ -27,7 +27,7 @@ from netrev_words.vocabulary import CELLS, KINDS
 
 from .hostile import faulty_headers, faulty_lines, refused_steps, text_of, versions_and_answers
 from .sharing import NETREV, ROOT, expect, is_program
-from .sizes import BUFFER, DESCRIPTORS, GOROUTINES, HEADER, SOCKETS
+from .sizes import DESCRIPTORS, GOROUTINES, HEADER, PIECE, SOCKETS
 from .upgrades import RECORDINGS
 
 PLAIN = os.path.abspath(os.environ.get("NETREV_PLAIN", ROOT / "crates/netrev_plain/out/netrev_plain"))
@@ -91,32 +91,30 @@ def test_bad(folder: Path) -> None:
             agree([program, path])
 
 
-def sizes(count: int) -> list[str]:
-    """Steps that open all sockets and descriptors, make goroutines up to the limit, and fill buffers, so many times."""
-    full = "00" * 65_536
-    steps = [f'["sockopen",{BUFFER},{BUFFER}]'] * SOCKETS + ['["spawn"]'] * (GOROUTINES - 1)
+def sizes() -> list[str]:
+    """Steps that open all sockets and descriptors, make goroutines up to the limit, set all deadlines, and fill the last socket's
+    buffers and empty them."""
+    last, full = SOCKETS - 1, "00" * PIECE
+    steps = [f'["sockopen",{PIECE},{PIECE}]'] * SOCKETS + ['["spawn"]'] * (GOROUTINES - 1)
     steps += [f'["pollopen",0,{number}]' for number in range(DESCRIPTORS)]
     steps += [f'["setdeadline",0,{number},"rw",{number + 1}]' for number in range(DESCRIPTORS)]
-    steps += [f'["arrive",{SOCKETS - 1},"{full}"]', f'["syswrite",0,{SOCKETS - 1},"{full}"]'] * count
-    return steps + [
-        f'["sysread",0,{SOCKETS - 1},{BUFFER}]',
-        f'["drain",{SOCKETS - 1},{BUFFER}]',
-        '["tick",64]',
-        '["pop"]',
-    ]
+    steps += [f'["arrive",{last},"{full}"]', f'["syswrite",0,{last},"{full}"]']
+    return steps + [f'["sysread",0,{last},{PIECE}]', f'["drain",{last},{PIECE}]', '["tick",64]', '["pop"]']
 
 
 @pytest.mark.long
 def test_sizes(folder: Path) -> None:
-    path = folder / "greatest.jsonl"
-    header = HEADER % (1, GOROUTINES, SOCKETS, DESCRIPTORS, BUFFER)
-    path.write_text("\n".join((header, *sizes(BUFFER // 65_536))) + "\n", "ascii")
-    last = SOCKETS - 1
-    looks = f"print in {last}\nprint out {last}\nprint lock {last}\nprint timers\nprint gor {GOROUTINES - 1}\n"
-    script = f"stepi 999999\n{looks}reverse-stepi 3\n{looks}reverse-stepi 2\n{looks}reverse-continue\n{looks}"
+    """As much of everything as version 1 allows, and the greatest buffers, which version 2 has."""
+    path, last = folder / "greatest.jsonl", SOCKETS - 1
+    path.write_text("\n".join((HEADER % (1, GOROUTINES, SOCKETS, DESCRIPTORS, PIECE), *sizes())) + "\n", "ascii")
+    looks = f"print in {last}\nprint out {last}\nprint timers\nprint gor {GOROUTINES - 1}\n"
+    script = f"stepi 999999\n{looks}reverse-stepi 3\n{looks}reverse-stepi\n{looks}reverse-continue\n{looks}"
     status, output = agree(["run", path], script.encode())
-    assert status == 0 and b"in 255 = 1048576" in output, "buffers are full before the read"
+    assert status == 0 and f"in {last} = {PIECE}".encode() in output, "the buffers are full before the read"
     agree(["check", path])
+    text, lines = large_buffers(random.Random(1))
+    path.write_bytes(text)
+    assert agree(["run", path], lines or b"")[0] == 0
 
 
 def case(seed: str) -> tuple[str, Made]:
@@ -140,7 +138,8 @@ def test_random(folder: Path, request: pytest.FixtureRequest) -> None:
         status, _ = agree(["check", path])
         agree(["upgrade", path])
         _, output = agree(["run", path], script if script is not None else b"continue\nreverse-continue\n")
-        kinds.update(step[0] for step in read_text(text).steps if not status)
+        if not status:
+            kinds.update(step[0] for step in read_text(text).steps)
         cells.update(name.decode() for name in SHOWN.findall(output))
     if count >= MANY:
         expect("kinds that no case has", set(), set(KINDS) - kinds)
