@@ -102,11 +102,11 @@ fuzz: ready
 fuzz-around: ready
 	@python3 python netrev_fuzz.around --minutes $(MINUTES) --seed "$(SEED)"
 
-# Both worlds side by side, over the recordings of examples/ and over random ones: `make agree COUNT=100000 SEED=1`.
-agree:
-	@cd crates/nr_agree && rt run -- generated 1 1
-	@sh scripts/agree.sh
-	@crates/nr_agree/out/nr_agree generated $(COUNT) $(or $(SEED),1)
+# netrev beside the same programs over a world of lists, all that both print: with the recordings of examples/, bad ones, the greatest
+# sizes, and random cases: `make agree COUNT=20000 SEED=1`.
+agree: ready
+	@cd crates/netrev_plain && rt run
+	@sh scripts/pytest.sh --beside python/tests/program/agree.py --random $(COUNT) --seed $(or $(SEED),1)
 
 # Leaves the proved program at crates/netrev/out/netrev. With no change since, nothing is proved again.
 netrev:

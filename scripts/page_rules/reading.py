@@ -21,7 +21,7 @@ HEADING = "## What to read"
 # where else the numbers are, in words
 PAGES = (PAGE, "docs/believe/TRUSTED.md")
 # under which a crate's specs/Lib.antt lists the files that the laws rest on
-BELIEVED = "-- what the laws of docs/THEOREM.md rest on, whole files"
+BELIEVED = "-- what the laws of THEOREM.md rest on, whole files"
 LISTED = re.compile(r"pub mod (\w+)")
 IN_WORDS = re.compile(r"([\d,]+) definitions in ([\d,]+) lines")
 
