@@ -6,14 +6,14 @@ import os
 import time
 import unittest
 from pathlib import Path
-from threading import Timer
+from threading import Thread, Timer
 from typing import Any, Callable
 from unittest.mock import patch
 
 import pytest
 
 from nrdb.collecting import Collecting
-from nrdb.dap import moving, working
+from nrdb.dap import hearing, moving, working
 from nrdb.dap.debuggee import Debuggee
 from nrdb.dap.filters import Filters
 from nrdb.dap.go_lines import GoLines
@@ -28,7 +28,7 @@ from nrdb.dap.working import Work
 from nrdb.interrupts import GivenUp, Interrupted, Interrupts
 from tests.test_program_places import FILE, session_of
 
-SOON = 0.5  # seconds
+SOON, PATIENCE = 0.5, 60  # seconds
 
 
 def framed(number: int, command: str, **arguments: Any) -> bytes:
@@ -88,14 +88,21 @@ class Heard(unittest.TestCase):
         return request
 
     def stopped(self, request: Request, work: Callable[[Interrupts], None], heard: bytes, by: type[Exception]) -> None:
-        """The work on a request is stopped by what is said in the midst of it, soon."""
-        late = Timer(0.1, lambda: os.write(self.says, heard))
+        """The work on a request is stopped by what is said in the midst of it, soon: that is in so much processor time, whatever else the
+        machine does."""
+        said: list[float] = []
+
+        def says() -> None:
+            said.append(time.process_time())
+            os.write(self.says, heard)
+
+        late = Timer(0.1, says)
         late.start()
-        begun = time.monotonic()
         with self.assertRaises(by), self.hearing.work(request, self.interrupts):
             work(self.interrupts)
+        ended = time.process_time()
         late.join()
-        self.assertLess(time.monotonic() - begun, 0.1 + SOON)
+        self.assertLess(ended - said[0], SOON)
 
     @pytest.mark.alone
     def test_an_end_is_heard_in_any_work(self) -> None:
@@ -148,9 +155,11 @@ class Heard(unittest.TestCase):
         request = self.asked(framed(1, "threads"), framed(2, "stackTrace"), framed(3, "cancel", requestId=2))
         time.sleep(0.1)
         self.assertFalse(self.hearing.ends(request))
-        second, cancel = self.hearing.request(), self.hearing.request()
-        assert second and cancel
+        second = self.hearing.request()
+        assert second
         self.assertTrue(self.hearing.ends(second))
+        cancel = self.hearing.request()
+        assert cancel
         self.assertFalse(self.hearing.ends(cancel))
         last = self.asked(framed(4, "threads"), framed(5, "disconnect"))
         time.sleep(0.1)
@@ -159,10 +168,40 @@ class Heard(unittest.TestCase):
         assert ending
         self.assertFalse(self.hearing.ends(ending))
 
+    def test_what_was_heard_is_gone_when_its_turn_has_come(self) -> None:
+        for number, command in enumerate(("terminate", "pause", "cancel"), 1):
+            self.asked(framed(number, command, requestId=10 + number))  # (it may be refused, and never worked on)
+            request = self.asked(framed(10 + number, "continue"))
+            self.assertFalse(self.hearing.ends(request), command)
+            with self.hearing.work(request, self.interrupts):
+                self.interrupts.check()
+        first = self.asked(framed(20, "terminate"), framed(21, "disconnect"))
+        time.sleep(0.1)
+        self.assertFalse(self.hearing.ends(first))
+
     def test_what_is_no_message_comes_in_its_turn(self) -> None:
         request = self.asked(framed(1, "threads"), b"Hello\r\n\r\n")
         self.assertEqual(request.command, "threads")
         self.assertRaises(Malformed, self.hearing.request)
+
+    def test_of_what_waits_so_much_is_held(self) -> None:
+        """Somebody who sends and sends is read on when there is room."""
+        message = framed(1, "evaluate", expression="x" * 1_000)
+        with patch.object(hearing, "MOST_HELD", 3_000):
+            sending = Thread(target=self.sends, args=[message * 1_000], daemon=True)
+            sending.start()
+            time.sleep(0.3)
+            self.assertTrue(sending.is_alive())
+            self.assertLess(self.hearing._held, 6_000)
+            for _ in range(1_000):
+                self.assertEqual(self.asked().command, "evaluate")
+            sending.join(5)
+            self.assertEqual((sending.is_alive(), self.hearing._held), (False, 0))
+
+    def sends(self, data: bytes) -> None:
+        """Sends all of it, however long that takes."""
+        while data:
+            data = data[os.write(self.says, data) :]
 
     def test_an_editor_that_goes_is_seen(self) -> None:
         self.asked(framed(1, "threads"))
@@ -170,39 +209,45 @@ class Heard(unittest.TestCase):
         self.assertIsNone(self.hearing.request())
 
 
-def told_of_work(command: str, shows: bool, seconds: float, refuses: bool = False) -> list[dict[str, Any]]:
-    """What an editor is told of work on a request that takes so long; `shows` is whether it shows progress."""
+def messages_in(data: bytes) -> list[dict[str, Any]]:
+    """The messages of a stream."""
+    return [json.loads(part.partition(b"\r\n\r\n")[2]) for part in data.split(b"Content-Length: ")[1:]]
+
+
+def told_of_work(command: str, shows: bool, told: int, refuses: bool = False) -> list[dict[str, Any]]:
+    """What an editor is told of work on a request, which is done when so many messages have come; `shows` is whether it shows progress."""
     written = io.BytesIO()
-    with patch.object(working, "LATE", 0.05), patch.object(working, "AGAIN", 0.05):
+    with patch.object(working, "LATE", 0.05 if told else 60), patch.object(working, "AGAIN", 0.05):
         work = Work(Wire(io.BytesIO(), written), Request(7, command), shows)
         work.tells(30, 90)
-        time.sleep(seconds)
+        limit = time.monotonic() + PATIENCE
+        while written.getvalue().count(b"Content-Length: ") < told and time.monotonic() < limit:
+            time.sleep(0.01)
         if refuses:
             work.refuses("no")
         else:
             work.responds({})
-    parts = written.getvalue().split(b"Content-Length: ")[1:]
-    return [json.loads(part.partition(b"\r\n\r\n")[2]) for part in parts]
+    return messages_in(written.getvalue())
 
 
 class Late(unittest.TestCase):
     """Work that takes long is told of."""
 
     def test_a_move_is_answered_before_it_is_done(self) -> None:
-        (response,) = told_of_work("continue", False, 0.3)
+        (response,) = told_of_work("continue", False, 1)
         self.assertEqual((response["command"], response["body"]), ("continue", {"allThreadsContinued": True}))
-        (early,) = told_of_work("goto", False, 0.3, refuses=True)
+        (early,) = told_of_work("goto", False, 1, refuses=True)
         self.assertTrue(early["success"])
-        (look,) = told_of_work("variables", False, 0.3, refuses=True)
+        (look,) = told_of_work("variables", False, 0, refuses=True)
         self.assertFalse(look["success"])
 
     def test_progress_is_shown_to_an_editor_that_knows_of_it(self) -> None:
-        names = [one.get("event") or one["command"] for one in told_of_work("variables", True, 0.4)]
+        names = [one.get("event") or one["command"] for one in told_of_work("variables", True, 2)]
         self.assertEqual(names, ["progressStart", "progressUpdate", "progressEnd", "variables"])
-        start, update, *_ = told_of_work("continue", True, 0.4)
+        start, update, *_ = told_of_work("continue", True, 3)
         self.assertEqual((start["body"]["requestId"], start["body"]["cancellable"]), (7, True))
-        self.assertEqual(told_of_work("continue", True, 0.0)[0]["command"], "continue")
-        told = [one["body"] for one in told_of_work("variables", True, 0.4) if one.get("event") == "progressUpdate"]
+        self.assertEqual(told_of_work("continue", True, 0)[0]["command"], "continue")
+        told = [one["body"] for one in told_of_work("variables", True, 2) if one.get("event") == "progressUpdate"]
         self.assertEqual((told[0]["message"], told[0]["percentage"]), ("at 30 of 90", 33))
 
 

@@ -1,6 +1,6 @@
 """The adapter: answers an editor's requests one by one, by a session of nrdb's."""
 
-from contextlib import ExitStack
+from contextlib import ExitStack, closing
 from typing import Callable, NamedTuple, Optional
 
 from netrev_words.plain import plain
@@ -71,7 +71,7 @@ class Adapter:
 
     def serve(self) -> None:
         """Answers until the editor has gone, says that it goes, or turns out to be a stranger."""
-        with self._opened:
+        with closing(self._source), self._opened:
             try:
                 while (request := self._source.request()) is not None:
                     self._answer(request)

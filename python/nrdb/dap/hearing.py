@@ -5,6 +5,7 @@ import signal
 import threading
 from contextlib import contextmanager
 from queue import SimpleQueue
+from threading import Condition
 from typing import Iterator, Optional, Protocol
 
 from ..interrupts import Interrupts
@@ -16,6 +17,7 @@ CANCEL, PAUSE = "cancel", "pause"
 MOVES = ("continue", "reverseContinue", "next", "stepIn", "stepBack", "stepOut", "goto", "restart", "configurationDone")
 PAUSED = (*MOVES, "evaluate")
 SIGNAL = signal.SIGUSR1
+MOST_HELD = 2**22  # bytes of requests that wait for their turn: whoever sends more is read on when there are fewer
 
 
 class Source(Protocol):
@@ -31,6 +33,9 @@ class Source(Protocol):
     def ends(self, request: Request) -> bool:
         """Whether a request isn't to be begun, since the editor ends the session, or has cancelled it."""
 
+    def close(self) -> None:
+        """No more requests are asked for."""
+
 
 class Reading:
     """Requests are read one by one, each when the one before is answered: nothing is heard between."""
@@ -45,14 +50,18 @@ class Reading:
     def ends(self, request: Request) -> bool:
         return False
 
+    def close(self) -> None:
+        pass
+
 
 class Hearing:
     """Requests are read by a thread. All but that belongs to the main thread."""
 
     def __init__(self, wire: Wire):
         self._wire = wire
-        self._came: "SimpleQueue[Request | Exception | None]" = SimpleQueue()
-        self._urgent: list[Request] = []  # those that were heard and aren't answered yet
+        self._came: "SimpleQueue[tuple[Request | Exception | None, int]]" = SimpleQueue()
+        self._room, self._held, self._is_over = Condition(), 0, False
+        self._urgent: list[Request] = []  # those that were heard, and whose turn hasn't come yet
         self._at_work: Optional[Request] = None
         self._interrupts = Interrupts()
         self._is_told = False
@@ -60,17 +69,20 @@ class Hearing:
         threading.Thread(target=self._read, daemon=True).start()
 
     def request(self) -> Optional[Request]:
-        came = self._came.get()
+        came, size = self._came.get()
+        with self._room:
+            self._held -= size
+            self._room.notify()
         if isinstance(came, Exception):
             raise came
+        if came in self._urgent:
+            self._urgent.remove(came)
         return came
 
     @contextmanager
     def work(self, request: Request, interrupts: Interrupts) -> Iterator[None]:
         """Within, this request is worked on, and what is heard stops it by these interrupts: a pause and a cancel as Ctrl-C does, an end
         by giving the session up."""
-        if request in self._urgent:
-            self._urgent.remove(request)
         interrupts.clear()
         self._interrupts, self._is_told = interrupts, False
         try:
@@ -81,9 +93,13 @@ class Hearing:
             self._at_work = None
 
     def ends(self, request: Request) -> bool:
-        return any(
-            one is not request and (one.command in ENDING or is_cancelled_by(request, one)) for one in self._urgent
-        )
+        is_ending = request.command in ENDING
+        return not is_ending and any(one.command in ENDING or is_cancelled_by(request, one) for one in self._urgent)
+
+    def close(self) -> None:
+        with self._room:
+            self._is_over = True
+            self._room.notify()
 
     def _look(self) -> None:
         """Stops what is worked on where something was heard that does. It is called by the signal too, wherever the work is."""
@@ -100,20 +116,30 @@ class Hearing:
 
     def _read(self) -> None:
         """Reads, in the thread, until the editor has gone or says that it goes."""
-        while True:
+        came: Request | Exception | None
+        while not self._is_over:
+            before = self._wire.received
             try:
                 came = self._wire.request()
-            except (Malformed, OSError, ValueError) as wrong:  # (a stream that was closed is a ValueError)
-                self._came.put(wrong if isinstance(wrong, (Malformed, OSError)) else None)
+            except (Malformed, OSError) as wrong:
+                came = wrong
+            except ValueError:  # the stream was closed
+                came = None
+            self._hand_on(came, self._wire.received - before)
+            if not isinstance(came, Request) or came.command == ENDING[0]:
                 return
-            if came is not None and came.command in (*ENDING, CANCEL, PAUSE):
-                self._urgent.append(came)
-                self._came.put(came)
-                signal.pthread_kill(threading.main_thread().ident or 0, SIGNAL)
-            else:
-                self._came.put(came)
-            if came is None or came.command == ENDING[0]:
-                return
+
+    def _hand_on(self, came: Request | Exception | None, size: int) -> None:
+        """Hands on what came, which has so many bytes, when there is room for it; and tells the main thread what is urgent at once."""
+        is_urgent = isinstance(came, Request) and came.command in (*ENDING, CANCEL, PAUSE)
+        if isinstance(came, Request) and is_urgent:
+            self._urgent.append(came)
+        with self._room:
+            self._room.wait_for(lambda: self._held < MOST_HELD or self._is_over)
+            self._held += size
+        self._came.put((came, size))
+        if is_urgent:
+            signal.pthread_kill(threading.main_thread().ident or 0, SIGNAL)
 
 
 def stops(request: Request, heard: Request) -> bool:

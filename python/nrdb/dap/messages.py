@@ -56,6 +56,7 @@ class Wire:
     def __init__(self, reader: BinaryIO, writer: BinaryIO):
         self._reader, self._writer = reader, writer
         self._sent, self._lock = 0, Lock()
+        self.received = 0  # bytes of all messages that came
 
     def request(self) -> Optional[Request]:
         """The next request; None where the editor has gone. Messages of other types are passed over."""
@@ -66,6 +67,7 @@ class Wire:
             data = self._reader.read(length)
             if len(data) < length:
                 return None
+            self.received += length
             message = _object(data)
             if message.get("type") == "request":
                 return _request(message)

@@ -20,7 +20,7 @@ FEW = {"logs": 30, "views": 3, "editors": 12, "browsers": 20}
 SEED = "gate"
 IMPOSSIBLE = "gate-views-28"  # a case whose run isn't made of Go's calls
 LONG = "h65-views-11"  # a file of the program whose name is longer than a name can be
-HALF = "62103-editors-950"  # an editor whose line has half a character
+HALF = "5-editors-2098"  # an editor whose line has half a character
 
 
 def played(sort: str, cases: int, seed: str = SEED) -> tuple[int, str]:

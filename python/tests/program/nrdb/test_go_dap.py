@@ -124,7 +124,7 @@ class Decoded(unittest.TestCase):
         self.assertGreater(len({said.split()[0] for said in told}), 25)
 
     def test_progress_is_decoded(self) -> None:
-        messages = told_of_work("continue", True, 0.3)
+        messages = told_of_work("continue", True, 3)
         self.assertEqual([said for said in decoded(messages) if not said.endswith(" ")], [])
         self.assertIn("progressUpdate", [one.get("event") for one in messages])
 
