@@ -1,12 +1,11 @@
 // Where a live session stands, whoever moved it, and its marks.
 function drawStand(high) {
-  if (D.position < D.first || D.position > D.last || xOf(D.position) < labels()) return;
+  if (xOf(D.position) < labels()) return;
   X.fillStyle = ink.hit;
   X.fillRect(xOf(D.position), V.head, 2, high);
 }
 
 function drawStandAbove(x) {
-  if (D.position < D.first || D.position > D.last) return;
   X.fillStyle = ink.hit;
   X.fillRect(x - 1, 2, 3, 34);
 }
