@@ -100,11 +100,11 @@ function drawCall(call, x, long, y) {
   X.fillRect(x, y + 2.5, long, tall);
   X.globalAlpha = 1;
   X.fillRect(x, y + 2.5, Math.min(1.5, long), tall);
-  if (call.waited && long > 8) drawSleep(call, x, long, y, isRed ? "#ffffff" : colour);
+  if (call.waited && long > 8) drawSleep(call, x, long, y, isRed ? ink["on-bad"] : colour);
   const words = long > 30 ? fit(callWords(call), long - 8) : "";
   if (words !== callWords(call) && isOfStory(call)) return drawBefore(call, x, long, y);
   if (!call.last && call.state !== LISTENS) hatch(x, long, y, colour, words ? X.measureText(words).width + 12 : 0);
-  X.fillStyle = isRed ? "#ffffff" : call.state === HANGS ? ink.bad : ink.ink;
+  X.fillStyle = isRed ? ink["on-bad"] : call.state === HANGS ? ink.bad : ink.ink;
   if (words) X.fillText(words, x + 5, y + V.high / 2 + 0.5);
 }
 

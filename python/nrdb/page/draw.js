@@ -175,7 +175,7 @@ function drawBar(row, shade, value, x, wide, y) {
   if (THIN.includes(shade)) return X.fillRect(x, middle - 2, Math.max(wide, 0.7), 4);
   X.fillRect(x, y + 2.5, Math.max(wide - (wide > 3 ? 1 : 0), 0.8), V.high - 5);
   if (wide < 28) return;
-  X.fillStyle = brightness(shadeOf[shade]) < 135 ? "#ffffff" : "#16202c";
+  X.fillStyle = textOn(shadeOf[shade]);
   X.fillText(fit(shown(row, value), wide - 8), x + 4, middle + 0.5);
 }
 
@@ -237,9 +237,15 @@ function fit(text, wide) {
   return letters < 2 ? "" : `${text.slice(0, letters)}…`;
 }
 
-function brightness(colour) {
-  const [red, green, blue] = [1, 3, 5].map((at) => parseInt(colour.slice(at, at + 2), 16));
-  return 0.3 * red + 0.59 * green + 0.11 * blue;
+function luminance(colour) {
+  const [red, green, blue] = [1, 3, 5].map((at) => parseInt(colour.slice(at, at + 2), 16) / 255);
+  const light = (part) => (part <= 0.04045 ? part / 12.92 : ((part + 0.055) / 1.055) ** 2.4);
+  return 0.2126 * light(red) + 0.7152 * light(green) + 0.0722 * light(blue);
+}
+
+// Of white and black what stands out more from a colour.
+function textOn(colour) {
+  return luminance(colour) < 0.185 ? "#ffffff" : "#0d131b";
 }
 
 // What a bar says.
