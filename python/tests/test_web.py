@@ -26,6 +26,7 @@ class Written:
 
     def __init__(self) -> None:
         self.lines: list[tuple[str, str]] = []
+        self.parts: list[tuple[int, int]] = []
         self.is_gone = False
 
     def post(self, who: str, line: str) -> None:
@@ -40,6 +41,12 @@ class Written:
         else:
             made.set_result(DATA)
         return made
+
+    def part(self, first: int, last: int) -> "Future[bytes]":
+        if last > 100:
+            raise Unavailable("there are 100 steps")
+        self.parts.append((first, last))
+        return self.timeline()
 
 
 class Served(unittest.TestCase):
@@ -98,6 +105,25 @@ class Page(Served):
         self.assertEqual(self.address.type("goto 3; where").status, 202)
         self.assertEqual(self.address.type("ä" * 128, Netrev_Browser="77").status, 202)
         self.assertEqual(self.session.lines, [("somebody", "goto 3; where"), ("somebody", "ä" * 128)])
+
+    def test_a_part_is_named_by_its_positions(self) -> None:
+        part = self.address.get("/part", Netrev_Positions="7-90")
+        self.assertEqual((part.status, part.body, self.session.parts), (200, DATA, [(7, 90)]))
+        refused = {
+            "": 400,
+            "7": 400,
+            "7-": 400,
+            "-7": 400,
+            "7-x": 400,
+            "7-90-100": 400,
+            "7-\xb2": 400,
+            "7-" + "9" * 19: 400,
+        }
+        for named, status in {**refused, "7-101": 503}.items():
+            self.assertEqual(self.address.get("/part", Netrev_Positions=named).status, status, named)
+        self.assertEqual(self.address.get("/part").status, 400)
+        self.assertEqual(self.address.get("/part", Netrev_Positions="7-90", Netrev_Token="wrong").status, 403)
+        self.assertEqual(self.session.parts, [(7, 90)])
 
     def test_what_isnt_answered_is_said(self) -> None:
         self.session.is_gone = True

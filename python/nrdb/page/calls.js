@@ -6,11 +6,16 @@ const CALLS = decoded();
 const STORIES = [...D.suspects, ...D.causes];
 const BY_ROW = byRow();
 
-// The calls, each with its parts by name.
+// The calls, each with its parts by name. A column that has one value alone has it once.
 function decoded() {
-  const { texts, g = [], s, first, long, name, came, line, state, waited, slept } = D.calls, calls = [];
+  const { count, texts } = D.calls, calls = [];
+  const columns = Object.fromEntries(["g", "s", "first", "long", "name", "came", "line", "state", "waited", "slept"].map((name) => {
+    const column = D.calls[name] || [];
+    return [name, column.length === 1 && count > 1 ? new Array(count).fill(column[0]) : column];
+  }));
+  const { g, s, first, long, name, came, line, state, waited, slept } = columns;
   let step = 0;
-  for (let at = 0; at < g.length; at++) {
+  for (let at = 0; at < count; at++) {
     step += first[at];
     calls.push({
       g: g[at], s: s[at], first: step, last: long[at] ? step + long[at] - 1 : 0, name: texts[name[at]], came: texts[came[at]],

@@ -1,7 +1,7 @@
 "use strict";
 function timeline(D, LIVE) {
 /*TIMELINE*/
-return { stand, setMarks };
+return { stand, setMarks, setPart };
 }
 
 // The page of a shared session: what comes by events, and the line to type. Texts of others become text nodes, and nothing else.
@@ -12,7 +12,8 @@ const MOST = 2000; // lines of the log
 const SLOW = 1000; // milliseconds after which a line without a reply is told of
 const AGAIN = 2000; // milliseconds until nrdb is asked again
 const LOST = "nrdb doesn't answer: what is typed isn't answered. Where it was ended, begin it anew, and open the address that it prints";
-const S = { you: "", number: 0, picture: null, isAsked: false, stands: null, marks: [], slow: 0, typed: [], at: 0 };
+const PART = 8000, SOON = 200; // steps that are asked for round what is seen, and milliseconds until they are
+const S = { you: "", number: 0, picture: null, isAsked: false, stands: null, marks: [], slow: 0, typed: [], at: 0, part: 0 };
 
 // Adds a line to the log, which stays at its end where it was there.
 function say(text, kind) {
@@ -75,6 +76,9 @@ const EVENTS = {
     S.marks = event.marks;
     if (S.picture) S.picture.setMarks(S.marks);
   },
+  picture(event) {
+    making(event.says);
+  },
   netrev(event) {
     tellGone(event.there ? "" : event.says);
     if (!event.there) wait("");
@@ -82,32 +86,53 @@ const EVENTS = {
   },
 };
 
-// Shows in the timeline where the session stands, or that this part of it isn't shown.
+// Shows in the timeline where the session stands.
 function showStand() {
-  if (!S.picture || !S.stands) return;
-  const isShown = S.picture.stand(S.stands.position, $("follow").checked);
-  $("part").hidden = isShown;
-  if (isShown) return;
-  const button = document.createElement("button");
-  button.textContent = "show the part round it";
-  button.onclick = () => location.reload();
-  $("part").replaceChildren(`the session stands at ${S.stands.position}, outside of what is shown: `, button);
+  if (S.picture && S.stands) S.picture.stand(S.stands.position, $("follow").checked);
+}
+
+// Says how far the picture is, as long as there is none.
+function making(text) {
+  if (!S.picture) $("part").textContent = text ? `${text}. Lines are answered meanwhile.` : "";
+  $("part").hidden = Boolean(S.picture) || !text;
+}
+
+// What is there under a path, asked for with the token.
+async function fetched(path, headers = {}) {
+  const answer = await fetch(path, { headers: { "Netrev-Token": TOKEN, ...headers } });
+  if (!answer.ok) throw new Error(await answer.text());
+  return answer.json();
 }
 
 // Has the timeline, once.
 async function load() {
   if (S.picture || S.isAsked) return;
   S.isAsked = true;
+  making("the picture is being made");
   try {
-    const answer = await fetch("/timeline", { headers: { "Netrev-Token": TOKEN } });
-    if (!answer.ok) throw new Error(await answer.text());
-    S.picture = timeline(await answer.json(), { ask, position: () => (S.stands ? S.stands.position : 0) });
+    S.picture = timeline(await fetched("/timeline"), { ask, seen, position: () => (S.stands ? S.stands.position : 0) });
     S.picture.setMarks(S.marks);
+    making("");
     showStand();
   } catch (error) {
+    making("");
     $("panel").textContent = error.message;
   }
   S.isAsked = false;
+}
+
+// What is in view has no values of netrev's: they are asked for, once the view stays.
+function seen(from, to, last) {
+  clearTimeout(S.part);
+  const first = Math.max(Math.round((from + to - PART) / 2), 0);
+  S.part = setTimeout(async () => {
+    try {
+      S.picture.setPart(await fetched("/part", { "Netrev-Positions": `${first}-${Math.min(first + PART, last)}` }));
+      S.picture.setMarks(S.marks);
+    } catch (error) {
+      $("said").textContent = error.message;
+    }
+  }, SOON);
 }
 
 // Sends a line. What comes of it comes by events.

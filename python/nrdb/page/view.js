@@ -23,6 +23,7 @@ function show(from, span) {
   V.high = Math.min(Math.max(Math.floor(high / (V.rows.length + 1)), 18), 24);
   scroll(V.top);
   tellView();
+  askForView();
   draw();
 }
 

@@ -40,50 +40,55 @@ def shown_calls(recording: Recording, window: Window) -> list[Call]:
     return [one for one in calls if one.first <= window.last and (not one.last or one.last >= window.first)]
 
 
+COLUMNS = ("g", "s", "first", "long", "name", "came", "line", "state", "waited", "slept")
+
+
 def calls_data(recording: Recording, window: Window) -> Data:
-    """The calls of the window. `first` counts from the call before; `long` is a call's steps, 0 where it hasn't ended; `name`, `came`
-    and `line` are places in `texts`."""
+    """The calls of the window, in columns, of which one that has one value alone has that once. `first` counts from the call before; `long`
+    is a call's steps, 0 where it hasn't ended; `name`, `came` and `line` are places in `texts`."""
     index, texts = index_of(recording), Texts({"": 0})
-    names: tuple[str, ...] = ("g", "s", "first", "long", "name", "came", "line", "state", "waited", "slept")
-    rows: list[tuple[int, ...]] = []
-    lines: dict[int, int] = {}  # the text of each stack
-    before = 0
+    lines, rows, before = Lines(recording, texts), [], 0
     for call in shown_calls(recording, window):
         long = call.last - call.first + 1 if call.last else 0
-        told = texts[name_of(recording, call)], texts[_came(index, call)]
-        line = _line(recording, call.first, lines, texts)
-        rows.append(
-            (
-                call.goroutine,
-                call.socket,
-                call.first - before,
-                long,
-                *told,
-                line,
-                state_of(index, call),
-                call.waited,
-                call.slept,
-            )
-        )
+        told = texts[name_of(recording, call) if recording.lines else call.name], texts[_came(index, call)]
+        about = lines.of(call.first), state_of(index, call), call.waited, call.slept
+        rows.append((call.goroutine, call.socket, call.first - before, long, *told, *about))
         before = call.first
-    return {**{name: list(column) for name, column in zip(names, zip(*rows))}, "texts": list(texts)}
+    columns = {name: list(column) for name, column in zip(COLUMNS, zip(*rows))}
+    return {
+        "count": len(rows),
+        **{name: short_column(column) for name, column in columns.items()},
+        "texts": list(texts),
+    }
+
+
+def short_column(column: list[int]) -> list[int]:
+    """A column, or its one value."""
+    return column[:1] if len(set(column)) == 1 else column
 
 
 def _came(index: Index, call: Call) -> str:
     """What came of a call, in words: of one that takes a connection that is no byte."""
-    is_taken = not call.outcome.is_error and index.is_listening(call)
-    return call.came() if call.last and not is_taken else ""
+    if not call.last or (call.name == "Read" and not call.outcome.is_error and index.is_listening(call)):
+        return ""
+    return call.came()
 
 
-def _line(recording: Recording, step: int, known: dict[int, int], texts: Texts) -> int:
-    """The place of the text of a step's line."""
-    steps = recording.lines.steps
-    if not 0 < step <= len(steps):
-        return 0
-    stack = steps[step - 1]
-    if stack not in known:
-        known[stack] = texts[recording.lines.stacks[stack].words()]
-    return known[stack]
+class Lines:
+    """The lines of the program, each stack's once, by their places among the texts."""
+
+    def __init__(self, recording: Recording, texts: Texts) -> None:
+        self._lines, self._texts = recording.lines, texts
+        self._known: dict[int, int] = {}
+
+    def of(self, step: int) -> int:
+        """The place of the text of a step's line."""
+        if not 0 < step <= len(self._lines.steps):
+            return 0
+        stack = self._lines.steps[step - 1]
+        if stack not in self._known:
+            self._known[stack] = self._texts[self._lines.stacks[stack].words()]
+        return self._known[stack]
 
 
 def names_data(recording: Recording, window: Window) -> dict[int, str]:

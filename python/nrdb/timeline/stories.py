@@ -12,17 +12,15 @@ from ..scout import Scout
 from ..suspects.ranking import all_suspects_of
 from ..suspects.table import shown_of, suspects_table
 from .calls import Data
-from .runs import Window
 
 MOST_CAUSES = 6  # of each sort
 HANGS, FAILED = "hangs", "failed"
 
 
-def stories_data(scout: Scout, recording: Recording, window: Window) -> tuple[list[Data], list[Data]]:
-    """The suspects of the window, and the stories of the calls that hang or failed, where the whole recording has no suspect."""
+def stories_data(scout: Scout, recording: Recording) -> tuple[list[Data], list[Data]]:
+    """The suspects, and the stories of the calls that hang or failed, where there is no suspect."""
     suspects = list(suspects_data(scout, recording))
-    causes = [] if suspects else list(causes_data(recording))
-    return [[one for one in some if window.first <= one["step"] <= window.last] for some in (suspects, causes)]  # type: ignore
+    return suspects, [] if suspects else list(causes_data(recording))
 
 
 def suspects_data(scout: Scout, recording: Recording) -> Iterator[Data]:

@@ -2,14 +2,13 @@
 program. That is nrdb's own, unproved."""
 
 from collections import Counter
-from itertools import islice
 from typing import Any
 
 from ..calls import book_of
 from ..notes import INSIDE
 from ..recorded_changes import RecordedChanges
 from ..recording import Recording
-from ..session import Session
+from ..shapes import Listed
 from .calls import Data
 from .runs import Runs, Window
 
@@ -18,15 +17,16 @@ WAKES = {"parked": ("swapping", "desc"), "queued": ("acquiring", "sock")}  # wha
 
 
 class Connections:
-    """Whose each descriptor and each goroutine is, up to a position: each use of a descriptor, with its number, its socket, and
+    """Whose each descriptor and each goroutine is, in a window: each use of a descriptor up to its end, with its number, its socket, and
     from which position to which (None: the end); and the socket that each goroutine has most to do with."""
 
-    def __init__(self, recording: Recording, last: int) -> None:
+    def __init__(self, recording: Recording, window: Window) -> None:
         self.uses: list[list[Any]] = []
+        self._window = window
         self._touched: dict[int, dict[int, int]] = {}
-        self._opens(recording, last)
-        book = book_of(recording)
-        steps = Counter(zip(islice(book.goroutines, last), islice(book.sockets, last)))
+        self._opens(recording, window.last)
+        book, first = book_of(recording), max(window.first - 1, 0)
+        steps = Counter(zip(book.goroutines[first : window.last], book.sockets[first : window.last]))
         for (g, s), many in sorted(steps.items()):
             if g >= 0 and s >= 0:
                 self._touched.setdefault(g, {})[s] = many
@@ -44,11 +44,11 @@ class Connections:
             of[d] = [d, step.argument("s"), step.number, None]
             self.uses.append(of[d])
 
-    def groups(self, runs: Runs, window: Window) -> dict[int, int]:
+    def groups(self, runs: Runs) -> dict[int, int]:
         """The socket of each goroutine: the one at which it waits for the most steps, or makes the most."""
         for cell, run in runs.items():
             if cell.startswith("gor "):
-                ends = [begins for begins, _ in run[1:]] + [window.last + 1]
+                ends = [begins for begins, _ in run[1:]] + [self._window.last + 1]
                 for (begins, value), until in zip(run, ends):
                     self._waits(int(cell.split()[1]), value.split(), begins, until - begins)
         return {g: max(counts, key=counts.__getitem__) for g, counts in self._touched.items()}
@@ -89,10 +89,10 @@ def lines_data(recording: Recording, window: Window) -> Data:
     return {"texts": list(texts), "at": at}
 
 
-def marks_of(session: Session, recording: Recording, window: Window, runs: Runs) -> list[Data]:
+def marks_of(listed: list[Listed], recording: Recording, window: Window, runs: Runs) -> list[Data]:
     """The session's marks, with the positions at which they hit."""
     marks = []
-    for number, sort, what in session.netrev.marks():
+    for number, sort, what in listed:
         if sort == "watch":
             hits = [start for start, _ in runs.get(what, ())[1:]]
         elif what.startswith("@"):

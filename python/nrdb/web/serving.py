@@ -1,4 +1,4 @@
-"""The page's server: it listens at the loopback alone, in a thread of its own, and answers four requests. It does nothing by itself
+"""The page's server: it listens at the loopback alone, in a thread of its own, and answers five requests. It does nothing by itself
 with the session, which is asked by the thread that runs it."""
 
 import asyncio
@@ -10,7 +10,7 @@ from http import HTTPStatus
 from typing import Protocol
 
 from .document import Document
-from .requests import BROWSER, EVENTS, LINE, PAGE, Gate, Request, Rejected, line_of
+from .requests import BROWSER, EVENTS, LINE, PAGE, PART, Gate, Request, Rejected, line_of, positions_of
 from .streams import Stream, Streams
 from .wire import EVENT_STREAM, JSON, LONGEST_HEAD, Wire
 
@@ -34,6 +34,9 @@ class Runner(Protocol):
 
     def timeline(self) -> "Future[bytes]":
         """The timeline's data, as JSON; Unavailable where it can't be had."""
+
+    def part(self, first: int, last: int) -> "Future[bytes]":
+        """What is shown of these positions, as JSON; Unavailable where it can't be had."""
 
 
 def listening(port: int) -> socket.socket:
@@ -139,7 +142,8 @@ class Server:
             self._session.post(self._streams.name_of(request.headers.get(BROWSER, "")), line_of(body))
             await wire.answer(HTTPStatus.ACCEPTED, b"")
         else:
-            await wire.answer(HTTPStatus.OK, await asyncio.wrap_future(self._session.timeline()), JSON)
+            made = self._session.part(*positions_of(request)) if request.path == PART else self._session.timeline()
+            await wire.answer(HTTPStatus.OK, await asyncio.wrap_future(made), JSON)
 
     async def _tell(self, wire: Wire, stream: Stream) -> None:
         """Tells a browser what happens until it goes, or is too far behind."""

@@ -11,6 +11,7 @@ from nrdb.calls import book_of
 from nrdb.causes.hanging import hangs_at
 from nrdb.recording import Recording
 from nrdb.suspects.ranking import all_suspects_of
+from nrdb.timeline.calls import COLUMNS
 
 from .browser import CHROMIUM, used
 from .devtools import Chromium
@@ -48,6 +49,7 @@ class Data(unittest.TestCase):
             recording = Recording.read(str(REAL / f"{name}.jsonl"))
             data = data_in(page_of(REAL / f"{name}.jsonl"))["calls"]
             texts, step, told = data["texts"], 0, []
+            data |= {part: data[part] * data["count"] for part in COLUMNS if len(data[part]) == 1}
             for at, begins in enumerate(data["first"]):
                 step += begins
                 last = step + data["long"][at] - 1 if data["long"][at] else 0
