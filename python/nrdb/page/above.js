@@ -111,7 +111,7 @@ function drawMarks(step) {
   for (const mark of D.marks) {
     for (const at of mark.hits) {
       const x = xOf(at) + Math.min(step / 2, 8);
-      if (x < labels() || x > C.clientWidth) continue;
+      if (x < labels() || x > G.wide) continue;
       X.beginPath();
       X.moveTo(x - 4, V.head - 9);
       X.lineTo(x + 4, V.head - 9);

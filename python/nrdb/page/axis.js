@@ -25,12 +25,23 @@ function positionOf(far) {
   return high >= END + 1 ? END + 1 : low;
 }
 
-const labels = () => (C.clientWidth < NARROW ? 92 : 168);
-const room = () => C.clientWidth - labels() - EDGE;
-const inView = () => Math.max(along(V.from + V.span) - along(V.from), 1e-9);
-const perStep = () => (V.byTime ? 0 : room() / V.span);
-const xOf = (position) => labels() + ((along(position) - along(V.from)) / inView()) * room();
-const positionAt = (x) => positionOf(along(V.from) + ((x - labels()) / room()) * inView());
+// What a draw reckons with, measured once: how wide the picture and its labels are, and how far along the axis it begins and reaches.
+const G = { wide: 0, tall: 0, left: 0, room: 1, base: 0, reach: 1, times: 1 };
+function measure() {
+  G.wide = C.clientWidth;
+  G.tall = C.clientHeight;
+  G.left = G.wide < NARROW ? 92 : 168;
+  G.room = G.wide - G.left - EDGE;
+  G.base = along(V.from);
+  G.reach = Math.max(along(V.from + V.span) - G.base, 1e-9);
+  G.times = G.room / G.reach;
+}
+const labels = () => G.left;
+const room = () => G.room;
+const inView = () => G.reach;
+const perStep = () => (V.byTime ? 0 : G.room / V.span);
+const xOf = (position) => G.left + (along(position) - G.base) * G.times;
+const positionAt = (x) => positionOf(G.base + (x - G.left) / G.times);
 
 // The share of the whole run that lies before a position.
 const shareOf = (position) => (along(position) - along(BEGIN)) / (along(END + 1) - along(BEGIN));

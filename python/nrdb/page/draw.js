@@ -19,7 +19,8 @@ function readColours() {
 }
 
 function draw() {
-  const scale = devicePixelRatio || 1, wide = C.clientWidth, high = C.clientHeight;
+  measure();
+  const scale = devicePixelRatio || 1, wide = G.wide, high = G.tall;
   if (C.width !== Math.round(wide * scale) || C.height !== Math.round(high * scale)) {
     C.width = Math.round(wide * scale);
     C.height = Math.round(high * scale);

@@ -17,9 +17,10 @@ function within(position) {
 function show(from, span) {
   V.span = Math.min(Math.max(span, Math.min(4, COUNT)), COUNT);
   V.from = Math.min(Math.max(from, BEGIN), END + 1 - V.span);
+  measure();
   V.rows = rowsBetween(V.from, V.from + V.span, $("ended").checked);
   V.head = perStep() < SLANTED ? LOW : TALL;
-  const high = C.clientHeight - V.head;
+  const high = G.tall - V.head;
   V.high = Math.min(Math.max(Math.floor(high / (V.rows.length + 1)), 18), 24);
   scroll(V.top);
   tellView();
@@ -35,7 +36,7 @@ function tellView() {
 const tell = (text) => { if (!V.hits.length) $("said").textContent = text; };
 
 function scroll(top) {
-  const most = V.rows.length * V.high - (C.clientHeight - V.head) + 10;
+  const most = V.rows.length * V.high - (G.tall - V.head) + 10;
   V.top = Math.min(Math.max(top, 0), Math.max(most, 0));
 }
 
