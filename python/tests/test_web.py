@@ -3,6 +3,7 @@ session that only writes down what it is asked."""
 
 import base64
 import hashlib
+import json
 import re
 import time
 import unittest
@@ -33,6 +34,13 @@ class Written:
         if self.is_gone:
             raise Unavailable("netrev has ended")
         self.lines.append((who, line))
+
+    def complete(self, line: str) -> "Future[bytes]":
+        if self.is_gone:
+            raise Unavailable("netrev has ended")
+        made: Future[bytes] = Future()
+        made.set_result(json.dumps([line, f"{line}!"]).encode("ascii"))
+        return made
 
     def timeline(self) -> "Future[bytes]":
         made: Future[bytes] = Future()
@@ -105,6 +113,17 @@ class Page(Served):
         self.assertEqual(self.address.type("goto 3; where").status, 202)
         self.assertEqual(self.address.type("ä" * 128, Netrev_Browser="77").status, 202)
         self.assertEqual(self.session.lines, [("somebody", "goto 3; where"), ("somebody", "ä" * 128)])
+
+    def test_a_line_that_is_being_typed_is_completed(self) -> None:
+        request, post = self.address.request, lambda body: self.address.send(request("POST", "/complete", body))
+        found = post("info ä".encode("utf-8"))
+        self.assertEqual((found.status, json.loads(found.body)), (200, ["info ä", "info ä!"]))
+        self.assertEqual([post(body).status for body in (b"a" * 257, b"a\nb", b"\xff")], [413, 400, 400])
+        self.assertEqual(self.address.send(request("POST", "/complete", b"st", Netrev_Token="wrong")).status, 403)
+        self.assertEqual(self.address.get("/complete").status, 405)
+        self.session.is_gone = True
+        self.assertEqual(post(b"st").status, 503)
+        self.assertEqual(self.session.lines, [])
 
     def test_a_part_is_named_by_its_positions(self) -> None:
         part = self.address.get("/part", Netrev_Positions="7-90")

@@ -181,6 +181,31 @@ class NotHere(Played):
         self.running.post("browser 2", "info position")
 
 
+class Completed(Played):
+    def found(self, line: str) -> list[str]:
+        wanted = self.running.complete(line)
+        self.running.turn()
+        found: list[str] = json.loads(wanted.result(0))
+        return found
+
+    def test_words_cells_and_numbers(self) -> None:
+        self.assertEqual(self.found("rest"), ["restart"])
+        self.assertEqual(self.found("info sus"), ["suspects"])
+        self.assertEqual(self.found("stepi 3; print lo"), ["lock"])
+        self.assertEqual(self.found("print gor "), ["0"])
+        self.types("stepi 6")
+        self.assertEqual(self.found("print gor "), ["0", "1", "2"])
+        self.assertEqual(self.found("print gor 1 "), ["idle", *self.found("print gor 1 ")[1:]])
+        self.assertEqual(self.found("nonsense x"), [])
+        self.assertEqual(self.streams.take(), [])
+
+    def test_netrev_is_gone(self) -> None:
+        self.netrev.has_ended = True
+        self.assertEqual(self.found("print gor "), [])
+        self.assertEqual([event["event"] for event in self.streams.take()], ["netrev"])
+        self.assertEqual(self.found("print gor "), [])
+
+
 class Stopped(Played):
     def test_a_walk_is_stopped_and_the_session_goes_on(self) -> None:
         def stopped(_: Optional[int]) -> None:

@@ -17,6 +17,7 @@ const KEYS = [
   ["m m", "a span: one end, the other; or drag with Shift"],
   ["c", LIVE ? "goto it" : "copy goto for the prompt"],
   ["S P", "save as SVG, as PNG"],
+  ...(LIVE ? [["< >", "a step of the session back, ahead"], ["( )", "a call of its goroutine"], ["{ }", "to where a mark hits"]] : []),
   ["Esc", "forget what was found, filtered, picked"],
 ];
 const SOURCE = [

@@ -1,4 +1,4 @@
-"""Who is let in, and to what: a request is one of five, comes from this machine's own page, and has the token; all others are
+"""Who is let in, and to what: a request is one of six, comes from this machine's own page, and has the token; all others are
 refused."""
 
 import hmac
@@ -9,8 +9,8 @@ from typing import Mapping
 
 LONGEST_LINE = 256  # bytes of a line, as netrev takes it
 TOKEN, BROWSER, POSITIONS = "netrev-token", "netrev-browser", "netrev-positions"  # headers that the page's script sends
-PAGE, EVENTS, TIMELINE, PART, LINE = "/", "/events", "/timeline", "/part", "/line"
-METHODS = {PAGE: "GET", EVENTS: "GET", TIMELINE: "GET", PART: "GET", LINE: "POST"}
+PAGE, EVENTS, TIMELINE, PART, LINE, COMPLETE = "/", "/events", "/timeline", "/part", "/line", "/complete"
+METHODS = {PAGE: "GET", EVENTS: "GET", TIMELINE: "GET", PART: "GET", LINE: "POST", COMPLETE: "POST"}
 BY_ADDRESS = (PAGE, EVENTS)  # which have the token in the address: nothing that asks for them can set a header
 
 FIRST_LINE = re.compile(r"([A-Z]{1,20}) (/[!-~]*) HTTP/1\.[01]")

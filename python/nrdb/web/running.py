@@ -1,6 +1,7 @@
 """Runs the session of the page, in the thread that called: lines one after the other, looks at what others did, and what is said
 while netrev is gone, until it is there again."""
 
+import json
 import queue
 import secrets
 import time
@@ -10,6 +11,7 @@ from typing import Callable, Optional
 
 from ..netrev import Ended, Netrev
 from ..output import Printer
+from ..prompt.completion import completions
 from ..recording import NoRecording
 from ..session import Mismatched, Session
 from ..shapes import Refused, Strange
@@ -79,6 +81,20 @@ class Running:
         if self._gone:
             raise Unavailable(self._gone)
         self._take(lambda: self._answer(who, line))
+
+    def complete(self, line: str) -> "Future[bytes]":
+        """What the last word of a line that is being typed can become, as JSON; Unavailable where too many lines wait."""
+        wanted: "Future[bytes]" = Future()
+
+        def answer() -> None:
+            found: list[str] = []
+            if not self._gone:
+                self._guarded(lambda: found.extend(completions(line, self.session)))
+            if wanted.set_running_or_notify_cancel():
+                wanted.set_result(json.dumps(found).encode("ascii"))
+
+        self._take(answer)
+        return wanted
 
     def timeline(self) -> "Future[bytes]":
         """The timeline's data, as JSON; Unavailable where they can't be had."""
