@@ -5,9 +5,9 @@ import argparse
 import io
 import os
 import shutil
-import subprocess
 import sys
-from contextlib import closing
+from contextlib import closing, nullcontext
+from functools import partial
 from typing import Callable, Optional, Sequence
 
 from .arriving_changes import ArrivingChanges
@@ -20,7 +20,7 @@ from .options import parsed, parser
 from .output import JsonPrinter, Printer, TextPrinter
 from .recording import NoRecording, Recording
 from .reducing import reduced_file
-from .refusals import explained
+from .refusals import explained, fault_of
 from .scout import Lost, Scout
 from .session import Mismatched, Misused, Session
 from .shapes import POSITION, Refused, Strange
@@ -31,6 +31,8 @@ from .web import serve_page
 
 DONE, REFUSED, USAGE, FAILED, SUSPECTS = range(5)
 SILENT = "no reply yet: somebody else is at this front, or netrev goes through what all have searched; nrdb waits"
+
+LOADING = "netrev reads the recording still; Ctrl-C once more ends nrdb"
 
 
 def main(words: Optional[Sequence[str]] = None) -> int:
@@ -97,6 +99,32 @@ def start(wanted: argparse.Namespace, printer: Printer) -> int:
 
 def begun(wanted: argparse.Namespace, netrev: Netrev, interrupts: Interrupts, printer: Printer) -> int:
     """Runs a session with this netrev to its end; the exit status."""
+    with interrupts.held(lambda: printer.note(LOADING)) if has_prompt(wanted) else nullcontext():
+        session = session_of(wanted, netrev, interrupts, printer)
+        first = session.ask("info position")
+    if not POSITION.fullmatch(first):
+        return refused(wanted, netrev, first, printer)
+    try:
+        session.begin(first)
+        if session.recording and session.recording.lines.fault:
+            printer.note(session.recording.lines.why_unused(wanted.file))
+        status = played(session, wanted)
+    finally:
+        if session.scout and session.recorded:
+            session.scout.drop()
+            session.recorded.drop()
+    ended = netrev.close()
+    return status if wanted.web is not None else ended or status  # (the page may have gone on with another netrev)
+
+
+def has_prompt(wanted: argparse.Namespace) -> bool:
+    """Whether somebody is to type at a terminal, who may press Ctrl-C and not mean the session."""
+    ends = wanted.batch or wanted.suspects or wanted.explore or wanted.explore_failures or wanted.web is not None
+    return sys.stdin.isatty() and not ends and all(getattr(wanted, name) is None for name in WRITERS)
+
+
+def session_of(wanted: argparse.Namespace, netrev: Netrev, interrupts: Interrupts, printer: Printer) -> Session:
+    """The session that is wanted, which hasn't begun yet."""
     recording = Recording.read(wanted.file) if wanted.file else None
     if wanted.join and wanted.file and (fault := fault_of(wanted.netrev, wanted.file)):
         raise NoRecording(f"{wanted.file} isn't a recording: {fault}")
@@ -106,30 +134,7 @@ def begun(wanted: argparse.Namespace, netrev: Netrev, interrupts: Interrupts, pr
     if recording and shutil.which(wanted.netrev):
         recording.changes = recorded
     session.program, session.path = wanted.netrev, wanted.file or ""
-    first = session.ask("info position")
-    if not POSITION.fullmatch(first):
-        return refused(wanted, netrev, first, printer)
-    try:
-        session.begin(first)
-        if recording and recording.lines.fault:
-            printer.note(recording.lines.why_unused(wanted.file))
-        status = played(session, wanted)
-    finally:
-        if scout and recorded:
-            scout.drop()
-            recorded.drop()
-    ended = netrev.close()
-    return status if wanted.web is not None else ended or status  # (the page may have gone on with another netrev)
-
-
-def fault_of(netrev: str, path: str) -> str:
-    """The first fault of a recording; nothing where netrev takes it, or isn't here to say."""
-    try:
-        words = [netrev, "check", path]
-        ended = subprocess.run(words, stdin=subprocess.DEVNULL, stdout=subprocess.PIPE, check=False)
-    except OSError:
-        return ""
-    return ended.stdout.decode("utf-8", "surrogateescape").strip() if ended.returncode == REFUSED else ""
+    return session
 
 
 def refused(wanted: argparse.Namespace, netrev: Netrev, first: str, printer: Printer) -> int:
@@ -158,12 +163,12 @@ def played(session: Session, wanted: argparse.Namespace) -> int:
         if not (session.run if sort == "line" else session.play)(text):
             return DONE
     if wanted.suspects:
-        return suspected(session)
+        return unless_stopped(session, lambda: suspected(session))
     if wanted.explore or wanted.explore_failures:
-        return schedules_tried(session, wanted.explore_failures)
+        return unless_stopped(session, lambda: schedules_tried(session, wanted.explore_failures))
     for name, write in WRITERS.items():
         if (file := getattr(wanted, name)) is not None:
-            return made(session, file, write, wanted.part)
+            return unless_stopped(session, partial(made, session, file, write, wanted.part))
     if wanted.web is not None:
         return serve_page(session, wanted.web, lambda printer: opened(wanted, session.interrupts, printer))
     if not wanted.batch:
@@ -171,38 +176,33 @@ def played(session: Session, wanted: argparse.Namespace) -> int:
     return DONE
 
 
-def suspected(session: Session) -> int:
-    """Prints the suspects; the exit status."""
+def unless_stopped(session: Session, work: Callable[[], int]) -> int:
+    """What some work ends with; FAILED where it was stopped, or can't be done."""
     try:
         with session.interrupts.held():
-            table = suspects_table(session.looks(), session.text())
+            return work()
     except (Interrupted, Lost, Misused, Refused) as stopped:
         session.printer.note(str(stopped) or "interrupted")
         return FAILED
+
+
+def suspected(session: Session) -> int:
+    """Prints the suspects; the exit status."""
+    table = suspects_table(session.looks(), session.text())
     session.printer.table(table)
     return SUSPECTS if table.rows else DONE
 
 
 def schedules_tried(session: Session, is_of_failures: bool) -> int:
     """Explores; the exit status."""
-    try:
-        with session.interrupts.held():
-            said = explored(session, is_of_failures=is_of_failures)
-    except (Interrupted, Lost, Misused, Refused) as stopped:
-        session.printer.note(str(stopped) or "interrupted")
-        return FAILED
+    said = explored(session, is_of_failures=is_of_failures)
     session.printer.note(said.text)
     return SUSPECTS if said.found else DONE
 
 
 def made(session: Session, path: str, write: Callable[..., str], part: Sequence[int]) -> int:
     """Writes a file, of a timeline maybe with a part, and says what was written; the exit status."""
-    try:
-        with session.interrupts.held():
-            session.printer.note(write(session, path, *part))
-    except (Interrupted, Lost, Misused, Refused) as stopped:
-        session.printer.note(str(stopped) or "interrupted")
-        return FAILED
+    session.printer.note(write(session, path, *part))
     return DONE
 
 

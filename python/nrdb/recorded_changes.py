@@ -160,11 +160,15 @@ class RecordedChanges:
     def _hold(self) -> None:
         """Holds in arrays what has come."""
         while self._held < len(self._lines.pieces):
-            try:
-                self._take_lines(self._lines.pieces[self._held].decode("ascii").removesuffix("\n"))
-            except (ValueError, IndexError):
-                raise NoChanges("a line that is no change") from None
-            self._held += 1
+            self._hold_piece()
+
+    def _hold_piece(self) -> None:
+        """Holds the next piece in arrays, whole."""
+        try:
+            self._take_lines(self._lines.pieces[self._held].decode("ascii").removesuffix("\n"))
+        except (ValueError, IndexError):
+            raise NoChanges("a line that is no change") from None
+        self._held += 1
 
     def _wait(self, position: Optional[int]) -> None:
         """Comes back when what leads to a position is there, or all."""
