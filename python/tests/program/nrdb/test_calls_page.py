@@ -209,17 +209,26 @@ class InChromium(unittest.TestCase):
         self.assertLess(told["zoomed"][1], 120)
 
     def test_pictures_are_saved(self) -> None:
-        told = used(
-            self.pages["leak"],
-            """
-            const made = []; URL.createObjectURL = (blob) => { made.push(blob); return "#"; }; URL.revokeObjectURL = () => {};
-            document.getElementById("svg").click(); told.svg = text("said"); document.getElementById("png").click();
-            for (let n = 0; made.length < 2 && n < 100; n++) await new Promise((done) => setTimeout(done, 20));
-            told.png = text("said"); told.types = made.map((blob) => blob.type); told.text = await made[0].text();
-            told.begins = [...new Uint8Array(await made[1].arrayBuffer())].slice(1, 4).map((one) => String.fromCharCode(one)).join("");
-            told.pixel = pixel(300, 300);
-            """,
-        )
+        with Chromium() as chromium, tempfile.TemporaryDirectory() as folder:
+            file = Path(folder) / "page.html"
+            file.write_text(self.pages["leak"], encoding="utf-8")
+            page = chromium.page(f"file://{file}")
+            page.until("window.inside && document.getElementById('panel').innerText.includes('position')")
+            said = "document.getElementById('said').innerText"
+            page.value(
+                "window.made = []; URL.createObjectURL = (blob) => { made.push(blob); return '#'; }; URL.revokeObjectURL = () => {}; 1"
+            )
+            told: dict[str, Any] = {}
+            for name in ("svg", "png"):
+                page.value(f"document.getElementById('{name}').click()")
+                page.until(f"{said} === 'saved: leak.{name}'")
+                told[name] = page.value(said)
+            told["types"] = page.value("made.map((blob) => blob.type)")
+            told["text"] = page.value("made[0].text()")
+            told["begins"] = page.value(
+                "made[1].arrayBuffer().then((all) => String.fromCharCode(...new Uint8Array(all).slice(1, 4)))"
+            )
+            self.assertEqual(page.wrongs(), [])
         self.assertEqual((told["svg"], told["png"]), ("saved: leak.svg", "saved: leak.png"))
         self.assertEqual((told["types"], told["begins"]), (["image/svg+xml", "image/png"], "PNG"))
         picture = ET.fromstring(told["text"])
