@@ -8,11 +8,7 @@ import shutil
 import sys
 from contextlib import closing, nullcontext
 from functools import partial
-from typing import Any, Callable, NoReturn, Optional, Sequence
-
-from netrev_words.built import BUILT, netrev_program
-from netrev_words.plain import plain
-from netrev_words.version import VERSION
+from typing import Callable, Optional, Sequence
 
 from .arriving_changes import ArrivingChanges
 from .prompt.answers import ANSWERS
@@ -20,6 +16,7 @@ from .dap import serve_port, serve_streams
 from .exploring import explored
 from .interrupts import GivenUp, Interrupted, Interrupts
 from .netrev import Ended, Joined, Netrev, Own, Reply
+from .options import parsed, parser
 from .output import JsonPrinter, Printer, TextPrinter
 from .recording import NoRecording, Recording
 from .reducing import reduced_file
@@ -38,72 +35,9 @@ SILENT = "no reply yet: somebody else is at this front, or netrev goes through w
 LOADING = "netrev reads the recording still; Ctrl-C once more ends nrdb"
 
 
-class InOrder(argparse.Action):
-    """Keeps -x and -ex in the order in which they are given."""
-
-    def __call__(self, _parser: Any, space: argparse.Namespace, value: Any, _option: Optional[str] = None) -> None:
-        space.lines = [*(space.lines or []), (self.const, value)]
-
-
-class Words(argparse.ArgumentParser):
-    """Parses the words, and tells what is wrong with them."""
-
-    def error(self, message: str) -> NoReturn:
-        super().error(plain(message))
-
-
-def parser() -> Words:
-    """The words that nrdb takes."""
-    made = Words(
-        prog="nrdb",
-        description="The companion at netrev's prompt: what it adds to netrev's replies begins with | and is unproved.",
-    )
-    made.add_argument("--version", action="version", version=f"nrdb {VERSION}", help="prints the version, and ends")
-    made.add_argument("file", nargs="?", metavar="FILE", help="the recording")
-    made.add_argument(
-        "-x", dest="lines", action=InOrder, const="source", metavar="FILE", help="takes lines from a file"
-    )
-    made.add_argument("-ex", dest="lines", action=InOrder, const="line", metavar="COMMAND", help="takes this line")
-    made.add_argument("--batch", "-batch", action="store_true", help="ends behind -x and -ex, in place of a prompt")
-    made.add_argument("--json", action="store_true", help="prints a line of JSON for each event")
-    made.add_argument(
-        "--suspects", action="store_true", help="prints the suspects, behind -x and -ex, and ends: with status 4 if any"
-    )
-    made.add_argument("--timeline", metavar="OUT.html", help="writes the timeline, behind -x and -ex, and ends")
-    made.add_argument("--trace", metavar="OUT.json", help="writes all steps for Perfetto, behind -x and -ex, and ends")
-    made.add_argument(
-        "--reduce", metavar="OUT.jsonl", help="writes the least recording with its first suspect, and ends"
-    )
-    made.add_argument(
-        "--explore",
-        action="store_true",
-        help="plays schedules near the recorded one, behind -x and -ex, prints which of them end with a suspect, and ends: with "
-        "status 4 if any",
-    )
-    made.add_argument("--explore-failures", action="store_true", help="the same, of calls that fail and had gone well")
-    made.add_argument("--join", metavar="HOST:PORT", help="joins a session that `netrev serve` has")
-    made.add_argument(
-        "--dap", action="store_true", help="serves an editor by the Debug Adapter Protocol, over the standard streams"
-    )
-    made.add_argument(
-        "--dap-port",
-        metavar="PORT",
-        type=int,
-        help="the same at a port of the loopback, one after the other; a launch names the token that is printed",
-    )
-    made.add_argument(
-        "--web",
-        metavar="PORT",
-        type=int,
-        help="serves a page for browsers at a port of the loopback, in place of a prompt",
-    )
-    made.add_argument("--netrev", default=netrev_program() or str(BUILT), metavar="PROGRAM", help="netrev's program")
-    return made
-
-
 def main(words: Optional[Sequence[str]] = None) -> int:
     """Runs nrdb with these words; its exit status."""
-    wanted = parser().parse_args(words)
+    wanted = parsed(sys.argv[1:] if words is None else words)
     if wanted.dap_port is not None:
         return serve_port(wanted.netrev, wanted.dap_port)
     if wanted.dap:
@@ -234,7 +168,7 @@ def played(session: Session, wanted: argparse.Namespace) -> int:
         return unless_stopped(session, lambda: schedules_tried(session, wanted.explore_failures))
     for name, write in WRITERS.items():
         if (file := getattr(wanted, name)) is not None:
-            return unless_stopped(session, partial(made, session, file, write))
+            return unless_stopped(session, partial(made, session, file, write, wanted.part))
     if wanted.web is not None:
         return serve_page(session, wanted.web, lambda printer: opened(wanted, session.interrupts, printer))
     if not wanted.batch:
@@ -266,13 +200,13 @@ def schedules_tried(session: Session, is_of_failures: bool) -> int:
     return SUSPECTS if said.found else DONE
 
 
-def made(session: Session, path: str, write: Callable[[Session, str], str]) -> int:
-    """Writes a file, and says what was written; the exit status."""
-    session.printer.note(write(session, path))
+def made(session: Session, path: str, write: Callable[..., str], part: Sequence[int]) -> int:
+    """Writes a file, of a timeline maybe with a part, and says what was written; the exit status."""
+    session.printer.note(write(session, path, *part))
     return DONE
 
 
-WRITERS: dict[str, Callable[[Session, str], str]] = {
+WRITERS: dict[str, Callable[..., str]] = {
     "timeline": write_timeline,
     "trace": write_trace,
     "reduce": lambda session, path: reduced_file(session, [path]),

@@ -150,8 +150,13 @@ class Recording:
 
     def arrays(self) -> Iterator[list[Any]]:
         """Each step's array as JSON has it, one after the other."""
-        for first in range(1, self.length + 1, AT_ONCE):
-            last = min(first + AT_ONCE, self.length + 1) - 1
+        return self.arrays_of(1, self.length)
+
+    def arrays_of(self, begin: int, end: int) -> Iterator[list[Any]]:
+        """The arrays of the steps from one number to another, as far as there are so many."""
+        end = min(end, self.length)
+        for first in range(begin, end + 1, AT_ONCE):
+            last = min(first + AT_ONCE, end + 1) - 1
             text = self.data[self._starts[self._numbers[first] - 1] : self._starts[self._numbers[last]]]
             yield from parsed(b"[%s]" % b",".join(line for line in text.split(b"\n") if line.strip()))
 

@@ -5,15 +5,21 @@ import json
 import random
 import unittest
 from functools import lru_cache
+from itertools import chain
 from pathlib import Path
-from typing import Any
+from typing import Any, Sequence
 
 from netrev_fuzz.injections import Traffic
 from netrev_fuzz.randomsteps import Author
 from netrev_machine.machine import World
 from netrev_machine.steps import apply
 from netrev_words.writing import write_plain
+from nrdb.calls import book_of
+from nrdb.recorded_changes import RecordedChanges
 from nrdb.recording import Recording
+from nrdb.scout import Scout
+from nrdb.suspects.ranking import all_suspects_of
+from nrdb.timeline.beside import beside
 from nrdb.timeline.trace import Tracing
 
 from .modelled import changes_in
@@ -24,6 +30,8 @@ REQUIRED = {
     "X": {"pid", "tid", "ts", "dur", "name"},
     "s": {"pid", "tid", "ts", "id", "name", "cat"},
     "f": {"pid", "tid", "ts", "id", "name", "cat", "bp"},
+    "i": {"pid", "tid", "ts", "name", "s"},
+    "C": {"pid", "tid", "ts", "name", "args"},
 }
 Event = dict[str, Any]
 
@@ -71,10 +79,22 @@ def faults_of(events: list[Event]) -> list[str]:
 
 def traced(recording: Recording) -> list[Event]:
     """The events of the trace of a recording, as JSON gives them back."""
-    events: list[Event] = json.loads(
-        json.dumps(list(Tracing(recording, changes_in(recording.data)).events("run.jsonl", lambda: None)))
+    changes = changes_in(recording.data)
+    told = chain(
+        Tracing(recording, changes).events("run.jsonl", lambda: None), beside(recording, changes, Looking(changes))
     )
+    events: list[Event] = json.loads(json.dumps(list(told)))
     return events
+
+
+class Looking(Scout):
+    """Looks at what the changes say."""
+
+    def __init__(self, changes: RecordedChanges) -> None:
+        self._changes = changes
+
+    def values(self, position: int, cells: Sequence[str]) -> list[str]:
+        return [self._changes.value(cell, position) for cell in cells]
 
 
 def statuses_of(events: list[Event], length: int) -> list[dict[int, str]]:
@@ -134,3 +154,33 @@ class Trace(unittest.TestCase):
         }
         self.assertEqual(lines, {number: recording.lines.words(number) for number in lines})
         self.assertIn("main.go:34 net.(*conn).SetReadDeadline", lines.values())
+
+    def test_calls_deadlines_the_clock_and_suspects_are_there(self) -> None:
+        for path in sorted(EXAMPLES.glob("real/*.jsonl")):
+            recording = Recording.read(str(path))
+            events = traced(recording)
+            changes = changes_in(recording.data)
+            calls = [(one["tid"], one["ts"] + 1, one["dur"]) for one in events if one.get("cat") == "call"]
+            book = [one for one in book_of(recording).calls if one.last != one.first]
+            end = recording.length + 1
+            self.assertEqual(calls, [(one.goroutine, one.first, (one.last or end) - one.first + 1) for one in book])
+            clock = [(one["ts"], str(one["args"]["ns"])) for one in events if one["ph"] == "C"]
+            self.assertEqual(clock, changes.changes_of("clock"))
+            for one in (one for one in events if one.get("cat") == "deadline"):
+                (title,) = [
+                    name["args"]["name"]
+                    for name in events
+                    if name["ph"] == "M" and name["pid"] == one["pid"] and name.get("tid") == one["tid"]
+                ]
+                cell = f"{title[0]}d {title.split()[-1]}"
+                values = {
+                    changes.value(cell, position) for position in (one["ts"], min(one["ts"] + one["dur"] - 1, end - 1))
+                }
+                self.assertEqual(len(values), 1)
+                self.assertEqual(one["name"] == "has passed", values.pop().startswith("-"))
+            told = [one for one in events if one["ph"] == "i"]
+            found = [one for one in all_suspects_of(recording).suspects if one.is_shown]
+            for suspect in found:
+                names = {one["ts"]: one["name"] for one in told if one["args"]["says"] == suspect.sentence()}
+                self.assertEqual(sorted({suspect.step, *suspect.steps}), sorted(names))
+            self.assertTrue(told, path.stem)

@@ -3,6 +3,7 @@ session that only writes down what it is asked."""
 
 import base64
 import hashlib
+import json
 import re
 import time
 import unittest
@@ -16,6 +17,7 @@ from nrdb.web.streams import Streams
 
 from .web_client import LOOPBACK, Address, Listener
 
+SVG = 'xmlns="http://www.w3.org/2000/svg"'  # a name, which nobody fetches, of what the page saves
 TOKEN = "right-token"
 DATA = b'{"cells":{}}'
 
@@ -25,12 +27,20 @@ class Written:
 
     def __init__(self) -> None:
         self.lines: list[tuple[str, str]] = []
+        self.parts: list[tuple[int, int]] = []
         self.is_gone = False
 
     def post(self, who: str, line: str) -> None:
         if self.is_gone:
             raise Unavailable("netrev has ended")
         self.lines.append((who, line))
+
+    def complete(self, line: str) -> "Future[bytes]":
+        if self.is_gone:
+            raise Unavailable("netrev has ended")
+        made: Future[bytes] = Future()
+        made.set_result(json.dumps([line, f"{line}!"]).encode("ascii"))
+        return made
 
     def timeline(self) -> "Future[bytes]":
         made: Future[bytes] = Future()
@@ -39,6 +49,12 @@ class Written:
         else:
             made.set_result(DATA)
         return made
+
+    def part(self, first: int, last: int) -> "Future[bytes]":
+        if last > 100:
+            raise Unavailable("there are 100 steps")
+        self.parts.append((first, last))
+        return self.timeline()
 
 
 class Served(unittest.TestCase):
@@ -73,6 +89,7 @@ class Page(Served):
             (inside,) = re.findall(rf"<{element}>(.*?)</{element}>", text, re.DOTALL)
             hashed = base64.b64encode(hashlib.sha256(inside.encode("utf-8")).digest()).decode("ascii")
             self.assertIn(f"{directive} 'sha256-{hashed}';", policy)
+        text = text.replace(SVG, "")
         self.assertEqual(re.findall(r"https?://|\b(?:src|href|style)=|innerHTML|document\.write", text), [])
         self.assertNotIn(TOKEN, text)
 
@@ -96,6 +113,36 @@ class Page(Served):
         self.assertEqual(self.address.type("goto 3; where").status, 202)
         self.assertEqual(self.address.type("ä" * 128, Netrev_Browser="77").status, 202)
         self.assertEqual(self.session.lines, [("somebody", "goto 3; where"), ("somebody", "ä" * 128)])
+
+    def test_a_line_that_is_being_typed_is_completed(self) -> None:
+        request, post = self.address.request, lambda body: self.address.send(request("POST", "/complete", body))
+        found = post("info ä".encode("utf-8"))
+        self.assertEqual((found.status, json.loads(found.body)), (200, ["info ä", "info ä!"]))
+        self.assertEqual([post(body).status for body in (b"a" * 257, b"a\nb", b"\xff")], [413, 400, 400])
+        self.assertEqual(self.address.send(request("POST", "/complete", b"st", Netrev_Token="wrong")).status, 403)
+        self.assertEqual(self.address.get("/complete").status, 405)
+        self.session.is_gone = True
+        self.assertEqual(post(b"st").status, 503)
+        self.assertEqual(self.session.lines, [])
+
+    def test_a_part_is_named_by_its_positions(self) -> None:
+        part = self.address.get("/part", Netrev_Positions="7-90")
+        self.assertEqual((part.status, part.body, self.session.parts), (200, DATA, [(7, 90)]))
+        refused = {
+            "": 400,
+            "7": 400,
+            "7-": 400,
+            "-7": 400,
+            "7-x": 400,
+            "7-90-100": 400,
+            "7-\xb2": 400,
+            "7-" + "9" * 19: 400,
+        }
+        for named, status in {**refused, "7-101": 503}.items():
+            self.assertEqual(self.address.get("/part", Netrev_Positions=named).status, status, named)
+        self.assertEqual(self.address.get("/part").status, 400)
+        self.assertEqual(self.address.get("/part", Netrev_Positions="7-90", Netrev_Token="wrong").status, 403)
+        self.assertEqual(self.session.parts, [(7, 90)])
 
     def test_what_isnt_answered_is_said(self) -> None:
         self.session.is_gone = True

@@ -1,7 +1,11 @@
 """The session behind the page, with a netrev that the model plays: who moved and to where, what the page doesn't do, and what is
 said while netrev is gone and when it is there again."""
 
+import json
+import sys
+import tempfile
 import unittest
+from concurrent.futures import Future
 from pathlib import Path
 from typing import Any, Callable, Optional
 from unittest import mock
@@ -13,8 +17,10 @@ from nrdb.prompt.answers import ANSWERS
 from nrdb.recording import Recording
 from nrdb.scout import Scout
 from nrdb.session import Session
-from nrdb.timeline.page import MOST
-from nrdb.web.running import MOST_WAITING, Running, window_of
+from nrdb.timeline.picture import MOST, STAGES
+from nrdb.web.painting import MOST_WAITING as MOST_PICTURES
+from nrdb.web.painting import Painter
+from nrdb.web.running import MOST_WAITING, Running
 from nrdb.web.serving import Unavailable
 from nrdb.web.shared import NO_END, NO_FILES, NO_LINES, Saying, Shared
 
@@ -25,6 +31,7 @@ FIRST, OTHER = EXAMPLES / "first.jsonl", EXAMPLES / "lost-wakeup.jsonl"
 MODEL, OTHER_MODEL = recording_at(FIRST), recording_at(OTHER)
 TEXT = Recording.read(str(FIRST))
 CHANGES = changes_at(FIRST)
+PATIENCE = 60  # seconds
 
 
 class Streams:
@@ -57,7 +64,7 @@ class Played(unittest.TestCase):
         session = Session(self.netrev, TEXT, scout, Saying(self.streams), self.interrupts, ANSWERS, recorded=CHANGES)
         session.begin(session.ask("info position"))
         self.opened: Callable[[Printer], Netrev] = self.refused
-        self.running = Running(Shared.over(session, self.streams), lambda p: self.opened(p), self.streams)  # type: ignore
+        self.running = Running(Shared.over(session, self.streams), lambda p: self.opened(p), self.streams, None)  # type: ignore
         self.running._pause = 0.0
         self.look()
         self.streams.take()
@@ -170,10 +177,33 @@ class NotHere(Played):
             self.running.post("browser 1", "info position")
         with self.assertRaisesRegex(Unavailable, f"{MOST_WAITING} lines wait"):
             self.running.post("browser 2", "info position")
-        with self.assertRaises(Unavailable):
-            self.running.timeline()
         self.running.turn()
         self.running.post("browser 2", "info position")
+
+
+class Completed(Played):
+    def found(self, line: str) -> list[str]:
+        wanted = self.running.complete(line)
+        self.running.turn()
+        found: list[str] = json.loads(wanted.result(0))
+        return found
+
+    def test_words_cells_and_numbers(self) -> None:
+        self.assertEqual(self.found("rest"), ["restart"])
+        self.assertEqual(self.found("info sus"), ["suspects"])
+        self.assertEqual(self.found("stepi 3; print lo"), ["lock"])
+        self.assertEqual(self.found("print gor "), ["0"])
+        self.types("stepi 6")
+        self.assertEqual(self.found("print gor "), ["0", "1", "2"])
+        self.assertEqual(self.found("print gor 1 "), ["idle", *self.found("print gor 1 ")[1:]])
+        self.assertEqual(self.found("nonsense x"), [])
+        self.assertEqual(self.streams.take(), [])
+
+    def test_netrev_is_gone(self) -> None:
+        self.netrev.has_ended = True
+        self.assertEqual(self.found("print gor "), [])
+        self.assertEqual([event["event"] for event in self.streams.take()], ["netrev"])
+        self.assertEqual(self.found("print gor "), [])
 
 
 class Stopped(Played):
@@ -244,33 +274,77 @@ class Gone(Played):
         self.assertTrue(strange.has_ended)
 
 
-class Timeline(Played):
-    def made(self) -> bytes:
+class Pictures(Played):
+    """The picture, made in a process of its own over the model as netrev."""
+
+    def setUp(self) -> None:
+        super().setUp()
+        folder = tempfile.TemporaryDirectory()
+        self.addCleanup(folder.cleanup)
+        program = Path(folder.name) / "netrev"
+        program.write_text(
+            f'#!/bin/sh\nexec {sys.executable} {EXAMPLES.parent / "python"} netrev_machine "$@"\n', encoding="ascii"
+        )
+        program.chmod(0o755)
+        self.told: list[str] = []
+        self.program = str(program)
+
+    def painter(self, path: Path) -> Painter:
+        painter = Painter(self.program, str(path), self.told.append)
+        self.addCleanup(painter.drop)
+        self.running._painter = painter
+        return painter
+
+    def made(self, wanted: "Future[bytes]") -> Any:
+        return json.loads(wanted.result(PATIENCE))
+
+    def test_it_is_made_once_while_lines_are_answered(self) -> None:
+        painter = self.painter(FIRST)
         wanted = self.running.timeline()
-        self.running.turn()
-        return wanted.result(0)
+        self.assertEqual(self.says("stepi 3")[0], "at 3")
+        first = self.made(wanted)
+        self.assertEqual((first["length"], first["first"], first["last"]), (10, 0, 10))
+        self.assertEqual(first["name"], "first.jsonl")
+        self.assertEqual(
+            self.told, [f"the picture, {at} of {len(STAGES)}: {says}" for at, says in enumerate(STAGES, 1)]
+        )
+        painter._process.kill()  # type: ignore
+        self.assertEqual(self.made(self.running.timeline()), first)
 
-    def test_the_data_are_made_once(self) -> None:
-        first = self.made()
-        self.assertIn(b'"length":10', first)
-        self.types("stepi 3")
-        with mock.patch("nrdb.web.running.collected", side_effect=AssertionError):
-            self.assertIs(self.made(), first)
+    def test_a_part_has_the_values_of_its_positions(self) -> None:
+        self.painter(FIRST)
+        part, whole = self.made(self.running.part(2, 7)), self.made(self.running.timeline())
+        self.assertEqual((part["first"], part["last"], len(part["steps"])), (2, 7, 7))
+        self.assertEqual(part["steps"], whole["steps"][2:9])
+        for cell, runs in part["cells"].items():
+            self.assertEqual(runs[0][1], [value for at, value in whole["cells"][cell] if at <= 2][-1])
+        for first, last in ((3, 2), (0, 11), (-1, 4)):
+            with self.assertRaisesRegex(Unavailable, f"at most {MOST} steps, from 0 to 10"):
+                self.running.part(first, last)
 
-    def test_netrev_is_gone_meanwhile(self) -> None:
-        self.netrev.has_ended = True
-        with self.assertRaisesRegex(Unavailable, "netrev has ended"):
-            self.made()
-        self.assertEqual([event["event"] for event in self.look()], ["netrev"])
+    def test_what_makes_it_ends_and_is_begun_anew(self) -> None:
+        painter = self.painter(FIRST)
+        first = self.made(self.running.timeline())
+        painter._process.kill()  # type: ignore
+        painter._process.wait()  # type: ignore
+        self.assertEqual(self.made(self.running.part(0, 10))["cells"], first["cells"])
+
+    def test_why_there_is_none(self) -> None:
+        self.painter(EXAMPLES / "other-answer.jsonl")
+        with self.assertRaisesRegex(Unavailable, "step 11: fault 109 answer"):
+            self.made(self.running.timeline())
+        self.painter(EXAMPLES / "nothing.jsonl")
+        with self.assertRaisesRegex(Unavailable, "nothing.jsonl"):
+            self.made(self.running.timeline())
+
+    def test_too_many_are_waited_for(self) -> None:
+        self.painter(FIRST)
+        with mock.patch.object(Painter, "_run", lambda _: None):
+            for _ in range(MOST_PICTURES):
+                self.running.timeline()
+            with self.assertRaisesRegex(Unavailable, f"{MOST_PICTURES} pictures"):
+                self.running.timeline()
 
     def test_without_the_recording_there_is_none(self) -> None:
-        self.running.session.recording = None
         with self.assertRaisesRegex(Unavailable, "has to be named"):
-            self.made()
-
-    def test_of_a_long_recording_it_shows_the_part_round_the_session(self) -> None:
-        for length in (0, 10, MOST, MOST + 1, 3 * MOST + 7):
-            for position in {0, length // 3, length // 2, max(length - 1, 0), length}:
-                window = window_of(position, length)
-                self.assertTrue(0 <= window.first <= position <= window.last <= length, (window, position))
-                self.assertEqual(window.last - window.first, min(length, MOST))
+            self.running.timeline()

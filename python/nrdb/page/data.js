@@ -1,8 +1,9 @@
 // What the page holds, D, and how it is looked up: runs of cells, steps, and where something changes. LIVE is null where the page is
-// a file; else it has the session that the page is of.
+// a file; else it has the session that the page is of. D.first to D.last is the part of which netrev's values are here; calls and
+// stories are of the whole run.
 const $ = (name) => document.getElementById(name);
-const COUNT = D.last - D.first + 1;
-const CELLS = Object.keys(D.cells);
+const BEGIN = 0, END = D.length;
+const COUNT = END - BEGIN + 1;
 const SIDES = { r: "read", w: "write" };
 
 // The place of the run that a position is in; -1 before the first.
@@ -16,7 +17,10 @@ function place(runs, position) {
   return low - 1;
 }
 
-// The value of a cell at a position.
+// Whether netrev's values of a position are here.
+const isHere = (position) => position >= D.first && position <= D.last;
+
+// The value of a cell at a position of the part.
 function valueAt(cell, position) {
   const runs = D.cells[cell];
   const at = runs ? place(runs, position) : -1;
@@ -39,7 +43,8 @@ function time(nanoseconds) {
   return `${nanoseconds} ns`;
 }
 
-const clockAt = (position) => Number(valueAt("clock", position));
+const clockAt = (position) => D.ticks[Math.max(place(D.ticks, position), 0)][1];
+const many = (count, what) => `${count.toLocaleString("en")} ${what}${count === 1 ? "" : "s"}`;
 
 // An element with a text and a class. All text of others comes to the page by this.
 function element(name, text, kind) {
@@ -47,4 +52,13 @@ function element(name, text, kind) {
   if (text !== undefined) made.textContent = text;
   if (kind) made.className = kind;
   return made;
+}
+
+// A button that does something, with what a title says of it.
+function pushed(text, does, title) {
+  const button = element("button", text);
+  button.type = "button";
+  button.onclick = does;
+  if (title) button.title = title;
+  return button;
 }

@@ -1,8 +1,8 @@
-// The picture: the overview, the ruler with the steps, the rows, the arrows of wake-ups, suspects and marks.
-const X = C.getContext("2d");
+// The picture: the rows, the arrows of wake-ups, and the stories. It is drawn onto X: the canvas, or what writes it as SVG.
+let X = C.getContext("2d");
 const MONO = "ui-monospace, 'DejaVu Sans Mono', monospace", SANS = "system-ui, 'DejaVu Sans', sans-serif";
 const DARK = matchMedia("(prefers-color-scheme: dark)");
-const INKS = "ground panel ink soft line quiet head accent accent-ground bad due mark hit".split(" ");
+const INKS = "ground panel ink soft line quiet head accent accent-ground bad on-bad due mark hit".split(" ");
 const THIN = ["idle", "nil", "free", "closed"];
 const ARROWS = 400; // so many are drawn at most
 let ink = {}, shadeOf = {}, density = null;
@@ -19,12 +19,17 @@ function readColours() {
 }
 
 function draw() {
-  const scale = devicePixelRatio || 1, wide = C.clientWidth, high = C.clientHeight;
+  measure();
+  const scale = devicePixelRatio || 1, wide = G.wide, high = G.tall;
   if (C.width !== Math.round(wide * scale) || C.height !== Math.round(high * scale)) {
     C.width = Math.round(wide * scale);
     C.height = Math.round(high * scale);
   }
   X.setTransform(scale, 0, 0, scale, 0, 0);
+  drawAll(wide, high);
+}
+
+function drawAll(wide, high) {
   X.fillStyle = ink.ground;
   X.fillRect(0, 0, wide, high);
   X.textBaseline = "middle";
@@ -36,6 +41,12 @@ function draw() {
   drawRuler(wide);
   X.fillStyle = ink.line;
   X.fillRect(0, V.head - 1, wide, 1);
+  X.save();
+  X.beginPath();
+  X.rect(labels() - 9, 0, wide, high);
+  X.clip();
+  drawStory(high);
+  X.restore();
 }
 
 // The rows with all that lies over them.
@@ -49,25 +60,28 @@ function drawBody(wide, high) {
   X.beginPath();
   X.rect(labels(), V.head, wide - labels(), high - V.head);
   X.clip();
-  if (perStep() > 1.2) drawArrows(middles);
-  drawSuspects(high);
+  if (room() / V.span > 1.2) drawArrows(middles);
   X.restore();
-  const all = V.rows.length * V.high, room = high - V.head;
-  if (all > room) {
+  const all = V.rows.length * V.high, tall = high - V.head;
+  if (all > tall) {
     X.fillStyle = ink.line;
-    X.fillRect(wide - 5, V.head + (V.top / all) * room, 4, Math.max((room / all) * room, 14));
+    X.fillRect(wide - 5, V.head + (V.top / all) * tall, 4, Math.max((tall / all) * tall, 14));
   }
 }
 
-// The chosen position, and the steps that were found.
+// The part without netrev's values, the span and the position that are chosen, and the steps that were found.
 function drawColumns(wide, high) {
-  const step = perStep();
+  const column = (from, to, least) => {
+    const x = Math.max(xOf(from), labels());
+    if (xOf(to) >= labels() && x <= wide) X.fillRect(x, V.head, Math.max(xOf(to) - x, least), high);
+  };
   X.globalAlpha = 0.3;
   X.fillStyle = ink.hit;
-  for (const at of V.hits) if (at >= V.from - 1 && at <= V.from + V.span) X.fillRect(xOf(at), V.head, Math.max(step, 1), high);
+  for (const at of V.hits) if (at >= V.from - 1 && at <= V.from + V.span) column(at, at + 1, 1);
   X.globalAlpha = 1;
   X.fillStyle = ink["accent-ground"];
-  if (xOf(V.chosen) >= labels() - step) X.fillRect(xOf(V.chosen), V.head, Math.max(step, 2), high);
+  if (V.picked) column(V.picked.from, V.picked.to + 1, 1);
+  column(V.chosen, V.chosen + 1, 2);
   if (LIVE) drawStand(high);
 }
 
@@ -86,6 +100,7 @@ function drawRows(wide, high) {
     if (y < V.head - V.high || y > high) return;
     if (row.head) drawHead(row, y, wide);
     else if (row.kind === "clock") drawClock(row, y, wide);
+    else if (row.kind === "call") drawCalls(row, y, wide);
     else drawRow(row, y, wide);
     if (!row.head) drawLabel(row, y);
   });
@@ -93,23 +108,40 @@ function drawRows(wide, high) {
 }
 
 function drawHead(row, y, wide) {
+  const middle = y + V.high / 2 + 0.5, sign = row.socket === undefined ? "" : row.isFolded ? "▸ " : "▾ ";
   X.fillStyle = ink.head;
   X.fillRect(0, y + 1, wide, V.high - 2);
+  for (const one of row.folded ?? []) drawFolded(one, y, wide);
   X.fillStyle = row.isBad ? ink.bad : ink.soft;
   X.font = `600 11px ${SANS}`;
-  X.fillText(row.head, 8, y + V.high / 2 + 0.5);
-  const from = 14 + X.measureText(row.head).width;
+  X.fillText(sign + row.head, 8, middle);
+  const from = 14 + X.measureText(sign + row.head).width;
   X.font = `11px ${SANS}`;
   X.fillStyle = ink.soft;
-  X.fillText(row.said, from, y + V.high / 2 + 0.5);
+  if (!row.isFolded) X.fillText(row.said, from, middle);
+}
+
+// The calls of a row in the head of a connection that is folded.
+function drawFolded(row, y, wide) {
+  let last = -1;
+  for (const call of callsIn(row, V.from, V.from + V.span)) {
+    const x = Math.max(xOf(call.first - 1), labels()), right = Math.min(xOf(untilOf(call)), wide);
+    if (right < labels() || (right - last < 0.5 && call.state === DONE)) continue;
+    last = right;
+    X.fillStyle = colourOf(call);
+    X.globalAlpha = call.state === FAILED || call.state === HANGS ? 0.9 : 0.3;
+    X.fillRect(x, y + 5, Math.max(right - x, 1), V.high - 10);
+  }
+  X.globalAlpha = 1;
 }
 
 function drawLabel(row, y) {
   X.fillStyle = keyOf(row) === V.row ? ink.head : ink.ground;
   X.fillRect(0, y, labels() - 1, V.high);
-  X.fillStyle = row.kind === "due" ? ink.due : row.kind === "clock" ? ink.soft : ink.ink;
-  X.font = `${labels() < 100 ? 10 : 11.5}px ${SANS}`;
-  X.fillText(fit(row.title, labels() - 16), row.kind === "due" ? 20 : 12, y + V.high / 2 + 0.5);
+  X.fillStyle = { due: ink.due, clock: ink.soft, call: ink.accent }[row.kind] || ink.ink;
+  X.font = `${row.kind === "call" ? "600 " : ""}${labels() < 100 ? 10 : 11.5}px ${SANS}`;
+  const from = row.kind === "due" ? 20 : 12, sign = PINNED.has(keyOf(row)) ? "• " : "";
+  X.fillText(fit(sign + row.title, labels() - from - 4), from, y + V.high / 2 + 0.5);
 }
 
 // The runs of a row, each a bar; those in which nothing happens are thin.
@@ -127,6 +159,7 @@ function drawRow(row, y, wide) {
     last = right;
     drawBar(row, shade, runs[at][1], x, right - x, y);
   }
+  if (row.waits?.length) drawWaits(row, y, wide);
 }
 
 function drawBar(row, shade, value, x, wide, y) {
@@ -143,7 +176,7 @@ function drawBar(row, shade, value, x, wide, y) {
   if (THIN.includes(shade)) return X.fillRect(x, middle - 2, Math.max(wide, 0.7), 4);
   X.fillRect(x, y + 2.5, Math.max(wide - (wide > 3 ? 1 : 0), 0.8), V.high - 5);
   if (wide < 28) return;
-  X.fillStyle = brightness(shadeOf[shade]) < 135 ? "#ffffff" : "#16202c";
+  X.fillStyle = textOn(shadeOf[shade]);
   X.fillText(fit(shown(row, value), wide - 8), x + 4, middle + 0.5);
 }
 
@@ -179,7 +212,7 @@ function drawArrows(middles) {
   X.strokeStyle = X.fillStyle = ink.accent;
   for (const [step, from, to] of arrows(middles)) {
     if (from === undefined || to === undefined || from === to) continue;
-    const x = xOf(step), bend = Math.min(16, 4 + perStep());
+    const x = xOf(step), bend = Math.min(16, 4 + room() / V.span);
     X.lineWidth = 1.4;
     X.beginPath();
     X.moveTo(x, from);
@@ -197,137 +230,23 @@ function drawArrows(middles) {
   X.lineWidth = 1;
 }
 
-function drawSuspects(high) {
-  X.strokeStyle = ink.bad;
-  X.setLineDash([3, 3]);
-  for (const suspect of D.suspects) {
-    if (suspect.step < V.from - 1 || suspect.step > V.from + V.span) continue;
-    const x = Math.round(xOf(suspect.step)) + 0.5;
-    X.beginPath();
-    X.moveTo(x, V.head);
-    X.lineTo(x, high);
-    X.stroke();
-  }
-  X.setLineDash([]);
-}
-
-// How many are woken where, in all of the run; with suspects, marks, what was found, and what is in view.
-function drawOverview(wide) {
-  const left = labels(), room = wide - left - EDGE, x = (position) => left + ((position - D.first) / COUNT) * room;
-  const count = Math.max(1, Math.floor(room));
-  if (!density || density.bars.length !== count) density = counted(count);
-  X.fillStyle = ink.quiet;
-  X.fillRect(left, 8, room, 22);
-  X.fillStyle = ink.soft;
-  density.bars.forEach((many, at) => {
-    const tall = 20 * Math.sqrt(many / density.most);
-    if (many) X.fillRect(left + at, 30 - tall, Math.max(1, Math.min(room / COUNT, 6)), tall);
-  });
-  X.fillStyle = ink.hit;
-  for (const at of V.hits) X.fillRect(x(at), 8, 1, 22);
-  X.fillStyle = ink.mark;
-  for (const mark of D.marks) for (const at of mark.hits) X.fillRect(x(at), 8, 1.5, 6);
-  X.fillStyle = ink.bad;
-  for (const suspect of D.suspects) X.fillRect(x(suspect.step) - 1, 5, 3, 28);
-  X.fillStyle = ink["accent-ground"];
-  X.strokeStyle = ink.accent;
-  const from = x(V.from), span = Math.max((V.span / COUNT) * room, 3);
-  X.fillRect(from, 6, span, 26);
-  X.strokeRect(from + 0.5, 6.5, span - 1, 25);
-  X.fillRect(x(V.chosen), 6, 1.5, 26);
-  if (LIVE) drawStandAbove(x(D.position));
-  X.fillStyle = ink.soft;
-  X.font = `11px ${SANS}`;
-  X.fillText(COUNT <= D.length ? "this part" : left < 100 ? "run" : "the whole run", 12, 19);
-}
-
-function counted(count) {
-  const bars = new Float32Array(count);
-  let most = 1;
-  for (const [step] of D.wakes) {
-    const at = Math.min(count - 1, Math.max(0, Math.floor(((step - D.first) / COUNT) * count)));
-    most = Math.max(most, ++bars[at]);
-  }
-  return { bars, most };
-}
-
-// The positions, and where there is room the steps that led to them; the marks.
-function drawRuler(wide) {
-  const step = perStep();
-  let every = 1;
-  for (const size of [1, 2, 5, 10, 20, 50, 100, 200, 500, 1e3, 2e3, 5e3, 1e4]) if (size * step < 56) every = size * 2;
-  every = [1, 2, 5, 10, 20, 50, 100, 200, 500, 1e3, 2e3, 5e3, 1e4, 2e4].find((size) => size >= every) ?? every;
-  X.font = `11px ${MONO}`;
-  for (let at = Math.ceil(V.from / every) * every; at <= Math.min(V.from + V.span, D.last); at += every) {
-    const x = xOf(at);
-    X.fillStyle = ink.line;
-    X.fillRect(x, 38, 1, V.head - 38);
-    X.fillStyle = at === V.chosen ? ink.accent : ink.soft;
-    if (x + 4 + X.measureText(String(at)).width < wide) X.fillText(String(at), x + 4, 46);
-  }
-  if (step >= WIDE) drawSteps(step);
-  else if (step >= SLANTED) drawSlanted(wide);
-  X.fillStyle = ink.panel;
-  X.fillRect(0, 38, labels(), V.head - 39);
-  X.fillStyle = ink.soft;
-  X.font = `11px ${SANS}`;
-  X.fillText("position", 12, 46);
-  if (step >= SLANTED) X.fillText("step", 12, 66);
-  drawMarks(step);
-}
-
-function drawSteps(step) {
-  X.font = `10.5px ${MONO}`;
-  for (let at = Math.max(Math.floor(V.from), D.first); at <= Math.min(V.from + V.span, D.last); at++) {
-    const [kind, ...rest] = stepAt(at).split(" "), x = xOf(at) + 4;
-    X.fillStyle = ink.ink;
-    X.fillText(fit(kind, step - 6), x, 64);
-    X.fillStyle = ink.soft;
-    X.fillText(fit(rest.join(" "), step - 6), x, 79);
-  }
-}
-
-// The kinds of the steps, aslant where columns are narrow.
-function drawSlanted(wide) {
-  X.font = `10.5px ${MONO}`;
-  X.fillStyle = ink.ink;
-  for (let at = Math.max(Math.floor(V.from), D.first); at <= Math.min(V.from + V.span, D.last); at++) {
-    const x = xOf(at) + 7;
-    if (x < labels() || x > wide) continue;
-    X.save();
-    X.translate(x, V.head - 13);
-    X.rotate(-0.56);
-    X.fillText(stepAt(at).split(" ")[0], 0, 0);
-    X.restore();
-  }
-}
-
-function drawMarks(step) {
-  X.fillStyle = ink.mark;
-  for (const mark of D.marks) {
-    for (const at of mark.hits) {
-      const x = xOf(at) + Math.min(step / 2, 8);
-      if (x < labels() || x > C.clientWidth) continue;
-      X.beginPath();
-      X.moveTo(x - 4, V.head - 9);
-      X.lineTo(x + 4, V.head - 9);
-      X.lineTo(x, V.head - 2);
-      X.fill();
-    }
-  }
-}
-
 // As much of a text as fits.
 function fit(text, wide) {
-  if (wide < 12) return "";
-  if (X.measureText(text).width <= wide) return text;
-  const letters = Math.floor(wide / X.measureText("m").width) - 1;
+  const whole = wide < 12 ? Infinity : X.measureText(text).width;
+  if (whole <= wide) return text;
+  const letters = Math.floor((text.length * (wide - 9)) / whole);
   return letters < 2 ? "" : `${text.slice(0, letters)}…`;
 }
 
-function brightness(colour) {
-  const [red, green, blue] = [1, 3, 5].map((at) => parseInt(colour.slice(at, at + 2), 16));
-  return 0.3 * red + 0.59 * green + 0.11 * blue;
+function luminance(colour) {
+  const [red, green, blue] = [1, 3, 5].map((at) => parseInt(colour.slice(at, at + 2), 16) / 255);
+  const light = (part) => (part <= 0.04045 ? part / 12.92 : ((part + 0.055) / 1.055) ** 2.4);
+  return 0.2126 * light(red) + 0.7152 * light(green) + 0.0722 * light(blue);
+}
+
+// Of white and black what stands out more from a colour.
+function textOn(colour) {
+  return luminance(colour) < 0.185 ? "#ffffff" : "#0d131b";
 }
 
 // What a bar says.

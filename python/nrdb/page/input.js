@@ -6,7 +6,7 @@ C.addEventListener("wheel", (event) => {
   event.preventDefault();
   $("tip").style.display = "none";
   const sideways = Math.abs(event.deltaX) > Math.abs(event.deltaY);
-  if (sideways) return show(V.from + event.deltaX / perStep(), V.span);
+  if (sideways) return moveBy(event.deltaX);
   if (event.shiftKey || event.offsetX < labels()) {
     scroll(V.top + event.deltaY);
     return draw();
@@ -20,7 +20,8 @@ C.addEventListener("pointerdown", (event) => {
   C.setPointerCapture?.(event.pointerId);
   pointers.set(event.pointerId, event);
   const inOverview = event.offsetY < 36 && event.offsetX > labels();
-  drag = { x: event.offsetX, y: event.offsetY, from: V.from, span: V.span, top: V.top, far: 0, inOverview, apart: apart() };
+  const picks = event.shiftKey && event.offsetX > labels() ? Math.floor(positionAt(event.offsetX)) : undefined;
+  drag = { x: event.offsetX, y: event.offsetY, last: event.offsetX, top: V.top, far: 0, inOverview, apart: apart(), picks };
   if (inOverview) overviewTo(event);
 });
 
@@ -33,8 +34,10 @@ C.addEventListener("pointermove", (event) => {
   const x = event.offsetX - drag.x, y = event.offsetY - drag.y;
   drag.far = Math.max(drag.far, Math.abs(x) + Math.abs(y));
   if (drag.far <= 4) return;
+  if (drag.picks !== undefined) return pick(drag.picks, Math.floor(positionAt(event.offsetX)));
   V.top = drag.top - y;
-  show(drag.from - x / perStep(), V.span);
+  moveBy(drag.last - event.offsetX);
+  drag.last = event.offsetX;
 });
 
 for (const name of ["pointerup", "pointercancel"]) {
@@ -54,22 +57,49 @@ function apart() {
 }
 
 function pinch() {
+  const [one, other] = [...pointers.values()], far = apart();
   drag.far = 99;
-  const [one, other] = [...pointers.values()], middle = (one.offsetX + other.offsetX) / 2;
-  const at = positionAt(middle), span = (drag.span * drag.apart) / apart();
-  show(at - ((at - V.from) * span) / V.span, span);
+  zoom(drag.apart / far, positionAt((one.offsetX + other.offsetX) / 2));
+  drag.apart = far;
 }
 
 function overviewTo(event) {
-  const room = C.clientWidth - labels() - EDGE;
-  show(D.first + ((event.offsetX - labels()) / room) * COUNT - V.span / 2, V.span);
+  const far = along(BEGIN) + ((event.offsetX - labels()) / room()) * (along(END + 1) - along(BEGIN)), half = inView() / 2;
+  showAlong(far - half, far + half);
 }
 
+// Chooses the row and the position; of a call its span is picked, of a head its connection folded.
 function click(event) {
   const row = rowAt(event.offsetY);
-  V.row = row && row.name ? keyOf(row) : V.row;
-  if (event.offsetX > labels()) choose(Math.floor(positionAt(event.offsetX)));
-  else draw();
+  if (row?.head && row.socket !== undefined) return fold(row.socket);
+  V.row = row?.name ? keyOf(row) : V.row;
+  if (event.offsetX <= labels()) {
+    fillPanel();
+    return draw();
+  }
+  const position = Math.floor(positionAt(event.offsetX)), call = row?.kind === "call" && callAt(row, position);
+  V.picked = call ? { from: call.first - 1, to: call.last || END } : null;
+  choose(position);
+}
+
+// Chooses the next row that has a name, or the one before, and brings it into view.
+function chooseRow(way) {
+  const rows = V.rows.filter((row) => row.name && row.kind !== "clock"), at = rows.findIndex((row) => keyOf(row) === V.row);
+  const row = rows[at < 0 ? 0 : Math.min(Math.max(at + way, 0), rows.length - 1)];
+  if (!row) return;
+  V.row = keyOf(row);
+  const y = V.rows.indexOf(row) * V.high, tall = C.clientHeight - V.head;
+  if (y < V.top || y + V.high > V.top + tall) scroll(y - tall / 2);
+  fillPanel();
+  draw();
+}
+
+// Does something with the row that is chosen.
+function withRow(does) {
+  const row = rowNow();
+  if (!row) return void ($("said").textContent = "choose a row first: click it, or press j");
+  does(row);
+  fillPanel();
 }
 
 const KEY = {
@@ -79,13 +109,22 @@ const KEY = {
   ArrowDown: () => { scroll(V.top + 3 * V.high); draw(); },
   PageUp: () => { scroll(V.top - C.clientHeight / 2); draw(); },
   PageDown: () => { scroll(V.top + C.clientHeight / 2); draw(); },
-  Home: () => choose(D.first, true),
-  End: () => choose(D.last, true),
+  Home: () => choose(BEGIN, true),
+  End: () => choose(END, true),
+  ",": () => alongStory(-1), ".": () => alongStory(1),
+  j: () => chooseRow(1), k: () => chooseRow(-1),
+  f: () => withRow((row) => { const socket = socketOf(row); if (socket !== null) fold(socket); }),
+  p: () => withRow(pin),
+  o: () => withRow((row) => only(socketOf(row), null)),
+  g: () => withRow((row) => { if (row.g !== undefined) only(null, row.g); }),
+  m: pickEdge,
+  t: changeAxis,
+  S: saveSvg, P: savePng,
   "+": () => zoom(0.6), "=": () => zoom(0.6), w: () => zoom(0.6),
   "-": () => zoom(1.7), s: () => zoom(1.7),
-  a: () => show(V.from - V.span * 0.2, V.span),
-  d: () => show(V.from + V.span * 0.2, V.span),
-  0: () => show(D.first, COUNT),
+  a: () => moveBy(-room() * 0.2),
+  d: () => moveBy(room() * 0.2),
+  0: () => show(BEGIN, COUNT),
   n: () => match(1), N: () => match(-1),
   "]": () => change(1), "[": () => change(-1),
   c: goThere,
@@ -96,8 +135,11 @@ const KEY = {
 
 function forget() {
   $("help").hidden = true;
+  unpick();
+  Object.assign(ONLY, { s: null, g: null });
   $("find").value = "";
   find("");
+  fillPanel();
   show(V.from, V.span);
 }
 
@@ -127,6 +169,9 @@ $("fit").onclick = KEY[0];
 $("in").onclick = KEY["+"];
 $("out").onclick = KEY["-"];
 $("about").onclick = KEY["?"];
+$("axis").onclick = changeAxis;
+$("svg").onclick = saveSvg;
+$("png").onclick = savePng;
 $("help").onclick = () => { $("help").hidden = true; };
 $("ended").onchange = () => show(V.from, V.span);
 addEventListener("resize", () => show(V.from, V.span));
@@ -145,8 +190,6 @@ V.chosen = within(D.position);
 $("name").textContent = D.name ? `netrev · ${D.name}` : "netrev";
 document.title = D.name ? `${D.name} · netrev` : "netrev timeline";
 readColours();
-chosenByAddress();
-fillSuspects();
+fillStories();
 fillHelp();
-fillPanel();
-show(D.first, COUNT);
+begin();

@@ -1,7 +1,7 @@
 "use strict";
 function timeline(D, LIVE) {
 /*TIMELINE*/
-return { stand, setMarks };
+return { stand, setMarks, setPart };
 }
 
 // The page of a shared session: what comes by events, and the line to type. Texts of others become text nodes, and nothing else.
@@ -12,14 +12,28 @@ const MOST = 2000; // lines of the log
 const SLOW = 1000; // milliseconds after which a line without a reply is told of
 const AGAIN = 2000; // milliseconds until nrdb is asked again
 const LOST = "nrdb doesn't answer: what is typed isn't answered. Where it was ended, begin it anew, and open the address that it prints";
-const S = { you: "", number: 0, picture: null, isAsked: false, stands: null, marks: [], slow: 0, typed: [], at: 0 };
+const LOOK = /^(\|\s+look:\s+)(\S.*)$/;
+const MOVES = { "<": "reverse-stepi", ">": "stepi", "(": "reverse-next", ")": "next", "{": "reverse-continue", "}": "continue" };
+const KEPT = 200; // lines that were typed, which a reload leaves
+const PART = 8000, SOON = 200; // steps that are asked for round what is seen, and milliseconds until they are
+const S = { you: "", number: 0, picture: null, isAsked: false, stands: null, marks: [], slow: 0, typed: [], at: 0, part: 0, leaves: false };
+
+// A button that asks for a line which nrdb says to type.
+function asking(line) {
+  const button = document.createElement("button");
+  button.type = "button";
+  button.textContent = line;
+  button.onclick = () => ask(line);
+  return button;
+}
 
 // Adds a line to the log, which stays at its end where it was there.
 function say(text, kind) {
   const log = $("log"), isAtEnd = log.scrollTop + log.clientHeight >= log.scrollHeight - 30;
-  const made = document.createElement("div");
-  made.textContent = text;
+  const made = document.createElement("div"), look = kind === "added" && LOOK.exec(text);
+  made.textContent = look ? look[1] : text;
   made.className = kind;
+  if (look) made.append(asking(look[2]));
   log.append(made);
   while (log.childElementCount > MOST) log.firstElementChild.remove();
   if (isAtEnd) log.scrollTop = log.scrollHeight;
@@ -75,6 +89,9 @@ const EVENTS = {
     S.marks = event.marks;
     if (S.picture) S.picture.setMarks(S.marks);
   },
+  picture(event) {
+    making(event.says);
+  },
   netrev(event) {
     tellGone(event.there ? "" : event.says);
     if (!event.there) wait("");
@@ -82,48 +99,86 @@ const EVENTS = {
   },
 };
 
-// Shows in the timeline where the session stands, or that this part of it isn't shown.
+// Shows in the timeline where the session stands.
 function showStand() {
-  if (!S.picture || !S.stands) return;
-  const isShown = S.picture.stand(S.stands.position, $("follow").checked);
-  $("part").hidden = isShown;
-  if (isShown) return;
-  const button = document.createElement("button");
-  button.textContent = "show the part round it";
-  button.onclick = () => location.reload();
-  $("part").replaceChildren(`the session stands at ${S.stands.position}, outside of what is shown: `, button);
+  if (S.picture && S.stands) S.picture.stand(S.stands.position, $("follow").checked);
+}
+
+// Says how far the picture is, as long as there is none.
+function making(text) {
+  if (!S.picture) $("part").textContent = text ? `${text}. Lines are answered meanwhile.` : "";
+  $("part").hidden = Boolean(S.picture) || !text;
+}
+
+// What is there under a path, asked for with the token.
+async function fetched(path, headers = {}) {
+  const answer = await fetch(path, { headers: { "Netrev-Token": TOKEN, ...headers } });
+  if (!answer.ok) throw new Error(await answer.text());
+  return answer.json();
 }
 
 // Has the timeline, once.
 async function load() {
   if (S.picture || S.isAsked) return;
   S.isAsked = true;
+  making("the picture is being made");
   try {
-    const answer = await fetch("/timeline", { headers: { "Netrev-Token": TOKEN } });
-    if (!answer.ok) throw new Error(await answer.text());
-    S.picture = timeline(await answer.json(), { ask, position: () => (S.stands ? S.stands.position : 0) });
+    S.picture = timeline(await fetched("/timeline"), { ask, seen, position: () => (S.stands ? S.stands.position : 0) });
     S.picture.setMarks(S.marks);
+    making("");
     showStand();
   } catch (error) {
+    making("");
     $("panel").textContent = error.message;
   }
   S.isAsked = false;
 }
 
-// Sends a line. What comes of it comes by events.
-async function ask(line) {
-  let why = LOST;
-  wait(`no reply yet to ${line}`);
+// What is in view has no values of netrev's: they are asked for, once the view stays.
+function seen(from, to, last) {
+  clearTimeout(S.part);
+  const first = Math.max(Math.round((from + to - PART) / 2), 0);
+  S.part = setTimeout(async () => {
+    try {
+      S.picture.setPart(await fetched("/part", { "Netrev-Positions": `${first}-${Math.min(first + PART, last)}` }));
+      S.picture.setMarks(S.marks);
+    } catch (error) {
+      $("said").textContent = error.message;
+    }
+  }, SOON);
+}
+
+// Asks nrdb by a path with a text: why that isn't answered, or the answer.
+async function posted(path, text) {
   try {
     const headers = { "Netrev-Token": TOKEN, "Netrev-Browser": String(S.number), "Content-Type": "text/plain;charset=utf-8" };
-    const answer = await fetch("/line", { method: "POST", headers, body: line });
-    why = answer.ok ? "" : await answer.text();
+    const answer = await fetch(path, { method: "POST", headers, body: text }), said = await answer.text();
+    return answer.ok ? { said } : { why: said };
   } catch {
     tellGone(LOST);
+    return { why: LOST };
   }
+}
+
+// Sends a line. What comes of it comes by events.
+async function ask(line) {
+  wait(`no reply yet to ${line}`);
+  const { why } = await posted("/line", line);
   if (!why) return;
   wait("");
   say(`not answered: ${line}: ${why}`, "bad");
+}
+
+// Completes the last word before the cursor, as far as all that it can become go together; of several says which.
+async function complete() {
+  const field = $("line"), typed = field.value.slice(0, field.selectionStart), { said } = await posted("/complete", typed);
+  const found = said ? JSON.parse(said) : [];
+  if (field.value.slice(0, field.selectionStart) !== typed || !found.length) return;
+  const word = typed.slice(typed.search(/[^ ;]*$/));
+  const common = found.reduce((one, other) => { while (!other.startsWith(one)) one = one.slice(0, -1); return one; });
+  const more = common.slice(word.length) + (found.length === 1 ? " " : "");
+  field.setRangeText(more, typed.length, typed.length, "end");
+  $("busy").textContent = found.length > 1 ? found.slice(0, 40).join("  ") : "";
 }
 
 // Listens to the events. Where they end it is tried again; why they can't be had an answer says, if there is one.
@@ -145,23 +200,48 @@ function listen() {
   };
 }
 
+// The lines that were typed in this tab, also before a reload.
+function typedBefore() {
+  try {
+    return JSON.parse(sessionStorage.getItem("typed")) || [];
+  } catch {
+    return [];
+  }
+}
+
 $("ask").addEventListener("submit", (event) => {
   event.preventDefault();
   const line = $("line").value.trim();
   if (!line) return;
   S.typed.push(line);
   S.at = S.typed.length;
-  $("line").value = "";
+  sessionStorage.setItem("typed", JSON.stringify(S.typed.slice(-KEPT)));
+  $("line").value = $("busy").textContent = "";
   $("log").scrollTop = $("log").scrollHeight;
   ask(line);
 });
 $("line").addEventListener("keydown", (event) => {
+  if (event.key === "Escape") S.leaves = true;
+  if (event.key === "Tab" && !event.shiftKey && !S.leaves && $("line").value.trim()) {
+    event.preventDefault();
+    return void complete();
+  }
+  if (event.key !== "Escape") S.leaves = false;
   const way = { ArrowUp: -1, ArrowDown: 1 }[event.key];
   if (!way) return;
   event.preventDefault();
   S.at = Math.min(Math.max(S.at + way, 0), S.typed.length);
   $("line").value = S.typed[S.at] || "";
 });
+addEventListener("keydown", (event) => {
+  const line = MOVES[event.key];
+  if (!line || /^(text|search)$/.test(event.target.type) || event.ctrlKey || event.metaKey || event.altKey) return;
+  event.preventDefault();
+  ask(line);
+});
+for (const button of $("moves").children) button.onclick = () => ask(button.dataset.line);
 $("follow").onchange = showStand;
+S.typed = typedBefore();
+S.at = S.typed.length;
 listen();
 })();

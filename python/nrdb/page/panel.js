@@ -1,48 +1,76 @@
-// The panel of the chosen position, the suspects above, what hovering tells, and the help.
+// The panel of the chosen position: the span, the story, the row and the cells; and the stories above.
 const LISTED = 40;
-const KEYS = [
-  ["← →", "a position back, ahead"],
-  ["Home End", "start, end"],
-  ["+ − wheel", "zoom"],
-  ["a d drag", "to the left, right"],
-  ["0", "the whole run"],
-  ["/", "find a step"],
-  ["n N", "next match, one before"],
-  ["[ ]", "change of the row before, next"],
-  ["↑ ↓", "other rows"],
-  ["c", LIVE ? "goto it" : "copy goto for the prompt"],
-  ["Esc", "forget what was found"],
-];
-const SOURCE = [
-  "Each value is netrev's own: it told what each step changed, and was asked for all cells and queues at",
-  `${D.compared} positions, which agreed. Arrows, suspects, connections and lines of the program are nrdb's, unproved.`,
-].join(" ");
 
 function fillPanel() {
-  const at = V.chosen, panel = $("panel");
-  const go = element("button", `goto ${at}`, "go");
-  go.title = LIVE ? "leads the session there (c)" : "copies the line for nrdb's prompt (c)";
-  go.onclick = goThere;
+  const at = V.chosen, panel = $("panel"), go = pushed(`goto ${at}`, goThere, LIVE ? "leads the session there (c)" : "copies the line for nrdb's prompt (c)");
+  go.className = "go";
   panel.replaceChildren(go, element("h1", `position ${at}`));
-  panel.append(stepLine("last step", at > D.first || at > 0 ? stepAt(at) : "", at, "(start)"));
-  panel.append(stepLine("next step", at < D.length ? stepAt(at + 1) : "", at + 1, "(end)"));
+  if (V.picked) fillSpan();
+  fillStory();
+  panel.append(stepLine("last step", at > BEGIN ? stepAt(at) : "", at, at > BEGIN ? "(not here)" : "(start)"));
+  panel.append(stepLine("next step", at < D.length ? stepAt(at + 1) : "", at + 1, at < D.length ? "(not here)" : "(end)"));
   for (const [step, who, , , kind] of D.wakes) if (step === at) panel.append(element("p", `${kind} wakes goroutine ${who}`));
   const marks = D.marks.filter((mark) => mark.hits.includes(at)).map((mark) => `mark ${mark.mark}: ${mark.what}`);
   if (marks.length) panel.append(element("p", marks.join("; ")));
-  fillTables(at);
+  fillRow();
+  if (isHere(at)) fillTables(at);
+  else panel.append(element("p", `netrev's values of positions ${D.first} to ${D.last} are here.${LIVE ? "" : ` timeline FILE ${Math.max(at - 4000, 0)} ${Math.min(at + 4000, END)} writes those round this one.`}`));
+}
+
+// How it went wrong: the steps of the story, each with the program's line, and what to look at.
+function fillStory() {
+  const story = storyNow();
+  if (!story) return;
+  const list = element("ol", undefined, "story");
+  for (const step of story.steps) list.append(storyStep(story, step));
+  $("panel").append(element("h2", story.rule), list);
+  const looks = element("p", "look ");
+  for (const line of story.looks) looks.append(pushed(line, () => lookAt(line), LIVE ? "asks the session" : "copies the line for nrdb's prompt"), " ");
+  looks.className = "looks";
+  $("panel").append(looks);
+}
+
+function storyStep(story, step) {
+  const item = element("li"), line = story.lines.find((one) => one.startsWith(`step ${step},`)) || "";
+  const [, kind = "", where = ""] = /^step \d+, (\S+): (.*)$/.exec(line) || [];
+  item.append(pushed(`${step}: ${stepAt(step) || kind || "step"}`, () => choose(step, true)));
+  if (step === V.chosen) item.className = "chosen";
+  if (where || lineAt(step)) item.append(element("small", where || lineAt(step)));
+  return item;
+}
+
+// The row that was clicked, and what can be done with it.
+function fillRow() {
+  const row = rowNow();
+  if (!row && ONLY.s === null && ONLY.g === null) return;
+  const buttons = element("p", undefined, "buttons");
+  if (row) {
+    const socket = socketOf(row);
+    buttons.append(pushed(PINNED.has(keyOf(row)) ? "unpin" : "pin", KEY.p, "keeps it at the top (p)"));
+    if (socket !== null) buttons.append(pushed(FOLDED.has(socket) ? "unfold" : "fold", KEY.f, "folds its connection (f)"), pushed("this connection", KEY.o, "leaves its rows alone (o)"));
+    if (row.g !== undefined) buttons.append(pushed("this goroutine", KEY.g, "leaves its rows alone (g)"));
+  }
+  if (ONLY.s !== null || ONLY.g !== null) buttons.append(pushed("all rows", () => only(null, null), "ends the filter (Esc)"));
+  $("panel").append(element("h2", row ? row.title : "filtered"), buttons);
 }
 
 // The cells of a position: those that its step changed, and those that say something.
 function fillTables(at) {
-  const values = new Map(CELLS.map((cell) => [cell, valueAt(cell, at)]));
-  const changed = at > D.first ? CELLS.filter((cell) => valueAt(cell, at - 1) !== values.get(cell)) : [];
-  const those = (begins, quiet) => CELLS.filter((cell) => begins.test(cell) && !quiet.includes(values.get(cell)));
+  const cells = Object.keys(D.cells), values = new Map(cells.map((cell) => [cell, valueAt(cell, at)]));
+  const changed = at > D.first ? cells.filter((cell) => changedAt(cell, at)) : [];
+  const those = (begins, quiet) => cells.filter((cell) => begins.test(cell) && !quiet.includes(values.get(cell)));
   fillTable("changed by the last step", changed, values, (cell) => valueAt(cell, at - 1));
   fillTable("goroutines that do something", those(/^gor /, ["idle", "gone", "absent"]), values);
   fillTable("sockets in use", those(/^lock /, ["0", "1", "absent"]), values);
   fillTable("bytes", those(/^(in|out) /, ["0", "absent"]), values);
   fillTable("deadlines", those(/^[rw]d /, ["0", "absent"]), values);
   fillTable("machine", those(/^\w+$/, []), values);
+}
+
+// Whether a run of a cell begins at a position.
+function changedAt(cell, position) {
+  const runs = D.cells[cell], at = place(runs, position);
+  return at > 0 && runs[at][0] === position;
 }
 
 function stepLine(label, text, position, none) {
@@ -76,13 +104,15 @@ function timeWords(cell, value) {
 }
 
 // Leads a live session to the chosen position; a page alone copies the line that does.
-function goThere() {
-  if (LIVE) LIVE.ask(`goto ${V.chosen}`);
-  else copy();
+const goThere = () => lookAt(`goto ${V.chosen}`);
+
+// Asks a live session for a line; a page alone copies it.
+function lookAt(line) {
+  if (LIVE) LIVE.ask(line);
+  else copy(line);
 }
 
-function copy() {
-  const text = `goto ${V.chosen}`;
+function copy(text) {
   const done = () => { $("said").textContent = `copied: ${text}`; };
   if (navigator.clipboard && isSecureContext) navigator.clipboard.writeText(text).then(done, () => copyOld(text, done));
   else copyOld(text, done);
@@ -96,61 +126,11 @@ function copyOld(text, done) {
   field.remove();
 }
 
-function fillSuspects() {
-  for (const [at, suspect] of D.suspects.entries()) {
-    const button = element("button");
-    button.append(element("b", suspect.rule), document.createTextNode(suspect.says));
-    button.title = [...suspect.netrev.map((one) => `netrev: ${one}`), ...suspect.lines].join("\n");
-    button.onclick = () => showSuspect(at);
+// The stories above, each a button that shows it.
+function fillStories() {
+  for (const [at, story] of STORIES.entries()) {
+    const button = pushed("", () => showStory(at), [...story.netrev.map((one) => `netrev: ${one}`), ...story.lines].join("\n"));
+    button.append(element("b", story.rule), document.createTextNode(story.says));
     $("suspects").append(button);
   }
-}
-
-// What is said of what the pointer is over; nothing where it is over nothing.
-function hover(event) {
-  const tip = $("tip"), row = rowAt(event.offsetY), position = Math.floor(positionAt(event.offsetX));
-  tip.style.display = "none";
-  if (!row || row.head || event.offsetX < labels() || position < D.first || position > D.last) return;
-  const at = place(row.runs, position);
-  if (at < 0 || (row.begins !== undefined && (position < row.begins || position >= row.ends))) return;
-  const [from, value] = row.runs[at], until = at + 1 < row.runs.length ? row.runs[at + 1][0] : null;
-  tip.replaceChildren(element("b", `${row.title}: ${said(row, value, position)}`));
-  const words = row.kind === "sock" || row.kind === "due" ? "" : wordsOf(row.cell, value);
-  if (words) tip.append(element("div", words));
-  const begun = from > D.first ? `from ${from} (${stepAt(from)})` : `from ${from}`;
-  tip.append(element("div", `${begun} ${until === null ? "to the end" : `to ${until} (${stepAt(until)})`}`));
-  const long = (until ?? D.last) - from;
-  tip.append(element("div", `${long} step${long === 1 ? "" : "s"}, ${time(clockAt(until ?? D.last) - clockAt(from))}`));
-  if (from > D.first && lineAt(from)) tip.append(element("div", lineAt(from), "line"));
-  tip.style.display = "block";
-  tip.style.left = `${Math.max(4, Math.min(event.clientX + 14, innerWidth - tip.offsetWidth - 8))}px`;
-  tip.style.top = `${Math.min(event.clientY + 16, innerHeight - tip.offsetHeight - 8)}px`;
-}
-
-function said(row, value, position) {
-  if (row.kind === "clock") return time(Number(value));
-  if (row.kind === "sock") return wordsOf("lock", value);
-  if (row.kind !== "due") return value;
-  if (Number(value) < 0) return "has passed";
-  return value === "0" ? "none" : `at ${time(Number(value))}, in ${time(Number(value) - clockAt(position))}`;
-}
-
-function rowAt(y) {
-  return y < V.head ? undefined : V.rows[Math.floor((y - V.head + V.top) / V.high)];
-}
-
-function fillHelp() {
-  const help = $("help"), keys = element("ul"), colours = element("ul");
-  for (const [key, says] of KEYS) {
-    const item = element("li");
-    item.append(element("kbd", key), document.createTextNode(says));
-    keys.append(item);
-  }
-  for (const [name, shade] of Object.entries(D.shades)) {
-    const item = element("li"), box = element("i");
-    box.style.background = shadeOf[name];
-    item.append(box, document.createTextNode(`${shade.of}: ${shade.says}`));
-    colours.append(item);
-  }
-  help.replaceChildren(element("h2", "Keys"), keys, element("h2", "Colours"), colours, element("h2", "What this is"), element("p", SOURCE));
 }

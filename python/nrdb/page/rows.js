@@ -1,8 +1,17 @@
-// The rows: by connection, which is a socket with the uses of descriptors that are its own and the goroutines that have most to
-// do with it. Those in which nothing happens in view are left out.
-const RANK = { sock: 0, desc: 1, due: 2, gor: 3 };
+// The rows: by connection, which is a socket with the calls on it, the uses of descriptors that are its own and the goroutines that have
+// most to do with it. Those in which nothing happens in view are left out, and so are those that a filter or a fold leaves out.
+const RANK = { call: 0, sock: 1, desc: 2, due: 3, gor: 4 };
 const STILL = { gor: ["gone", ""], sock: ["closed", ""], desc: ["nil", ""] };
-const GROUPS = grouped();
+const FOLDED = new Set(), PINNED = new Set();
+const MANY = 40; // connections from which on they begin folded, but for those of a story
+const ONLY = { s: null, g: null }; // the connection and the goroutine that a filter leaves
+let GROUPS = grouped();
+if (GROUPS.length > MANY) for (const [socket] of GROUPS) if (!ofStories().has(socket)) FOLDED.add(socket);
+
+// The sockets that stories are about.
+function ofStories() {
+  return new Set(STORIES.map((one) => one.s).filter((socket) => socket !== null));
+}
 
 // A row's parts: name, kind, title, runs with a shade each, and for a use of a descriptor where it begins and ends.
 function grouped() {
@@ -11,27 +20,35 @@ function grouped() {
     if (!groups.has(socket)) groups.set(socket, []);
     groups.get(socket).push(row);
   };
-  const named = Object.fromEntries(D.rows.map((row) => [row.name, row]));
-  for (const row of D.rows) {
-    const [kind, number] = row.name.split(" ");
-    const runs = D.cells[row.cell];
-    if (kind === "sock") add(Number(number), { ...row, kind, runs, title: `socket ${number}` });
-    if (kind === "gor") add(D.groups[number] ?? -1, { ...row, kind, runs, title: `goroutine ${number}` });
+  for (const [name, { g, s, calls, reach }] of BY_ROW) {
+    add(s, { name: `call ${name}`, kind: "call", cell: `gor ${g}`, g, calls, reach, runs: [], shades: [], title: whoIs(g) });
   }
+  const named = Object.fromEntries(D.rows.map((row) => [row.name, row]));
+  for (const row of D.rows) addRow(add, row);
   for (const [d, socket, begins, ends] of D.uses) {
-    for (const side of "rw") {
-      const name = `desc ${d} ${side}`;
-      const use = { begins, ends: ends ?? D.last + 1, of: d, side };
-      if (!named[name]) continue;
-      const { cell, shades } = named[name];
-      add(socket, { ...use, name, cell, shades, kind: "desc", runs: D.cells[cell], title: `desc ${d} ${SIDES[side]}` });
-      const deadline = deadlineRow(use);
-      if (deadline) add(socket, deadline);
-    }
+    for (const side of "rw") addUse(add, named[`desc ${d} ${side}`], socket, { begins, ends: ends ?? END + 1, of: d, side });
   }
   for (const rows of groups.values()) rows.sort((one, other) => RANK[one.kind] - RANK[other.kind]);
-  const first = new Set(D.suspects.map((one) => one.s).filter((socket) => socket !== null));
+  const first = ofStories();
   return [...groups].sort((one, other) => first.has(other[0]) - first.has(one[0]) || order(one[0]) - order(other[0]));
+}
+
+function addRow(add, row) {
+  const [kind, number] = row.name.split(" ");
+  const runs = D.cells[row.cell];
+  if (kind === "sock") add(Number(number), { ...row, kind, runs, title: `socket ${number}` });
+  if (kind !== "gor") return;
+  const g = Number(number), waits = D.waits.filter((wait) => wait[0] === g);
+  add(D.groups[number] ?? -1, { ...row, kind, runs, g, waits, title: `goroutine ${number}` });
+}
+
+// The rows of a side of a descriptor in one of its uses: its word, and its deadline where there ever is one.
+function addUse(add, row, socket, use) {
+  if (!row || use.begins > D.last || use.ends <= D.first) return;
+  const { cell, shades, name } = row;
+  add(socket, { ...use, name, cell, shades, kind: "desc", runs: D.cells[cell], title: `desc ${use.of} ${SIDES[use.side]}` });
+  const deadline = deadlineRow(use);
+  if (deadline) add(socket, deadline);
 }
 
 // The row of a side's deadline in a use of a descriptor; nothing where there is never one.
@@ -45,6 +62,7 @@ function deadlineRow(use) {
 
 // What tells a row from all others: a descriptor's number is used again, each use in a row of its own.
 const keyOf = (row) => (row.begins === undefined ? row.name : `${row.name} ${row.begins}`);
+const rowNow = () => V.rows.find((row) => row.name && keyOf(row) === V.row);
 
 function order(socket) {
   return socket < 0 ? Infinity : socket;
@@ -52,7 +70,10 @@ function order(socket) {
 
 // Whether something happens in a row between two positions.
 function lives(row, from, to) {
+  if (row.kind === "call") return !callsIn(row, from, to).next().done;
+  if (from > D.last || to < D.first) return false;
   if (row.begins !== undefined && (row.begins > to || row.ends <= from)) return false;
+  if (row.waits?.some(([, first, last]) => first <= to && (!last || last >= from))) return true;
   const still = STILL[row.kind] || [""];
   for (let at = Math.max(place(row.runs, from), 0); at < row.runs.length && row.runs[at][0] <= to; at++) {
     if (row.begins !== undefined && at + 1 < row.runs.length && row.runs[at + 1][0] <= row.begins) continue;
@@ -61,18 +82,54 @@ function lives(row, from, to) {
   return false;
 }
 
-// The rows that are shown between two positions, each group under its head; with `all`, those too in which nothing happens.
+// Whether a filter leaves a row of a connection: all of the chosen connection, and of the chosen goroutine its own.
+function isLeft(socket, row) {
+  if (PINNED.has(keyOf(row))) return true;
+  return (ONLY.s === null || ONLY.s === socket) && (ONLY.g === null || row.g === ONLY.g);
+}
+
+// The rows that are shown between two positions, those that are pinned first, then each group under its head; with `all`, those too in
+// which nothing happens.
 function rowsBetween(from, to, all) {
-  const clock = { title: "clock", kind: "clock", name: "clock", cell: "clock", runs: D.cells.clock, shades: [] };
-  const shown = clock.runs.length > 1 ? [clock] : [];
+  const clock = { title: "clock", kind: "clock", name: "clock", cell: "clock", runs: D.ticks, shades: [] };
+  const shown = D.ticks.length > 1 ? [clock] : [];
+  const pinned = GROUPS.flatMap(([, rows]) => rows.filter((row) => PINNED.has(keyOf(row))));
+  if (pinned.length) shown.push({ head: "pinned", said: "", isBad: false }, ...pinned);
   for (const [socket, rows] of GROUPS) {
-    const kept = rows.filter((row) => all || lives(row, from, to));
+    const kept = rows.filter((row) => !PINNED.has(keyOf(row)) && isLeft(socket, row) && (all || lives(row, from, to)));
     if (!kept.length || (!all && kept.every((row) => row.kind === "sock" && row.shades.length < 2))) continue;
-    const who = kept.filter((row) => row.kind === "gor").length;
-    const said = who ? ` · ${who} goroutine${who > 1 ? "s" : ""}` : "";
-    const isBad = D.suspects.some((one) => one.s === socket);
-    shown.push({ head: socket < 0 ? "no connection" : `connection ${socket}`, said, isBad });
-    shown.push(...kept);
+    shown.push(headOf(socket, kept));
+    shown.push(...(FOLDED.has(socket) ? kept.filter((row) => row.kind === "call" && ONLY.g !== null) : kept));
   }
   return shown;
 }
+
+// The head of a connection's rows. Folded, it has the calls of all of them.
+function headOf(socket, rows) {
+  const who = new Set(rows.map((row) => row.g).filter((g) => g !== undefined)).size, peer = D.peers[socket];
+  const said = `${who ? ` · ${many(who, "goroutine")}` : ""}${peer === undefined ? "" : ` · other end: connection ${peer}`}`;
+  const isBad = STORIES.some((one) => one.s === socket), isFolded = FOLDED.has(socket);
+  const calls = isFolded ? rows.filter((row) => row.kind === "call") : [];
+  return { head: socket < 0 ? "no connection" : `connection ${socket}`, socket, said, isBad, isFolded, folded: calls };
+}
+
+function fold(socket) {
+  if (!FOLDED.delete(socket)) FOLDED.add(socket);
+  show(V.from, V.span);
+}
+
+function pin(row) {
+  if (!PINNED.delete(keyOf(row))) PINNED.add(keyOf(row));
+  show(V.from, V.span);
+}
+
+// Leaves only a connection, or only a goroutine; with nulls, all rows.
+function only(socket, goroutine) {
+  Object.assign(ONLY, { s: socket, g: goroutine });
+  V.top = 0;
+  show(V.from, V.span);
+  fillPanel();
+}
+
+// The connection that a row is of.
+const socketOf = (row) => GROUPS.find(([, rows]) => rows.includes(row))?.[0] ?? null;

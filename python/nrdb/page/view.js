@@ -1,45 +1,50 @@
-// What is in view: from which position, how many, which rows, which position is chosen, and what was found.
-const V = { from: D.first, span: COUNT, top: 0, rows: [], high: 18, head: 66, chosen: within(D.position), row: "", hits: [] };
+// What is in view: from which position, how many, which rows, which position, story, row and span are chosen, and what was found.
+const LOW = 74, TALL = 116; // pixels above the rows, without and with steps
+const V = {
+  from: BEGIN, span: COUNT, top: 0, rows: [], high: 18, head: LOW, chosen: within(D.position), row: "", hits: [], story: 0, byTime: false,
+  picked: null,
+};
 const EDGE = 26, NARROW = 700; // pixels that are left free at the right; of a narrow screen
 const WIDE = 64, SLANTED = 16; // pixels for a step from which it is written, and is so aslant
+const WHOLE = 400; // steps that are shown all at first
 const C = $("picture");
 
 function within(position) {
-  return Math.min(Math.max(position, D.first), D.last);
+  return Math.min(Math.max(position, BEGIN), END);
 }
-
-const labels = () => (C.clientWidth < NARROW ? 92 : 132);
-const perStep = () => (C.clientWidth - labels() - EDGE) / V.span;
-const xOf = (position) => labels() + (position - V.from) * perStep();
-const positionAt = (x) => V.from + (x - labels()) / perStep();
 
 // Shows so many positions from this one on.
 function show(from, span) {
   V.span = Math.min(Math.max(span, Math.min(4, COUNT)), COUNT);
-  V.from = Math.min(Math.max(from, D.first), D.last + 1 - V.span);
+  V.from = Math.min(Math.max(from, BEGIN), END + 1 - V.span);
+  measure();
   V.rows = rowsBetween(V.from, V.from + V.span, $("ended").checked);
-  V.head = perStep() < SLANTED ? 66 : 106;
-  const room = C.clientHeight - V.head;
-  V.high = Math.min(Math.max(Math.floor(room / (V.rows.length + 1)), 18), 24);
+  V.head = perStep() < SLANTED ? LOW : TALL;
+  const high = G.tall - V.head;
+  V.high = Math.min(Math.max(Math.floor(high / (V.rows.length + 1)), 18), 24);
   scroll(V.top);
-  const rows = V.rows.filter((row) => !row.head).length;
-  const last = Math.floor(V.from + V.span - 0.001);
-  tell(`${rows} rows · positions ${Math.ceil(V.from)} to ${last} of ${D.length.toLocaleString("en")}`);
+  tellView();
+  askForView();
   draw();
+}
+
+function tellView() {
+  const rows = V.rows.filter((row) => !row.head).length, last = Math.floor(V.from + V.span - 0.001);
+  tell(`${many(rows, "row")} · positions ${Math.ceil(V.from)} to ${last} of ${D.length.toLocaleString("en")}`);
 }
 
 const tell = (text) => { if (!V.hits.length) $("said").textContent = text; };
 
 function scroll(top) {
-  const most = V.rows.length * V.high - (C.clientHeight - V.head) + 10;
+  const most = V.rows.length * V.high - (G.tall - V.head) + 10;
   V.top = Math.min(Math.max(top, 0), Math.max(most, 0));
 }
 
 // Zooms by a factor round a position.
 function zoom(factor, round) {
-  const at = round ?? (V.chosen >= V.from && V.chosen <= V.from + V.span ? V.chosen + 0.5 : V.from + V.span / 2);
-  const span = Math.min(Math.max(V.span * factor, Math.min(4, COUNT)), COUNT);
-  show(at - ((at - V.from) * span) / V.span, span);
+  const at = along(round ?? (V.chosen >= V.from && V.chosen <= V.from + V.span ? V.chosen + 0.5 : V.from + V.span / 2));
+  const from = along(V.from), to = along(V.from + V.span);
+  showAlong(at - (at - from) * factor, at + (to - at) * factor);
 }
 
 // Chooses a position; with `see` it comes into view.
@@ -51,17 +56,37 @@ function choose(position, see) {
   else draw();
 }
 
-// Shows a suspect: its steps, and its connection at the top.
-function showSuspect(at) {
-  const suspect = D.suspects[at];
-  const steps = [suspect.step, ...suspect.steps].filter((step) => step >= D.first && step <= D.last);
-  const first = Math.min(...steps), last = Math.max(...steps);
+// Shows a story: its steps, and its connection at the top.
+function showStory(at) {
+  V.story = at;
+  const story = STORIES[at], first = story.steps[0], last = story.steps[story.steps.length - 1];
   const span = Math.min(COUNT, Math.max((last - first) * 1.3, 44));
+  FOLDED.delete(story.s);
   show((first + last) / 2 - span / 2, span);
-  const head = V.rows.findIndex((row) => row.head === `connection ${suspect.s}`);
+  takeStory(at);
+  const head = V.rows.findIndex((row) => row.head && row.socket === story.s);
   if (head >= 0) scroll(head * V.high);
-  [...$("suspects").children].forEach((button, place) => button.classList.toggle("chosen", place === at));
-  choose(suspect.step, true);
+  choose(story.step, true);
+}
+
+// Marks which story is told.
+function takeStory(at) {
+  V.story = at;
+  [...$("suspects").children].forEach((button, place) => {
+    button.classList.toggle("chosen", place === at);
+    button.setAttribute("aria-pressed", String(place === at));
+  });
+}
+
+// How the page begins: at the first story, where nobody has gone elsewhere; a short run is shown all, and so is a part that was asked for.
+function begin() {
+  const isElsewhere = chosenByAddress() || D.position > BEGIN || LIVE;
+  if (STORIES.length) takeStory(0);
+  if (D.isPart) show(D.first, D.last - D.first + 1);
+  else show(BEGIN, COUNT);
+  if (!STORIES.length || isElsewhere) return fillPanel();
+  if (COUNT > WHOLE && !D.isPart) showStory(0);
+  else choose(STORIES[0].step);
 }
 
 // Marks the steps that have this text, or are of the goroutine that is named.
@@ -71,7 +96,8 @@ function find(text) {
   const isHit = of ? (step) => !others.test(step) && step.split(" ")[1] === of[1] : (step) => step.includes(wanted);
   V.hits = [];
   if (wanted) for (let p = Math.max(D.first, 1); p <= D.last; p++) if (isHit(stepAt(p))) V.hits.push(p);
-  $("said").textContent = wanted ? `${V.hits.length} step${V.hits.length === 1 ? "" : "s"} · n, N` : "";
+  const where = D.last - D.first + 1 < COUNT ? ` from ${D.first} to ${D.last}` : "";
+  $("said").textContent = wanted ? `${many(V.hits.length, "step")}${where} · n, N` : "";
   draw();
 }
 
@@ -83,12 +109,22 @@ function match(way) {
   choose(way > 0 ? ahead() : before(), true);
 }
 
-// Goes to the next change in the row that was clicked, or to the one before; of a descriptor's to those in its use.
+// Goes to the next step of the story, or to the one before.
+function alongStory(way) {
+  const steps = storyNow()?.steps ?? [];
+  const next = way > 0 ? steps.find((step) => step > V.chosen) : steps.filter((step) => step < V.chosen).pop();
+  if (next !== undefined) choose(next, true);
+}
+
+// Goes to the next change in the row that was clicked, or to the one before; of a descriptor's to those in its use, of calls to where
+// one begins or ends.
 function change(way) {
-  const row = V.rows.find((one) => keyOf(one) === V.row) || V.rows.find((one) => one.kind === "gor");
+  const row = rowNow() || V.rows.find((one) => one.kind === "gor");
   if (!row) return;
   const isIn = ([from]) => row.begins === undefined || (row.begins <= from && from <= row.ends);
-  const changes = row.runs.filter(isIn), at = place(changes, V.chosen);
+  const changes = row.kind === "call" ? edgesOf(row) : row.runs.filter(isIn), at = place(changes, V.chosen);
   const next = changes[way > 0 ? at + 1 : at >= 0 && changes[at][0] === V.chosen ? at - 1 : at];
   if (next) choose(next[0], true);
 }
+
+const edgesOf = (row) => row.calls.flatMap((call) => (call.last ? [[call.first], [call.last]] : [[call.first]])).sort((one, other) => one[0] - other[0]);

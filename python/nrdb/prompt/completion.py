@@ -5,6 +5,8 @@ from typing import Callable
 from netrev_words.vocabulary import CELLS, DUMPS, KINDS, Of
 
 from ..commands import COMMANDS, DIRECTIONS, PAGINATION, TOPICS, Ambiguous, whole_words
+from ..session import Session
+from ..world import made_at
 
 NUMBERED_TOPICS = {"goroutines": Of.GOROUTINE, "sockets": Of.SOCKET, "descriptors": Of.DESCRIPTOR, "holders": Of.SOCKET}
 OF_CELL = ("print", "watch", "display", "undisplay", "history", "until", "reverse-until")
@@ -12,7 +14,22 @@ BEHIND_A_FILE = ("reduce", "report")
 STATUSES = "idle gone acquiring queued relock owing entering armed parking parked swapping checking".split()
 FOLLOWED = {"gor": Of.GOROUTINE, "sock": Of.SOCKET, "desc": Of.DESCRIPTOR}
 OF_A_GOROUTINE = ("next", "finish", "reverse-next", "reverse-finish")
+MOST_NUMBERS = 200
 VALUES = {"gor": STATUSES, "rg": ["nil", "ready", "wait"], "wg": ["nil", "ready", "wait"]}
+
+
+def completions(line: str, session: Session) -> list[str]:
+    """What the last word of a line can become, of which others may stand before it with `;` between. With netrev in the middle of an answer
+    it can't be asked."""
+    words = line.rpartition(";")[2].split(" ")
+    *before, last = words
+    found = candidates([word for word in before if word], lambda of: numbers_in(session, of))
+    return [word for word in found if word.startswith(last)]
+
+
+def numbers_in(session: Session, of: Of) -> list[str]:
+    """The numbers in use at the session's position."""
+    return [str(number) for number in range(min(made_at(session.netrev, of), MOST_NUMBERS))]
 
 
 def candidates(before: list[str], numbers: Callable[[Of], list[str]]) -> list[str]:

@@ -8,13 +8,12 @@ from typing import Optional, TextIO, cast
 from netrev_words.vocabulary import Of
 
 from ..commands import COMMANDS, Ambiguous, whole_words
-from .completion import candidates
+from .completion import candidates, numbers_in
 from .paging import Paged
 from ..interrupts import Interrupted
 from ..netrev import Ended
 from ..output import TextPrinter
 from ..session import Session
-from ..world import made_at
 
 try:
     import readline
@@ -26,7 +25,6 @@ FIRST = (
     "what went wrong: info suspects; what hangs: continue, info goroutines; what failed: info errors; all else: help"
 )
 KEPT = 1000
-MOST_NUMBERS = 200
 
 
 def history_file() -> Path:
@@ -112,10 +110,9 @@ class Terminal:
     def _numbers(self, of: Of) -> list[str]:
         """The numbers in use at the position."""
         try:
-            made = made_at(self.session.netrev, of)
+            return numbers_in(self.session, of)
         except (Ended, Interrupted):  # (readline would swallow it)
             return []
-        return [str(number) for number in range(min(made, MOST_NUMBERS))]
 
 
 def repeats(line: str) -> bool:

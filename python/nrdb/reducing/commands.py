@@ -7,7 +7,7 @@ from ..recording import Recording
 from ..session import Misused, Session
 from ..suspects.ranking import suspects_of
 from .reduced import reduced, wanted_by
-from .report import report_text
+from .report import report_of
 
 USAGE = "reduce OUT.jsonl [N | CELL VALUE]"
 
@@ -31,5 +31,8 @@ def answer_report(session: Session, words: list[str]) -> None:
         raise Misused("report OUT.md [N | CELL VALUE]: the file's name ends with .md")
     wanted = wanted_by(session, words[1:])
     made = reduced(session, str(Path(words[0]).with_suffix(".jsonl")), wanted)
-    written(words[0], session.path, report_text(session, wanted, made).encode())
-    session.printer.note(f"{words[0]}, and {made.words(session.text().length)}")
+    text, picture = report_of(session, wanted, made)
+    drawn = str(Path(words[0]).with_suffix(".svg"))
+    written(drawn, session.path, picture.encode())
+    written(words[0], session.path, text.encode())
+    session.printer.note(f"{words[0]} with {Path(drawn).name}, and {made.words(session.text().length)}")

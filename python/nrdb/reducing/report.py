@@ -2,6 +2,8 @@
 
 import re
 from pathlib import Path
+from typing import Optional
+from urllib.parse import quote
 
 from netrev_words.plain import plain
 from netrev_words.vocabulary import KINDS
@@ -13,6 +15,10 @@ from ..recording import Recording, Step
 from ..scout import Scout
 from ..session import Session
 from ..suspects.table import suspects_table
+from ..timeline.calls import Data
+from ..timeline.drawing import drawing
+from ..timeline.sequence import sequence
+from ..timeline.stories import suspects_data
 from .reduced import Reduced, Wanted
 from .writing import answered_by
 
@@ -25,28 +31,37 @@ def shown(text: str) -> str:
     return MEANS.sub(r"\\\1", plain(text))
 
 
-def report_text(session: Session, wanted: Wanted, reduced: Reduced) -> str:
-    """The report of a reduced recording."""
+def report_of(session: Session, wanted: Wanted, reduced: Reduced) -> tuple[str, str]:
+    """The report of a reduced recording, and its picture."""
     recording = Recording.read(reduced.path)
     name = shown(Path(reduced.path).name)
     scout = Scout(lambda: Own(session.program, reduced.path, session.interrupts))
     try:
         table = suspects_table(scout, recording)
         parts = _of_cell(scout, recording, wanted) if wanted.cell else _of_suspect(session, table, wanted)
+        story = None if wanted.cell else next(suspects_data(scout, recording), None)
     finally:
         scout.drop()
     _, checked = answered_by(session.program, "check", recording.data)
     parts += [
+        f"![The calls of {name}, with the steps of the story numbered]({quote(Path(reduced.path).with_suffix('.svg').name)})",
         "## The steps",
         f"{recording.length} of the {session.text().length} steps of {shown(Path(session.path).name)}, in {name}: each "
         f"goroutine in its column, the network and the clock in the last. `netrev check {name}` prints "
         f"`{checked.decode('utf-8', 'replace').strip()}`, so this is a run of the machine. What netrev answers is proved; that "
         "this is a bug, and the lines of the program, are not.",
         "\n".join(_steps(recording, reduced)),
+        *_diagram(recording, story),
         "## To look",
         f"    ./nrdb {name} -ex 'info suspects' -ex continue -ex 'info goroutines'",
     ]
-    return "\n\n".join(parts) + "\n"
+    return "\n\n".join(parts) + "\n", drawing(recording, story)
+
+
+def _diagram(recording: Recording, story: Optional[Data]) -> list[str]:
+    """The steps as a diagram, where they aren't too many."""
+    told = sequence(recording, story)
+    return [f"```mermaid\n{told}\n```"] if told else []
 
 
 def _of_cell(scout: Scout, recording: Recording, wanted: Wanted) -> list[str]:

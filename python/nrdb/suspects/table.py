@@ -1,5 +1,7 @@
 """The table of `info suspects`."""
 
+from typing import Optional
+
 from ..noted import Timeout
 from ..output import Row, Table, Values
 from ..recording import Recording
@@ -7,18 +9,24 @@ from ..scout import Scout
 from ..where import OF_GO
 from ..words import counted
 from .found import Suspect
-from .ranking import all_suspects_of
+from .ranking import Ranked, all_suspects_of
 
 MOST = 12  # suspects that are shown
 
 
-def suspects_table(scout: Scout, recording: Recording) -> Table:
-    """The suspects, the worst first, each with netrev's answers at the positions in question."""
-    ranked = all_suspects_of(recording)
-    shown = [suspect for suspect in ranked.suspects if suspect.is_shown][:MOST]
+def suspects_table(scout: Scout, recording: Recording, ranked: Optional[Ranked] = None) -> Table:
+    """The suspects, the worst first, each with netrev's answers at the positions in question. Who has had the rules run says what they
+    found."""
+    ranked = ranked or all_suspects_of(recording)
+    shown = shown_of(ranked)
     rows = [row for at, suspect in enumerate(shown, 1) for row in _rows(scout, recording, at, suspect)]
     timeouts = [one for one in ranked.timeouts if not is_by_go(recording, one)]
     return Table("suspects", rows, _rest(len(shown), len(ranked.suspects) - len(shown), timeouts))
+
+
+def shown_of(ranked: Ranked) -> list[Suspect]:
+    """The suspects that are shown."""
+    return [suspect for suspect in ranked.suspects if suspect.is_shown][:MOST]
 
 
 def is_by_go(recording: Recording, timeout: Timeout) -> bool:

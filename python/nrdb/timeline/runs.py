@@ -34,15 +34,14 @@ class Window:
 
 def runs_of(scout: Scout, changes: RecordedChanges, window: Window) -> tuple[Runs, int]:
     """The runs of all cells and queues, and at how many positions netrev was asked for all of them."""
-    queues = queues_of(changes, window.last)
-    runs: Runs = {}
-    for cell in cells_at(changes, window.last):
-        is_queue = cell.startswith(QUEUES)
-        made = changes.steps_of(f"lock {cell.split()[1]}")[0] if is_queue else 0
-        run = [(made, "-"), *queues.get(cell, ())] if is_queue else changes.changes_of(cell, window.last)
-        start = [value for position, value in run if position <= window.first][-1:]
-        first = start[0] if start else "absent" if is_queue else changes.value(cell, window.first)
-        runs[cell] = [(window.first, first), *(change for change in run if change[0] > window.first)]
+    cells = list(cells_at(changes, window.last))
+    start = {cell: changes.value(cell, window.first) for cell in cells if not cell.startswith(QUEUES)}
+    queues = Queues(changes, start, window.first)
+    runs: Runs = {cell: [(window.first, start[cell] if cell in start else queues.shown(cell))] for cell in cells}
+    for step in range(window.first + 1, window.last + 1):
+        changed = changes.at(step)
+        for cell, value in (*changed, *queues.follow(changed)):
+            runs[cell].append((step, value))
     compared = window.compared()
     for position in compared:
         _compare(scout, runs, position)
@@ -57,25 +56,45 @@ def cells_at(changes: RecordedChanges, position: int) -> Iterator[str]:
         yield from (f"{name} {number}" for number in made for name in NAMES[of])
 
 
-def queues_of(changes: RecordedChanges, last: int) -> Runs:
-    """Of each queue in which somebody ever stood the changes up to a position. Whoever comes stands last."""
-    moves: list[tuple[int, str, str]] = []  # the step, the queue, and who comes or goes
-    for cell in changes.cells():
-        if cell.startswith("gor "):
-            before = ""
-            for step, status in changes.changes_of(cell, last):
-                moves += [(step, _queue(told), cell[4:]) for told in (before, status) if told.startswith("queued ")]
-                before = status
-    runs: Runs = {}
-    standing: dict[str, list[str]] = {}
-    for step, queue, goroutine in sorted(moves, key=lambda move: move[0]):
-        now = standing.setdefault(queue, [])
-        if goroutine in now:
-            now.remove(goroutine)
-        else:
-            now.append(goroutine)
-        runs.setdefault(queue, []).append((step, " ".join(now) or "-"))
-    return runs
+class Queues:
+    """The queues, by the statuses of the goroutines in them: whoever comes stands last. They begin as they are at a position."""
+
+    def __init__(self, changes: RecordedChanges, start: dict[str, str], position: int) -> None:
+        self._statuses = {cell: value for cell, value in start.items() if cell.startswith("gor ")}
+        self._standing: dict[str, list[str]] = {}
+        for cell, value in start.items():
+            if cell.startswith("lock ") and value != "absent":
+                self._standing |= {f"{queue} {cell[5:]}": [] for queue in QUEUES}
+        asleep = [cell for cell, status in self._statuses.items() if status.startswith("queued ")]
+        for cell in sorted(asleep, key=lambda cell: changes.steps_of(cell, position)[-1]):
+            self._standing[_queue(self._statuses[cell])].append(cell[4:])
+
+    def shown(self, queue: str) -> str:
+        """A queue as netrev shows it."""
+        standing = self._standing.get(queue)
+        return "absent" if standing is None else " ".join(standing) or "-"
+
+    def follow(self, changed: list[tuple[str, str]]) -> Iterator[tuple[str, str]]:
+        """The queues that a step changes which changes these cells, with what they show behind it."""
+        touched: dict[str, None] = {}
+        for cell, value in changed:
+            if cell.startswith("lock ") and f"rq {cell[5:]}" not in self._standing:
+                made = [f"{queue} {cell[5:]}" for queue in QUEUES]
+                self._standing |= {queue: [] for queue in made}
+                touched |= dict.fromkeys(made)
+            if cell.startswith("gor "):
+                touched |= dict.fromkeys(self._moved(cell, value))
+        return ((queue, self.shown(queue)) for queue in touched)
+
+    def _moved(self, cell: str, status: str) -> Iterator[str]:
+        """The queues that a goroutine leaves or comes to by its new status."""
+        before, self._statuses[cell] = self._statuses.get(cell, ""), status
+        if before.startswith("queued "):
+            self._standing[_queue(before)].remove(cell[4:])
+            yield _queue(before)
+        if status.startswith("queued "):
+            self._standing[_queue(status)].append(cell[4:])
+            yield _queue(status)
 
 
 def _queue(status: str) -> str:

@@ -36,7 +36,7 @@ SHADES = {
         armed #b0cfee #2d4966 armed
         parking #7fb0df #336190 parking
         parked #2b62a8 #3f80cf parked
-        swapping #bfe3a8 #57853f woken, takes the word
+        swapping #bfe3a8 #609046 woken, takes the word
         checking #6dae50 #78b557 woken, checks why
         acquiring #f5d4a0 #7d6431 about to acquire
         relock #eaae55 #b0863c tries the lock again

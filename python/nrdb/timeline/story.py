@@ -1,54 +1,54 @@
-"""What the page tells beside the cells: whose the descriptors and goroutines are, who was woken by what, suspects, marks, and the
-lines of the program. That is nrdb's own, unproved."""
+"""What the page tells beside the cells: whose the descriptors and goroutines are, who was woken by what, marks, and the lines of the
+program. That is nrdb's own, unproved."""
 
-from itertools import islice
+from collections import Counter
 from typing import Any
 
-from netrev_words.vocabulary import KINDS
-
+from ..calls import book_of
 from ..notes import INSIDE
+from ..recorded_changes import RecordedChanges
 from ..recording import Recording
-from ..scout import Scout
-from ..session import Session
-from ..suspects.ranking import suspects_of
-from ..suspects.table import suspects_table
+from ..shapes import Listed
+from .calls import Data
 from .runs import Runs, Window
 
-Data = dict[str, Any]  # what the page's script reads
+MOST_TICKS = 2_000
 WAKES = {"parked": ("swapping", "desc"), "queued": ("acquiring", "sock")}  # what whoever slept does then, and where
 
 
 class Connections:
-    """Whose each descriptor and each goroutine is, up to a position: each use of a descriptor, with its number, its socket, and
+    """Whose each descriptor and each goroutine is, in a window: each use of a descriptor up to its end, with its number, its socket, and
     from which position to which (None: the end); and the socket that each goroutine has most to do with."""
 
-    def __init__(self, recording: Recording, last: int) -> None:
+    def __init__(self, recording: Recording, window: Window) -> None:
         self.uses: list[list[Any]] = []
-        self._of: dict[int, list[Any]] = {}
-        self._free: list[int] = []
+        self._window = window
         self._touched: dict[int, dict[int, int]] = {}
-        for number, (kind, *arguments) in enumerate(islice(recording.arrays(), last), 1):
-            self._follow(number, kind, dict(zip(KINDS[kind].arguments, arguments)))
+        self._opens(recording, window.last)
+        book, first = book_of(recording), max(window.first - 1, 0)
+        steps = Counter(zip(book.goroutines[first : window.last], book.sockets[first : window.last]))
+        for (g, s), many in sorted(steps.items()):
+            if g >= 0 and s >= 0:
+                self._touched.setdefault(g, {})[s] = many
 
-    def _follow(self, number: int, kind: str, named: dict[str, Any]) -> None:
-        g, s, d = (named.get(form) for form in "gsd")
-        if kind == "pollopen":
-            d = self._free.pop() if self._free else len(self._of)
-            self._of[d] = [d, s, number, None]
-            self.uses.append(self._of[d])
-        elif kind == "pollclose":
-            self._free.append(named["d"])
-            self._of[named["d"]][3] = number
-        socket = self._of[d][1] if s is None and d is not None else s
-        if g is not None and socket is not None:
-            counts = self._touched.setdefault(g, {})
-            counts[socket] = counts.get(socket, 0) + 1
+    def _opens(self, recording: Recording, last: int) -> None:
+        """Follows which descriptor is whose: one that was closed last is opened first."""
+        of: dict[int, list[Any]] = {}
+        free: list[int] = []
+        for step in recording.steps_of(("pollopen", "pollclose"), last):
+            if step.kind == "pollclose":
+                free.append(step.argument("d"))
+                of[free[-1]][3] = step.number
+                continue
+            d = free.pop() if free else len(of)
+            of[d] = [d, step.argument("s"), step.number, None]
+            self.uses.append(of[d])
 
-    def groups(self, runs: Runs, window: Window) -> dict[int, int]:
+    def groups(self, runs: Runs) -> dict[int, int]:
         """The socket of each goroutine: the one at which it waits for the most steps, or makes the most."""
         for cell, run in runs.items():
             if cell.startswith("gor "):
-                ends = [begins for begins, _ in run[1:]] + [window.last + 1]
+                ends = [begins for begins, _ in run[1:]] + [self._window.last + 1]
                 for (begins, value), until in zip(run, ends):
                     self._waits(int(cell.split()[1]), value.split(), begins, until - begins)
         return {g: max(counts, key=counts.__getitem__) for g, counts in self._touched.items()}
@@ -80,17 +80,6 @@ def wakes_of(recording: Recording, runs: Runs) -> list[list[Any]]:
     return sorted(wakes, key=lambda wake: wake[:2])
 
 
-def suspects_data(scout: Scout, recording: Recording, window: Window) -> list[Data]:
-    """The suspects of the window as `info suspects` tells them, and whom they are about."""
-    rows = [row.values for row in suspects_table(scout, recording).rows if row.values]
-    found = [suspect for suspect in suspects_of(recording).suspects if suspect.is_shown]
-    return [
-        {**row, "g": suspect.goroutine, "s": suspect.socket, "d": suspect.descriptor, "steps": suspect.steps}
-        for row, suspect in zip(rows, found)
-        if window.first <= suspect.step <= window.last
-    ]
-
-
 def lines_data(recording: Recording, window: Window) -> Data:
     """The program's lines: each once, and of each step from the first position on which that is; nothing without lines."""
     if not recording.lines:
@@ -100,10 +89,10 @@ def lines_data(recording: Recording, window: Window) -> Data:
     return {"texts": list(texts), "at": at}
 
 
-def marks_of(session: Session, recording: Recording, window: Window, runs: Runs) -> list[Data]:
+def marks_of(listed: list[Listed], recording: Recording, window: Window, runs: Runs) -> list[Data]:
     """The session's marks, with the positions at which they hit."""
     marks = []
-    for number, sort, what in session.netrev.marks():
+    for number, sort, what in listed:
         if sort == "watch":
             hits = [start for start, _ in runs.get(what, ())[1:]]
         elif what.startswith("@"):
@@ -113,3 +102,10 @@ def marks_of(session: Session, recording: Recording, window: Window, runs: Runs)
         shown = [hit for hit in hits if window.first <= hit <= window.last]
         marks.append({"mark": int(number), "what": f"{sort} {what}", "hits": shown})
     return marks
+
+
+def ticks_of(changes: RecordedChanges) -> list[list[int]]:
+    """The steps at which the clock went on, each with its time; of more than so many some at like distances, with the last."""
+    ticks = [[step, int(time)] for step, time in changes.changes_of("clock")]
+    every = -(-len(ticks) // MOST_TICKS) or 1
+    return [[0, 0], *ticks[::every], *(ticks[-1:] if (len(ticks) - 1) % every else [])]

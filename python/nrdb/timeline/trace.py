@@ -1,11 +1,16 @@
-"""The run as Chrome's trace events in JSON, for Perfetto: a thread for each goroutine, with slices for its statuses and for its steps in
-them, and flows from what woke a goroutine to where it goes on. A step takes a microsecond.
+"""The run as Chrome's trace events in JSON, for Perfetto: a thread for each goroutine, with slices for its calls, in them for its statuses and
+for its steps, and flows from what woke a goroutine to where it goes on; deadlines, the clock, and what went wrong. A step takes a microsecond.
 
-The statuses are those that netrev says each step changed; it is asked for those of all goroutines at some positions besides."""
+The statuses, deadlines and the clock are what netrev says that each step changed; it is asked for the statuses of all goroutines at some
+positions besides. Calls and suspects are nrdb's own."""
 
+import gzip
+import io
 import json
+from contextlib import contextmanager
+from itertools import chain
 from pathlib import Path
-from typing import IO, Any, Callable, Iterator, Optional
+from typing import IO, Any, Callable, Iterator, Optional, cast
 
 from netrev_words.plain import plain
 from netrev_words.vocabulary import KINDS
@@ -16,14 +21,15 @@ from ..recorded_changes import RecordedChanges, value_at_start
 from ..recording import Recording, shortened
 from ..scout import Scout
 from ..session import Misused, Session
+from .beside import beside
+from .calls import names_data
+from .events import GOROUTINES, NETWORK, Event, event_of
+from .runs import Window
 
 COMPARED = 64  # positions
-GOROUTINES, NETWORK = 1, 2  # processes of the trace
 POLLER, TIMERS, CLOCK = range(3)  # threads of the second, before the sockets
 SOCKETS = 10  # the number of the first socket's thread
 QUIET = ("idle", "gone")
-
-Event = dict[str, Any]
 
 
 def write_trace(session: Session, path: str) -> str:
@@ -31,9 +37,22 @@ def write_trace(session: Session, path: str) -> str:
     recording, scout = session.text(), session.looks()
     tracing = Tracing(recording, session.changes())
     compared = _compared(scout, session.changes())
-    with writing(path, session.path) as file:
-        _write(file, tracing.events(Path(session.path).name, session.interrupts.check))
+    with packed(path, session.path) as file:
+        events = tracing.events(Path(session.path).name, session.interrupts.check)
+        _write(file, chain(events, beside(recording, session.changes(), scout)))
     return f"{path}: {recording.length} steps, {tracing.slices} slices, {tracing.flows} wake-ups; statuses as netrev has them at {compared} positions"
+
+
+@contextmanager
+def packed(path: str, recording: str) -> Iterator[IO[str]]:
+    """A file to be written, packed by gzip where its name ends so."""
+    if not path.endswith(".gz"):
+        with writing(path, recording) as file:
+            yield file
+        return
+    with writing(path, recording, "wb") as file, gzip.GzipFile("", "wb", 6, file, 0) as inner:
+        with io.TextIOWrapper(cast(IO[bytes], inner), encoding="utf-8", write_through=True) as text:
+            yield text
 
 
 def _write(file: IO[str], events: Iterator[Event]) -> None:
@@ -100,7 +119,7 @@ class Tracing:
         """The slice of a status that ends."""
         since = self._since.pop(g)
         self.slices += 1
-        return _event("X", GOROUTINES, g, since, dur=until - since, name=words, cat="status")
+        return event_of("X", GOROUTINES, g, since, dur=until - since, name=words, cat="status")
 
     def _slice_of_step(self, number: int, kind: str, arguments: list[Any], mine: Optional[int]) -> Event:
         """The slice of a step, from the position before to the one behind."""
@@ -109,14 +128,14 @@ class Tracing:
         line = self.recording.lines.words(number)
         told: Event = {"step": number, "clock": self._clock, **({"line": plain(line)} if line else {})}
         process, thread = (GOROUTINES, mine) if mine is not None else (NETWORK, _thread(kind, arguments))
-        return _event("X", process, thread, number - 1, dur=1, name=text, cat="step", args=told)
+        return event_of("X", process, thread, number - 1, dur=1, name=text, cat="step", args=told)
 
     def _flow(self, number: int, kind: str, arguments: list[Any], mine: Optional[int], woken: int) -> Iterator[Event]:
         """From the step that wakes to the status in which the woken one goes on."""
         self.flows += 1
         process, thread = (GOROUTINES, mine) if mine is not None else (NETWORK, _thread(kind, arguments))
-        yield _event("s", process, thread, number - 1, id=self.flows, name="wakes", cat="wake")
-        yield _event("f", GOROUTINES, woken, number, id=self.flows, name="wakes", cat="wake", bp="e")
+        yield event_of("s", process, thread, number - 1, id=self.flows, name="wakes", cat="wake")
+        yield event_of("f", GOROUTINES, woken, number, id=self.flows, name="wakes", cat="wake", bp="e")
 
     def _names(self, name: str) -> Iterator[Event]:
         """The names of processes and threads."""
@@ -126,15 +145,14 @@ class Tracing:
                 kinds[kind] += 1
         for process, title in ((GOROUTINES, f"goroutines of {plain(name)}"), (NETWORK, "network, poller and clock")):
             yield {"ph": "M", "pid": process, "name": "process_name", "args": {"name": title}}
-        threads = [(GOROUTINES, g, f"goroutine {g}") for g in range(kinds["spawn"] + 1)]
+        runs = names_data(self.recording, Window(0, self.recording.length))
+        threads = [
+            (GOROUTINES, g, plain(f"goroutine {g} {runs.get(g, '')}".rstrip())) for g in range(kinds["spawn"] + 1)
+        ]
         threads += [(NETWORK, at, title) for at, title in ((POLLER, "poller"), (TIMERS, "timers"), (CLOCK, "clock"))]
         threads += [(NETWORK, SOCKETS + s, f"socket {s}") for s in range(kinds["sockopen"])]
         for process, thread, title in threads:
             yield {"ph": "M", "pid": process, "tid": thread, "name": "thread_name", "args": {"name": title}}
-
-
-def _event(phase: str, process: int, thread: int, time: int, **more: Any) -> Event:
-    return {"ph": phase, "pid": process, "tid": thread, "ts": time, **more}
 
 
 def _thread(kind: str, arguments: list[Any]) -> int:

@@ -1,4 +1,4 @@
-"""Who is let in, and to what: a request is one of four, comes from this machine's own page, and has the token; all others are
+"""Who is let in, and to what: a request is one of six, comes from this machine's own page, and has the token; all others are
 refused."""
 
 import hmac
@@ -8,14 +8,15 @@ from http import HTTPStatus
 from typing import Mapping
 
 LONGEST_LINE = 256  # bytes of a line, as netrev takes it
-TOKEN, BROWSER = "netrev-token", "netrev-browser"  # headers that the page's script sends
-PAGE, EVENTS, TIMELINE, LINE = "/", "/events", "/timeline", "/line"
-METHODS = {PAGE: "GET", EVENTS: "GET", TIMELINE: "GET", LINE: "POST"}
+TOKEN, BROWSER, POSITIONS = "netrev-token", "netrev-browser", "netrev-positions"  # headers that the page's script sends
+PAGE, EVENTS, TIMELINE, PART, LINE, COMPLETE = "/", "/events", "/timeline", "/part", "/line", "/complete"
+METHODS = {PAGE: "GET", EVENTS: "GET", TIMELINE: "GET", PART: "GET", LINE: "POST", COMPLETE: "POST"}
 BY_ADDRESS = (PAGE, EVENTS)  # which have the token in the address: nothing that asks for them can set a header
 
 FIRST_LINE = re.compile(r"([A-Z]{1,20}) (/[!-~]*) HTTP/1\.[01]")
 HEADER = re.compile(r"([!#$%&'*+.^_`|~0-9A-Za-z-]+):[ \t]*([^\x00-\x08\x0a-\x1f\x7f]*)")
 LENGTH = re.compile(r"\d{1,18}")
+FROM_TO = re.compile(r"(\d{1,18})-(\d{1,18})")
 
 
 class Rejected(Exception):
@@ -101,3 +102,11 @@ def line_of(body: bytes) -> str:
     if not line.isprintable():
         raise Rejected(HTTPStatus.BAD_REQUEST, "that is no line: it has controls, or bytes that are no UTF-8")
     return line
+
+
+def positions_of(request: Request) -> tuple[int, int]:
+    """The first and the last position of the part that is asked for; Rejected where none is named."""
+    named = FROM_TO.fullmatch(request.headers.get(POSITIONS, ""))
+    if named is None:
+        raise Rejected(HTTPStatus.BAD_REQUEST, "a part is named by its first and its last position: 1000-9000")
+    return int(named[1]), int(named[2])

@@ -9,16 +9,16 @@ from concurrent.futures import Future
 from pathlib import Path
 from typing import Callable, Optional
 
-from ..interrupts import Interrupted
 from ..netrev import Ended, Netrev
 from ..output import Printer
+from ..prompt.completion import completions
 from ..recording import NoRecording
-from ..scout import Lost
-from ..session import Mismatched, Misused, Session
+from ..session import Mismatched, Session
 from ..shapes import Refused, Strange
-from ..timeline.page import MOST, collected, plainly
+from ..timeline.picture import MOST
 from ..timeline.runs import Window
 from .document import document
+from .painting import Painter, Wanted
 from .requests import Gate
 from .serving import LOOPBACK, Server, Unavailable, listening
 from .shared import Shared
@@ -28,7 +28,6 @@ DONE, FAILED = 0, 3
 MOST_WAITING = 32  # lines that wait for those before them
 EVERY = 1.0  # second, after which it is looked again what others did
 LATEST = 30.0  # seconds between two tries to find netrev again; the first are shorter
-HALF = MOST // 2
 UNNAMED = "for the timeline the recording has to be named: nrdb --web PORT --join HOST:PORT FILE"
 GONE = "netrev has ended"
 Opening = Callable[[Printer], Netrev]
@@ -44,7 +43,12 @@ def serve_page(session: Session, port: int, opened: Opening) -> int:
         return FAILED
     token = secrets.token_urlsafe(32)
     number = at.getsockname()[1]
-    running = Running(Shared.over(session, streams), opened, streams)
+    painter = (
+        Painter(session.program, session.path, lambda text: streams.tell("picture", says=text))
+        if session.path
+        else None
+    )
+    running = Running(Shared.over(session, streams), opened, streams, painter)
     server = Server(at, Gate(number, token), document(), streams, running)
     server.start()
     try:
@@ -55,25 +59,20 @@ def serve_page(session: Session, port: int, opened: Opening) -> int:
     finally:
         server.stop()
         running.session.netrev.drop()
+        if painter:
+            painter.drop()
     return DONE
-
-
-def window_of(position: int, length: int) -> Window:
-    """The positions that the timeline shows: all, or of a long recording those round the session's."""
-    first = max(min(position // HALF * HALF - HALF // 2, length - MOST), 0)
-    return Window(first, min(first + MOST, length))
 
 
 class Running:
     """The lines that wait, and the session that answers them."""
 
-    def __init__(self, session: Shared, opened: Opening, streams: Streams):
-        self.session = session
+    def __init__(self, session: Shared, opened: Opening, streams: Streams, painter: Optional[Painter]):
+        self.session, self._painter = session, painter
         self._opened, self._streams = opened, streams
         self._work: queue.Queue[Callable[[], None]] = queue.Queue(MOST_WAITING)
         self._gone = ""
         self._pause, self._next_try = EVERY, 0.0
-        self._made: Optional[tuple[Window, bytes]] = None
 
     # --- for the server's thread
 
@@ -83,18 +82,34 @@ class Running:
             raise Unavailable(self._gone)
         self._take(lambda: self._answer(who, line))
 
-    def timeline(self) -> "Future[bytes]":
-        """The timeline's data, as JSON; Unavailable where it can't be had."""
-        wanted: Future[bytes] = Future()
+    def complete(self, line: str) -> "Future[bytes]":
+        """What the last word of a line that is being typed can become, as JSON; Unavailable where too many lines wait."""
+        wanted: "Future[bytes]" = Future()
 
         def answer() -> None:
-            try:
-                wanted.set_result(self._timeline())
-            except Unavailable as why:
-                wanted.set_exception(why)
+            found: list[str] = []
+            if not self._gone:
+                self._guarded(lambda: found.extend(completions(line, self.session)))
+            if wanted.set_running_or_notify_cancel():
+                wanted.set_result(json.dumps(found).encode("ascii"))
 
         self._take(answer)
         return wanted
+
+    def timeline(self) -> "Future[bytes]":
+        """The timeline's data, as JSON; Unavailable where they can't be had."""
+        return self._picture(None)
+
+    def part(self, first: int, last: int) -> "Future[bytes]":
+        """What is shown of these positions, as JSON; Unavailable where that can't be had."""
+        if not 0 <= first <= last <= min(self.session.length, first + MOST):
+            raise Unavailable(f"a part is of at most {MOST} steps, from 0 to {self.session.length}")
+        return self._picture(Window(first, last))
+
+    def _picture(self, window: Wanted) -> "Future[bytes]":
+        if self._painter is None:
+            raise Unavailable(UNNAMED)
+        return self._painter.ask(window)
 
     def _take(self, work: Callable[[], None]) -> None:
         try:
@@ -166,26 +181,3 @@ class Running:
             return
         self._gone, self._pause = "", EVERY
         self._streams.tell("netrev", there=True, says="netrev is there again, with the marks that it has now")
-
-    def _timeline(self) -> bytes:
-        """The timeline's data; Unavailable where they can't be had."""
-        session, recording = self.session, self.session.recording
-        if recording is None:
-            raise Unavailable(UNNAMED)
-        window = window_of(session.stood, recording.length)
-        if self._made is None or self._made[0] != window:
-            if self._gone:
-                raise Unavailable(self._gone)
-            self._guarded(lambda: self._make(window))
-        if self._made is None or self._made[0] != window:
-            raise Unavailable(self._gone or "the timeline can't be had: interrupted")
-        return self._made[1]
-
-    def _make(self, window: Window) -> None:
-        session = self.session
-        try:
-            with session.interrupts.held():
-                data = collected(session, session.text(), window)
-        except (Interrupted, Lost, Misused, Refused) as why:
-            raise Unavailable(str(why) or "interrupted") from None
-        self._made = window, json.dumps(plainly(data), separators=(",", ":")).encode("ascii")

@@ -1,4 +1,4 @@
-"""The page's server: it listens at the loopback alone, in a thread of its own, and answers four requests. It does nothing by itself
+"""The page's server: it listens at the loopback alone, in a thread of its own, and answers six requests. It does nothing by itself
 with the session, which is asked by the thread that runs it."""
 
 import asyncio
@@ -10,7 +10,7 @@ from http import HTTPStatus
 from typing import Protocol
 
 from .document import Document
-from .requests import BROWSER, EVENTS, LINE, PAGE, Gate, Request, Rejected, line_of
+from .requests import BROWSER, COMPLETE, EVENTS, LINE, PAGE, PART, Gate, Request, Rejected, line_of, positions_of
 from .streams import Stream, Streams
 from .wire import EVENT_STREAM, JSON, LONGEST_HEAD, Wire
 
@@ -32,8 +32,14 @@ class Runner(Protocol):
     def post(self, who: str, line: str) -> None:
         """Takes a line, which is answered by events; Unavailable where it can't be."""
 
+    def complete(self, line: str) -> "Future[bytes]":
+        """What the last word of a line that is being typed can become, as JSON; Unavailable where that can't be had."""
+
     def timeline(self) -> "Future[bytes]":
         """The timeline's data, as JSON; Unavailable where it can't be had."""
+
+    def part(self, first: int, last: int) -> "Future[bytes]":
+        """What is shown of these positions, as JSON; Unavailable where it can't be had."""
 
 
 def listening(port: int) -> socket.socket:
@@ -138,8 +144,12 @@ class Server:
         elif request.path == LINE:
             self._session.post(self._streams.name_of(request.headers.get(BROWSER, "")), line_of(body))
             await wire.answer(HTTPStatus.ACCEPTED, b"")
+        elif request.path == COMPLETE:
+            found = await asyncio.wrap_future(self._session.complete(line_of(body)))
+            await wire.answer(HTTPStatus.OK, found, JSON)
         else:
-            await wire.answer(HTTPStatus.OK, await asyncio.wrap_future(self._session.timeline()), JSON)
+            made = self._session.part(*positions_of(request)) if request.path == PART else self._session.timeline()
+            await wire.answer(HTTPStatus.OK, await asyncio.wrap_future(made), JSON)
 
     async def _tell(self, wire: Wire, stream: Stream) -> None:
         """Tells a browser what happens until it goes, or is too far behind."""

@@ -15,7 +15,7 @@ from .requests import Rejected
 MOST_STREAMS = 16
 MOST_KEPT, KEPT_BYTES = 400, 2**20  # events that whoever comes later is told, and all of their bytes
 WAITING_BYTES = 8 * 2**20  # that may wait for a browser that is slow
-STATES = ("stands", "marks", "netrev")  # of which the last one says how things are
+STATES = ("stands", "marks", "netrev", "picture")  # of which the last one says how things are
 
 Event = dict[str, Any]
 

@@ -4,6 +4,7 @@ reduced again; NAME.where goes with it."""
 import re
 import tempfile
 import unittest
+import xml.etree.ElementTree as ET
 from pathlib import Path
 
 from netrev_fuzz.injections import Bug, Traffic
@@ -113,6 +114,13 @@ class Reducing(unittest.TestCase):
             self.assertEqual(left.step(new).kind, whole.step(old).kind)
             self.assertEqual(left.lines.of(new), whole.lines.of(old))
         self.assertIn("main.go:34", text)
+        picture = ET.parse(self.folder / "bug.svg").getroot()
+        self.assertIn("](bug.svg)", text)
+        words = [node.text or "" for node in picture.iter() if node.tag.endswith("}text")]
+        self.assertTrue(any(one.startswith("Write · timed out") for one in words), words)
+        self.assertEqual([one for one in words if one in "1234"][-4:], ["1", "2", "3", "4"])
+        (diagram,) = re.findall(r"```mermaid\n(.*?)```", text, re.DOTALL)
+        self.assertEqual(len(re.findall("->>", diagram)), left.length)
         self.assertIn(f"`ok {left.length} steps`", text)
         self.assertRegex(text, r"netrev: `at \d+ wd 0 = -1`")
 

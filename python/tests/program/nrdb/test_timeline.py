@@ -13,6 +13,7 @@ from nrdb.recorded_changes import AT_START
 from .support import EXAMPLES, HUNTS, nrdb, recordings, shown
 
 SEED = 20261125
+SVG = 'xmlns="http://www.w3.org/2000/svg"'  # a name, which nobody fetches, of what the page saves
 
 
 def page_of(path, *words):
@@ -43,7 +44,7 @@ class Timeline(unittest.TestCase):
             world = shown(path)
             text, data = page_of(path)
             self.assertEqual((data["first"], data["last"], data["length"]), (0, world.length, world.length))
-            self.assertNotRegex(text, r"(src|href)=|https?://|@import|url\(")
+            self.assertNotRegex(text.replace(SVG, ""), r"(src|href)=|https?://|@import|url\((?!#)")
             self.assertEqual(data["steps"][1:-1], [str(world.recording.step(n)) for n in range(1, world.length + 1)])
             for at in {0, world.length, choose.randint(0, world.length), choose.randint(0, world.length)}:
                 values = world.at(at)
@@ -79,6 +80,36 @@ class Timeline(unittest.TestCase):
         self.assertEqual((data["first"], data["last"]), (990, 1000))
         values = shown(path).at(995)
         told = {cell: value_at(runs, 995) for cell, runs in data["cells"].items()}
+        self.assertEqual(told, {cell: values[cell] for cell in told})
+
+    def test_a_part_is_named_behind_the_option(self):
+        path = HUNTS / "blocked-control.jsonl"
+        with tempfile.TemporaryDirectory() as folder:
+            file = Path(folder) / "page.html"
+            for words in (["--timeline", file, 990, 1000, path], [path, "--timeline", file, 990, 1000]):
+                said = nrdb(*words)
+                data = data_in(file.read_text())
+                self.assertEqual((data["first"], data["last"], data["isPart"]), (990, 1000, True))
+                self.assertIn("positions 990 to 1000", said)
+                file.unlink()
+            nrdb("--timeline", file, 990, 1000, "-ex", "goto 995", path)
+            self.assertEqual(data_in(file.read_text())["position"], 995)
+            self.assertIn("the recording's positions are 0 to 2088", nrdb("--timeline", file, 0, 2089, path, status=3))
+            nrdb("--timeline", file, path)
+            self.assertFalse(data_in(file.read_text())["isPart"])
+
+    def test_a_longer_recording_has_the_values_of_a_part(self):
+        path = HUNTS / "missed-release.jsonl"
+        with tempfile.TemporaryDirectory() as folder, patch("nrdb.timeline.picture.MOST", 600):
+            file = Path(folder) / "page.html"
+            with patch("nrdb.timeline.picture.AT_ONCE", 200):
+                nrdb("--timeline", file, path)
+            data = data_in(file.read_text())
+        self.assertEqual((data["first"], data["last"], data["length"]), (112, 312, 1430))
+        self.assertEqual(data["suspects"][0]["step"], 262)
+        self.assertGreater(data["calls"]["count"], 100)
+        values = shown(path).at(300)
+        told = {cell: value_at(runs, 300) for cell, runs in data["cells"].items()}
         self.assertEqual(told, {cell: values[cell] for cell in told})
 
     def test_a_page_that_cannot_be_written(self):

@@ -124,7 +124,7 @@ class Page(unittest.TestCase):
             const { arrows, drawRows, V, C } = inside, named = drawRows(C.clientWidth, C.clientHeight), rowOf = (y) => V.rows[Math.floor((y - V.head + V.top) / V.high)];
             told.arrows = arrows(named).map(([step, from]) => [step, rowOf(from).name, rowOf(from).begins ?? 0, rowOf(from).ends ?? 9999]);
             const again = V.rows.find((row) => row.kind === "desc" && V.rows.some((one) => one.name === row.name && one.begins < row.begins));
-            const uses = V.rows.filter((row) => row.name === again.name), second = uses[1];
+            const uses = V.rows.filter((row) => row.name === again.name).sort((one, other) => one.begins - other.begins), second = uses[1];
             click(20, V.head - V.top + (V.rows.indexOf(second) + 0.5) * V.high);
             told.uses = [uses[0].begins, second.begins, second.ends]; told.changes = [];
             key("Home"); for (let n = 0; n < 30; n++) { key("]"); told.changes.push(position()); }

@@ -1,5 +1,6 @@
 """`trace` with netrev: the file is whole, and what netrev answers is looked at."""
 
+import gzip
 import json
 import tempfile
 import unittest
@@ -24,11 +25,20 @@ class Trace(unittest.TestCase):
             said = nrdb(*words, HUNTS / "missed-release.jsonl")
             trace = json.loads(self.path.read_text())
             self.assertEqual(faults_of(trace["traceEvents"]), [])
-            slices = [event for event in trace["traceEvents"] if event["ph"] == "X"]
+            slices = [event for event in trace["traceEvents"] if event.get("cat") in ("status", "step")]
             self.assertIn(f"{self.path}: 1430 steps, {len(slices)} slices, ", said)
             compared = {*range(1430 // COMPARED, 1431, 1430 // COMPARED), 1430}
             self.assertIn(f"as netrev has them at {len(compared)} positions", said)
             self.path.unlink()
+
+    def test_it_is_packed_where_its_name_says_so(self) -> None:
+        packed = self.path.with_suffix(".json.gz")
+        nrdb("--trace", self.path, EXAMPLES / "real/hijacked.jsonl")
+        nrdb("--trace", packed, EXAMPLES / "real/hijacked.jsonl")
+        self.assertEqual(gzip.decompress(packed.read_bytes()), self.path.read_bytes())
+        self.assertLess(packed.stat().st_size, self.path.stat().st_size / 5)
+        marks = [one["name"] for one in json.loads(self.path.read_text())["traceEvents"] if one["ph"] == "i"]
+        self.assertEqual(marks, [f"{number}. deadline left behind" for number in range(1, 5)])
 
     def test_nothing_is_written_where_netrev_answers_otherwise(self) -> None:
         path = EXAMPLES / "lost-wakeup.jsonl"

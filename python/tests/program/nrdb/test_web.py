@@ -1,6 +1,7 @@
 """`nrdb --web`: people who listen to a session's events and type lines, a terminal at another front of it, and a netrev that is
 killed. tests.test_web has the requests that aren't the page's."""
 
+import json
 import socket
 import subprocess
 import unittest
@@ -10,7 +11,7 @@ from pathlib import Path
 from tests.program.sharing import NETREV, PORTS, Server
 from tests.web_client import Listener
 
-from .support import EXAMPLES, nrdb
+from .support import EXAMPLES, nrdb, shown
 from .test_join import Joined, replies
 from .web_support import Web
 
@@ -100,7 +101,11 @@ class Alone(unittest.TestCase):
         with Web("-ex", "goto 4", FIRST) as web, Listener(web.address) as one:
             self.assertIn("(netrev) goto 4\nat 4\n", web.said)
             self.assertEqual(one.said("info position"), ["at 4 of 10 forward"])
-            self.assertIn(b'"position":4', web.address.get("/timeline").body)
+            self.assertIn(b'"length":10', web.address.get("/timeline").body)
+            part = json.loads(web.address.get("/part", Netrev_Positions="2-7").body)
+            self.assertEqual(
+                (part["first"], part["last"], part["steps"][0]), (2, 7, str(shown(FIRST).recording.step(2)))
+            )
             begun = children(web.process.pid)
             self.assertGreaterEqual(len(begun), 1)
             self.assertEqual(web.ends(), (0, "", ""))

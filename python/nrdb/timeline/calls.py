@@ -1,0 +1,124 @@
+"""Go's calls as the page draws them, in columns: whose, on which socket, from which step to which, what came of them and at which line
+of the program. They are nrdb's reckoning, by the recording's steps and the file beside it."""
+
+import re
+from typing import Any, Optional
+
+from ..causes.hanging import is_waiting
+from ..causes.index import Index, index_of
+from ..causes.words import is_by_go, name_of, short
+from ..one_call import Call
+from ..recording import Recording
+from ..where import OF_THE_PROGRAM, Stack
+from .runs import Window
+
+Data = dict[str, Any]  # what the page's script reads
+WRAPPER = re.compile(r"\.(gowrap|deferwrap)\d*$")
+DONE, FAILED, HANGS, OPEN, LISTENS = range(5)  # what is drawn of a call
+
+
+class Texts(dict[str, int]):
+    """Texts, each once, by their places in the order in which they came."""
+
+    def __missing__(self, text: str) -> int:
+        number = self[text] = len(self)
+        return number
+
+
+def state_of(index: Index, call: Call) -> int:
+    """Which of these a call is. An end by Go's own code is no failure of the program's."""
+    if call.last:
+        return FAILED if call.outcome.is_error and not is_by_go(index.recording, call) else DONE
+    if index.is_listening(call):
+        return LISTENS
+    return HANGS if is_waiting(index, call) else OPEN
+
+
+def shown_calls(recording: Recording, window: Window) -> list[Call]:
+    """The calls of a window, in the order of their first steps."""
+    calls = index_of(recording).book.calls
+    return [one for one in calls if one.first <= window.last and (not one.last or one.last >= window.first)]
+
+
+COLUMNS = ("g", "s", "first", "long", "name", "came", "line", "state", "waited", "slept")
+
+
+def calls_data(recording: Recording, window: Window) -> Data:
+    """The calls of the window, in columns, of which one that has one value alone has that once. `first` counts from the call before; `long`
+    is a call's steps, 0 where it hasn't ended; `name`, `came` and `line` are places in `texts`."""
+    index, texts = index_of(recording), Texts({"": 0})
+    lines, rows, before = Lines(recording, texts), [], 0
+    for call in shown_calls(recording, window):
+        long = call.last - call.first + 1 if call.last else 0
+        told = texts[name_of(recording, call) if recording.lines else call.name], texts[_came(index, call)]
+        about = lines.of(call.first), state_of(index, call), call.waited, call.slept
+        rows.append((call.goroutine, call.socket, call.first - before, long, *told, *about))
+        before = call.first
+    columns = {name: list(column) for name, column in zip(COLUMNS, zip(*rows))}
+    return {
+        "count": len(rows),
+        **{name: short_column(column) for name, column in columns.items()},
+        "texts": list(texts),
+    }
+
+
+def short_column(column: list[int]) -> list[int]:
+    """A column, or its one value."""
+    return column[:1] if len(set(column)) == 1 else column
+
+
+def _came(index: Index, call: Call) -> str:
+    """What came of a call, in words: of one that takes a connection that is no byte."""
+    if not call.last or (call.name == "Read" and not call.outcome.is_error and index.is_listening(call)):
+        return ""
+    return call.came()
+
+
+class Lines:
+    """The lines of the program, each stack's once, by their places among the texts."""
+
+    def __init__(self, recording: Recording, texts: Texts) -> None:
+        self._lines, self._texts = recording.lines, texts
+        self._known: dict[int, int] = {}
+
+    def of(self, step: int) -> int:
+        """The place of the text of a step's line."""
+        if not 0 < step <= len(self._lines.steps):
+            return 0
+        stack = self._lines.steps[step - 1]
+        if stack not in self._known:
+            self._known[stack] = self._texts[self._lines.stacks[stack].words()]
+        return self._known[stack]
+
+
+def names_data(recording: Recording, window: Window) -> dict[int, str]:
+    """What each goroutine of the window runs: the outermost function of the program that any of its calls is in, else of whoever's it
+    is."""
+    names: dict[int, str] = {}
+    own: set[int] = set()
+    for call in shown_calls(recording, window) if recording.lines else ():
+        stack = recording.lines.of(call.first)
+        if call.goroutine not in own and (function := runs_in(stack)):
+            names.setdefault(call.goroutine, short(function))
+        if call.goroutine not in own and (function := runs_in(stack, OF_THE_PROGRAM)):
+            names[call.goroutine] = short(function)
+            own.add(call.goroutine)
+    return names
+
+
+def runs_in(stack: Stack, of: Optional[str] = None) -> Optional[str]:
+    """The outermost function in a stack, or the outermost that is of the program, but for what the compiler wraps a `go` or a `defer` in."""
+    functions = (call.function for call in reversed(stack.calls) if of in (None, call.of))
+    return next((one for one in functions if not WRAPPER.search(one)), None)
+
+
+def waits_data(recording: Recording, window: Window) -> list[list[Any]]:
+    """The waits outside of the poller in the window: whose, behind which step, up to which one (0: it doesn't end), what for, and at
+    which line."""
+    lines = recording.lines
+    return [
+        [wait.goroutine, wait.first, wait.last, wait.reason, lines.stacks[wait.stack].words()]
+        for waits in lines.waits.values()
+        for wait in waits
+        if wait.first <= window.last and (not wait.last or wait.last >= window.first)
+    ]

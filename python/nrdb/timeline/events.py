@@ -1,0 +1,11 @@
+"""Events of a trace, as Chrome and Perfetto read them."""
+
+from typing import Any
+
+Event = dict[str, Any]
+GOROUTINES, NETWORK, DEADLINES = 1, 2, 3  # processes of the trace
+
+
+def event_of(phase: str, process: int, thread: int, time: int, **more: Any) -> Event:
+    """An event of a thread of a process, at a time in microseconds."""
+    return {"ph": phase, "pid": process, "tid": thread, "ts": time, **more}

@@ -1,0 +1,142 @@
+"""What a page shows: of the whole run the calls and what went wrong, and of a part of it each cell's values, as netrev has them."""
+
+from pathlib import Path
+from typing import Callable, NamedTuple, Optional
+
+from netrev_words.vocabulary import CELLS
+
+from ..recorded_changes import RecordedChanges
+from ..recording import Recording, shortened
+from ..scout import Scout
+from ..session import Session
+from ..shapes import Listed
+from ..words import in_words
+from .calls import Data, calls_data, names_data, waits_data
+from .runs import Runs, Window, runs_of
+from .shades import SHADES, shade
+from .stories import stories_data
+from .story import Connections, lines_data, marks_of, ticks_of, wakes_of
+
+MOST = 20_000  # steps of a part
+AT_ONCE = 8_000  # of which a longer recording's part has these, where nobody names another
+STAGES = (
+    "netrev tells what each step changed",
+    "the rules look for suspects, and who waits for whom",
+    "calls and their lines",
+    "netrev's values of the part that is shown",
+)
+
+
+class Shown(NamedTuple):
+    """What a page is made of: a recording and its file, who looks at positions, what each step changed, where the session stands, its
+    marks, and whom it is told how far this is."""
+
+    recording: Recording
+    path: str
+    scout: Scout
+    changes: RecordedChanges
+    position: int
+    marks: list[Listed]
+    tell: Callable[[str], None]
+
+    @classmethod
+    def by(cls, session: Session, tell: Callable[[str], None]) -> "Shown":
+        """What a session's page is made of."""
+        looks, changes, marks = session.looks(), session.changes(), session.netrev.marks()
+        return cls(session.text(), session.path, looks, changes, session.stands().position, marks, tell)
+
+    def begins(self, stage: int) -> None:
+        """Tells which stage begins."""
+        self.tell(f"the picture, {stage + 1} of {len(STAGES)}: {STAGES[stage]}")
+
+
+def collected(shown: Shown, window: Optional[Window] = None) -> Data:
+    """What the page shows: of the whole run calls and stories, and of a part each cell's values. Where nobody names the part it is all, or
+    of a long recording what is round its first story."""
+    whole = whole_of(shown)
+    round_it = window or part_round(whole["suspects"] + whole["causes"], shown.recording.length)
+    return {**whole, **part_of(shown, round_it), "isPart": window is not None}
+
+
+def part_round(stories: list[Data], length: int) -> Window:
+    """The positions of which values are shown: all, or of a long recording those round the end of its first story."""
+    if length <= MOST:
+        return Window(0, length)
+    last = min(stories[0]["steps"][-1] + AT_ONCE // 4, length) if stories else length
+    return Window(max(last - AT_ONCE, 0), max(last, AT_ONCE))
+
+
+def whole_of(shown: Shown) -> Data:
+    """What is shown of the whole run: the calls, the waits outside of the poller, the clock and what went wrong."""
+    shown.begins(0)
+    recording, every = shown.recording, Window(0, shown.changes.length)  # (which waits for all that netrev tells)
+    shown.begins(1)
+    suspects, causes = stories_data(shown.scout, recording)
+    shown.begins(2)
+    return {
+        "name": Path(shown.path).name,
+        "length": recording.length,
+        "position": shown.position,
+        "calls": calls_data(recording, every),
+        "names": names_data(recording, every),
+        "waits": waits_data(recording, every),
+        "peers": recording.lines.peers,
+        "ticks": ticks_of(shown.changes),
+        "shades": {name: vars(one) | {"of": one.of.value} for name, one in SHADES.items()},
+        "suspects": suspects,
+        "causes": causes,
+    }
+
+
+def part_of(shown: Shown, window: Window) -> Data:
+    """What is shown of a part of the run: netrev's values, and what is reckoned by them."""
+    shown.begins(3)
+    recording = shown.recording
+    runs, compared = runs_of(shown.scout, shown.changes, window)
+    connections = Connections(recording, window)
+    return {
+        "first": window.first,
+        "last": window.last,
+        "compared": compared,
+        "steps": steps_of(recording, window),
+        "lines": lines_data(recording, window),
+        "cells": {cell: [[start, value] for start, value in run] for cell, run in runs.items()},
+        "rows": rows_of(runs),
+        "uses": connections.uses,
+        "groups": connections.groups(runs),
+        "wakes": wakes_of(recording, runs),
+        "words": words_of(runs),
+        "marks": marks_of(shown.marks, recording, window, runs),
+    }
+
+
+def steps_of(recording: Recording, window: Window) -> list[str]:
+    """The steps that lead to each position, and the one behind the last; empty where there is none."""
+    texts = [] if window.first else [""]
+    for values in recording.arrays_of(max(window.first, 1), window.last + 1):
+        told = values[:-1] if recording.has_answers else values
+        texts.append(" ".join(shortened(str(one)) for one in told))
+    return texts + [""] * (window.last + 2 - window.first - len(texts))
+
+
+def rows_of(runs: Runs) -> list[Data]:
+    """The rows that have shades: a name, the cell that it shows, and the shade of each of its runs."""
+    rows = []
+    for cell, run in runs.items():
+        name, _, number = cell.partition(" ")
+        if name not in ("gor", "lock", "rg", "wg"):
+            continue
+        spelled = {"gor": f"gor {number}", "lock": f"sock {number}"}.get(name, f"desc {number} {name[0]}")
+        rows.append({"name": spelled, "cell": cell, "shades": [shade(name, value) for _, value in run]})
+    return rows
+
+
+def words_of(runs: Runs) -> dict[str, dict[str, str]]:
+    """The words of the values of cells that have such, by the cell's name."""
+    words: dict[str, dict[str, str]] = {}
+    for cell, run in runs.items():
+        name = cell.split()[0]
+        for _, value in run:
+            if name in CELLS and value not in words.get(name, ()) and (said := in_words(name, value)):
+                words.setdefault(name, {})[value] = said
+    return words

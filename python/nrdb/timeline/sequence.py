@@ -1,0 +1,52 @@
+"""The steps of a short recording as a sequence diagram in Mermaid's words, as forges draw it: goroutines, sockets and the network, with a
+message for each step."""
+
+from typing import Iterator, Optional
+
+from netrev_words.plain import plain
+
+from ..calls import book_of
+from ..recording import Recording, Step
+from .calls import Data, names_data
+from .runs import Window
+
+MOST = 200  # steps, above which nobody reads it
+NETWORK = "net"
+PLAIN = frozenset(" .,-_/*()'+=")  # beside letters and digits; Mermaid reads no other as it stands
+
+
+def sequence(recording: Recording, story: Optional[Data]) -> str:
+    """The diagram, with the steps of a story noted; empty where there are too many steps."""
+    if recording.length > MOST:
+        return ""
+    return "\n".join(["sequenceDiagram", *(f"    {line}" for line in _lines(recording, story))])
+
+
+def spelled(text: str) -> str:
+    """A text of others as Mermaid shows it: each letter that means something there is written as a number."""
+    return "".join(one if one.isalnum() or one in PLAIN else f"#{ord(one)};" for one in plain(text))
+
+
+def _lines(recording: Recording, story: Optional[Data]) -> Iterator[str]:
+    book = book_of(recording)
+    names = names_data(recording, Window(0, recording.length))
+    yield from (
+        f"participant g{g} as {spelled(f'g{g} {names.get(g, str())}'.strip())}"
+        for g in sorted(set(book.goroutines) - {-1})
+    )
+    yield f"participant {NETWORK} as network and clock"
+    yield from (f"participant s{s} as socket {s}" for s in sorted(set(book.sockets) - {-1}))
+    numbers = {step: number for number, step in enumerate(story["steps"], 1)} if story else {}
+    for number in range(1, recording.length + 1):
+        step, g, s = recording.step(number), book.goroutines[number - 1], book.sockets[number - 1]
+        who = NETWORK if g < 0 else f"g{g}"
+        yield f"{who}->>{who if s < 0 else f's{s}'}: {number} {spelled(_told(step, recording))}"
+        if number in numbers:
+            line = recording.lines.words(number)
+            yield f"Note over {who}: {numbers[number]}. {spelled(line or step.kind)}"
+
+
+def _told(step: Step, recording: Recording) -> str:
+    """A step in words, with its line where that is known."""
+    place = recording.lines.of(step.number).own()
+    return str(step) + (f" ({place[0].place()})" if place else "")

@@ -1,0 +1,142 @@
+"""Has the picture made in a process of its own, with a netrev of its own, so that lines are answered meanwhile: first the whole run with a
+part, and then whatever part somebody looks at."""
+
+import json
+import subprocess
+import sys
+from collections import OrderedDict
+from concurrent.futures import Future
+from contextlib import suppress
+from queue import Full, Queue
+from threading import Thread
+from typing import Callable, Optional
+
+from ..arriving_changes import ArrivingChanges
+from ..interrupts import Interrupts
+from ..netrev import Own
+from ..recording import NoRecording, Recording
+from ..scout import Lost, Scout
+from ..session import Misused
+from ..shapes import Refused
+from ..timeline.page import plainly
+from ..timeline.picture import Shown, collected, part_of
+from ..timeline.runs import Window
+from .serving import Unavailable
+
+CODE = f"import sys; sys.path[:0] = {sys.path!r}; from nrdb.web.painting import paint; paint(*sys.argv[1:])"
+MOST_WAITING = 16
+MOST_KEPT = 6  # parts
+TELLS, FAILS = b"T", b"F"  # what a line of the process is that is no picture: how far it is, or why there is none
+
+Wanted = Optional[Window]  # None: the whole run, with the part that it begins with
+
+
+class Painter:
+    """Has pictures of a recording made. `tell` is told how far the first one is."""
+
+    def __init__(self, program: str, path: str, tell: Callable[[str], None]) -> None:
+        self._words = [sys.executable, "-c", CODE, program, path]
+        self._tell = tell
+        self._wanted: "Queue[tuple[Wanted, Future[bytes]]]" = Queue(MOST_WAITING)
+        self._made: "OrderedDict[Wanted, bytes]" = OrderedDict()
+        self._process: Optional["subprocess.Popen[bytes]"] = None
+        self._thread: Optional[Thread] = None
+
+    def ask(self, window: Wanted) -> "Future[bytes]":
+        """The picture, as JSON; Unavailable where it can't be had."""
+        wanted: "Future[bytes]" = Future()
+        try:
+            self._wanted.put_nowait((window, wanted))
+        except Full:
+            raise Unavailable(f"{MOST_WAITING} pictures are waited for already") from None
+        if self._thread is None:
+            self._thread = Thread(target=self._run, daemon=True)
+            self._thread.start()
+        return wanted
+
+    def drop(self) -> None:
+        """Ends the process."""
+        if self._process is not None:
+            self._process.kill()
+            self._process.wait()
+
+    def _run(self) -> None:
+        while True:
+            window, wanted = self._wanted.get()
+            if not wanted.set_running_or_notify_cancel():  # (whoever asked has gone)
+                continue
+            try:
+                wanted.set_result(self._picture(window))
+            except Unavailable as why:
+                wanted.set_exception(why)
+
+    def _picture(self, window: Wanted) -> bytes:
+        """A picture, of those that were made or by the process."""
+        if window in self._made:
+            self._made.move_to_end(window)
+            return self._made[window]
+        made = self._made[window] = self._have_made(window)
+        parts = [one for one in self._made if one is not None]
+        for one in parts[: max(len(parts) - MOST_KEPT, 0)]:
+            del self._made[one]
+        return made
+
+    def _have_made(self, window: Wanted) -> bytes:
+        process = self._process
+        if process is None or process.poll() is not None:
+            process = self._process = subprocess.Popen(
+                self._words, stdin=subprocess.PIPE, stdout=subprocess.PIPE, start_new_session=True
+            )
+        assert process.stdin and process.stdout
+        with suppress(BrokenPipeError):
+            asked = None if window is None else [window.first, window.last]
+            process.stdin.write(f"{json.dumps(asked)}\n".encode("ascii"))
+            process.stdin.flush()
+        while (line := process.stdout.readline()).startswith(TELLS):
+            self._tell(json.loads(line[1:]))
+        if not line:
+            raise Unavailable("the timeline can't be had: what makes it has ended")
+        if line.startswith(FAILS):
+            raise Unavailable(json.loads(line[1:]))
+        return line
+
+
+# ---- in such a process
+
+
+def paint(program: str, path: str) -> None:
+    """Makes the pictures that lines of the input ask for, each a line of the output, until the input ends."""
+    interrupts = Interrupts()
+    scout = Scout(lambda: Own(program, path, interrupts))
+    changes = ArrivingChanges(program, path, interrupts, lambda _: None)
+    try:
+        changes.prepare()
+        recording = Recording.read(path)
+        recording.changes = changes
+        shown = Shown(recording, path, scout, changes, 0, [], lambda text: say(TELLS, text))
+        for line in sys.stdin:
+            answer(shown, line)
+    except (BrokenPipeError, KeyboardInterrupt):
+        pass
+    except (Lost, NoRecording, OSError) as why:
+        say(FAILS, str(why))
+    finally:
+        scout.drop()
+        changes.drop()
+
+
+def answer(shown: Shown, line: str) -> None:
+    """Makes the picture that a line asks for, or says why there is none."""
+    wanted = json.loads(line)
+    try:
+        data = collected(shown) if wanted is None else part_of(shown, Window(*wanted))
+    except (Lost, Misused, Refused) as why:
+        return say(FAILS, str(why))
+    sys.stdout.write(json.dumps(plainly(data), separators=(",", ":")) + "\n")
+    sys.stdout.flush()
+
+
+def say(sort: bytes, text: str) -> None:
+    """Says a line that is no picture."""
+    sys.stdout.write(f"{sort.decode()}{json.dumps(text)}\n")
+    sys.stdout.flush()
