@@ -9,9 +9,11 @@ from collections import defaultdict
 from collections.abc import Callable
 from itertools import chain
 
+from netrev_machine.deadlines import READING, WRITING, Deadlines
+from netrev_machine.machine import SIDES
+
 from .answering import BROKEN_PIPE, Unconvertible, can_answer, lock_answer, mode_of, parts, side_of
 from .beside import Beside
-from .deadlines import READING, SIDES, WRITING, Deadlines
 from .orders import Made
 from .points import LOCKING, Kind, Point
 from .sockets import AGAIN, BUFFER, Socket

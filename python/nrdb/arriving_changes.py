@@ -4,7 +4,7 @@ waits for it."""
 import subprocess
 import time
 from threading import Condition, Thread, current_thread
-from typing import Callable, Optional
+from typing import Callable, Iterator, Optional
 
 from .interrupts import Interrupts
 from .netrev import READ, SILENCE
@@ -66,6 +66,12 @@ class ArrivingChanges(RecordedChanges):
             super().__init__()
             self._process, self._reader, self._failure = None, None, ""
             raise Lost(f"{' '.join(self._words)}: {why}")
+
+    def texts(self) -> Iterator[tuple[str, str, str]]:
+        try:
+            yield from super().texts()
+        except NoChanges as wrong:
+            raise Lost(f"{' '.join(self._words)}: {wrong}") from None
 
     def _hold(self) -> None:
         try:

@@ -6,6 +6,7 @@ from bisect import bisect_left, bisect_right
 from typing import Iterator, Optional
 
 LINE = re.compile(rb"\d+ [a-z]+(?: \d+)? = [ -~]+")
+LINES = re.compile(r"^(\d+) ([a-z]+(?: \d+)?) = ([ -~]+)$", re.MULTILINE | re.ASCII)
 
 
 class NoChanges(ValueError):
@@ -31,6 +32,14 @@ class ChangedLines:
     def last(self) -> int:
         """The last step that has a line, 0 where none has."""
         return self._lasts[-1] if self._lasts else 0
+
+    def texts(self, first: int, end: int) -> Iterator[tuple[str, str, str]]:
+        """The step of each line of these pieces, the cell and its value, as texts; NoChanges where a line has none."""
+        for piece in self.pieces[first:end]:
+            found = LINES.findall(piece.decode("latin-1"))
+            if len(found) != piece.count(b"\n"):
+                raise NoChanges("a line that is no change")
+            yield from found
 
     def at(self, step: int) -> list[tuple[str, str]]:
         """The cells that a step changed, each with its value behind it."""

@@ -2,12 +2,14 @@
 file, the program or the connection failed; and 4 where --suspects, --explore or --explore-failures prints some."""
 
 import argparse
+import gc
 import io
 import os
 import shutil
 import subprocess
 import sys
 from contextlib import closing
+from functools import partial
 from typing import Any, Callable, NoReturn, Optional, Sequence
 
 from netrev_words.built import BUILT, netrev_program
@@ -33,6 +35,7 @@ from .timeline import write_timeline, write_trace
 from .web import serve_page
 
 DONE, REFUSED, USAGE, FAILED, SUSPECTS = range(5)
+KEPT = 200_000  # objects that are made between two looks for cycles: of a million steps some millions are kept, and are in none
 SILENT = "no reply yet: somebody else is at this front, or netrev goes through what all have searched; nrdb waits"
 
 
@@ -101,6 +104,7 @@ def parser() -> Words:
 
 def main(words: Optional[Sequence[str]] = None) -> int:
     """Runs nrdb with these words; its exit status."""
+    gc.set_threshold(KEPT)
     wanted = parser().parse_args(words)
     if wanted.dap_port is not None:
         return serve_port(wanted.netrev, wanted.dap_port)
@@ -224,12 +228,12 @@ def played(session: Session, wanted: argparse.Namespace) -> int:
         if not (session.run if sort == "line" else session.play)(text):
             return DONE
     if wanted.suspects:
-        return suspected(session)
+        return unless_stopped(session, lambda: suspected(session))
     if wanted.explore or wanted.explore_failures:
-        return schedules_tried(session, wanted.explore_failures)
+        return unless_stopped(session, lambda: schedules_tried(session, wanted.explore_failures))
     for name, write in WRITERS.items():
         if (file := getattr(wanted, name)) is not None:
-            return made(session, file, write)
+            return unless_stopped(session, partial(made, session, file, write))
     if wanted.web is not None:
         return serve_page(session, wanted.web, lambda printer: opened(wanted, session.interrupts, printer))
     if not wanted.batch:
@@ -237,38 +241,33 @@ def played(session: Session, wanted: argparse.Namespace) -> int:
     return DONE
 
 
-def suspected(session: Session) -> int:
-    """Prints the suspects; the exit status."""
+def unless_stopped(session: Session, work: Callable[[], int]) -> int:
+    """Does what Ctrl-C may stop, and what may not be possible; the exit status."""
     try:
         with session.interrupts.held():
-            table = suspects_table(session.looks(), session.text())
+            return work()
     except (Interrupted, Lost, Misused, Refused) as stopped:
         session.printer.note(str(stopped) or "interrupted")
         return FAILED
+
+
+def suspected(session: Session) -> int:
+    """Prints the suspects; the exit status."""
+    table = suspects_table(session.looks(), session.text())
     session.printer.table(table)
     return SUSPECTS if table.rows else DONE
 
 
 def schedules_tried(session: Session, is_of_failures: bool) -> int:
     """Explores; the exit status."""
-    try:
-        with session.interrupts.held():
-            said = explored(session, is_of_failures=is_of_failures)
-    except (Interrupted, Lost, Misused, Refused) as stopped:
-        session.printer.note(str(stopped) or "interrupted")
-        return FAILED
+    said = explored(session, is_of_failures=is_of_failures)
     session.printer.note(said.text)
     return SUSPECTS if said.found else DONE
 
 
 def made(session: Session, path: str, write: Callable[[Session, str], str]) -> int:
     """Writes a file, and says what was written; the exit status."""
-    try:
-        with session.interrupts.held():
-            session.printer.note(write(session, path))
-    except (Interrupted, Lost, Misused, Refused) as stopped:
-        session.printer.note(str(stopped) or "interrupted")
-        return FAILED
+    session.printer.note(write(session, path))
     return DONE
 
 

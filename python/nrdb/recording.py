@@ -10,7 +10,7 @@ from bisect import bisect_left, bisect_right
 from functools import cached_property
 from itertools import accumulate
 from os.path import commonprefix
-from typing import Any, Iterable, Iterator, NamedTuple, Optional, Sequence
+from typing import Any, Callable, Iterable, Iterator, NamedTuple, Optional, Sequence, TypeVar
 
 from netrev_words.files import check_name
 from netrev_words.vocabulary import KINDS
@@ -22,6 +22,7 @@ BLANK_LINE = re.compile(rb"^[ \t\r]*$", re.MULTILINE)
 SHOWN = 40
 PIECE = 1_024  # steps
 AT_ONCE = 16_384  # steps that are read together
+Row = TypeVar("Row")
 
 
 class Step(NamedTuple):
@@ -149,11 +150,18 @@ class Recording:
         return bisect_left(self._numbers, bisect_right(self._starts, place))
 
     def arrays(self) -> Iterator[list[Any]]:
-        """Each step's array as JSON has it, one after the other."""
+        """Each step's array as JSON has it, one after the other. Like lines may share one: nobody changes it."""
+        return self.rows(lambda values: values)
+
+    def rows(self, made: Callable[[list[Any]], Row]) -> Iterator[Row]:
+        """What is made of each step's array, one after the other: once of lines that are alike and near."""
         for first in range(1, self.length + 1, AT_ONCE):
             last = min(first + AT_ONCE, self.length + 1) - 1
             text = self.data[self._starts[self._numbers[first] - 1] : self._starts[self._numbers[last]]]
-            yield from parsed(b"[%s]" % b",".join(line for line in text.split(b"\n") if line.strip()))
+            lines = [line for line in text.split(b"\n") if line and not line.isspace()]
+            unlike = dict.fromkeys(lines)
+            rows = dict(zip(unlike, map(made, parsed(b"[%s]" % b",".join(unlike)))))
+            yield from map(rows.__getitem__, lines)
 
     def steps_of(self, kinds: tuple[str, ...], until: int, socket: Optional[int] = None) -> Iterator[Step]:
         """The steps of these kinds among the first so many; and, where one is named, of this socket."""
