@@ -9,7 +9,7 @@ MINUTES = 5
 COUNT = 10000
 LIB = $(DESTDIR)$(PREFIX)/lib/netrev
 SHARE = $(DESTDIR)$(PREFIX)/share
-INSTALLED = $(notdir $(wildcard python/nrdb python/netrev_words python/netrev_machine python/netrev_go))
+INSTALLED = $(notdir $(wildcard python/nrdb python/netrev_words python/netrev_machine python/netrev_calls python/netrev_go))
 
 .PHONY: ready help look run hunt test lint refused loopback hostile upgrades system fuzz fuzz-around agree companion sizes netrev examples share bench pace real \
 	install install-files package deb try-deb clean

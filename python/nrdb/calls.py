@@ -4,14 +4,15 @@ and how it ended. They are found by the recording's steps, in one pass, and are 
 from functools import cached_property, lru_cache, partial
 from typing import Any, Callable, Optional
 
+from netrev_calls.flow import ASLEEP, BY_STATUS
+from netrev_words.vocabulary import OF_A_GOROUTINE
+
 from .one_call import CLOSE, CLOSE_WRITE, CONTROL, OPEN, Call, Outcome
 from .noted import AT
-from .notes import BY_GOROUTINE, Notes
+from .notes import Notes
 from .recording import Recording
 from .whose import NONE, Whose
 
-ASLEEP = ("parked", "queued")
-QUIET = frozenset(("blockcheck", "evict", "exit"))  # which neither begin nor end a call, nor sleep
 Handler = Callable[
     ..., None
 ]  # takes the book, the notes, the calls that the goroutine is in, and the arguments of the step
@@ -32,7 +33,7 @@ class Book:
         self._open: dict[int, list[Call]] = {}  # the calls that each goroutine is in, the innermost last
         self._asleep: dict[int, tuple[int, str]] = {}  # since which step, and the clock then
         self._descriptor_of: dict[int, int] = {}  # of a socket that is open
-        seen = BY_GOROUTINE if self._errors else BY_GOROUTINE - QUIET
+        seen = OF_A_GOROUTINE if self._errors else {*HANDLERS, *BY_STATUS.values()}
         self.notes = Notes(recording, {kind: partial(self._see, HANDLERS.get(kind)) for kind in seen})
 
     @cached_property
@@ -41,7 +42,7 @@ class Book:
         return Whose(self._recording, self.notes)
 
     def _see(self, handler: Optional[Handler], notes: Notes, g: int, *arguments: Any) -> None:
-        """Behind each step of a goroutine, but for those that neither begin nor end a call, nor sleep."""
+        """Behind each step by which a call begins, goes on or ends."""
         calls = self._open.get(g)
         if calls is None:
             calls = self._open[g] = []

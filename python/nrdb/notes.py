@@ -5,7 +5,7 @@ from functools import cached_property
 from types import MappingProxyType
 from typing import Any, Callable, Mapping, Optional
 
-from netrev_words.vocabulary import KINDS
+from netrev_words.vocabulary import OF_A_GOROUTINE
 
 from .armed import Timer, timers_by
 from .modelled_changes import changes_of
@@ -29,9 +29,6 @@ from .recorded_changes import AT_START, NONE
 from .recording import Recording
 
 Row = tuple[str, Optional[Callable[..., None]], Optional[Callable[..., None]], list[Any]]
-# (whose first argument is the goroutine that makes the step)
-BY_GOROUTINE = frozenset(kind for kind, row in KINDS.items() if row.arguments[:1] == ("g",))
-INSIDE = frozenset(("entering", "armed", "parking", "parked", "swapping", "checking"))
 REFERENCES, CLOSED = (2**20 - 1) << 3, 1  # in a lock word
 
 
@@ -100,7 +97,7 @@ class Notes:
         """What is made of a step's array: the cell of the goroutine that makes the step, if one does, who notes it and who looks at it,
         and the arguments."""
         kind, *arguments = values[:-1] if self.recording.has_answers else values
-        goroutine = f"gor {arguments[0]}" if kind in BY_GOROUTINE else ""
+        goroutine = f"gor {arguments[0]}" if kind in OF_A_GOROUTINE else ""
         return goroutine, NOTES.get(kind), self._looks.get(kind), arguments
 
     def _begins(self, g: int, cell: str) -> None:

@@ -14,6 +14,7 @@ from netrev_machine.steps import apply
 from netrev_words.recording import Limits
 from netrev_words.vocabulary import KINDS
 from netrev_words.writing import line_of
+from netrev_calls.flow import Sort
 from nrdb.calls import book_of
 from nrdb.exploring import commands
 from nrdb.exploring.arrivals import with_events
@@ -22,7 +23,7 @@ from nrdb.exploring.making import script_of
 from nrdb.exploring.playing import Player
 from nrdb.exploring.runs import Delay, Impossible
 from nrdb.exploring.schedules import Schedule, drawn, schedules, single_delays, touched
-from nrdb.exploring.scripts import Script, Sort
+from nrdb.exploring.scripts import Script
 from nrdb.exploring.telling import LEFT_UNKNOWN, UNKNOWN, UNLESS, Telling, summary
 from nrdb.interrupts import Interrupted
 from nrdb.modelled_changes import PlayedSteps

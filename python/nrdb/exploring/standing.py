@@ -4,6 +4,7 @@ copied, and compared with where another stands."""
 from heapq import heapify, heappush
 from typing import NamedTuple, Optional, TypeVar
 
+from netrev_calls.flow import Sort
 from netrev_machine.machine import Status, World
 from netrev_words.recording import Answer, Step
 
@@ -14,7 +15,7 @@ from .failing import OVER, Failed, fault_of
 from .orders import Passing
 from .others import Others
 from .runs import Delay, Made
-from .scripts import Script, Sort
+from .scripts import Script
 
 Due = tuple[float, int, int, int]  # when, which of those at that time, who acts, and its number
 Itself = TypeVar("Itself", bound="Standing")

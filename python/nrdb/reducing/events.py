@@ -5,9 +5,9 @@ from functools import partial
 from typing import Any, NamedTuple, Optional
 
 from netrev_words.recording import Answer
-from netrev_words.vocabulary import KINDS
+from netrev_words.vocabulary import KINDS, OF_A_GOROUTINE
 
-from ..notes import BY_GOROUTINE, Notes
+from ..notes import Notes
 from ..recording import Recording
 
 Timer = tuple[int, str]  # the use of a descriptor, and the side
@@ -78,7 +78,7 @@ class Events:
 
     def _rests(self, kind: str, notes: Notes, *arguments: Any) -> None:
         """Keeps what is kept of who has made a step."""
-        if kind not in BY_GOROUTINE:
+        if kind not in OF_A_GOROUTINE:
             return self.rests.append(Rest(True, 0))
         g = arguments[0]
         self.rests.append(Rest(notes.status(g) in ("idle", "gone"), notes.held.get(g, 0)))

@@ -5,9 +5,9 @@ from fnmatch import fnmatchcase
 from typing import Optional, Sequence
 
 from netrev_machine.cells import value as value_of_cell
+from netrev_machine.machine import INSIDE
 from netrev_words.vocabulary import CELLS, Of
 
-from ..notes import INSIDE
 from ..modelled_changes import PlayedSteps
 from ..suspects.ranking import suspects_of
 from ..suspects.found import Suspect

@@ -3,9 +3,11 @@
 from functools import cached_property
 from typing import Optional
 
+from netrev_machine.machine import INSIDE
+
 from ..causes.index import Index, index_of
 from ..noted import AT, Use
-from ..notes import INSIDE, Notes
+from ..notes import Notes
 from ..words import counted
 
 SIDES = {"Read": "r", "Write": "w"}  # of the calls that a deadline ends

@@ -4,9 +4,9 @@ lines of the program. That is nrdb's own, unproved."""
 from itertools import islice
 from typing import Any
 
+from netrev_machine.machine import INSIDE
 from netrev_words.vocabulary import KINDS
 
-from ..notes import INSIDE
 from ..recording import Recording
 from ..scout import Scout
 from ..session import Session

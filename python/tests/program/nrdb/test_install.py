@@ -15,7 +15,7 @@ from .support import EXAMPLES, NETREV, PATIENCE, ROOT, nrdb
 ENVIRONMENT = {name: value for name, value in os.environ.items() if name not in ("NETREV", "MAKEFLAGS", "PYTHONPATH")}
 ASKED = ("--batch", "-ex", "continue", "-ex", "info goroutines", EXAMPLES / "first.jsonl")
 PROJECT = ("pyproject.toml", "python", "LICENSE", "README.md")
-INSTALLED = ("nrdb", "netrev_words", "netrev_machine", "netrev_go")
+INSTALLED = ("nrdb", "netrev_words", "netrev_machine", "netrev_calls", "netrev_go")
 
 
 def printed(*words: object, **settings: str) -> str:
