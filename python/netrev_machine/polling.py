@@ -90,11 +90,16 @@ def followed(is_running: bool, place: int, before: Sequence[int], now: Sequence[
     return is_wanted if (has_moved if is_running else is_wanted) else None
 
 
+def deadline_of(clock: int, time: int) -> int:
+    """The deadline that a time from now comes to; none or one in the past as it is given."""
+    return min(clock + time, GREATEST_TIME) if time > 0 else time
+
+
 def set_deadline(world: World, d: int, mode: str, time: int) -> World:
     before = world.descs[d]
     if before.closing:
         return world
-    deadline = min(world.clock + time, GREATEST_TIME) if time > 0 else time
+    deadline = deadline_of(world.clock, time)
     deadlines = tuple(deadline if side in mode else old for side, old in zip("rw", before.deadlines))
     world = world.with_desc(d, deadlines=deadlines)
     for side in "rw":

@@ -7,14 +7,12 @@ CLOSING, TIMED_OUT, EVENT_ERROR = 1, 2, 3  # the codes of a side
 
 
 class Setting(NamedTuple):
-    """A `setdeadline`: its step, who made it, for which sides, the time that it was given, the deadline that this came to, and the sides
-    whose deadlines had passed before."""
+    """A `setdeadline`: its step, who made it, for which sides, the time that it was given, and the sides whose deadlines had passed."""
 
     step: int
     goroutine: int
     mode: str
     time: int
-    deadline: int
     late: str
 
 

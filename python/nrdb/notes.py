@@ -1,13 +1,11 @@
 """What no cell says of a recording, gathered from its steps in one pass beside the changes that they made: who holds which reference since
 when, who set which deadline, which event was taken by whom, and how long everybody paused. That is nrdb's own reckoning."""
 
-from functools import cached_property
 from types import MappingProxyType
 from typing import Any, Callable, Mapping, Optional
 
 from netrev_words.vocabulary import OF_A_GOROUTINE
 
-from .armed import Timer, timers_by
 from .modelled_changes import changes_of
 from .noted import (
     AT,
@@ -114,11 +112,6 @@ class Notes:
     def before(self, cell: str) -> str:
         """What a cell showed before the step."""
         return self.was.get(cell) or self.now[cell]
-
-    @cached_property
-    def timers(self) -> dict[int, Timer]:
-        """The timer of each `pop` and each `fire`, by the step's number."""
-        return timers_by(self.recording, self.uses)
 
     # what is there behind the last step
 
@@ -228,7 +221,7 @@ class Notes:
             return
         late = "".join(side for side in "rw" if self.before(f"{side}d {d}").startswith("-"))
         use = self.use_of[d]
-        use.settings.append(Setting(self.step, g, mode, time, int(self.now[f"{mode[0]}d {d}"]), late))
+        use.settings.append(Setting(self.step, g, mode, time, late))
         for side in mode:
             use.last_settings[AT[side]] = self.step
             if time < 0:

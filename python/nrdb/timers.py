@@ -1,16 +1,90 @@
-"""Whose timer a `pop` starts and a `fire` runs, and who set it: by the notes, since netrev shows how many timers there are and no more."""
+"""Whose timer a `pop` starts and a `fire` runs, and who set it: by the recording's steps, since netrev shows how many timers
+there are and no more."""
 
-from typing import Optional
+from functools import lru_cache
+from typing import Any, Mapping, NamedTuple, Optional
 
-from .armed import Timer
-from .calls import book_of
+from netrev_machine.deadlines import Deadlines
+from netrev_machine.deadlines import Timer as Armed
+from netrev_machine.polling import deadline_of
+
 from .output import Row, Table
 from .recording import Recording, Step
+from .words import SIDES
+
+# the steps that arm, stop and run timers, and those by which descriptors are used again and the time goes on
+FOLLOWED = frozenset(("pollopen", "pollclose", "setdeadline", "evict", "tick", "pop", "fire"))
+
+
+class Timer(NamedTuple):
+    """A timer of a `pop` or a `fire`: its sides, the descriptor and the socket that this was of when the deadline was set, when it
+    was due, and the step that set it. A stale one was stopped or moved before its function ran."""
+
+    sides: str
+    descriptor: int
+    socket: int
+    due: int
+    set_at: int
+    set_by: int
+    is_stale: bool
+
+    def __str__(self) -> str:
+        sides = " and ".join(SIDES[side] for side in self.sides)
+        stale = ", stale" if self.is_stale else ""
+        return f"the {sides} timer of descriptor {self.descriptor}, set at step {self.set_at} by goroutine {self.set_by}{stale}"
+
+
+class Following:
+    """The machine's timers, behind the steps that were gone through."""
+
+    def __init__(self) -> None:
+        self._deadlines = Deadlines()
+        self._clock = 0
+        self._free: list[int] = []  # descriptors, the one that was freed last at the end
+        self._sockets: dict[int, int] = {}  # of descriptors
+
+    def follow(self, number: int, kind: str, *arguments: Any) -> Optional[Timer]:
+        """Goes through a step; the timer that it pops or runs."""
+        deadlines = self._deadlines
+        match kind, *arguments:
+            case "tick", time:
+                self._clock = time
+            case "pollopen", _, s:
+                d = self._free.pop() if self._free else len(self._sockets)
+                self._sockets[d] = s
+                deadlines.open(d)
+            case "pollclose", _, d:
+                self._free.append(d)
+            case "evict", _, d:
+                deadlines.evict(d)
+            case "setdeadline", g, d, mode, time:
+                deadlines.set(d, mode, deadline_of(self._clock, time), (self._sockets[d], number, g))
+            case ("pop",):
+                return _timer(deadlines.pop(), False)
+            case "fire", place:
+                return _timer(*deadlines.fire(place))
+        return None
+
+
+def _timer(armed: Optional[Armed], is_stale: bool) -> Timer:
+    """A timer as it is told of."""
+    assert armed  # (netrev has popped one)
+    socket, step, g = armed.setter
+    return Timer(armed.covers, armed.descriptor, socket, armed.due, step, g, is_stale)
+
+
+@lru_cache(maxsize=2)
+def timers_of(recording: Recording) -> Mapping[int, Timer]:
+    """The timer of each `pop` and each `fire`, by the step's number."""
+    following, end = Following(), -1 if recording.has_answers else None
+    rows = recording.rows(lambda values: tuple(values[:end]) if values[0] in FOLLOWED else None)
+    timers = ((number, following.follow(number, *row)) for number, row in enumerate(rows, 1) if row)
+    return {number: timer for number, timer in timers if timer}
 
 
 def timer_of(recording: Recording, step: Optional[Step]) -> Optional[Timer]:
     """The timer of a step; None where it is of none."""
-    return book_of(recording).notes.timers[step.number] if step and step.kind in ("pop", "fire") else None
+    return timers_of(recording)[step.number] if step and step.kind in ("pop", "fire") else None
 
 
 def timer_words(recording: Recording, step: Step) -> str:

@@ -7,6 +7,7 @@ from netrev_words.vocabulary import KINDS
 
 from .notes import Notes
 from .recording import Recording
+from .timers import timers_of
 
 NONE = -1
 Place = tuple[int, int]  # a socket and a descriptor
@@ -18,7 +19,7 @@ class Whose:
 
     def __init__(self, recording: Recording, notes: Notes) -> None:
         self.goroutines, self.sockets, self.descriptors = array("i"), array("i"), array("i")
-        self._timers, self._opened = notes.timers, iter(notes.uses)
+        self._timers, self._opened = timers_of(recording), iter(notes.uses)
         self._made = 0  # sockets
         self._named: dict[int, Place] = {}  # what a goroutine named last
         self._descriptor_of: dict[int, int] = {}

@@ -3,6 +3,7 @@
 import unittest
 
 from nrdb.calls import book_of
+from nrdb.timers import timers_of
 from nrdb.whose import NONE
 from tests.test_suspects import OPEN, USED_AGAIN, Steps, recording_of
 
@@ -14,7 +15,7 @@ class UsedAgain(unittest.TestCase):
 
     def test_a_timer_that_is_run_late_is_of_the_socket_that_set_it(self) -> None:
         recording = recording_of(OPEN + LATE + USED_AGAIN + [["fire", 0]])
-        timers = book_of(recording).notes.timers
+        timers = timers_of(recording)
         self.assertEqual(
             [(one.socket, one.descriptor, one.is_stale) for one in timers.values()], [(0, 0, False), (0, 0, True)]
         )

@@ -9,6 +9,7 @@ from netrev_words.vocabulary import KINDS, OF_A_GOROUTINE
 
 from ..notes import Notes
 from ..recording import Recording
+from ..timers import timers_of
 
 Timer = tuple[int, str]  # the use of a descriptor, and the side
 NUMBERED = ("spawn", "sockopen", "pollopen")  # whose answer is the number of what is made
@@ -56,7 +57,7 @@ class Events:
         self._of: dict[int, int] = {}  # of each descriptor its last use
         self._firings: list[Timer] = []
         notes = Notes(recording, {kind: partial(self._rests, kind) for kind in KINDS})
-        timers = notes.timers
+        timers = timers_of(recording)
         for number, (kind, *arguments, answer) in enumerate(recording.arrays(), 1):
             self.all.append(self._event(notes, number, kind, arguments, answer))
             if kind == "pop":
