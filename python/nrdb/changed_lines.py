@@ -62,15 +62,14 @@ class ChangedLines:
                     return
                 yield step, value.decode()
 
-    def value(self, cell: str, position: int) -> Optional[str]:
-        """What a cell shows at a position, None where no step changed it up to there."""
+    def back(self, cell: str, position: int) -> Iterator[tuple[int, str]]:
+        """The steps that changed a cell, falling, from a position on, each with its value behind it."""
         named = b" %s = " % cell.encode()
         for place in range(min(bisect_right(self._lasts, position), len(self._lasts) - 1), -1, -1):
             piece = self.pieces[place]
             at = piece.rfind(named)
             while at >= 0:
                 begin = piece.rfind(b"\n", 0, at) + 1
-                if int(piece[begin:at]) <= position:
-                    return piece[at + len(named) : piece.index(b"\n", at)].decode()
+                if (step := int(piece[begin:at])) <= position:
+                    yield step, piece[at + len(named) : piece.index(b"\n", at)].decode()
                 at = piece.rfind(named, 0, at)
-        return None

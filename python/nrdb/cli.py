@@ -35,7 +35,6 @@ from .timeline import write_timeline, write_trace
 from .web import serve_page
 
 DONE, REFUSED, USAGE, FAILED, SUSPECTS = range(5)
-KEPT = 200_000  # objects that are made between two looks for cycles: of a million steps some millions are kept, and are in none
 SILENT = "no reply yet: somebody else is at this front, or netrev goes through what all have searched; nrdb waits"
 
 
@@ -104,7 +103,7 @@ def parser() -> Words:
 
 def main(words: Optional[Sequence[str]] = None) -> int:
     """Runs nrdb with these words; its exit status."""
-    gc.set_threshold(KEPT)
+    gc.set_threshold(200_000)  # (of a million steps some millions of objects are kept, and few are in cycles)
     wanted = parser().parse_args(words)
     if wanted.dap_port is not None:
         return serve_port(wanted.netrev, wanted.dap_port)
@@ -137,7 +136,7 @@ def run(wanted: argparse.Namespace, printer: Printer) -> int:
     except Ended as ended:
         printer.note("netrev has ended")
         status = ended.status if ended.status and ended.status > 0 else FAILED
-    except (Mismatched, NoRecording, Strange) as wrong:
+    except (Lost, Mismatched, NoRecording, Strange) as wrong:
         printer.note(str(wrong))
         status = FAILED
     except (GivenUp, KeyboardInterrupt):
@@ -176,10 +175,12 @@ def begun(wanted: argparse.Namespace, netrev: Netrev, interrupts: Interrupts, pr
     if recording and shutil.which(wanted.netrev):
         recording.changes = recorded
     session.program, session.path = wanted.netrev, wanted.file or ""
-    first = session.ask("info position")
-    if not POSITION.fullmatch(first):
-        return refused(wanted, netrev, first, printer)
     try:
+        if recording and recording.changes and (wanted.lines or wanted.suspects or wanted.trace or wanted.timeline):
+            recording.changes.prepare()  # (while the other netrev reads the recording)
+        first = session.ask("info position")
+        if not POSITION.fullmatch(first):
+            return refused(wanted, netrev, first, printer)
         session.begin(first)
         if recording and recording.lines.fault:
             printer.note(recording.lines.why_unused(wanted.file))

@@ -89,12 +89,15 @@ class RecordedChanges:
 
     def value(self, cell: str, position: int) -> str:
         """What a cell shows at a position."""
+        return next((value for _, value in self.back(cell, position)), value_at_start(cell))
+
+    def back(self, cell: str, position: int) -> Iterator[tuple[int, str]]:
+        """The steps that changed a cell, falling, from a position on, each with its value behind it."""
         self._wait(position)
         if self._is_asked_little():
-            shown = self._lines.value(cell, position)
-            return value_at_start(cell) if shown is None else shown
-        at = bisect_right(self._steps.get(cell, ()), position)
-        return self._texts.all[self._values[cell][at - 1]] if at else value_at_start(cell)
+            return self._lines.back(cell, position)
+        steps, values, texts = self._steps.get(cell, ()), self._values.get(cell, ()), self._texts.all
+        return ((steps[at], texts[values[at]]) for at in range(bisect_right(steps, position) - 1, -1, -1))
 
     def values(self, position: int, cells: Iterable[str]) -> list[str]:
         """What cells show at a position."""
