@@ -5,7 +5,7 @@ from heapq import heapify, heappush
 from typing import NamedTuple, Optional, TypeVar
 
 from netrev_calls.flow import Sort
-from netrev_machine.machine import Status, World
+from netrev_machine.machine import Status
 from netrev_words.recording import Answer, Step
 
 from .board import Board
@@ -43,7 +43,7 @@ class Standing:
     def __init__(self, script: Script, delays: tuple[Delay, ...] = ()) -> None:
         self.script = script
         self.until = {delay.before: delay.until + 0.5 for delay in delays}
-        self.board = Board(World(script.limits), not delays)
+        self.board = Board(script.limits, not delays)
         self.turns: dict[int, Turn] = {}  # of the recorded run, by the numbers of their steps
         self.numbers = Numbers()
         self.before = 0  # steps of the player that it is a copy of
