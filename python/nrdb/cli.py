@@ -170,7 +170,8 @@ def begun(wanted: argparse.Namespace, netrev: Netrev, interrupts: Interrupts, pr
     if wanted.join and wanted.file and (fault := fault_of(wanted.netrev, wanted.file)):
         raise NoRecording(f"{wanted.file} isn't a recording: {fault}")
     scout = Scout(lambda: Own(wanted.netrev, wanted.file, interrupts)) if wanted.file else None
-    recorded = ArrivingChanges(wanted.netrev, wanted.file, interrupts, printer.note) if wanted.file else None
+    tell = printer.note if sys.stdin.isatty() else lambda _: None  # (a batch is the same at any pace)
+    recorded = ArrivingChanges(wanted.netrev, wanted.file, interrupts, tell) if wanted.file else None
     session = Session(netrev, recording, scout, printer, interrupts, ANSWERS, recorded=recorded)
     if recording and shutil.which(wanted.netrev):
         recording.changes = recorded
@@ -189,8 +190,9 @@ def begun(wanted: argparse.Namespace, netrev: Netrev, interrupts: Interrupts, pr
         if scout and recorded:
             scout.drop()
             recorded.drop()
-    ended = netrev.close()
-    return status if wanted.web is not None else ended or status  # (the page may have gone on with another netrev)
+    return (
+        0 if wanted.web is not None else netrev.close()
+    ) or status  # (the page may have gone on with another netrev)
 
 
 def fault_of(netrev: str, path: str) -> str:

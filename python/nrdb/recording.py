@@ -18,6 +18,7 @@ from netrev_words.vocabulary import KINDS
 from .recorded_changes import RecordedChanges
 from .where import Lines
 
+BEFORE_BLANKS = (b"\n\n", b"\n ", b"\n\t", b"\n\r")  # one of these is in a text that has a blank line behind the first
 BLANK_LINE = re.compile(rb"^[ \t\r]*$", re.MULTILINE)
 SHOWN = 40
 PIECE = 1_024  # steps
@@ -70,9 +71,15 @@ class Recording:
     def __init__(self, data: bytes):
         self.data = data
         lengths = map(len, data.split(b"\n"))
-        self._starts = array("q", accumulate(lengths, lambda start, length: start + length + 1, initial=0))
-        blank = {bisect_right(self._starts, found.start()) for found in BLANK_LINE.finditer(data)}
-        numbers = range(1, len(self._starts))
+        self._starts = array("q", accumulate(map((1).__add__, lengths), initial=0))
+        end = len(data.rstrip(b" \t\r\n"))  # (behind it there are blank lines alone)
+        numbers = range(1, bisect_right(self._starts, end) + (end > 0))
+        blanks = (
+            BLANK_LINE.finditer(data, 0, end)
+            if data[:1].isspace() or any(map(data.__contains__, BEFORE_BLANKS))
+            else ()
+        )
+        blank = {bisect_right(self._starts, found.start()) for found in blanks}
         self._numbers: Sequence[int] = [number for number in numbers if number not in blank] if blank else numbers
         self.header_line = self._numbers[0] if self._numbers else 1
         self.lines = Lines()
