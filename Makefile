@@ -9,10 +9,10 @@ MINUTES = 5
 COUNT = 10000
 LIB = $(DESTDIR)$(PREFIX)/lib/netrev
 SHARE = $(DESTDIR)$(PREFIX)/share
-INSTALLED = $(notdir $(wildcard python/nrdb python/netrev_words python/netrev_machine python/netrev_calls python/netrev_go))
+INSTALLED = $(shell sed -n 's/^include = \[\(.*\)\]/\1/p' pyproject.toml | tr -d '"*,')
 
 .PHONY: ready help look run hunt test lint refused loopback hostile upgrades system fuzz fuzz-around agree companion sizes netrev examples share bench pace real \
-	install install-files package deb try-deb clean
+	install install-files vsix package deb try-deb clean
 
 # The program that NETREV names is taken as it is; else the one that is built here, once it is proved.
 ifdef NETREV
@@ -29,7 +29,7 @@ export NETREV := $(abspath $(NETREV))
 # Tells what there is to make.
 help:
 	@awk '/^# / { text = text (text ? " " : "") substr($$0, 3); next } \
-		/^[a-z]+:/ && text { sub(/:.*/, ""); sub(/[.:;]( .*)?$$/, "", text); printf "make %-10s %s\n", $$0, text } \
+		/^[a-z-]+:/ && text { sub(/:.*/, ""); sub(/[.:;]( .*)?$$/, "", text); printf "make %-11s %s\n", $$0, text } \
 		{ text = "" }' Makefile
 
 # A prompt on a recording without waiting for proofs: `make look FILE=my.jsonl`. With SCRIPT=my.script it plays those commands.
@@ -47,7 +47,7 @@ run: ready
 	@echo
 	@sh examples/play.sh first
 
-# A session at a prompt with history, completion and further views: `make hunt FILE=my.jsonl` (docs/NRDB.md).
+# A session at a prompt with history, completion and further views: `make hunt FILE=my.jsonl` (docs/use/NRDB.md).
 hunt: ready
 	@./nrdb $(FILE)
 
@@ -102,11 +102,11 @@ fuzz: ready
 fuzz-around: ready
 	@python3 python netrev_fuzz.around --minutes $(MINUTES) --seed "$(SEED)"
 
-# Both worlds side by side, over the recordings of examples/ and over random ones: `make agree COUNT=100000 SEED=1`.
-agree:
-	@cd crates/nr_agree && rt run -- generated 1 1
-	@sh scripts/agree.sh
-	@crates/nr_agree/out/nr_agree generated $(COUNT) $(or $(SEED),1)
+# netrev beside the same programs over a world of lists, all that both print: with the recordings of examples/, bad ones, the greatest
+# sizes, and random cases: `make agree COUNT=20000 SEED=1`.
+agree: ready
+	@cd crates/netrev_plain && rt run
+	@sh scripts/pytest.sh --beside python/tests/program/agree.py --random $(COUNT) --seed $(or $(SEED),1)
 
 # Leaves the proved program at crates/netrev/out/netrev. With no change since, nothing is proved again.
 netrev:
@@ -161,6 +161,11 @@ install-files:
 		python3 scripts/completion.py zsh $$name > $(SHARE)/zsh/vendor-completions/_$$name || exit 1; \
 	done
 
+# Packs the extension for VS Code as out/netrev.vsix, without node, and checks it.
+vsix:
+	@mkdir -p out
+	@python3 scripts/vsix.py out/netrev.vsix && echo out/netrev.vsix
+
 # Makes out/netrev-VERSION-linux-x86_64.tar.gz of the program that the gate left, or of NETREV=FILE, with nrdb and the examples,
 # for machines without the toolchain, and tries it: `make package`, or `make package VERSION=other`. The gate has to have passed with that program.
 # netrev is proved only where none is built here.
@@ -169,10 +174,10 @@ package:
 	@sh scripts/try_package.sh out/netrev-$(VERSION)-linux-x86_64.tar.gz
 
 # Makes out/netrev_VERSION_amd64.deb of that archive, and looks it over with lintian where that is here; `make deb` as `make package`.
-# `make try-deb` installs it in a throw-away root (debootstrap), and records and hunts there.
 deb: package
 	@sh scripts/deb.sh $(VERSION)
 
+# Installs the Debian package in a throw-away root (debootstrap), and records and hunts there.
 try-deb:
 	@sh scripts/try_deb.sh out/netrev_$(VERSION)_amd64.deb
 

@@ -15,8 +15,15 @@ UNBUILT = f"{NETREV} is no program: `make netrev` builds it, and NETREV=FILE nam
 
 
 def pytest_addoption(parser: pytest.Parser) -> None:
-    parser.addoption("--seed", type=int, default=1, help="of the random lines in program/loopback.py")
-    parser.addoption("--random", type=int, default=50, help="how many random recordings program/changes.py plays")
+    parser.addoption(
+        "--seed",
+        type=int,
+        default=1,
+        help="of the random lines in program/loopback.py, and the first of the random cases in program/agree.py",
+    )
+    parser.addoption(
+        "--random", type=int, default=50, help="how many random cases program/changes.py and program/agree.py play"
+    )
 
 
 def pytest_configure() -> None:

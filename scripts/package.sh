@@ -43,8 +43,10 @@ make --no-print-directory -s install-files PROGRAM="$program" DESTDIR= PREFIX="$
 mkdir -p "$top/share/doc/netrev" "$top/examples"
 cp LICENSE LICENSE-MIT LICENSE-APACHE "$top"
 cp "$log" "$top/gate.log"
-cp README.md docs/*.md "$top/share/doc/netrev"
+cp README.md "$top/share/doc/netrev"
+(tar -cf - docs) | tar -xf - --no-same-owner -C "$top/share/doc/netrev"
 (tar -cf - editors) | tar -xf - --no-same-owner -C "$top"
+python3 scripts/vsix.py "$top/editors/netrev.vsix"
 (cd examples && tar -cf - .) | tar -xf - --no-same-owner -C "$top/examples"
 (cd "$top" && find . -type f ! -name SHA256SUMS -print0 | LC_ALL=C sort -z | xargs -0 sha256sum > "$room/sums")
 mv "$room/sums" "$top/SHA256SUMS"

@@ -1,33 +1,34 @@
 #!/usr/bin/env python3
-"""Reads the pages against the tree:  scripts/pages.py [--diagram] [RULE ..]
+"""Reads the pages against the tree:  scripts/pages.py [--diagram] [--write] [RULE ..]
 
 The gate runs all rules. These are of pages and Python, and of what pages say of the source:
 
-    quotes, texts, runs  what docs/THEOREM.md quotes, and the computed sessions, are as in their files
-    beliefs              the reading list of docs/THEOREM.md is what scripts/beliefs.py prints, and no longer than it may be
-    verdict              docs/TRUSTED.md has what the verdict on netrev takes as given, and nothing that it calls may wait
-    raw-calls            calls that get at a stream or a caller are made where docs/TRUSTED.md has them read by eye
+    quotes, texts, runs  what docs/believe/THEOREM.md quotes, and the computed sessions, are as in their files
+    beliefs              the reading list of docs/believe/THEOREM.md is what scripts/beliefs.py prints, and no longer than it may be
+    verdict              docs/believe/TRUSTED.md has what the verdict on netrev takes as given, and nothing that it calls may wait
+    raw-calls            calls that get at a stream or a caller are made where docs/believe/TRUSTED.md has them read by eye
     words                words that docs/GLOSSARY.md gives up are nowhere in pages and Python, as its table says
     promises, names      the functions, clauses and definitions that pages cite are there
     in-files             a name is in the file that a page says it is in: `Step` in `nr_rev/src/step.rt`
     links, paths         each link, anchor and path leads somewhere
     shared-names         a name that two crates define is in the glossary's list, with each of these crates
-    tables               a file that names most kinds, cells or commands is in a list of docs/ARCHITECTURE.md
-    diagram              the crates of docs/ARCHITECTURE.md are those of crates.txt
+    tables               a file that names most kinds, cells or commands is in a list of docs/change/ARCHITECTURE.md
+    diagram              the crates of docs/change/ARCHITECTURE.md are those of crates.txt
     imports              packages of Python import what the table of CONTRIBUTING.md says, and none that is below them there
     docstrings           no docstring leans on what is before it
     sentences            no sentence of a page has more than 40 words
 
 And these of the source itself:
 
-    source-words         words that are given up, in the crates, and on docs/THEOREM.md, which quotes them
+    source-words         words that are given up, in the crates, and on docs/believe/THEOREM.md, which quotes them
     modules              the two groups of a specs/Lib.antt are what callers need, and what is inside
     comments             no comment leans on the one before it: "The same."
     lines                no line of specs/ has more than 100 columns
     forgotten            `mem::forget`, and all that leaks memory, is in one file
     refused              no function of the program says that memory was refused but where an error says so
 
-`--diagram` prints the diagram of the crates. RULE .. runs just these. Prints each finding with its file and line, and ends with
+`--diagram` prints the diagram of the crates. `--write` puts into CONTRIBUTING.md's table which packages import which, and then
+reads the pages. RULE .. runs just these. Prints each finding with its file and line, and ends with
 status 1 where there is one.
 """
 
@@ -56,11 +57,11 @@ Rule = Callable[[Tree], Iterator[Finding]]
 
 # what the rules of pages are about: without one of them they would find nothing
 NEEDED = (
-    "docs/THEOREM.md",
-    "docs/TRUSTED.md",
+    "docs/believe/THEOREM.md",
+    "docs/believe/TRUSTED.md",
     "docs/GLOSSARY.md",
-    "docs/PROMISES.md",
-    "docs/ARCHITECTURE.md",
+    "docs/believe/PROMISES.md",
+    "docs/change/ARCHITECTURE.md",
     "crates.txt",
 )
 
@@ -103,12 +104,16 @@ def main(given_words: list[str] | None = None) -> int:
     """Runs the rules that are asked for, by these words or by those of the command line."""
     given = argparse.ArgumentParser(description=__doc__, formatter_class=argparse.RawDescriptionHelpFormatter)
     given.add_argument("--diagram", action="store_true", help="print the diagram of the crates")
+    given.add_argument("--write", action="store_true", help="put the imports into the table of CONTRIBUTING.md first")
     given.add_argument("--root", type=Path, default=Path(__file__).resolve().parent.parent, help=argparse.SUPPRESS)
     given.add_argument("rules", nargs="*", metavar="RULE", help="just these")
     asked = given.parse_args(given_words)
     if unknown := [name for name in asked.rules if name not in RULES]:
         given.error(f"there is no rule {', '.join(unknown)}")
     tree = Tree(asked.root)
+    if asked.write:
+        (asked.root / imports.PAGE).write_text(imports.written(tree), encoding="utf-8")
+        tree = Tree(asked.root)
     if asked.diagram:
         print(lists.drawn(tree), end="")
         return 0

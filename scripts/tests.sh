@@ -10,7 +10,8 @@ mkdir -p out
 : > out/left-out.txt
 failed=0
 
-for program in "${NETREV:-crates/netrev/out/netrev}" "${NR_REFUSED:-crates/nr_refused/out/nr_refused}"; do
+for program in "${NETREV:-crates/netrev/out/netrev}" "${NETREV_PLAIN:-crates/netrev_plain/out/netrev_plain}" \
+	"${NR_REFUSED:-crates/nr_refused/out/nr_refused}"; do
 	[ -x "$program" ] || { echo "$program isn't built" >&2; exit 1; }
 done
 

@@ -70,6 +70,7 @@ echo "From dpkg -i to the first suspect: $(($(date +%s) - begun)) s"
 hunt=/usr/share/doc/netrev/examples/hunts/missed-release
 inside sh -c "nrdb --batch -x $hunt.nrdb $hunt.jsonl | cmp - $hunt.session"
 inside sh -c 'for name in netrev nrdb netrev-go; do [ -s /usr/share/man/man1/$name.1.gz ] || exit 1; done'
+inside python3 -m zipfile -t /usr/share/netrev/editors/netrev.vsix
 inside dpkg --verify netrev
 inside dpkg -r netrev
 [ ! -e "$root/usr/lib/netrev" ]

@@ -26,5 +26,6 @@ for name in netrev nrdb netrev-go; do
 	[ -s "share/man/man1/$name.1" ] && [ -s "share/bash-completion/completions/$name" ]
 done
 [ -s editors/emacs/netrev-dap.el ]
+python3 -m zipfile -t editors/netrev.vsix > "$room/tested"
 [ "$(alone bin/netrev-go --version)" = "$(alone bin/nrdb --version | sed 's/^nrdb/netrev-go/')" ]
 echo "The package plays all examples and a hunt, without a toolchain."

@@ -32,6 +32,8 @@ import time
 from concurrent.futures import ThreadPoolExecutor
 from pathlib import Path
 
+from tests.program.sharing import Wrong
+
 from .programs import NETREV, NETREV_BEFORE, built_baseline, write_recording
 from .tables import BASELINE, BEFORE, NOW, Measurement, figure_table, mean_table, ratio_table
 
@@ -64,10 +66,6 @@ COUNTS = {
     "reverse": "`reverse-continue` that finds nothing, instructions a step",
     "restarts": "a restart, instructions",
 }
-
-
-class Wrong(Exception):
-    """What came isn't what was expected."""
 
 
 def beginning(steps, places):

@@ -26,8 +26,8 @@ ROOT = Path(__file__).resolve().parents[2]
 PATIENCE = 120  # seconds for a case
 MOST_FAULTS = 20
 
-Wrong = Callable[[str, Path, str], str]
-SORTS: dict[str, Wrong] = {
+Judgement = Callable[[str, Path, str], str]
+SORTS: dict[str, Judgement] = {
     "logs": lambda seed, folder, _: damaged_logs.wrong(seed, folder),
     "views": side_files.wrong,
     "editors": editors.wrong,

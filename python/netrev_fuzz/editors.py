@@ -10,6 +10,7 @@ from typing import Any, Optional
 from netrev_words.writing import write_plain
 from nrdb.dap.adapter import Adapter
 from nrdb.dap.admission import Admission
+from nrdb.dap.hearing import Reading
 from nrdb.dap.messages import Malformed, Wire
 
 from .companion import line_of
@@ -18,21 +19,22 @@ from .randomsteps import Author
 REQUESTS = (
     "initialize launch attach configurationDone terminate disconnect restart continue reverseContinue stepIn stepBack next stepOut "
     "pause gotoTargets goto setBreakpoints setFunctionBreakpoints setDataBreakpoints dataBreakpointInfo setExceptionBreakpoints "
-    "exceptionInfo breakpointLocations threads stackTrace scopes variables evaluate completions setVariable setExpression nonsense"
+    "exceptionInfo breakpointLocations threads stackTrace scopes variables evaluate completions setVariable setExpression "
+    "readMemory cancel nonsense"
 ).split()
 ARGUMENTS = {
     "stackTrace": "threadId startFrame levels", "scopes": "frameId", "variables": "variablesReference start count", "goto": "targetId",
     "gotoTargets": "source line", "setBreakpoints": "source breakpoints", "setFunctionBreakpoints": "breakpoints",
     "setDataBreakpoints": "breakpoints", "dataBreakpointInfo": "name", "setExceptionBreakpoints": "filters",
     "breakpointLocations": "source line endLine", "evaluate": "expression context frameId", "completions": "text column",
-    "next": "threadId", "stepOut": "threadId", "launch": "program stopAt source sourceRoot token netrev",
+    "next": "threadId", "stepOut": "threadId", "launch": "program stopAt source sourceRoot goRoot token netrev",
+    "attach": "program address", "readMemory": "memoryReference offset count", "cancel": "requestId progressId",
 }  # fmt: skip
-NAMES = (
-    "program stopAt source path line column breakpoints name condition dataId filters expression context text".split()
-)
+NAMES = "program stopAt source path line column breakpoints name condition hitCondition logMessage dataId filters expression context text".split()
 TEXTS = (
     "", "lock 0", "gor 1", "rg 0", "clock", "pollreset", "x" * 5_000, "\ud800", "a\0b", "\x1b[2J\n", "/dev/null", "/", "end", "go", "repl",
     "hover", "suspects", "timeouts", "errors", "gor 1 parked*", "rg 0 == ready", '"', "²", "{}",
+    "in 0", "out 1", "% 2", ">= 1", "at {rg 0}", "{nothing}", "127.0.0.1:1",
 )  # fmt: skip
 NUMBERS = (
     0,
@@ -115,7 +117,7 @@ def wrong(seed: str, folder: Path, program: str) -> str:
     written = io.BytesIO()
     wire = Wire(io.BytesIO(b"".join(map(framed, asked)) + behind), written)
     try:
-        Adapter(wire, program, Admission()).serve()
+        Adapter(wire, Reading(wire), program, Admission()).serve()
     except Malformed:
         pass
     return answers_wrong(asked, told_in(written.getvalue()))

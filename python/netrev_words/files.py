@@ -8,7 +8,7 @@ from pathlib import Path
 from typing import IO, Any, Iterator
 
 STREAMS = tuple(map(Path, ("/dev", "/dev/fd", "/proc/self/fd")))
-OF_LINES = b'{"where":'  # a file of lines beside a recording begins so (docs/RECORDING.md)
+OF_LINES = b'{"where":'  # a file of lines beside a recording begins so (docs/use/RECORDING.md)
 
 
 def beside(path: Path) -> Path:

@@ -1,4 +1,4 @@
-"""nrdb as a program: `./nrdb FILE` (docs/NRDB.md)."""
+"""nrdb as a program: `./nrdb FILE` (docs/use/NRDB.md)."""
 
 import sys
 

@@ -61,7 +61,8 @@ class ArrivingChanges(RecordedChanges):
     def _wait(self, position: Optional[int]) -> None:
         if self._is_settled(position) and not self._failure:
             return
-        self.prepare()
+        with self._interrupts.shielded():
+            self.prepare()
         until, self._wanted = time.monotonic() + SILENCE, position
         while not self._is_settled(position):
             self._interrupts.check()
@@ -86,6 +87,11 @@ class ArrivingChanges(RecordedChanges):
             super()._hold()
         except NoChanges as wrong:
             raise Lost(f"{' '.join(self._words)}: {wrong}") from None
+
+    def _hold_piece(self) -> None:
+        with self._interrupts.shielded():
+            super()._hold_piece()
+        self._interrupts.check()
 
     def _is_settled(self, position: Optional[int]) -> bool:
         return bool(self._failure) or (self.has(position) and not self._fault)

@@ -6,9 +6,8 @@ import gc
 import io
 import os
 import shutil
-import subprocess
 import sys
-from contextlib import closing
+from contextlib import closing, nullcontext
 from functools import partial
 from typing import Any, Callable, NoReturn, Optional, Sequence
 
@@ -22,10 +21,10 @@ from .dap import serve_port, serve_streams
 from .exploring import explored
 from .interrupts import GivenUp, Interrupted, Interrupts
 from .netrev import Ended, Joined, Netrev, Own, Reply
-from .output import JsonPrinter, Printer, TextPrinter
+from .output import JsonPrinter, Printer, TextPrinter, has_colours
 from .recording import NoRecording, Recording
 from .reducing import reduced_file
-from .refusals import explained
+from .refusals import explained, fault_of
 from .scout import Lost, Scout
 from .session import Mismatched, Misused, Session
 from .shapes import POSITION, Refused, Strange
@@ -36,6 +35,8 @@ from .web import serve_page
 
 DONE, REFUSED, USAGE, FAILED, SUSPECTS = range(5)
 SILENT = "no reply yet: somebody else is at this front, or netrev goes through what all have searched; nrdb waits"
+
+LOADING = "netrev reads the recording still; Ctrl-C once more ends nrdb"
 
 
 class InOrder(argparse.Action):
@@ -124,11 +125,6 @@ def main(words: Optional[Sequence[str]] = None) -> int:
         return FAILED
 
 
-def has_colours() -> bool:
-    """Whether what is printed goes to a terminal that has colours, and nobody asked for none (https://no-color.org)."""
-    return sys.stdout.isatty() and os.environ.get("TERM", "dumb") != "dumb" and not os.environ.get("NO_COLOR")
-
-
 def run(wanted: argparse.Namespace, printer: Printer) -> int:
     """Runs the session that is wanted, and tells how it ended; its exit status."""
     try:
@@ -166,43 +162,45 @@ def start(wanted: argparse.Namespace, printer: Printer) -> int:
 
 def begun(wanted: argparse.Namespace, netrev: Netrev, interrupts: Interrupts, printer: Printer) -> int:
     """Runs a session with this netrev to its end; the exit status."""
+    with interrupts.held(lambda: printer.note(LOADING)) if has_prompt(wanted) else nullcontext():
+        session = session_of(wanted, netrev, interrupts, printer)
+        first = session.ask("info position")
+    try:
+        if not POSITION.fullmatch(first):
+            return refused(wanted, netrev, first, printer)
+        session.begin(first)
+        if session.recording and session.recording.lines.fault:
+            printer.note(session.recording.lines.why_unused(wanted.file))
+        status = played(session, wanted)
+    finally:
+        if session.scout and session.recorded:
+            session.scout.drop()
+            session.recorded.drop()
+    ended = netrev.close()
+    return status if wanted.web is not None else ended or status  # (the page may have gone on with another netrev)
+
+
+def has_prompt(wanted: argparse.Namespace) -> bool:
+    """Whether somebody is to type at a terminal, who may press Ctrl-C and not mean the session."""
+    ends = wanted.batch or wanted.suspects or wanted.explore or wanted.explore_failures or wanted.web is not None
+    return sys.stdin.isatty() and not ends and all(getattr(wanted, name) is None for name in WRITERS)
+
+
+def session_of(wanted: argparse.Namespace, netrev: Netrev, interrupts: Interrupts, printer: Printer) -> Session:
+    """The session that is wanted, which hasn't begun yet."""
     recording = Recording.read(wanted.file) if wanted.file else None
     if wanted.join and wanted.file and (fault := fault_of(wanted.netrev, wanted.file)):
         raise NoRecording(f"{wanted.file} isn't a recording: {fault}")
     scout = Scout(lambda: Own(wanted.netrev, wanted.file, interrupts)) if wanted.file else None
-    tell = printer.note if sys.stdin.isatty() else lambda _: None  # (a batch is the same at any pace)
+    tell = printer.note if has_prompt(wanted) else lambda _: None  # (a batch is the same at any pace)
     recorded = ArrivingChanges(wanted.netrev, wanted.file, interrupts, tell) if wanted.file else None
     session = Session(netrev, recording, scout, printer, interrupts, ANSWERS, recorded=recorded)
-    if recording and shutil.which(wanted.netrev):
+    if recording and recorded and shutil.which(wanted.netrev):
         recording.changes = recorded
+        if wanted.lines or wanted.suspects or wanted.trace or wanted.timeline:
+            recorded.prepare()  # (while the other netrev reads the recording)
     session.program, session.path = wanted.netrev, wanted.file or ""
-    try:
-        if recording and recording.changes and (wanted.lines or wanted.suspects or wanted.trace or wanted.timeline):
-            recording.changes.prepare()  # (while the other netrev reads the recording)
-        first = session.ask("info position")
-        if not POSITION.fullmatch(first):
-            return refused(wanted, netrev, first, printer)
-        session.begin(first)
-        if recording and recording.lines.fault:
-            printer.note(recording.lines.why_unused(wanted.file))
-        status = played(session, wanted)
-    finally:
-        if scout and recorded:
-            scout.drop()
-            recorded.drop()
-    return (
-        0 if wanted.web is not None else netrev.close()
-    ) or status  # (the page may have gone on with another netrev)
-
-
-def fault_of(netrev: str, path: str) -> str:
-    """The first fault of a recording; nothing where netrev takes it, or isn't here to say."""
-    try:
-        words = [netrev, "check", path]
-        ended = subprocess.run(words, stdin=subprocess.DEVNULL, stdout=subprocess.PIPE, check=False)
-    except OSError:
-        return ""
-    return ended.stdout.decode("utf-8", "surrogateescape").strip() if ended.returncode == REFUSED else ""
+    return session
 
 
 def refused(wanted: argparse.Namespace, netrev: Netrev, first: str, printer: Printer) -> int:
@@ -245,7 +243,7 @@ def played(session: Session, wanted: argparse.Namespace) -> int:
 
 
 def unless_stopped(session: Session, work: Callable[[], int]) -> int:
-    """Does what Ctrl-C may stop, and what may not be possible; the exit status."""
+    """What some work ends with; FAILED where it was stopped, or can't be done."""
     try:
         with session.interrupts.held():
             return work()

@@ -71,6 +71,8 @@ OF_NRDB = {
             "fails that went well",
         ),
         command("source FILE", "takes lines from a file"),
+        command("save breakpoints FILE", "writes the lines that set the marks that stand, for source FILE"),
+        command("pagination on|off", "whether a terminal stops where its screen is full"),
     )
 }
 COMMANDS = {**OF_NETREV, **OF_NRDB}
@@ -137,6 +139,8 @@ SPELLINGS = {
 TOPIC_SPELLINGS = {"threads": "goroutines", "fds": "descriptors", "b": "breakpoints"}
 
 DIRECTIONS = ("reverse", "forward")
+PAGINATION = "pagination"  # that GDB sets too
+SETTINGS = ("exec-direction", PAGINATION)
 
 
 class Ambiguous(Exception):
@@ -175,6 +179,10 @@ def whole_words(words: list[str]) -> list[str]:
         rest[0] = whole(rest[0], DUMPS)
     elif first == "delete" and len(rest) == 2:
         rest[0] = whole(rest[0], ("checkpoint",), {"checkpoints": "checkpoint"})
+    elif first == "set" and len(rest) == 2 and whole(rest[0], SETTINGS) == PAGINATION:
+        return [PAGINATION, rest[1]]
+    elif first == "save" and len(rest) == 2:
+        rest[0] = whole(rest[0], ("breakpoints",))
     elif first == "set" and len(rest) == 2:
         rest = [whole(rest[0], ("exec-direction",)), whole(rest[1], DIRECTIONS)]
     return [first, *rest]

@@ -3,7 +3,7 @@ questions whether it came. A second one, while netrev doesn't answer, gives the 
 
 import signal
 from contextlib import contextmanager
-from typing import Iterator
+from typing import Callable, Iterator
 
 
 class Interrupted(Exception):
@@ -20,16 +20,48 @@ class Interrupts:
     def __init__(self) -> None:
         self._came = False
         self._is_given_up = False
+        self._stops_at_once = False
+        self._shields = 0
+        self._first: Callable[[], None] = lambda: None
 
     @contextmanager
-    def held(self) -> Iterator[None]:
-        """Within, Ctrl-C is remembered, and told by `check`; a second one raises GivenUp."""
-        self._came = False
+    def held(self, first: Callable[[], None] = lambda: None) -> Iterator[None]:
+        """Within, Ctrl-C is remembered, and told by `check`; a second one raises GivenUp. `first` is called at the first."""
+        self._came, self._first = False, first
         before = signal.signal(signal.SIGINT, self._handle)
         try:
             yield
         finally:
             signal.signal(signal.SIGINT, before)
+
+    @contextmanager
+    def at_once(self) -> Iterator[None]:
+        """Within, netrev is asked nothing, and Ctrl-C raises Interrupted wherever it comes, but where that is `shielded`."""
+        self.check()
+        before, self._stops_at_once = self._stops_at_once, True
+        try:
+            yield
+        finally:
+            self._stops_at_once = before
+        self.check()
+
+    @contextmanager
+    def shielded(self) -> Iterator[None]:
+        """Within, nothing is left half done: Ctrl-C is remembered. Two give the session up here too."""
+        self._shields += 1
+        try:
+            yield
+        finally:
+            self._shields -= 1
+
+    def clear(self) -> None:
+        """Forgets that Ctrl-C came: what it was for is done."""
+        self._came = False
+
+    def give_up(self) -> None:
+        """Raises GivenUp, and so does whoever asks anything later."""
+        self._is_given_up = True
+        self.check_given_up()
 
     def came(self) -> None:
         """Ctrl-C was pressed."""
@@ -37,8 +69,12 @@ class Interrupts:
             self._is_given_up = True
         self._came = True
         self.check_given_up()
+        if self._stops_at_once and not self._shields:
+            self.check()
 
     def _handle(self, *_: object) -> None:
+        if not self._came:
+            self._first()
         self.came()
 
     def check(self) -> None:

@@ -22,9 +22,33 @@ FOREIGN = {
     "show": "info position tells the direction",
     "shell": "nrdb starts no other programs",
     "define": "there are no macros: source FILE takes lines from a file",
-    "save": "nothing is saved: source FILE takes lines from a file",
     "x": "print CELL shows a value, dump in S the bytes in a buffer",
     "thread": "info goroutines tells what each does, print gor G of one",
+    "threads": "info goroutines tells what each does",
+    "goroutine": "info goroutines tells what each does, print gor G of one",
+    "goroutines": "info goroutines tells what each does",
+    "find": "history CELL lists a cell's changes, until CELL VALUE goes to one; dump in S shows the bytes in a buffer",
+    "search": "until CELL VALUE goes on until a cell has a value, steps KIND lists the steps of a kind",
+    "call": "nothing is run again: calls lists the program's calls, and print shows a cell",
+    "condition": "until CELL VALUE goes on until a cell has a value; in an editor a breakpoint has a condition",
+    "cond": "until CELL VALUE goes on until a cell has a value; in an editor a breakpoint has a condition",
+    "ignore": "until CELL VALUE goes on until a cell has a value; in an editor a breakpoint has a hit count",
+    "file": "nrdb FILE opens a recording, and one at a time",
+    "load": "nrdb FILE opens a recording, and one at a time",
+    "attach": "nrdb --join HOST:PORT joins a session that is shared",
+    "detach": "quit ends the session",
+    "kill": "quit ends the session; the recorded program ran long ago",
+    "ptype": "help CELL says what a cell is, help KIND what a step does",
+    "whatis": "help CELL says what a cell is, help KIND what a step does",
+    "locals": "the program's variables aren't recorded: print CELL shows the machine's",
+    "args": "the program's variables aren't recorded: print CELL shows the machine's",
+    "vars": "the program's variables aren't recorded: print CELL shows the machine's",
+    "stack": "where shows the stack, frame N a call of it",
+    "tui": "list shows the steps or the source round a line; timeline FILE writes a page",
+    "layout": "list shows the steps or the source round a line; timeline FILE writes a page",
+    "record": "the recording is there: netrev-go makes one",
+    "rewind": "reverse-continue goes back; restart 0 goes to the start",
+    "stepout": "finish goes on to the end of the call",
 }
 
 FAULTS = {
@@ -101,11 +125,24 @@ def of_numbered(cell: Cell, rest: list[str], command: str) -> str:
     if len(rest) == 1:
         return f"did you mean {command} {cell.name} {digits}?"
     if len(rest) > 1 and command == "watch":
-        value = " ".join(word for word in rest[1:] if word not in ("if", "=", "=="))
-        return (
-            f"watch takes a cell alone; until {cell.name} {digits} {value}* goes to the step that gives it this value"
-        )
+        return of_condition(f"{cell.name} {digits}", rest[1:])
     return f"one {cell.of.value} at a time: {command} {cell.name} {digits}"
+
+
+def of_condition(cell: str, words: list[str]) -> str:
+    """Of a watched cell with words behind it: a value of its own, or a condition about another cell."""
+    rest = [word for word in words if word not in ("if", "=", "==")]
+    length = next((length for length in (2, 1) if cell_of(rest[:length]) and rest[length:]), 0)
+    if not length:
+        value = " ".join(rest).rstrip("*")
+        return f"watch takes a cell alone; until {cell} {value}* goes to the step that gives it this value"
+    other, value = " ".join(rest[:length]), " ".join(rest[length:]).rstrip("*")
+    if other == cell:
+        return of_condition(cell, rest[length:])
+    return (
+        f"watch takes a cell alone; until {cell} * and {other} {value}* goes to the next step that changes one of them and "
+        "leaves them so"
+    )
 
 
 def of_steps(words: list[str], command: str) -> str:
@@ -192,7 +229,7 @@ def of_info(words: list[str]) -> str:
 def of_set(words: list[str]) -> str:
     """Of what should be set."""
     if words and words[0] not in ("exec-direction", "direction"):
-        return "the one setting is exec-direction: set exec-direction reverse"
+        return "the settings are exec-direction and pagination: set exec-direction reverse"
     return "set exec-direction reverse, or forward"
 
 

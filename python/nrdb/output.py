@@ -2,6 +2,7 @@
 printed as they are; all else begins with `|`."""
 
 import json
+import os
 import sys
 from abc import ABC, abstractmethod
 from dataclasses import dataclass
@@ -10,6 +11,7 @@ from typing import Any, Optional, TextIO
 
 from netrev_words.plain import plain
 
+from .lines_of_text import width_of, wrapped
 from .netrev import Reply
 from .recorded_answers import answer_text
 from .recording import Step
@@ -71,10 +73,11 @@ class Table:
 
 class Printer(ABC):
     """Where events go. Each is out before the next line is read. All text goes through `plain`, so nothing of a recording
-    or of a server is obeyed by a terminal."""
+    or of a server is obeyed by a terminal. `is_paged` is whether a terminal stops where its screen is full."""
 
     def __init__(self, out: Optional[TextIO] = None):
         self.out = out if out is not None else sys.stdout
+        self.is_paged = True
 
     def write(self, text: str) -> None:
         """Writes a line."""
@@ -118,8 +121,9 @@ class TextPrinter(Printer):
         return f"\x1b[{style.value}m{plain(text)}\x1b[0m" if is_styled else plain(text)
 
     def add(self, text: str, style: Style = Style.ADDED) -> None:
-        """A line that nrdb adds."""
-        print(self.styled(f"| {text}", style), file=self.out, flush=True)
+        """A line that nrdb adds; several on a terminal that isn't so wide."""
+        for line in wrapped(plain(text), width_of(self.out) - len("| ")):
+            print(self.styled(f"| {line}", style), file=self.out, flush=True)
 
     def echo(self, line: str) -> None:
         self.write(f"(netrev) {line}".rstrip())
@@ -175,3 +179,8 @@ class JsonPrinter(Printer):
 
     def end(self, status: int) -> None:
         self._event("end", status=status)
+
+
+def has_colours() -> bool:
+    """Whether what is printed goes to a terminal that has colours, and nobody asked for none (https://no-color.org)."""
+    return sys.stdout.isatty() and os.environ.get("TERM", "dumb") != "dumb" and not os.environ.get("NO_COLOR")

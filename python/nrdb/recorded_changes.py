@@ -159,12 +159,16 @@ class RecordedChanges:
 
     def _hold(self) -> None:
         """Holds in arrays what has come."""
+        while self._held < len(self._lines.pieces):
+            self._hold_piece()
+
+    def _hold_piece(self) -> None:
+        """Holds the next piece in arrays, whole."""
         steps, values, texts = self._steps, self._values, self._texts
-        come = len(self._lines.pieces)
-        for step, cell, value in self._lines.texts(self._held, come):
+        for step, cell, value in self._lines.texts(self._held, self._held + 1):
             steps[cell].append(int(step))
             values[cell].append(texts[value])
-        self._held = come
+        self._held += 1
 
     def _wait(self, position: Optional[int]) -> None:
         """Comes back when what leads to a position is there, or all."""

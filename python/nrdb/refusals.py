@@ -21,6 +21,7 @@ STEP = re.compile(r"step (\d+): fault 107 reason (\d+)")
 ANSWER = re.compile(r"step (\d+): fault 109 answer")
 FAR = 4_294_967_295
 LONGEST = 100
+REFUSED = 1  # the exit status of `netrev check`
 
 CAUSES = {
     1: "was it spawned, or does it come after its exit? Numbers count from 0, and aren't Go's own",
@@ -63,6 +64,16 @@ def explained(program: str, path: str, fault: str) -> list[str]:
     if found := ANSWER.match(fault):
         return answer_explained(program, recording, int(found[1]))
     return []
+
+
+def fault_of(program: str, path: str) -> str:
+    """The first fault of a recording; nothing where netrev takes it, or isn't here to say."""
+    try:
+        words = [program, "check", path]
+        ended = subprocess.run(words, stdin=subprocess.DEVNULL, stdout=subprocess.PIPE, check=False)
+    except OSError:
+        return ""
+    return ended.stdout.decode("utf-8", "surrogateescape").strip() if ended.returncode == REFUSED else ""
 
 
 def step_explained(program: str, recording: Recording, number: int, reason: int) -> list[str]:

@@ -42,7 +42,7 @@ class Mismatched(Exception):
 
 def parts_of(line: str) -> list[str]:
     """The commands of a line; a file's name may have a `;` in it."""
-    if line.split()[0] in ("source", "timeline"):
+    if line.split()[0] in ("source", "timeline", "save"):
         return [line]
     return [part.strip() for part in line.split(";") if part.strip()]
 

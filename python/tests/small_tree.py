@@ -181,11 +181,11 @@ CONTRIBUTING = """\
 """
 TREE = {
     "README.md": "# Read me\n\nIt counts ([how](docs/GLOSSARY.md)), in `crates/counting/src/lib.rt`.\n\n    rattle-kit-1 logic d0e1\n",
-    "docs/THEOREM.md": THEOREM,
-    "docs/TRUSTED.md": TRUSTED,
+    "docs/believe/THEOREM.md": THEOREM,
+    "docs/believe/TRUSTED.md": TRUSTED,
     "docs/GLOSSARY.md": GLOSSARY,
-    "docs/PROMISES.md": PROMISES,
-    "docs/ARCHITECTURE.md": ARCHITECTURE,
+    "docs/believe/PROMISES.md": PROMISES,
+    "docs/change/ARCHITECTURE.md": ARCHITECTURE,
     "crates.txt": "adding:\ncounting: adding arrayvec\n",
     "crates/adding/src/lib.rt": "//! Adds.\n",
     "crates/adding/specs/Lib.antt": f"{READING.BELIEVED}\npub mod Sum\n-- inner: what only definitions use\npub mod Inside\n",

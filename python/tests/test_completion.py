@@ -30,6 +30,12 @@ class Completion(unittest.TestCase):
         self.assertEqual(candidates(["until", "rd", "11", "-1", "and", "gor"], numbers), ["87"])
         self.assertIn("parked", candidates(["until", "rd", "11", "-1", "and", "gor", "87"], numbers))
 
+    def test_settings_and_files_of_marks(self) -> None:
+        self.assertEqual(candidates(["set", "pagination"], numbers), ["on", "off"])
+        self.assertEqual(candidates(["pagination"], numbers), ["on", "off"])
+        self.assertEqual(candidates(["set", "exec-direction"], numbers), ["reverse", "forward"])
+        self.assertEqual(candidates(["save"], numbers), ["breakpoints"])
+
     def test_words_of_gdb(self) -> None:
         words = {"n": "next", "fin": "finish", "rn": "reverse-next", "ni": "stepi", "s": "stepi", "step": "stepi"}
         for short, command in {**words, "reverse-nexti": "reverse-stepi", "comm": "commands"}.items():

@@ -61,7 +61,7 @@ class Tests(unittest.TestCase):
 
     def played(self, **settings: str) -> tuple[int, str, str]:
         """The status, what is printed, and what is left out."""
-        built = {"NETREV": "/bin/true", "NR_REFUSED": "/bin/true", "JOBS": "2"}
+        built = {"NETREV": "/bin/true", "NETREV_PLAIN": "/bin/true", "NR_REFUSED": "/bin/true", "JOBS": "2"}
         ran = subprocess.run(
             ["sh", "-c", 'trap "" INT; exec sh scripts/tests.sh'],
             cwd=self.top,

@@ -8,7 +8,9 @@ from pathlib import Path
 from nrdb.collecting import Collecting
 from nrdb.dap.debuggee import Debuggee
 from nrdb.dap.go_lines import GoLines
-from nrdb.dap.marks import Unset, wish_of
+from nrdb.dap.logpoints import LogPoints
+from nrdb.dap.roots import Roots
+from nrdb.dap.wishes import Unset, wish_of
 from nrdb.interrupts import Interrupts
 from nrdb.output import TextPrinter
 from nrdb.program.index import is_place, places_of
@@ -147,26 +149,28 @@ class Prompt(unittest.TestCase):
 class Editor(unittest.TestCase):
     def setUp(self) -> None:
         session = session_of(io.StringIO())
-        self.lines = GoLines(Debuggee(session, session.text(), Collecting(), str(FILE)), SOURCE.parent)
+        debuggee = Debuggee(session, session.text(), Collecting(), str(FILE))
+        self.logpoints = LogPoints(session)
+        self.lines = GoLines(debuggee, Roots(SOURCE.parent), self.logpoints)
 
     def test_breakpoints_at_a_line_and_at_a_function(self) -> None:
-        body, line = self.lines.set_line(str(SOURCE), 45, wish_of("", None))
+        body, line = self.lines.set_line(str(SOURCE), 45, wish_of("", {}))
         self.assertEqual((body["verified"], line), (True, 46))
         positions = self.lines.lines(str(SOURCE))[46]
         self.assertEqual(self.lines.nearest(0, True), positions[0])
         self.assertEqual(self.lines.nearest(10_000, False), positions[-1])
         self.assertEqual(list(self.lines.at(positions[0])), [body["id"]])
         self.lines.clear(str(SOURCE))
-        made = self.lines.set_function("main.ask", wish_of("", None))
+        made = self.lines.set_function("main.ask", wish_of("", {}))
         self.assertTrue(made and made["verified"])
-        self.assertIsNone(self.lines.set_function("main.nobody", wish_of("", None)))
+        self.assertIsNone(self.lines.set_function("main.nobody", wish_of("", {})))
 
     def test_a_condition_holds_one_back(self) -> None:
-        self.lines.set_line(str(SOURCE), 46, wish_of("", "gor 2 nothing"))
+        self.lines.set_line(str(SOURCE), 46, wish_of("", {"condition": "gor 2 nothing"}))
         self.assertIsNone(self.lines.nearest(0, True))
         self.assertFalse(self.lines.set_line(str(SOURCE), 46, Unset("no"))[0]["verified"])
 
     def test_another_file_has_no_lines(self) -> None:
         for path in (str(Path(__file__)), "\0", ""):
             self.assertEqual(self.lines.lines(path), {})
-        self.assertEqual(self.lines.set_line("main.go", 46, wish_of("", None))[1], None)
+        self.assertEqual(self.lines.set_line("main.go", 46, wish_of("", {}))[1], None)

@@ -76,32 +76,54 @@ def _path_of(tree: Tree, name: list[str]) -> str:
     return ""
 
 
+def uses(tree: Tree, rows: list[Row]) -> Iterator[tuple[str, int, Row, str, Row]]:
+    """The imports of modules that one row's makes of another's: the module, its line, its row, what it imports, and that one's row."""
+    for path in tree.matching("python/*.py"):
+        own = _row_of(rows, path.removeprefix(PYTHON))
+        for line, other in sorted(set(imported(tree, path))) if own else ():
+            row = _row_of(rows, other)
+            if own is not None and row is not None and row is not own:
+                yield path, line, own, other, row
+
+
 def imports(tree: Tree) -> Iterator[Finding]:
     """Imports that aren't as the table has them, and what it names that nothing imports."""
     rows = rows_of(tree)
     if not rows:
         yield Finding(PAGE, 1, f"no table under {HEADING!r}")
         return
+    for path in tree.matching("python/*/*.py"):
+        if _row_of(rows, path.removeprefix(PYTHON)) is None:
+            yield Finding(path, 1, f"the table of {PAGE} has no row for it")
     met: set[tuple[str, str]] = set()
-    for path in tree.matching("python/*.py"):
-        own = _row_of(rows, path.removeprefix(PYTHON))
-        if own is None:
-            if "/" in path.removeprefix(PYTHON):
-                yield Finding(path, 1, f"the table of {PAGE} has no row for it")
-            continue
-        for line, other in sorted(set(imported(tree, path))):
-            row = _row_of(rows, other)
-            if row is None or row is own:
-                continue
-            met.add((own.name, row.name))
-            if rows.index(row) > rows.index(own):
-                yield Finding(path, line, f"imports {other}, and {row.name} is below {own.name} in {PAGE}")
-            elif row.name not in own.named and not own.takes_all:
-                yield Finding(path, line, f"imports {other}, and the row of {own.name} in {PAGE} leaves {row.name} out")
+    for path, line, own, other, row in uses(tree, rows):
+        met.add((own.name, row.name))
+        if rows.index(row) > rows.index(own):
+            yield Finding(path, line, f"imports {other}, and {row.name} is below {own.name} in {PAGE}")
+        elif row.name not in own.named and not own.takes_all:
+            yield Finding(path, line, f"imports {other}, and the row of {own.name} in {PAGE} leaves {row.name} out")
     for row in rows:
         for name in row.named:
             if (row.name, name) not in met:
                 yield Finding(PAGE, row.line, f"nothing of {row.name} imports {name}")
+
+
+def written(tree: Tree) -> str:
+    """The page with its table's column of imports as the tree has them, in the order of the rows. Which packages there are, what each is
+    and which one imports all above stays as it is; and what is imported from below a row isn't put there: that is a fault of the tree.
+    """
+    rows, lines = rows_of(tree), tree.text(PAGE).split("\n")
+    met: dict[str, set[str]] = {row.name: set() for row in rows}
+    for _, _, own, _, other in uses(tree, rows):
+        if rows.index(other) < rows.index(own):
+            met[own.name].add(other.name)
+    for row in rows:
+        if not row.takes_all:
+            cells = lines[row.line - 1].strip("|").split("|")
+            named = ", ".join(f"`{one.name}`" for one in rows if one.name in met[row.name])
+            cells[IMPORTS] = f" {named} " if named else " "
+            lines[row.line - 1] = f"|{'|'.join(cells)}|"
+    return "\n".join(lines)
 
 
 def _row_of(rows: list[Row], path: str) -> Row | None:

@@ -1,4 +1,4 @@
-"""The calls that get at a stream or at a caller are made where docs/TRUSTED.md says that they are read by eye, and nowhere else.
+"""The calls that get at a stream or at a caller are made where docs/believe/TRUSTED.md says that they are read by eye, and nowhere else.
 
 The laws speak of logs. So a call past the logs, as of a reader that was taken out of its source, would be in none of them. In the
 program's sources each such call has its number of places here; whoever makes one more reads the page, and says so.
@@ -54,5 +54,5 @@ def raw_calls(tree: Tree) -> Iterator[Finding]:
         for call, (found, wanted) in counted.items():
             if found != wanted:
                 yield Finding(
-                    path, 1, f"{call} stands here {found} times, and {wanted} are read by eye (docs/TRUSTED.md)"
+                    path, 1, f"{call} stands here {found} times, and {wanted} are read by eye (docs/believe/TRUSTED.md)"
                 )

@@ -17,7 +17,7 @@ GLOSSARY = "docs/GLOSSARY.md"
 GIVEN_UP = "Words given up"
 PAGES, PYTHON, SOURCE, BY_EYE = "pages", "Python", "source", "by eye"
 # pages that quote the source, so that they change with it; and the page of what was
-WITH_SOURCE = {"docs/THEOREM.md"}
+WITH_SOURCE = {"docs/believe/THEOREM.md"}
 HISTORY = "CHANGELOG.md"
 # names of the toolchain's library that have such a word
 OF_LIBRARY = {"eqb_tells"}

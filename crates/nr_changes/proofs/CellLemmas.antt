@@ -19,7 +19,7 @@ use Rattle.nr_rev.specs.Lock.{bit, lock_number}
 use Rattle.nr_rev.specs.Socket.{Socket}
 use Rattle.nr_rev.specs.Step.{outcome}
 use Rattle.nr_rev.specs.World.{World}
-use Rattle.nr_rev.proofs.AspectStepLemmas.{step_keeps_cell}
+use Rattle.nr_laws.proofs.AspectStepLemmas.{step_keeps_cell}
 use Rattle.nr_changes.specs.Touched.{Touched, touched}
 use Rattle.nr_changes.specs.Changed.{cells_of, descriptor_cells, goroutine_cells, in_order, shut_cells, socket_cells, touched_cells}
 use Rattle.nr_changes.proofs.DescriptorTouchLemmas.{pollopen_touches, pollclose_touches, pollreset_touches, waitbegin_touches, blockarm_touches, blockcheck_touches, parkcommit_touches, blockswap_touches, waitcheck_touches, setdeadline_touches, evict_touches, pollevent_touches, tick_touches, pop_touches, fire_touches}

@@ -10,7 +10,7 @@ use Rattle.nr_rev.specs.contracts.cell.CellPartialEq.TheImpl as cell_eq
 use Rattle.nr_rev.specs.Cell.{cell, same_value}
 use Rattle.nr_rev.specs.Step.{outcome}
 use Rattle.nr_rev.specs.World.{World}
-use Rattle.nr_rev.proofs.BoolLemmas.{not_true, never_true}
+use Rattle.nr_laws.proofs.BoolLemmas.{not_true, never_true}
 use Rattle.nr_rev.proofs.CellValueLemmas.{same_value-equal, same_value-self}
 use Rattle.nr_changes.specs.Changed.{changed_cells, touched_cells}
 use Rattle.nr_changes.proofs.CellLemmas.{untouched_stays}

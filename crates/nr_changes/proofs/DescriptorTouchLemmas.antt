@@ -14,9 +14,9 @@ use Rattle.nr_rev.specs.Refusing.{refused_if, refused_unless, found_or}
 use Rattle.nr_rev.specs.Sides.{of_side, with_side}
 use Rattle.nr_rev.specs.Step.{Outcome, idle, status_of, socket_of, row_of, open_row_of, taken, pollopen, pollclose, after_orders, after_change, evict, pollevent, pollreset, waitbegin, with_wait, armed_by, blockarm, blockcheck, committed_by, parkcommit, swapped_by, blockswap, waitcheck, setdeadline, tick, pop, fired_with, fire}
 use Rattle.nr_rev.specs.World.{World, wait_of, is_free_number, is_waited, least_entry}
-use Rattle.nr_rev.proofs.AspectDescriptorStepLemmas.{ComesTo-open_row_of}
-use Rattle.nr_rev.proofs.AspectLemmas.{ComesTo, ComesTo-ok, ComesTo-refused, ComesTo-ends, ComesTo-any, ComesTo-bind, ComesTo-then, ComesTo-either}
-use Rattle.nr_rev.proofs.LookupLemmas.{Ends-row_of, Ends-status_of, Ends-entering_of, Ends-armed_of, Ends-parking_of, Ends-swapping_of, Ends-checking_of}
+use Rattle.nr_laws.proofs.AspectDescriptorStepLemmas.{ComesTo-open_row_of}
+use Rattle.nr_laws.proofs.AspectLemmas.{ComesTo, ComesTo-ok, ComesTo-refused, ComesTo-ends, ComesTo-any, ComesTo-bind, ComesTo-then, ComesTo-either}
+use Rattle.nr_laws.proofs.LookupLemmas.{Ends-row_of, Ends-status_of, Ends-entering_of, Ends-armed_of, Ends-parking_of, Ends-swapping_of, Ends-checking_of}
 use Rattle.nr_rev.proofs.OutcomeLemmas.{Ends-found_or}
 use Rattle.nr_changes.specs.Touched.{Touched, touched, touched_by_firing, descriptor_at, held_of, held_at}
 use Rattle.nr_changes.proofs.KeepsLemmas.{Keeps, Touches, Keeps-same, Keeps-then, Keeps-if, goroutine_set, row_set, row_pushed, rest_set, timers_set, wakes_keep}

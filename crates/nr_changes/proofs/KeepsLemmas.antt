@@ -9,7 +9,7 @@ use Rattle.nr_rev.specs.declared.status.Status.{Status}
 use Rattle.nr_rev.specs.Socket.{Socket}
 use Rattle.nr_rev.specs.Step.{after_wakes}
 use Rattle.nr_rev.specs.World.{World, with_socket, with_row}
-use Rattle.nr_rev.proofs.AspectLemmas.{ComesTo}
+use Rattle.nr_laws.proofs.AspectLemmas.{ComesTo}
 use Rattle.nr_rev.proofs.ListUpdateLemmas.{slice_get-set_unseen}
 use Rattle.nr_changes.specs.Touched.{Touched}
 use Rattle.nr_changes.proofs.MemberLemmas.{here, later}

@@ -20,7 +20,7 @@ use Rattle.nr_rev.specs.Cell.{cell, same_value}
 use Rattle.nr_rev.specs.CellName.{cell_number, cells_at}
 use Rattle.nr_rev.specs.Kind.{kind_of}
 use Rattle.nr_rev.specs.World.{World}
-use Rattle.nr_rev.proofs.BoolLemmas.{both_true}
+use Rattle.nr_laws.proofs.BoolLemmas.{both_true}
 use Rattle.nr_rev.proofs.NumberLemmas.{below_of}
 use Rattle.nr_changes.specs.Touched.{Touched, touched}
 use Rattle.nr_changes.specs.Changed.{cells_of, changed_cells, descriptor_cells, in_order, listing_order, socket_cells, touched_cells}

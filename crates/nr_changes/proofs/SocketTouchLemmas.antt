@@ -18,8 +18,8 @@ use Rattle.nr_rev.specs.Socket.{Socket, room_of}
 use Rattle.nr_rev.specs.Step.{spawn, exit, idle, status_of, socket_of, sized, lock_left, locker, may_lock, owing, incref, increfclose, decref, rwlock, rwunlock, acquire, tries_again, release, sockopen, arrive, peerclose, sysread, syswrite, drain, closewrite}
 use Rattle.nr_rev.specs.WellFormed.{socket_named}
 use Rattle.nr_rev.specs.World.{World, with_status, with_socket}
-use Rattle.nr_rev.proofs.AspectLemmas.{ComesTo-ok, ComesTo-ends, ComesTo-any, ComesTo-bind, ComesTo-then}
-use Rattle.nr_rev.proofs.LookupLemmas.{Ends-status_of, Ends-socket_of, Ends-acquiring_of, Ends-owing_of}
+use Rattle.nr_laws.proofs.AspectLemmas.{ComesTo-ok, ComesTo-ends, ComesTo-any, ComesTo-bind, ComesTo-then}
+use Rattle.nr_laws.proofs.LookupLemmas.{Ends-status_of, Ends-socket_of, Ends-acquiring_of, Ends-owing_of}
 use Rattle.nr_changes.specs.Touched.{Touched, touched, socket_and, socket_at, front_for, released_by}
 use Rattle.nr_changes.proofs.KeepsLemmas.{Keeps, Touches, Keeps-same, Keeps-then, Keeps-either, goroutine_set, goroutine_pushed, socket_set, socket_pushed}
 use Rattle.nr_changes.proofs.MemberLemmas.{here, later}

@@ -13,7 +13,7 @@ use Rattle.nr_rev.specs.declared.timer.TimerFunction.{TimerFunction}
 use Rattle.nr_rev.specs.Descriptor.{Change, unblock, quiet, and_then, then_if, unblocked, both_raised, deadline_from, with_deadlines, timer_reset, wants_timer, timer_follows, is_expired, is_combo, same_bool, is_current, is_timed, expired_unblocked, change_by_deadline, stop_if, change_by_evict, expire, change_by_firing, change_by_event}
 use Rattle.nr_rev.specs.Refusing.{refused_if, refused_unless, raised_sequence}
 use Rattle.nr_rev.specs.Sides.{of_side, with_side, twice, covers_side, names_side}
-use Rattle.nr_rev.proofs.AspectLemmas.{ComesTo, ComesTo-ok, ComesTo-any, ComesTo-bind, ComesTo-then, ComesTo-either}
+use Rattle.nr_laws.proofs.AspectLemmas.{ComesTo, ComesTo-ok, ComesTo-any, ComesTo-bind, ComesTo-then, ComesTo-either}
 use Rattle.nr_changes.specs.Touched.{held_by, held_of}
 use Rattle.nr_changes.proofs.MemberLemmas.{nowhere}
 

@@ -15,7 +15,7 @@ numbered_cells n sorts = flat_map (λ sort. map sort (range_with_len 0 n)) sorts
 abbrev pub most_of : {X : Type 0} → (World → List X) → World → World → ℕ
 most_of things w next = max (length (things w)) (length (things next))
 
--- All cells of what is there in the one world or in the other, in the order of docs/COMMANDS.md: by
+-- All cells of what is there in the one world or in the other, in the order of COMMANDS.md: by
 -- what they show, and then by number.
 abbrev pub all_cells : World → World → List Cell
 all_cells w next =

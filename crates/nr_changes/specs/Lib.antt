@@ -1,4 +1,4 @@
--- what the laws of docs/THEOREM.md rest on, whole files
+-- what the laws of THEOREM.md rest on, whole files
 pub mod Changes
 -- what callers need besides: contracts cite it, of other crates or of this crate's public functions
 pub mod Touched

@@ -1,6 +1,6 @@
 pub mod CommandLemmas
 pub mod CountLemmas
-pub mod LawLemmas
+pub mod CellTextLemmas
 pub mod ReplyLemmas
 pub mod WordLemmas
 pub mod DebuggerLemmas

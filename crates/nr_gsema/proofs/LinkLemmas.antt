@@ -9,7 +9,7 @@ use Rattle.nr_gsema.specs.declared.node.GoroutineNode.{GoroutineNode}
 use Rattle.nr_gsema.specs.Links.{IsLinked, chain, next_in, node_with}
 use Rattle.nr_gsema.specs.Relinking.{followed_by, preceded_by, or_else}
 use Rattle.nr_gsema.specs.Auxiliary.Table.{before, behind, back_of}
-use Rattle.nr_rev.proofs.DistinctNumberLemmas.{times}
+use Rattle.nr_laws.proofs.DistinctNumberLemmas.{times}
 use Rattle.nr_gsema.proofs.NodeLemmas.{Relinks}
 
 pub itself : (g : ℕ) (queue : List ℕ) → times g (g ∷ queue) ≡ 1 + times g queue

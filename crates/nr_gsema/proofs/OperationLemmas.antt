@@ -13,8 +13,8 @@ use Rattle.nr_rev.specs.declared.sides.Sides.{Sides}
 use Rattle.nr_rev.specs.Semaphore.{Semaphore}
 use Rattle.nr_rev.specs.Sides.{of_side, with_side}
 use Rattle.nr_rev.proofs.SideLemmas.{of_side-with_side_same}
-use Rattle.nr_rev.proofs.LookupLemmas.{Ends-acquiring_of, Ends-owing_of}
-use Rattle.nr_rev.proofs.SemaphoreStepLemmas.{front_queued}
+use Rattle.nr_laws.proofs.LookupLemmas.{Ends-acquiring_of, Ends-owing_of}
+use Rattle.nr_laws.proofs.SemaphoreStepLemmas.{front_queued}
 use Rattle.nr_gsema.proofs.ListLemmas.{first_split, set_back, last_pushed}
 use Rattle.nr_rev.specs.Refusing.{◌>>◌, refused_unless}
 use Rattle.nr_rev.specs.Step.{acquiring_of, alive, is_idle, owing, owing_of}

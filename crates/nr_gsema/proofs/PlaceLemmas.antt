@@ -11,7 +11,7 @@ use Rattle.nr_rev.specs.Sides.{same_side}
 use Rattle.nr_rev.specs.WellFormed.{is_queued}
 use Rattle.nr_rev.proofs.SideLemmas.{other_side}
 use Rattle.nr_rev.proofs.NumberLemmas.{same_number, number_same}
-use Rattle.nr_rev.proofs.BoolLemmas.{both_true, never_true}
+use Rattle.nr_laws.proofs.BoolLemmas.{both_true, never_true}
 use Rattle.nr_gsema.specs.Links.{is_waiting}
 
 -- queued there, or nowhere

@@ -15,7 +15,7 @@ use Rattle.nr_rev.specs.WellFormed.{is_queued}
 use Rattle.nr_gsema.specs.declared.node.GoroutineNode.{GoroutineNode}
 use Rattle.nr_gsema.specs.declared.node.SemaphoreHead.{SemaphoreHead}
 use Rattle.nr_gsema.specs.Links.{AreQueues, IsLinked, chain, front_in, queue_from, queues_from, semaphores_from, statuses}
-use Rattle.nr_rev.proofs.DistinctNumberLemmas.{times, few_below}
+use Rattle.nr_laws.proofs.DistinctNumberLemmas.{times, few_below}
 use Rattle.nr_gsema.proofs.LinkLemmas.{chain-is}
 use Rattle.nr_gsema.proofs.PlaceLemmas.{bit_le}
 use Rattle.nr_gsema.proofs.ListLemmas.{there_is}

@@ -17,7 +17,7 @@ use Rattle.nr_gsema.specs.Table.{GoroutineTable}
 use Rattle.nr_gsema.specs.Auxiliary.Table.{before, behind, in_queue, back_of, next_in_queue, previous_of, queue_at, queue_found}
 use Rattle.nr_rev.specs.WellFormed.{is_queued}
 use Rattle.nr_rev.specs.Lock.{bit}
-use Rattle.nr_rev.proofs.DistinctNumberLemmas.{times}
+use Rattle.nr_laws.proofs.DistinctNumberLemmas.{times}
 use Rattle.nr_rev.specs.declared.status.Status.TheVariants.{Queued}
 use Rattle.nr_gsema.proofs.LinkLemmas.{first-is, last-is, next-is, previous-is}
 use Rattle.nr_gsema.specs.Applying.{IsQueuedUp}

@@ -14,12 +14,12 @@ use Rattle.nr_rev.specs.WellFormed.{is_queued}
 use Rattle.nr_rev.proofs.SideLemmas.{other_side, of_side-with_side_same, of_side-with_side_other}
 use Rattle.nr_rev.proofs.ListUpdateLemmas.{slice_get-set_cases, slice_get-set_unseen}
 use Rattle.nr_rev.proofs.NumberLemmas.{number_same, count_push, count_front}
-use Rattle.nr_rev.proofs.SemaphoreStepLemmas.{bits_moved}
+use Rattle.nr_laws.proofs.SemaphoreStepLemmas.{bits_moved}
 use Rattle.nr_gsema.specs.declared.node.GoroutineNode.{GoroutineNode}
 use Rattle.nr_gsema.specs.declared.node.SemaphoreHead.{SemaphoreHead}
 use Rattle.nr_gsema.specs.Links.{AreQueues, IsLinked, chain, front_in, is_waiting, queue_from, queues_from, node_with, semaphores_from, statuses}
 use Rattle.nr_gsema.specs.Relinking.{followed_by, preceded_by, with_next, with_previous, or_else, end_left}
-use Rattle.nr_rev.proofs.DistinctNumberLemmas.{times}
+use Rattle.nr_laws.proofs.DistinctNumberLemmas.{times}
 use Rattle.nr_gsema.proofs.NodeLemmas.{Relinks, relinks}
 use Rattle.nr_gsema.proofs.LinkLemmas.{IsLinked-kept, agree_from, back_left, before_member, first-is, first_within, itself, last_within, linked_back, linked_front, member, unlinked_back, unlinked_front}
 use Rattle.nr_gsema.proofs.PlaceLemmas.{Near, Apart, place_apart, place_same, place_cases, unqueued, not_elsewhere, queued_parts, differs, bit_false, bit_true, queued_here}

@@ -6,7 +6,7 @@ use Rattle.nr_rev.specs.declared.status.Status.{Status}
 use Rattle.nr_rev.specs.declared.status.Status.TheVariants.{Idle, Acquiring, Queued, Relock, Owing, Entering, Armed, Parking, Parked, Swapping, Checking, Gone}
 use Rattle.nr_rev.specs.Sides.{same_side}
 use Rattle.nr_rev.proofs.NumberLemmas.{number_same, same_number}
-use Rattle.nr_rev.proofs.BoolLemmas.{both_true}
+use Rattle.nr_laws.proofs.BoolLemmas.{both_true}
 use Rattle.nr_gsema.specs.Step.{same_place, same_status}
 use Rattle.nr_gsema.proofs.PlaceLemmas.{place_same, same_side_is}
 

@@ -12,8 +12,9 @@ use Rattle.nr_rev.specs.Sides.{of_side}
 use Rattle.nr_rev.specs.WellFormed.{socket_named}
 use Rattle.nr_rev.specs.Semaphore.{Semaphore, released}
 use Rattle.nr_rev.specs.Step.{is_idle}
-use Rattle.nr_rev.proofs.LookupLemmas.{Ends-acquiring_of, Ends-alive, Ends-owing_of}
+use Rattle.nr_laws.proofs.LookupLemmas.{Ends-acquiring_of, Ends-alive, Ends-owing_of}
 use Rattle.nr_rev.specs.Weight.{status_weight}
+use Rattle.nr_rev.proofs.OutcomeLemmas.{same_parts}
 use Rattle.nr_gsema.specs.declared.apply.TheConstants.{MOST_WORDS}
 use Rattle.nr_gsema.specs.declared.operation.GOperation.{GOperation}
 use Rattle.nr_gsema.specs.declared.operation.GOperation.TheVariants as operation
@@ -29,13 +30,6 @@ pub refused_has_no_step : (old : GoroutineTable) (op : GOperation) (e : Refusal)
     → table_reason old op ≡ Some e → StepTo old op answer new → ⊥
 refused_has_no_step old op e answer new reason is =
     absurd (let none : Some e ≡ None = sym reason ∙ ap refusal_of is in cc)
-
--- equal outcomes have equal parts
-same_parts : {A B : Type 0} (a c : A) (b d : B)
-    → ◌≡◌ {A = Result (A × B) Refusal} (Ok (a, b)) (Ok (c, d)) → (a ≡ c) × (b ≡ d)
-same_parts {A} {B} a c b d e =
-    let pairs : ◌≡◌ {A = A × B} (a, b) (c, d) = cc in
-    (ap (λ (p : A × B). p.0) pairs, ap (λ (p : A × B). p.1) pairs)
 
 -- an operation has one outcome
 pub steps_unique : (old : GoroutineTable) (op : GOperation) (a b : Answer)

@@ -10,7 +10,7 @@ use Rattle.nr_rev.specs.Descriptor.{closed, quiet}
 use Rattle.nr_rev.specs.Refusing.{◌>>=◌, found_or}
 use Rattle.nr_rev.specs.Step.{idle, open_row_of, pollclose}
 use Rattle.nr_rev.specs.World.{World, is_waited, with_descriptor}
-use Rattle.nr_rev.proofs.FreeNumberLemmas.{closable_has_room}
+use Rattle.nr_laws.proofs.FreeNumberLemmas.{closable_has_room}
 use Rattle.nr_desc.specs.Code.{is_awaited}
 use Rattle.nr_desc.specs.Op as desc_op
 use Rattle.nr_desc.specs.declared.op.DescAnswer.{DescAnswer}

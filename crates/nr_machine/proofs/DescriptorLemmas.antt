@@ -19,7 +19,7 @@ use Rattle.nr_rev.specs.Sides.{of_side}
 use Rattle.nr_rev.specs.Step.{open_row_of, row_of as find_row}
 use Rattle.nr_rev.specs.WellFormed.{HasWaitWord, WellFormed, awaiting_of, parked_of}
 use Rattle.nr_rev.specs.World.{World, is_free_number, is_waited, wait_of, with_descriptor}
-use Rattle.nr_rev.proofs.LookupLemmas.{nobody_inside}
+use Rattle.nr_laws.proofs.LookupLemmas.{nobody_inside}
 use Rattle.nr_desc.specs.Code.{is_awaited}
 use Rattle.nr_desc.specs.Op as desc_op
 use Rattle.nr_desc.specs.declared.op.DescAnswer.{DescAnswer}

@@ -7,7 +7,7 @@ use Rattle.nr_rev.specs.declared.limits.Limits.{Limits}
 use Rattle.nr_rev.specs.Limits.{AreInRange}
 use Rattle.nr_rev.specs.Semaphore.{new_semaphore}
 use Rattle.nr_rev.specs.Sides.{twice}
-use Rattle.nr_rev.proofs.EmptyWorldLemmas.{empty_world_fits}
+use Rattle.nr_laws.proofs.EmptyWorldLemmas.{empty_world_fits}
 use Rattle.nr_gsema.specs.Applying.{IsQueuedUp}
 use Rattle.nr_sockbuf.specs.Sock.{SockParts, never_opened}
 use Rattle.nr_timers.specs.State.{IsTimers}

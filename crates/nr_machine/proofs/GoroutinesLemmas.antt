@@ -20,7 +20,7 @@ use Rattle.nr_rev.specs.Step.{Outcome, acquire, acquiring_of, exit, is_idle, owi
 use Rattle.nr_rev.specs.WellFormed.{HasView, socket_named}
 use Rattle.nr_rev.specs.World.{World, with_socket, with_status}
 use Rattle.nr_rev.proofs.ListUpdateLemmas.{slice_get-set_cases}
-use Rattle.nr_rev.proofs.LookupLemmas.{Ends-acquiring_of, Ends-owing_of, Ends-status_of}
+use Rattle.nr_laws.proofs.LookupLemmas.{Ends-acquiring_of, Ends-owing_of, Ends-status_of}
 use Rattle.nr_rev.proofs.OutcomeLemmas.{Ends, Ends-bind, Ends-found_or, Ends-ok, Ends-refused_unless, Ends-then}
 use Rattle.nr_gsema.specs.Applying.{IsQueuedUp}
 use Rattle.nr_gsema.specs.Delta.{LeadsBack, delta_weight, weight_allowed}

@@ -17,7 +17,7 @@ use Rattle.nr_rev.specs.Socket.{Socket}
 use Rattle.nr_rev.specs.Step.{lock_left, locker, owing, status_of}
 use Rattle.nr_rev.specs.WellFormed.{socket_named}
 use Rattle.nr_rev.specs.World.{World, with_socket, with_status}
-use Rattle.nr_rev.proofs.LookupLemmas.{Ends-status_of}
+use Rattle.nr_laws.proofs.LookupLemmas.{Ends-status_of}
 use Rattle.nr_gsema.specs.Applying.{IsQueuedUp}
 use Rattle.nr_gsema.specs.Step.{is_movable, names_within}
 use Rattle.nr_gsema.specs.declared.delta.GDelta.{GDelta}

@@ -6,7 +6,7 @@ use Rattle.nr_rev.specs.declared.step.Step.{Step}
 use Rattle.nr_rev.specs.Step.{outcome}
 use Rattle.nr_rev.specs.Auxiliary.Step.{IsTimely}
 use Rattle.nr_rev.specs.Worlds.{bytes_left, refusal_of}
-use Rattle.nr_rev.proofs.StepKeepsLemmas.{step_keeps}
+use Rattle.nr_laws.proofs.StepKeepsLemmas.{step_keeps}
 use Rattle.nr_machine.specs.declared.delta.TheConstants.{MOST_WORDS}
 use Rattle.nr_machine.specs.declared.delta.WorldUndo.{WorldUndo}
 use Rattle.nr_machine.specs.Asked.{asked_of}

@@ -18,7 +18,7 @@ use Rattle.nr_rev.specs.Sides.{of_side, same_side, twice}
 use Rattle.nr_rev.specs.Socket.{Socket}
 use Rattle.nr_rev.specs.WellFormed.{is_queued}
 use Rattle.nr_rev.specs.Auxiliary.Worlds.{HasItems}
-use Rattle.nr_rev.proofs.BoolLemmas.{both_true}
+use Rattle.nr_laws.proofs.BoolLemmas.{both_true}
 use Rattle.nr_rev.proofs.NumberLemmas.{count_front}
 use Rattle.nr_gsema.specs.Applying.{IsQueuedUp}
 use Rattle.nr_gsema.specs.Table.{GoroutineTable}

@@ -18,8 +18,8 @@ use Rattle.nr_rev.specs.Sides.{of_side}
 use Rattle.nr_rev.specs.Step.{Outcome, armed_by, blockarm, blockswap, committed_by, parkcommit, row_of as find_row, status_of, swapped_by}
 use Rattle.nr_rev.specs.WellFormed.{socket_named}
 use Rattle.nr_rev.specs.World.{World, with_descriptor, with_status}
-use Rattle.nr_rev.proofs.WaitersLemmas.{waiters_within}
-use Rattle.nr_rev.proofs.LookupLemmas.{Ends-status_of}
+use Rattle.nr_laws.proofs.WaitersLemmas.{waiters_within}
+use Rattle.nr_laws.proofs.LookupLemmas.{Ends-status_of}
 use Rattle.nr_desc.specs.Op as desc_op
 use Rattle.nr_desc.specs.Auxiliary.Op as desc_op_auxiliary
 use Rattle.nr_desc.specs.declared.op.DescAnswer.{DescAnswer}

@@ -18,7 +18,7 @@ use Rattle.nr_rev.specs.Step.{after_wake, after_wakes}
 use Rattle.nr_rev.specs.WellFormed.{held_count, is_held}
 use Rattle.nr_rev.specs.World.{World}
 use Rattle.nr_rev.proofs.ListUpdateLemmas.{slice_get-set_cases}
-use Rattle.nr_rev.proofs.WaitWordSetLemmas.{parked_at}
+use Rattle.nr_laws.proofs.WaitWordSetLemmas.{parked_at}
 use Rattle.nr_desc.specs.Change.{listed}
 use Rattle.nr_desc.specs.Auxiliary.Change.{both_let_go, let_go}
 use Rattle.nr_desc.specs.Auxiliary.Op.{StepTo, woken_by}

@@ -7,7 +7,7 @@ use Rattle.nr_rev.specs.Refusing.{out_of_memory}
 use Rattle.nr_rev.specs.declared.step.Step.{Step}
 use Rattle.nr_rev.specs.Step.{Outcome, outcome}
 use Rattle.nr_rev.specs.Worlds.{refusal_of}
-use Rattle.nr_rev.proofs.StepKeepsLemmas.{none_for_memory}
+use Rattle.nr_laws.proofs.StepKeepsLemmas.{none_for_memory}
 use Rattle.nr_sockbuf.specs.Laws.{same_pairs}
 use Rattle.nr_timers.specs.ReversibleLaws as timers
 use Rattle.nr_timers.specs.State.{State}

@@ -1,7 +1,6 @@
 pub mod ListLemmas
-pub mod RowsLemmas
-pub mod SocketsLemmas
 pub mod SocketEditLemmas
+pub mod SocketTableLemmas
 pub mod ItemLemmas
 pub mod RoomLemmas
 pub mod BufferLemmas

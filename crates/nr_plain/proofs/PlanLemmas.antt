@@ -6,7 +6,7 @@ use Rattle.nr_rev.specs.declared.answer.Answer.{Answer}
 use Rattle.nr_rev.specs.Auxiliary.Step.{IsTimely}
 use Rattle.nr_rev.specs.World.{World}
 use Rattle.nr_rev.specs.WellFormed.{WellFormed}
-use Rattle.nr_rev.proofs.StepKeepsLemmas.{step_keeps}
+use Rattle.nr_laws.proofs.StepKeepsLemmas.{step_keeps}
 use Rattle.nr_rev.specs.Worlds.{refusal_of}
 use Rattle.nr_plain.specs.declared.plan.Plan.{Plan}
 use Rattle.nr_plain.specs.Plan.{Advances, Plans, PlansUnlessMemory}

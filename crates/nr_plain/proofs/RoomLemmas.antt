@@ -13,7 +13,7 @@ use Rattle.nr_rev.specs.Socket.{Socket}
 use Rattle.nr_rev.specs.Step.{acquiring_of, alive}
 use Rattle.nr_rev.specs.WellFormed.{WellFormed, is_queued}
 use Rattle.nr_rev.specs.World.{World}
-use Rattle.nr_rev.proofs.DistinctNumberLemmas.{room_for, times}
+use Rattle.nr_laws.proofs.DistinctNumberLemmas.{room_for, times}
 use Rattle.nr_plain.specs.Reads.{acquiring_by}
 
 queued_there : (gs : List Status) (s : ℕ) (side : Side) (k : ℕ) → 0 < bit (is_queued s side (slice_get gs k)) → k < length gs

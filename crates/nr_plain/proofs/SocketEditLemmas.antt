@@ -1,7 +1,6 @@
 -- What undoes each change of a socket.
-use Rattle.std.proofs.Common.{◌≡◌, ℕ, ◌+◌, ◌-◌, ◌≤◌, Bool, false, List, ◌++◌, length, take, drop, Option, Some, None, refl, sym, ap, ap₂, subst, ◌∙◌, arith, length-append}
-use Rattle.std.proofs.lemmas.Option.{IfSome_then}
-use Rattle.std.specs.Prelude.{IfSome, option_to_list, slice_get}
+use Rattle.std.proofs.Common.{◌≡◌, ℕ, ◌+◌, ◌-◌, ◌≤◌, Bool, false, List, ◌++◌, length, take, drop, Option, Some, None, refl, sym, ap, ap₂, arith, length-append}
+use Rattle.std.specs.Prelude.{option_to_list, slice_get}
 use Rattle.nr_rev.specs.declared.sides.Side.{Side}
 use Rattle.nr_rev.specs.declared.sides.Side.TheVariants.{Read, Write}
 use Rattle.nr_rev.specs.declared.lock.Lock.{Lock}
@@ -11,16 +10,10 @@ use Rattle.nr_rev.specs.Sides.{of_side, with_side}
 use Rattle.nr_rev.specs.Socket.{Socket}
 use Rattle.std.specs.Borrow.{Bor}
 use Rattle.nr_plain.specs.declared.socket.SocketState.{SocketState}
-use Rattle.nr_plain.specs.declared.socket_edit.SocketEdit.{SocketEdit}
 use Rattle.nr_plain.specs.declared.socket_edit.SocketEdit.TheVariants as edit
-use Rattle.nr_plain.specs.declared.socket_edit.SocketUndo.{SocketUndo}
 use Rattle.nr_plain.specs.declared.socket_edit.SocketUndo.TheVariants as undo
-use Rattle.nr_plain.specs.Edit.{with_changed}
-use Rattle.nr_plain.specs.Socket.{socket_with, with_state}
-use Rattle.nr_plain.specs.SocketEdit.{CanUndoSocket, UndoesSocket, after_socket_edit, after_socket_undo, on_bytes, on_queue, on_semaphore, socket_edit_weight, socket_undo_weight}
-use Rattle.nr_plain.specs.Sockets.{EditsSocket}
-use Rattle.nr_plain.specs.SocketTable.{SocketTable}
-use Rattle.nr_plain.proofs.ItemLemmas.{changed-here, changed_alike, changed_back, mapped_known}
+use Rattle.nr_plain.specs.Socket.{socket_with}
+use Rattle.nr_plain.specs.SocketEdit.{UndoesSocket, after_socket_edit, after_socket_undo, on_bytes, on_queue, on_semaphore, socket_edit_weight, socket_undo_weight}
 use Rattle.nr_plain.proofs.ListLemmas.{appended_cut, front_and_rest, front_and_rest_len, front_restored, last_pushed}
 
 module _ (q b : ℕ) (x : Socket) where
@@ -112,7 +105,7 @@ requeue_light side (Some g) = omega arith
 
 module _ (state : SocketState) (queues bytes : Sides (List ℕ)) where
   -- a count set in the state is set in the semaphore
-  pub count_set : (side : Side) (count : ℕ) → with_state (record state { counts = with_side side count state.counts }) (socket_with state queues bytes)
+  pub count_set : (side : Side) (count : ℕ) → socket_with (record state { counts = with_side side count state.counts }) queues bytes
       ≡ after_socket_edit (edit.Count side count) (socket_with state queues bytes)
   count_set Read count = refl
   count_set Write count = refl
@@ -120,38 +113,3 @@ module _ (state : SocketState) (queues bytes : Sides (List ℕ)) where
   pub count_there : (side : Side) → of_side side state.counts ≡ (of_side side (socket_with state queues bytes).semaphores).count
   count_there Read = refl
   count_there Write = refl
-
--- what is known of the one that is there
-pub if_there : {X : Type 0} (P : X → Type 0) (x : X) (o : Option X) → Some x ≡ o → P x → IfSome o P
-if_there P x o there known = subst (λ p. IfSome p P) there known
-
--- a change of the socket that is there, and what undoes it
-pub edited : (s : ℕ) (edit : SocketEdit) (undo : SocketUndo) (old new : SocketTable) (change : Socket → Socket) → new ≡ record old { sockets = with_changed s change old.sockets }
-    → IfSome (slice_get old.sockets s) (λ x. change x ≡ after_socket_edit edit x)
-    → IfSome (slice_get old.sockets s) (λ x. UndoesSocket old.queue_room old.byte_room undo (after_socket_edit edit x) x)
-    → socket_undo_weight undo ≤ socket_edit_weight edit → EditsSocket s edit undo old new
-edited s edit undo old new change is so back light =
-    let there = slice_get old.sockets s in
-    let after : new ≡ record old { sockets = with_changed s (after_socket_edit edit) old.sockets } =
-    is ∙ ap (λ (sockets : List Socket). record old { sockets = sockets }) (changed_alike change (after_socket_edit edit) old.sockets s so) in
-    let sockets = ap (λ (t : SocketTable). t.sockets) after in
-    record {
-      after = after;
-      can = subst (λ (o : Option Socket). IfSome o (CanUndoSocket old.queue_room old.byte_room undo))
-          (sym (ap (λ (xs : List Socket). slice_get xs s) sockets ∙ changed-here (after_socket_edit edit) old.sockets s))
-          (mapped_known (after_socket_edit edit) (CanUndoSocket old.queue_room old.byte_room undo) there (IfSome_then there back (λ x h. h.0)));
-      back = ap (with_changed s (after_socket_undo undo)) sockets
-          ∙ changed_back (after_socket_edit edit) (after_socket_undo undo) old.sockets s (IfSome_then there back (λ x h. h.1));
-      light = light;
-    }
-
--- the same of one that was read
-pub edited_there : (s : ℕ) (edit : SocketEdit) (undo : SocketUndo) (old new : SocketTable) (change : Socket → Socket) (x : Socket) → Some x ≡ slice_get old.sockets s
-    → new ≡ record old { sockets = with_changed s change old.sockets }
-    → change x ≡ after_socket_edit edit x → UndoesSocket old.queue_room old.byte_room undo (after_socket_edit edit x) x
-    → socket_undo_weight undo ≤ socket_edit_weight edit → EditsSocket s edit undo old new
-edited_there s edit undo old new change x there is so back light =
-    edited s edit undo old new change is
-    (if_there (λ x. change x ≡ after_socket_edit edit x) x (slice_get old.sockets s) there so)
-    (if_there (λ x. UndoesSocket old.queue_room old.byte_room undo (after_socket_edit edit x) x) x (slice_get old.sockets s) there back)
-    light

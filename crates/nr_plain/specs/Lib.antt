@@ -6,8 +6,7 @@ pub mod Worlds
 pub mod ReversibleLaws
 -- inner: what only definitions and proofs of this crate use
 pub mod SocketTable
-pub mod Rows
-pub mod RowEdit
+pub mod ListEdit
 pub mod Semaphore
 pub mod Buffer
 pub mod SocketEdit

@@ -11,7 +11,8 @@ use Rattle.nr_rev.specs.WellFormed.{WellFormed}
 use Rattle.nr_rev.specs.World.{World}
 use Rattle.nr_rev.specs.Worlds.{refusal_of}
 use Rattle.nr_rev.proofs.LeadsBackLemmas.{LeadsBack-unique}
-use Rattle.nr_rev.proofs.StepKeepsLemmas.{none_for_memory}
+use Rattle.nr_rev.proofs.OutcomeLemmas.{same_parts}
+use Rattle.nr_laws.proofs.StepKeepsLemmas.{none_for_memory}
 use Rattle.nr_plain.specs.declared.delta.PlainDelta.{PlainDelta}
 use Rattle.nr_plain.specs.declared.delta.TheConstants.{MOST_WORDS}
 use Rattle.nr_plain.specs.declared.edit.Undo.{Undo}
@@ -24,13 +25,6 @@ pub refused_has_no_step : (old : World) (step : Step) (e : Refusal) (answer : An
     → world_reason old step ≡ Some e → StepTo old step answer new → ⊥
 refused_has_no_step old step e answer new reason is =
     absurd (let none : Some e ≡ None = sym reason ∙ ap refusal_of is in cc)
-
--- equal outcomes have equal parts
-same_parts : {A B : Type 0} (a c : A) (b d : B)
-    → ◌≡◌ {A = Result (A × B) Refusal} (Ok (a, b)) (Ok (c, d)) → (a ≡ c) × (b ≡ d)
-same_parts {A} {B} a c b d e =
-    let pairs : ◌≡◌ {A = A × B} (a, b) (c, d) = cc in
-    (ap (λ (p : A × B). p.0) pairs, ap (λ (p : A × B). p.1) pairs)
 
 -- a step has one outcome
 pub steps_unique : (old : World) (step : Step) (a b : Answer) (new other : World)

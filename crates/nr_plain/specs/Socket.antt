@@ -1,24 +1,10 @@
--- A socket over lists, as it is seen: data of one size, and rows of queued goroutines and of bytes.
-use Rattle.std.specs.Prelude.{◌≡◌, ℕ, ◌+◌, ◌*◌, List}
-use Rattle.nr_rev.specs.declared.sides.Side.{Side}
-use Rattle.nr_rev.specs.declared.sides.Side.TheVariants.{Read, Write}
+-- A socket over lists, as it is seen: data of one size, queued goroutines and bytes.
+use Rattle.std.specs.Prelude.{◌≡◌, ℕ, List}
 use Rattle.nr_rev.specs.declared.sides.Sides.{Sides}
 use Rattle.nr_rev.specs.Socket.{Socket}
-use Rattle.nr_plain.specs.declared.socket.PlainSocket.{PlainSocket}
+use Rattle.nr_plain.specs.declared.socket.PlainSocket.TheInside.{Inside}
 use Rattle.nr_plain.specs.declared.socket.SocketState.{SocketState}
-use Rattle.nr_plain.specs.Rows.{row_in}
-
--- each socket has two rows, that of the reading side before that of the writing side
-abbrev pub place_of : ℕ → Side → ℕ
-place_of socket Read = 2 * socket
-place_of socket Write = 2 * socket + 1
-
--- the rows of both sides of a socket
-abbrev pub sides_of : {A : Type 0} → List (List A) → ℕ → Sides (List A)
-sides_of rows socket = record {
-  read = row_in rows (place_of socket Read);
-  write = row_in rows (place_of socket Write);
-}
+use Rattle.nr_plain.specs.SocketTable.{RoomedSocket}
 
 -- the socket of this state, with these queues and these bytes
 abbrev pub socket_with : SocketState → Sides (List ℕ) → Sides (List ℕ) → Socket
@@ -37,19 +23,35 @@ socket_with state queues bytes =
       shut = state.shut;
     }
 
--- a socket of the same queues and bytes, with this state
-abbrev pub with_state : SocketState → Socket → Socket
-with_state state socket =
-    socket_with state
-    (record { read = socket.semaphores.read.queue; write = socket.semaphores.write.queue })
-    (record { read = socket.buffers.read.bytes; write = socket.buffers.write.bytes })
+-- what a socket has beside its queues and its bytes
+abbrev pub state_of : Socket → SocketState
+state_of socket =
+    record {
+      lock = socket.lock;
+      counts = record {
+        read = socket.semaphores.read.count;
+        write = socket.semaphores.write.count;
+      };
+      capacities = record {
+        read = socket.buffers.read.capacity;
+        write = socket.buffers.write.capacity;
+      };
+      peer_closed = socket.peer_closed;
+      shut = socket.shut;
+    }
 
--- the socket that its state and its rows show
-abbrev pub socket_view : PlainSocket → Socket
+-- the socket that contracts see
+abbrev pub socket_view : Inside → RoomedSocket
 socket_view p =
-    socket_with p.state (sides_of p.queues.now.rows p.number) (sides_of p.buffers.now.rows p.number)
+    record {
+      socket = socket_with p.state
+          (record { read = p.read_queue.items; write = p.write_queue.items })
+          (record { read = p.input.items; write = p.output.items });
+      queue_room = p.read_queue.room;
+      byte_room = p.input.room;
+    }
 
--- it is among queues and buffers of this room
-pub record HasRoom (queue_room byte_room : ℕ) (p : PlainSocket) : Type 0 where
-  pub queues : p.queues.now.room ≡ queue_room
-  pub buffers : p.buffers.now.room ≡ byte_room
+-- both queues have the same room, and both buffers
+pub record HasItsRoom (p : Inside) : Type 0 where
+  pub queues : p.write_queue.room ≡ p.read_queue.room
+  pub buffers : p.output.room ≡ p.input.room

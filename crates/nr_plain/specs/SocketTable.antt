@@ -1,6 +1,12 @@
--- What contracts see of a world's sockets.
+-- What contracts see of a socket, and of a world's sockets.
 use Rattle.std.specs.Prelude.{ℕ, List}
 use Rattle.nr_rev.specs.Socket.{Socket}
+
+-- a socket, and the room of its queues and its buffers
+pub record RoomedSocket : Type 0 where
+  pub socket : Socket
+  pub queue_room : ℕ
+  pub byte_room : ℕ
 
 -- the sockets opened, how many there is room for, and the room of each one's queues and buffers
 pub record SocketTable : Type 0 where

@@ -1,38 +1,39 @@
 -- The sockets of a world over lists.
-use Rattle.std.specs.Prelude.{◌≡◌, ℕ, ◌+◌, ◌*◌, ◌≤◌, List, [], ◌∷◌, length, slice_get, IfSome}
-use Rattle.nr_rev.specs.Socket.{Socket}
-use Rattle.nr_plain.specs.declared.socket.SocketState.{SocketState}
+use Rattle.std.specs.Prelude.{◌≡◌, ℕ, ◌≤◌, length, map, slice_get, take, IfSome}
+use Rattle.std.specs.List.{All}
 use Rattle.nr_plain.specs.declared.socket_edit.SocketEdit.{SocketEdit}
 use Rattle.nr_plain.specs.declared.socket_edit.SocketUndo.{SocketUndo}
 use Rattle.nr_plain.specs.declared.sockets.Sockets.TheInside.{Inside}
 use Rattle.nr_plain.specs.Edit.{with_changed}
-use Rattle.nr_plain.specs.Socket.{sides_of, socket_with}
-use Rattle.nr_plain.specs.SocketEdit.{CanUndoSocket, after_socket_edit, after_socket_undo, socket_edit_weight, socket_undo_weight}
-use Rattle.nr_plain.specs.SocketTable.{SocketTable}
+use Rattle.nr_plain.specs.SocketEdit.{CanUndoSocket, UndoesSocket, after_socket_edit, after_socket_undo, socket_edit_weight, socket_undo_weight}
+use Rattle.nr_plain.specs.SocketTable.{RoomedSocket, SocketTable}
 
--- the sockets from number s on
-abbrev pub sockets_from : ℕ → List SocketState → List (List ℕ) → List (List ℕ) → List Socket
-sockets_from s [] queues buffers = []
-sockets_from s (state ∷ states) queues buffers =
-    socket_with state (sides_of queues s) (sides_of buffers s)
-    ∷ sockets_from (s + 1) states queues buffers
+-- it has queues and buffers of this room
+pub record HasRoom (queue_room byte_room : ℕ) (p : RoomedSocket) : Type 0 where
+  pub queues : p.queue_room ≡ queue_room
+  pub buffers : p.byte_room ≡ byte_room
 
--- the table that contracts see
+-- the table that contracts see: of all that there is room for, those that are opened
 abbrev pub table_view : Inside → SocketTable
 table_view t =
     record {
-      sockets = sockets_from 0 t.states.items t.queues.rows t.buffers.rows;
-      room = t.states.room;
-      queue_room = t.queues.room;
-      byte_room = t.buffers.room;
+      sockets = map (λ (p : RoomedSocket). p.socket) (take t.opened t.all.items);
+      room = length t.all.items;
+      queue_room = t.queue_room;
+      byte_room = t.byte_room;
     }
 
--- each socket has its two queues and its two rows of bytes, and there is room for those of all
-pub record HasTheirRows (t : Inside) : Type 0 where
-  pub queues : length t.queues.rows ≡ 2 * length t.states.items
-  pub buffers : length t.buffers.rows ≡ 2 * length t.states.items
-  pub queue_room : t.queues.most ≡ 2 * t.states.room
-  pub buffer_room : t.buffers.most ≡ 2 * t.states.room
+-- no more are opened than there are, and each has its room
+pub record AreRoomed (t : Inside) : Type 0 where
+  pub opened : t.opened ≤ length t.all.items
+  pub roomed : All (HasRoom t.queue_room t.byte_room) t.all.items
+
+-- the change of a socket was made, and this undoes it and is no heavier than the change allows
+pub record Edits (edit : SocketEdit) (undo : SocketUndo) (old new : RoomedSocket) : Type 0 where
+  pub after : new ≡ record old { socket = after_socket_edit edit old.socket }
+  pub back : UndoesSocket old.queue_room old.byte_room undo
+      (after_socket_edit edit old.socket) old.socket
+  pub light : socket_undo_weight undo ≤ socket_edit_weight edit
 
 -- the change of socket s was made, and this undoes it and is no heavier than the change allows
 pub record EditsSocket (s : ℕ) (edit : SocketEdit) (undo : SocketUndo) (old new : SocketTable) :

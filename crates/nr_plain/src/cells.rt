@@ -21,7 +21,7 @@ impl PlainWorld {
     {
         match self.sockets.get(socket) {
             None => CellValue::Absent,
-            Some(row) => CellValue::Number(number(row.state.lock)),
+            Some(row) => CellValue::Number(number(row.state().lock)),
         }
     }
 
@@ -55,7 +55,7 @@ impl PlainWorld {
     {
         match self.sockets.get(socket) {
             None => CellValue::Absent,
-            Some(row) => CellValue::Number(bit(row.state.shut)),
+            Some(row) => CellValue::Number(bit(row.state().shut)),
         }
     }
 

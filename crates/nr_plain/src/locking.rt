@@ -22,7 +22,7 @@ impl PlainWorld {
     {
         self.idle(goroutine)?;
         let row = self.socket_of(socket)?;
-        let left = lock::incref(row.state.lock)?;
+        let left = lock::incref(row.state().lock)?;
         Ok(left_lock(goroutine, Status::Idle, socket, left))
     }
 
@@ -32,7 +32,7 @@ impl PlainWorld {
     {
         self.idle(goroutine)?;
         let row = self.socket_of(socket)?;
-        let left = lock::incref_close(row.state.lock)?;
+        let left = lock::incref_close(row.state().lock)?;
         let status = Status::owing(socket, left.owed);
         Ok(left_lock(goroutine, status, socket, left))
     }
@@ -43,7 +43,7 @@ impl PlainWorld {
     {
         self.idle(goroutine)?;
         let row = self.socket_of(socket)?;
-        let left = lock::decref(row.state.lock)?;
+        let left = lock::decref(row.state().lock)?;
         Ok(left_lock(goroutine, Status::Idle, socket, left))
     }
 
@@ -61,7 +61,7 @@ impl PlainWorld {
             return Err(Refusal::NotThere);
         }
         let row = self.socket_of(socket)?;
-        let left = lock::rw_lock(side, row.state.lock)?;
+        let left = lock::rw_lock(side, row.state().lock)?;
         let status = Status::after_lock(socket, side, left.answer);
         Ok(left_lock(goroutine, status, socket, left))
     }
@@ -77,7 +77,7 @@ impl PlainWorld {
     {
         self.idle(goroutine)?;
         let row = self.socket_of(socket)?;
-        let left = lock::rw_unlock(side, row.state.lock)?;
+        let left = lock::rw_unlock(side, row.state().lock)?;
         let status = Status::owing(socket, left.owed);
         Ok(left_lock(goroutine, status, socket, left))
     }

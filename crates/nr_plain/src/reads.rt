@@ -4,7 +4,6 @@ ghost use Rattle.std.specs.Prelude.{◌≡◌, Some, None, MatchResult, slice_ge
 ghost use Rattle.nr_rev.specs.declared.refusal.Refusal.TheVariants.{NoSuchSocket};
 ghost use Rattle.nr_rev.specs.Step as step;
 ghost use Rattle.nr_rev.specs.World.{is_free_number, is_wait_at, is_waited, wait_of};
-ghost use Rattle.nr_plain.specs.Socket.{socket_view};
 
 use crate::socket::PlainSocket;
 use crate::world::PlainWorld;
@@ -32,9 +31,9 @@ impl PlainWorld {
     }
 
     /// A socket that is opened.
-    pub(crate) fn socket_of(&self, socket: u32) -> Result<PlainSocket<'_>, Refusal>
+    pub(crate) fn socket_of(&self, socket: u32) -> Result<&PlainSocket, Refusal>
         ensures { MatchResult result
-            (λ p. slice_get self.now.sockets socket ≡ Some (socket_view p))
+            (λ p. slice_get self.now.sockets socket ≡ Some p.now.socket)
             (λ e. (slice_get self.now.sockets socket ≡ None) × (e ≡ NoSuchSocket)) }
     {
         self.sockets.get(socket).ok_or(Refusal::NoSuchSocket)

@@ -1,17 +1,21 @@
-//! A socket: a lock, two semaphores, two buffers and two marks.
+//! A socket: a lock, two semaphores, two buffers and two marks, with room that was made at once.
 
-ghost use Rattle.std.specs.Prelude.{◌≡◌, [], length, ◌≤◌};
+ghost use Rattle.std.specs.Prelude.{◌≡◌, ◌≤◌, [], length, IfOk};
 ghost use Rattle.nr_rev.specs.Sides.{of_side, twice};
 ghost use Rattle.nr_rev.specs.Socket.{new_socket};
 ghost use Rattle.nr_plain.specs.Buffer.{buffer_view};
+ghost use Rattle.nr_plain.specs.ListEdit.{CanEditList, after_list_edit};
 ghost use Rattle.nr_plain.specs.Semaphore.{semaphore_view};
-ghost use Rattle.nr_plain.specs.Socket.{place_of, socket_view, socket_with};
+ghost use Rattle.nr_plain.specs.Socket.{socket_with, state_of};
+ghost use Rattle.nr_plain.specs.SocketEdit.{on_bytes, on_queue};
 
 use crate::buffer::PlainBuffer;
+use crate::list_edit::{ListEdit, edit_list};
 use crate::lock::open_lock;
-use crate::rows::Rows;
 use crate::semaphore::PlainSemaphore;
-use nr_rev::{Lock, Side, Sides};
+use nr_rev::{Lock, Memory, RoomedList, Side, Sides};
+use std::alloc::Global;
+use std::marker::Model;
 
 /// What a socket has beside its queues and its bytes.
 #[derive(Clone, Copy)]
@@ -42,45 +46,141 @@ impl SocketState {
     }
 }
 
-/// A socket as it is read, among the queues and the bytes of all.
-#[derive(Clone, Copy)]
-pub(crate) struct PlainSocket<'a> {
+/// A socket. Its queues have the same room, and so have its buffers.
+#[derive(Drop)]
+pub(crate) struct PlainSocket {
     pub(crate) state: SocketState,
-    pub(crate) number: u32,
-    pub(crate) queues: &'a Rows<u32>,
-    pub(crate) buffers: &'a Rows<u8>,
+    pub(crate) read_queue: RoomedList<u32>,
+    pub(crate) write_queue: RoomedList<u32>,
+    pub(crate) input: RoomedList<u8>,
+    pub(crate) output: RoomedList<u8>,
 }
 
-impl<'a> PlainSocket<'a> {
-    /// The semaphore of a side.
-    pub(crate) fn semaphore(self, side: Side) -> PlainSemaphore<'a>
-        ensures viewed { semaphore_view result ≡ of_side side (socket_view self.entry).semaphores }
-        ensures short { length result.queue.now ≤ self.entry.queues.now.room }
+impl Model for PlainSocket {
+    ghost use Rattle.nr_plain.specs.SocketTable.{RoomedSocket};
+
+    ghost Value = { RoomedSocket };
+
+    ghost use Rattle.nr_plain.specs.Socket.{HasItsRoom, socket_view};
+
+    ghost view = { socket_view };
+
+    ghost invariant = { HasItsRoom };
+}
+
+impl PlainSocket {
+    /// A new one with buffers of no capacity, and room for this many goroutines and bytes.
+    pub(crate) fn with_room(
+        alloc: Global,
+        queue_room: usize,
+        byte_room: usize,
+    ) -> Result<PlainSocket, Memory>
+        ensures { IfOk result (λ p. p ≡ record {
+          socket = new_socket 0 0;
+          queue_room = queue_room;
+          byte_room = byte_room;
+        }) }
     {
+        Ok(PlainSocket {
+            state: SocketState::new(0, 0),
+            read_queue: RoomedList::with_room(alloc, queue_room)?,
+            write_queue: RoomedList::with_room(alloc, queue_room)?,
+            input: RoomedList::with_room(alloc, byte_room)?,
+            output: RoomedList::with_room(alloc, byte_room)?,
+        })
+    }
+
+    /// An equal one, in room of its own.
+    pub(crate) fn try_copy(&self, alloc: Global) -> Result<PlainSocket, Memory>
+        ensures { IfOk result (λ p. p ≡ self.now) }
+    {
+        Ok(PlainSocket {
+            state: self.state,
+            read_queue: self.read_queue.try_copy(alloc)?,
+            write_queue: self.write_queue.try_copy(alloc)?,
+            input: self.input.try_copy(alloc)?,
+            output: self.output.try_copy(alloc)?,
+        })
+    }
+
+    /// Makes it a new one with buffers of these capacities.
+    pub(crate) fn renew(&mut self, read_capacity: u32, write_capacity: u32)
+        ensures { self.new ≡ record self.old {
+          socket = new_socket read_capacity write_capacity;
+        } }
+    {
+        self.state = SocketState::new(read_capacity, write_capacity);
+        self.read_queue.truncate(0);
+        self.write_queue.truncate(0);
+        self.input.truncate(0);
+        self.output.truncate(0);
+    }
+
+    /// What it has beside its queues and its bytes.
+    pub(crate) fn state(&self) -> SocketState
+        ensures { result ≡ state_of self.now.socket }
+    {
+        self.state
+    }
+
+    /// The semaphore of a side.
+    pub(crate) fn semaphore(&self, side: Side) -> PlainSemaphore<'_>
+        ensures viewed { semaphore_view result ≡ of_side side self.now.socket.semaphores }
+        ensures short { length result.queue.now ≤ self.now.queue_room }
+    {
+        let queue = match side {
+            Side::Read => &self.read_queue,
+            Side::Write => &self.write_queue,
+        };
         PlainSemaphore {
             count: self.state.counts.of(side),
-            queue: self.queues.row(place(self.number, side)),
+            queue: queue.as_slice(),
         }
     }
 
     /// The buffer of a side: reading, the input.
-    pub(crate) fn buffer(self, side: Side) -> PlainBuffer<'a>
-        ensures viewed { buffer_view result ≡ of_side side (socket_view self.entry).buffers }
-        ensures short { length result.bytes.now ≤ self.entry.buffers.now.room }
+    pub(crate) fn buffer(&self, side: Side) -> PlainBuffer<'_>
+        ensures viewed { buffer_view result ≡ of_side side self.now.socket.buffers }
+        ensures short { length result.bytes.now ≤ self.now.byte_room }
     {
+        let bytes = match side {
+            Side::Read => &self.input,
+            Side::Write => &self.output,
+        };
         PlainBuffer {
-            bytes: self.buffers.row(place(self.number, side)),
+            bytes: bytes.as_slice(),
             capacity: self.state.capacities.of(side),
         }
     }
-}
 
-/// The row of a socket's side.
-pub(crate) fn place(socket: u32, side: Side) -> usize
-    ensures { result ≡ place_of socket side }
-{
-    match side {
-        Side::Read => 2 * socket as usize,
-        Side::Write => 2 * socket as usize + 1,
+    /// Changes the queue of a side.
+    pub(crate) fn edit_queue(&mut self, side: Side, edit: ListEdit<u32>)
+        requires { CanEditList self.old.queue_room edit
+            (of_side side self.old.socket.semaphores).queue }
+        ensures after { self.new ≡ record self.old {
+          socket = on_queue side (after_list_edit edit.entry) self.old.socket;
+        } }
+        ensures short { length (of_side side self.old.socket.semaphores).queue
+            ≤ self.old.queue_room }
+    {
+        match side {
+            Side::Read => edit_list(&mut self.read_queue, edit),
+            Side::Write => edit_list(&mut self.write_queue, edit),
+        }
+    }
+
+    /// Changes the bytes of a side's buffer.
+    pub(crate) fn edit_bytes(&mut self, side: Side, edit: ListEdit<u8>)
+        requires { CanEditList self.old.byte_room edit
+            (of_side side self.old.socket.buffers).bytes }
+        ensures after { self.new ≡ record self.old {
+          socket = on_bytes side (after_list_edit edit.entry) self.old.socket;
+        } }
+        ensures short { length (of_side side self.old.socket.buffers).bytes ≤ self.old.byte_room }
+    {
+        match side {
+            Side::Read => edit_list(&mut self.input, edit),
+            Side::Write => edit_list(&mut self.output, edit),
+        }
     }
 }

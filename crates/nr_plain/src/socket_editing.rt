@@ -1,215 +1,166 @@
 //! Making the primitive changes of a socket, and undoing them.
-//!
-//! A plan changes only sockets that are there. For one that isn't, an edit changes nothing and needs no room; what it gives
-//! back, `OpenPeer`, then undoes nothing. So `CanEdit` needs no premise that the socket is there.
 
-ghost use Rattle.std.specs.Prelude.{◌≡◌, ◌+◌, ◌-◌, ◌^◌, ◌<◌, ◌≤◌, ◌++◌, length, drop, take, option_to_list, slice_get, IfSome};
+ghost use Rattle.std.specs.Prelude.{◌≡◌, ◌≤◌, drop, length};
 ghost use Rattle.nr_rev.specs.Sides.{of_side};
 ghost use Rattle.nr_plain.specs.declared.socket_edit.SocketEdit.TheVariants as edit;
 ghost use Rattle.nr_plain.specs.declared.socket_edit.SocketUndo.TheVariants as undo;
-ghost use Rattle.nr_plain.specs.Edit.{with_changed};
-ghost use Rattle.nr_plain.specs.SocketEdit.{CanEditSocket, CanUndoSocket, on_bytes, after_socket_undo};
-ghost use Rattle.nr_plain.specs.Sockets.{EditsSocket};
+ghost use Rattle.nr_plain.specs.SocketEdit.{CanEditSocket, CanUndoSocket, after_socket_edit, after_socket_undo, on_bytes};
+ghost use Rattle.nr_plain.specs.Sockets.{Edits};
 
-use crate::row_edit::RowEdit;
-use crate::socket::SocketState;
+use crate::list_edit::ListEdit;
+use crate::socket::PlainSocket;
 use crate::socket_edit::{SocketEdit, SocketUndo};
-use crate::sockets::Sockets;
 use nr_rev::{KeptBytes, Lock, Side};
 
-impl Sockets {
-    /// Changes a socket, if it is opened, and returns what undoes the change.
-    pub(crate) fn edit(&mut self, socket: u32, edit: SocketEdit) -> SocketUndo
-        requires { IfSome (slice_get self.old.sockets socket)
-            (CanEditSocket self.old.queue_room self.old.byte_room edit) }
-        ensures { EditsSocket socket edit.entry result self.old self.new }
+impl PlainSocket {
+    /// Makes the change, and returns what undoes it.
+    pub(crate) fn edit(&mut self, edit: SocketEdit) -> SocketUndo
+        requires { CanEditSocket self.old.queue_room self.old.byte_room edit self.old.socket }
+        ensures { Edits edit.entry result self.old self.new }
     {
         match edit {
-            SocketEdit::Lock(lock) => self.set_lock(socket, lock),
-            SocketEdit::Count { side, count } => self.set_count(socket, side, count),
-            SocketEdit::Enqueue { side, goroutine } => self.enqueue(socket, side, goroutine),
-            SocketEdit::Release { side } => self.release(socket, side),
-            SocketEdit::Append { side, bytes } => self.append(socket, side, bytes),
-            SocketEdit::Take { side, bytes } => self.take(socket, side, bytes),
-            SocketEdit::ClosePeer => {
-                self.set_peer_closed(socket, true);
-                SocketUndo::OpenPeer
-            }
-            SocketEdit::Shut(shut) => self.set_shut(socket, shut),
+            SocketEdit::Lock(lock) => self.set_lock(lock),
+            SocketEdit::Count { side, count } => self.set_count(side, count),
+            SocketEdit::Enqueue { side, goroutine } => self.enqueue(side, goroutine),
+            SocketEdit::Release { side } => self.release(side),
+            SocketEdit::Append { side, bytes } => self.append(side, bytes),
+            SocketEdit::Take { side, bytes } => self.take(side, bytes),
+            SocketEdit::ClosePeer => self.close_peer(),
+            SocketEdit::Shut(shut) => self.set_shut(shut),
         }
     }
 
-    fn set_lock(&mut self, socket: u32, lock: Lock) -> SocketUndo
-        ensures { EditsSocket socket (edit.Lock lock) result self.old self.new }
+    fn set_lock(&mut self, lock: Lock) -> SocketUndo
+        ensures { Edits (edit.Lock lock) result self.old self.new }
     {
-        let Some(row) = self.get(socket) else {
-            return SocketUndo::OpenPeer;
-        };
-        let state = row.state;
-        self.set_state(socket, SocketState { lock, ..state });
-        SocketUndo::Lock(state.lock)
+        let old = self.state.lock;
+        self.state.lock = lock;
+        SocketUndo::Lock(old)
     }
 
-    fn set_count(&mut self, socket: u32, side: Side, count: u32) -> SocketUndo
-        ensures { EditsSocket socket (edit.Count side count) result self.old self.new }
+    fn set_count(&mut self, side: Side, count: u32) -> SocketUndo
+        ensures edits { Edits (edit.Count side count) result self.old self.new }
+        ensures was { result ≡ undo.Count side (of_side side self.old.socket.semaphores).count }
     {
-        let Some(row) = self.get(socket) else {
-            return SocketUndo::OpenPeer;
-        };
-        let state = row.state;
-        let counts = state.counts.with(side, count);
-        self.set_state(socket, SocketState { counts, ..state });
+        let old = self.state.counts;
+        self.state.counts = old.with(side, count);
         SocketUndo::Count {
             side,
-            count: state.counts.of(side),
+            count: old.of(side),
         }
     }
 
-    fn set_shut(&mut self, socket: u32, shut: bool) -> SocketUndo
-        ensures { EditsSocket socket (edit.Shut shut) result self.old self.new }
+    fn set_shut(&mut self, shut: bool) -> SocketUndo
+        ensures { Edits (edit.Shut shut) result self.old self.new }
     {
-        let Some(row) = self.get(socket) else {
-            return SocketUndo::OpenPeer;
-        };
-        let state = row.state;
-        self.set_state(socket, SocketState { shut, ..state });
-        SocketUndo::Shut(state.shut)
+        let old = self.state.shut;
+        self.state.shut = shut;
+        SocketUndo::Shut(old)
     }
 
-    fn set_peer_closed(&mut self, socket: u32, peer_closed: bool)
-        ensures { self.new ≡ record self.old {
-          sockets = with_changed socket
-              (λ x. record x { peer_closed = peer_closed }) self.old.sockets;
-        } }
+    fn close_peer(&mut self) -> SocketUndo
+        requires { CanEditSocket self.old.queue_room self.old.byte_room edit.ClosePeer
+            self.old.socket }
+        ensures { Edits edit.ClosePeer result self.old self.new }
     {
-        if let Some(row) = self.get(socket) {
-            let state = row.state;
-            self.set_state(
-                socket,
-                SocketState {
-                    peer_closed,
-                    ..state
-                },
-            );
-        }
+        self.state.peer_closed = true;
+        SocketUndo::OpenPeer
     }
 
-    fn enqueue(&mut self, socket: u32, side: Side, goroutine: u32) -> SocketUndo
-        requires { IfSome (slice_get self.old.sockets socket)
-            (CanEditSocket self.old.queue_room self.old.byte_room (edit.Enqueue side goroutine)) }
-        ensures { EditsSocket socket (edit.Enqueue side goroutine) result self.old self.new }
+    fn enqueue(&mut self, side: Side, goroutine: u32) -> SocketUndo
+        requires { CanEditSocket self.old.queue_room self.old.byte_room
+            (edit.Enqueue side goroutine) self.old.socket }
+        ensures { Edits (edit.Enqueue side goroutine) result self.old self.new }
     {
-        self.edit_queue(socket, side, RowEdit::Extend(&[goroutine]));
+        self.edit_queue(side, ListEdit::Extend(&[goroutine]));
         SocketUndo::LeaveQueue { side }
     }
 
-    fn release(&mut self, socket: u32, side: Side) -> SocketUndo
-        requires { IfSome (slice_get self.old.sockets socket)
-            (CanEditSocket self.old.queue_room self.old.byte_room (edit.Release side)) }
-        ensures { EditsSocket socket (edit.Release side) result self.old self.new }
+    fn release(&mut self, side: Side) -> SocketUndo
+        requires { CanEditSocket self.old.queue_room self.old.byte_room
+            (edit.Release side) self.old.socket }
+        ensures { Edits (edit.Release side) result self.old self.new }
     {
-        let Some(row) = self.get(socket) else {
-            return SocketUndo::OpenPeer;
-        };
-        let semaphore = row.semaphore(side);
+        let semaphore = self.semaphore(side);
         let front = semaphore.queue.first().copied();
         let count = semaphore.count + 1;
-        let _ = self.set_count(socket, side, count);
-        self.edit_queue(socket, side, RowEdit::DropFront(1));
+        let _ = self.set_count(side, count);
+        self.edit_queue(side, ListEdit::DropFront(1));
         SocketUndo::Requeue { side, front }
     }
 
-    fn append(&mut self, socket: u32, side: Side, bytes: &[u8]) -> SocketUndo
-        requires { IfSome (slice_get self.old.sockets socket)
-            (CanEditSocket self.old.queue_room self.old.byte_room (edit.Append side bytes)) }
-        ensures { EditsSocket socket (edit.Append side bytes.entry) result self.old self.new }
+    fn append(&mut self, side: Side, bytes: &[u8]) -> SocketUndo
+        requires { CanEditSocket self.old.queue_room self.old.byte_room
+            (edit.Append side bytes) self.old.socket }
+        ensures { Edits (edit.Append side bytes.entry) result self.old self.new }
     {
-        let Some(row) = self.get(socket) else {
-            return SocketUndo::OpenPeer;
-        };
-        let len = row.buffer(side).bytes.len();
-        self.edit_bytes(socket, side, RowEdit::Extend(bytes));
+        let len = self.buffer(side).bytes.len();
+        self.edit_bytes(side, ListEdit::Extend(bytes));
         SocketUndo::Cut { side, len }
     }
 
-    fn take(&mut self, socket: u32, side: Side, bytes: KeptBytes) -> SocketUndo
-        requires { IfSome (slice_get self.old.sockets socket)
-            (CanEditSocket self.old.queue_room self.old.byte_room (edit.Take side bytes)) }
-        ensures { EditsSocket socket (edit.Take side bytes) result self.old self.new }
+    fn take(&mut self, side: Side, bytes: KeptBytes) -> SocketUndo
+        requires { CanEditSocket self.old.queue_room self.old.byte_room
+            (edit.Take side bytes) self.old.socket }
+        ensures { Edits (edit.Take side bytes) result self.old self.new }
     {
-        self.lose(socket, side, bytes.len());
+        self.lose(side, bytes.len());
         SocketUndo::Restore { side, bytes }
     }
 
-    /// So many bytes leave the front of a socket's buffer, and nothing keeps them.
-    pub(crate) fn lose(&mut self, socket: u32, side: Side, count: usize)
+    /// So many bytes leave the front of a buffer, and nothing keeps them.
+    pub(crate) fn lose(&mut self, side: Side, count: usize)
         ensures after { self.new ≡ record self.old {
-          sockets = with_changed socket
-              (on_bytes side (λ held. drop count held)) self.old.sockets;
+          socket = on_bytes side (λ held. drop count held) self.old.socket;
         } }
-        ensures short { IfSome (slice_get self.old.sockets socket)
-            (λ x. length (of_side side x.buffers).bytes ≤ self.old.byte_room) }
+        ensures short { length (of_side side self.old.socket.buffers).bytes ≤ self.old.byte_room }
     {
-        self.edit_bytes(socket, side, RowEdit::DropFront(count));
+        self.edit_bytes(side, ListEdit::DropFront(count));
     }
 
-    /// Undoes a change of a socket.
-    pub(crate) fn undo(&mut self, socket: u32, undo: SocketUndo)
-        requires { IfSome (slice_get self.old.sockets socket)
-            (CanUndoSocket self.old.queue_room self.old.byte_room undo) }
+    /// Undoes a change.
+    pub(crate) fn undo(&mut self, undo: SocketUndo)
+        requires { CanUndoSocket self.old.queue_room self.old.byte_room undo self.old.socket }
         ensures { self.new ≡ record self.old {
-          sockets = with_changed socket (after_socket_undo undo) self.old.sockets;
+          socket = after_socket_undo undo self.old.socket;
         } }
     {
         match undo {
-            SocketUndo::Lock(lock) => {
-                let _ = self.set_lock(socket, lock);
-            }
+            SocketUndo::Lock(lock) => self.state.lock = lock,
             SocketUndo::Count { side, count } => {
-                let _ = self.set_count(socket, side, count);
+                let _ = self.set_count(side, count);
             }
-            SocketUndo::LeaveQueue { side } => self.leave_queue(socket, side),
-            SocketUndo::Requeue { side, front } => self.requeue(socket, side, front),
-            SocketUndo::Cut { side, len } => {
-                self.edit_bytes(socket, side, RowEdit::Truncate(len));
-            }
+            SocketUndo::LeaveQueue { side } => self.leave_queue(side),
+            SocketUndo::Requeue { side, front } => self.requeue(side, front),
+            SocketUndo::Cut { side, len } => self.edit_bytes(side, ListEdit::Truncate(len)),
             SocketUndo::Restore { side, bytes } => {
-                self.edit_bytes(socket, side, RowEdit::ExtendFront(bytes.as_slice()));
+                self.edit_bytes(side, ListEdit::ExtendFront(bytes.as_slice()));
             }
-            SocketUndo::OpenPeer => self.set_peer_closed(socket, false),
-            SocketUndo::Shut(shut) => {
-                let _ = self.set_shut(socket, shut);
-            }
+            SocketUndo::OpenPeer => self.state.peer_closed = false,
+            SocketUndo::Shut(shut) => self.state.shut = shut,
         }
     }
 
-    fn leave_queue(&mut self, socket: u32, side: Side)
+    fn leave_queue(&mut self, side: Side)
         ensures { self.new ≡ record self.old {
-          sockets = with_changed socket
-              (after_socket_undo (undo.LeaveQueue side)) self.old.sockets;
+          socket = after_socket_undo (undo.LeaveQueue side) self.old.socket;
         } }
     {
-        if let Some(row) = self.get(socket) {
-            let left = row.semaphore(side).queue.len().saturating_sub(1);
-            self.edit_queue(socket, side, RowEdit::Truncate(left));
-        }
+        let left = self.semaphore(side).queue.len().saturating_sub(1);
+        self.edit_queue(side, ListEdit::Truncate(left));
     }
 
-    fn requeue(&mut self, socket: u32, side: Side, front: Option<u32>)
-        requires { IfSome (slice_get self.old.sockets socket)
-            (CanUndoSocket self.old.queue_room self.old.byte_room (undo.Requeue side front)) }
+    fn requeue(&mut self, side: Side, front: Option<u32>)
+        requires { CanUndoSocket self.old.queue_room self.old.byte_room
+            (undo.Requeue side front) self.old.socket }
         ensures { self.new ≡ record self.old {
-          sockets = with_changed socket
-              (after_socket_undo (undo.Requeue side front)) self.old.sockets;
+          socket = after_socket_undo (undo.Requeue side front) self.old.socket;
         } }
     {
-        let Some(row) = self.get(socket) else {
-            return;
-        };
-        let count = row.semaphore(side).count.saturating_sub(1);
-        let _ = self.set_count(socket, side, count);
+        let count = self.semaphore(side).count.saturating_sub(1);
+        let _ = self.set_count(side, count);
         if let Some(goroutine) = front {
-            self.edit_queue(socket, side, RowEdit::ExtendFront(&[goroutine]));
+            self.edit_queue(side, ListEdit::ExtendFront(&[goroutine]));
         }
     }
 }

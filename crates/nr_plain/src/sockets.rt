@@ -1,27 +1,25 @@
 //! The sockets of a world, in room that was made at once.
 
-ghost use Rattle.std.specs.Prelude.{◌≡◌, ◌+◌, ◌-◌, ◌<◌, ◌≤◌, ◌∷◌, ◌++◌, [], length, take, slice_get, option_map, IfSome, IfOk};
+ghost use Rattle.std.specs.Prelude.{◌≡◌, ◌-◌, ◌<◌, ◌∷◌, ◌++◌, ◌≤◌, [], drop, length, option_map, slice_get, take, IfOk, IfSome};
 ghost use Rattle.nr_rev.specs.Sides.{of_side};
 ghost use Rattle.nr_rev.specs.Socket.{new_socket};
 ghost use Rattle.nr_plain.specs.Edit.{with_changed};
-ghost use Rattle.nr_plain.specs.RowEdit.{CanEditRow, after_row_edit};
-ghost use Rattle.nr_plain.specs.Socket.{HasRoom, socket_view, with_state};
-ghost use Rattle.nr_plain.specs.SocketEdit.{on_bytes, on_queue};
+ghost use Rattle.nr_plain.specs.SocketEdit.{CanEditSocket, CanUndoSocket, after_socket_undo, on_bytes};
+ghost use Rattle.nr_plain.specs.Sockets.{EditsSocket, HasRoom};
 
-use crate::row_edit::RowEdit;
-use crate::rows::Rows;
-use crate::socket::{PlainSocket, SocketState, place};
-use nr_rev::{Memory, RoomedList, Side};
+use crate::socket::PlainSocket;
+use crate::socket_edit::{SocketEdit, SocketUndo};
+use nr_rev::{Memory, Side};
 use std::alloc::Global;
 use std::marker::Model;
 
-/// The sockets opened so far: what each has of one size, and the queues and the bytes of them all in two blocks. When
-/// a queue or a buffer grows or shrinks, what is behind it in the block moves.
+/// The sockets opened so far, and behind them those that may be opened yet.
 #[derive(Drop)]
 pub(crate) struct Sockets {
-    states: RoomedList<SocketState>,
-    queues: Rows<u32>,
-    buffers: Rows<u8>,
+    all: Vec<PlainSocket>,
+    opened: usize,
+    queue_room: usize,
+    byte_room: usize,
 }
 
 impl Model for Sockets {
@@ -29,11 +27,11 @@ impl Model for Sockets {
 
     ghost Value = { SocketTable };
 
-    ghost use Rattle.nr_plain.specs.Sockets.{table_view, HasTheirRows};
+    ghost use Rattle.nr_plain.specs.Sockets.{AreRoomed, table_view};
 
     ghost view = { table_view };
 
-    ghost invariant = { HasTheirRows };
+    ghost invariant = { AreRoomed };
 }
 
 impl Sockets {
@@ -51,11 +49,15 @@ impl Sockets {
           byte_room = byte_room;
         }) }
     {
-        let room = room as usize;
+        let mut all = Vec::new(alloc);
+        for _ in 0..room {
+            all.push(PlainSocket::with_room(alloc, queue_room, byte_room)?)?;
+        }
         Ok(Sockets {
-            states: RoomedList::with_room(alloc, room)?,
-            queues: Rows::with_room(alloc, 2 * room, queue_room)?,
-            buffers: Rows::with_room(alloc, 2 * room, byte_room)?,
+            all,
+            opened: 0,
+            queue_room,
+            byte_room,
         })
     }
 
@@ -63,50 +65,42 @@ impl Sockets {
     pub(crate) fn try_copy(&self, alloc: Global) -> Result<Sockets, Memory>
         ensures { IfOk result (λ s. s ≡ self.now) }
     {
+        let mut all = Vec::new(alloc);
+        for socket in &self.all {
+            all.push(socket.try_copy(alloc)?)?;
+        }
         Ok(Sockets {
-            states: self.states.try_copy(alloc)?,
-            queues: self.queues.try_copy(alloc)?,
-            buffers: self.buffers.try_copy(alloc)?,
+            all,
+            opened: self.opened,
+            queue_room: self.queue_room,
+            byte_room: self.byte_room,
         })
     }
 
     /// How many are opened.
-    #[tactic(auto, using(crate::proofs::SocketsLemmas::socket_laws))]
     pub(crate) fn len(&self) -> usize
         ensures { result ≡ length self.now.sockets }
     {
-        self.states.len()
+        self.opened
     }
 
     /// A socket, if it is opened.
-    #[tactic(auto, using(crate::proofs::SocketsLemmas::socket_laws))]
-    pub(crate) fn get(&self, socket: u32) -> Option<PlainSocket<'_>>
-        ensures viewed { option_map socket_view result ≡ slice_get self.now.sockets socket }
-        ensures room { IfSome result (HasRoom self.now.queue_room self.now.byte_room) }
+    pub(crate) fn get(&self, socket: u32) -> Option<&PlainSocket>
+        ensures viewed { option_map (λ p. p.now.socket) result ≡ slice_get self.now.sockets socket }
+        ensures room { IfSome result (λ p. HasRoom self.now.queue_room self.now.byte_room p.now) }
     {
-        let state = self.states.get(socket as usize)?;
-        Some(PlainSocket {
-            state,
-            number: socket,
-            queues: &self.queues,
-            buffers: &self.buffers,
-        })
+        self.all[..self.opened].get(socket as usize)
     }
 
     /// Opens the next socket, with buffers of these capacities.
-    #[tactic(auto, using(crate::proofs::SocketsLemmas::len_laws))]
     pub(crate) fn open(&mut self, read_capacity: u32, write_capacity: u32)
         requires { length self.old.sockets < self.old.room }
         ensures { self.new ≡ record self.old {
           sockets = self.old.sockets ++ new_socket read_capacity write_capacity ∷ [];
         } }
     {
-        self.states
-            .push(SocketState::new(read_capacity, write_capacity));
-        self.queues.push();
-        self.queues.push();
-        self.buffers.push();
-        self.buffers.push();
+        self.all[self.opened].renew(read_capacity, write_capacity);
+        self.opened += 1;
     }
 
     /// Takes the opening of the last one back.
@@ -115,55 +109,48 @@ impl Sockets {
           sockets = take (length self.old.sockets - 1) self.old.sockets;
         } }
     {
-        self.states.drop_last();
-        self.queues.pop();
-        self.queues.pop();
-        self.buffers.pop();
-        self.buffers.pop();
+        self.opened = self.opened.saturating_sub(1);
     }
 
-    /// Sets what a socket has beside its queues and its bytes, if it is opened.
-    pub(crate) fn set_state(&mut self, socket: u32, state: SocketState)
-        ensures { self.new ≡ record self.old {
-          sockets = with_changed socket (with_state state) self.old.sockets;
-        } }
-    {
-        let _ = self.states.replace(socket as usize, state);
-    }
-
-    /// Changes the queue of a socket's side, if it is opened.
-    #[tactic(auto, using(crate::proofs::SocketsLemmas::past_laws))]
-    pub(crate) fn edit_queue(&mut self, socket: u32, side: Side, edit: RowEdit<u32>)
+    /// Changes a socket, if it is opened, and returns what undoes the change.
+    pub(crate) fn edit(&mut self, socket: u32, edit: SocketEdit) -> SocketUndo
         requires { IfSome (slice_get self.old.sockets socket)
-            (λ x. CanEditRow self.old.queue_room edit (of_side side x.semaphores).queue) }
-        ensures after { self.new ≡ record self.old {
-          sockets = with_changed socket
-              (on_queue side (after_row_edit edit.entry)) self.old.sockets;
-        } }
-        ensures short { IfSome (slice_get self.old.sockets socket)
-            (λ x. length (of_side side x.semaphores).queue ≤ self.old.queue_room) }
+            (CanEditSocket self.old.queue_room self.old.byte_room edit) }
+        ensures { EditsSocket socket edit.entry result self.old self.new }
     {
-        if socket as usize >= self.states.len() {
-            return;
+        let place = socket as usize;
+        if place >= self.opened {
+            return SocketUndo::OpenPeer;
         }
-        self.queues.edit(place(socket, side), edit);
+        self.all[place].edit(edit)
     }
 
-    /// Changes the bytes of a socket's buffer, if it is opened.
-    #[tactic(auto, using(crate::proofs::SocketsLemmas::past_laws))]
-    pub(crate) fn edit_bytes(&mut self, socket: u32, side: Side, edit: RowEdit<u8>)
+    /// Undoes a change of a socket.
+    pub(crate) fn undo(&mut self, socket: u32, undo: SocketUndo)
         requires { IfSome (slice_get self.old.sockets socket)
-            (λ x. CanEditRow self.old.byte_room edit (of_side side x.buffers).bytes) }
+            (CanUndoSocket self.old.queue_room self.old.byte_room undo) }
+        ensures { self.new ≡ record self.old {
+          sockets = with_changed socket (after_socket_undo undo) self.old.sockets;
+        } }
+    {
+        let place = socket as usize;
+        if place < self.opened {
+            self.all[place].undo(undo);
+        }
+    }
+
+    /// So many bytes leave the front of a socket's buffer, and nothing keeps them.
+    pub(crate) fn lose(&mut self, socket: u32, side: Side, count: usize)
         ensures after { self.new ≡ record self.old {
           sockets = with_changed socket
-              (on_bytes side (after_row_edit edit.entry)) self.old.sockets;
+              (on_bytes side (λ held. drop count held)) self.old.sockets;
         } }
         ensures short { IfSome (slice_get self.old.sockets socket)
             (λ x. length (of_side side x.buffers).bytes ≤ self.old.byte_room) }
     {
-        if socket as usize >= self.states.len() {
-            return;
+        let place = socket as usize;
+        if place < self.opened {
+            self.all[place].lose(side, count);
         }
-        self.buffers.edit(place(socket, side), edit);
     }
 }

@@ -47,7 +47,7 @@ impl PlainWorld {
         if bytes.is_empty() {
             return Err(Refusal::SizeOutOfRange);
         }
-        if row.state.peer_closed {
+        if row.state().peer_closed {
             return Err(Refusal::PeerClosed);
         }
         if bytes.len() > row.buffer(Side::Read).room() {
@@ -65,7 +65,7 @@ impl PlainWorld {
         ensures { Plans (steps.PeerClose socket) self.now result }
     {
         let row = self.socket_of(socket)?;
-        if row.state.peer_closed {
+        if row.state().peer_closed {
             return Err(Refusal::PeerClosed);
         }
         let edit = SocketEdit::ClosePeer;
@@ -85,7 +85,7 @@ impl PlainWorld {
         let row = self.socket_of(socket)?;
         self.sized(count)?;
         let bytes = front(self.alloc, row.buffer(Side::Read), count)?;
-        let answer = read_answer(bytes.len() as u32, row.state.peer_closed);
+        let answer = read_answer(bytes.len() as u32, row.state().peer_closed);
         let edit = SocketEdit::Take {
             side: Side::Read,
             bytes,
@@ -109,7 +109,7 @@ impl PlainWorld {
         if bytes.is_empty() {
             return Err(Refusal::SizeOutOfRange);
         }
-        let shut = row.state.shut;
+        let shut = row.state().shut;
         let bytes = writable(shut, row.buffer(Side::Write), bytes.as_slice());
         let answer = write_answer(bytes.len() as u32, shut);
         let edit = SocketEdit::Append {
@@ -165,7 +165,7 @@ impl PlainWorld {
         let row = self.socket_of(socket)?;
         self.sized(count)?;
         let taken = (count as usize).min(row.buffer(Side::Read).bytes.len());
-        let answer = read_answer(taken as u32, row.state.peer_closed);
+        let answer = read_answer(taken as u32, row.state().peer_closed);
         self.sockets.lose(socket, Side::Read, taken);
         Ok(answer)
     }

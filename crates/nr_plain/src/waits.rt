@@ -131,7 +131,7 @@ impl PlainWorld {
 
     /// The count of waiters with one more. A well-formed world has at most two for each descriptor, so `min` changes nothing:
     /// it is there so that the sum is seen to fit.
-    #[tactic(auto, using(nr_rev::proofs::WaitersLemmas::waiters_within))]
+    #[tactic(auto, using(nr_laws::proofs::WaitersLemmas::waiters_within))]
     fn one_waiter_more(&self) -> u64
         requires { WellFormed self.now }
         ensures { result ≡ self.now.waiters + 1 }

@@ -44,7 +44,7 @@ impl Text for ChangeLine {
 type Lines = ArrayVec<ChangeLine, LINES_AT_ONCE>;
 
 /// Opens the recording, and prints a line for each cell that a step changed, `7 lock 0 = 18`, step after step, the cells of
-/// a step in the order in which `docs/COMMANDS.md` lists them; then the line that `check` prints. Of a recording whose steps
+/// a step in the order in which `COMMANDS.md` lists them; then the line that `check` prints. Of a recording whose steps
 /// don't all apply, or answer otherwise than is recorded of them, the lines up to the first such step are printed, and then
 /// its fault; of a text that is no recording its fault alone. The steps are made once, and no copy of the world is kept.
 ///

@@ -1,5 +1,5 @@
 -- What is found by its name or its number has it: kinds and cells.
-use Rattle.std.proofs.Common.{◌≡◌, ◌≢◌, ◌-◌, slice_get, slice_index_or, ℕ, Bool, true, false, cond, List, [], ◌∷◌, Option, Some, None, find, bytes_eq, nat_eq, ap, sym, subst, refl}
+use Rattle.std.proofs.Common.{◌≡◌, ◌-◌, slice_get, slice_index_or, ℕ, Bool, true, false, cond, List, [], ◌∷◌, Option, Some, None, find, bytes_eq, nat_eq, ap, sym, subst, refl}
 use Rattle.std.specs.Prelude.{filter, length, map}
 use Rattle.std.proofs.lemmas.Bool.{eqb-true, eq-eqb}
 use Rattle.std.proofs.lemmas.Slice.Eq.{bytes_eq-Decides}
@@ -74,9 +74,3 @@ name_placed kind n e = subst (λ k. slice_index_or (map (λ (row : Kind × List 
     is_at : (kind : Kind) → slice_index_or (map (λ (row : Kind × List ℕ). row.1) spelled_kinds) (kind_number kind - 1) [] ≡ kind_name kind
     is_at Kind.Spawn = refl
     is_at _ = refl
-
--- lists of bytes that aren't the same aren't equal
-pub bytes_differ : (a b : List ℕ) → a ≢ b → bytes_eq a b ≡ false
-bytes_differ a b other =
-    elim (bytes_eq a b) as (λ t. bytes_eq a b ≡ t → t ≡ false)
-    [ true ↦ λ equal. absurd (other ((bytes_eq-Decides a b).0 equal)) | false ↦ λ _. refl ] refl

@@ -96,3 +96,9 @@ Ends-both_raised sequences =
     Ends-bind (Ends-raised_sequence sequences.read) λ read read_raised.
     Ends-bind (Ends-raised_sequence sequences.write) λ write write_raised.
     Ends-ok (each_side _ read_raised write_raised)
+
+-- what goes well in one way has the same parts
+pub same_parts : {A B : Type 0} (a c : A) (b d : B) → ◌≡◌ {A = Result (A × B) Refusal} (Ok (a, b)) (Ok (c, d)) → (a ≡ c) × (b ≡ d)
+same_parts {A} {B} a c b d e =
+    let pairs : ◌≡◌ {A = A × B} (a, b) (c, d) = cc in
+    (ap (λ (p : A × B). p.0) pairs, ap (λ (p : A × B). p.1) pairs)

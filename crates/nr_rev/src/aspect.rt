@@ -142,7 +142,7 @@ impl Kind {
     }
 
     /// Whether a step of this kind may change the cell. Where it may not, the cell has the same value behind each such
-    /// step as before it: `laws::steps_change_their_aspects_alone`.
+    /// step as before it: `aspects::steps_change_their_aspects_alone` of `nr_laws`.
     #[inline]
     pub fn can_change(self, cell: Cell) -> bool
         ensures { result ≡ can_change self cell }

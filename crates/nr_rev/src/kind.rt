@@ -107,19 +107,11 @@ impl Kind {
             .find(|kind| kind.has_name(name))
     }
 
-    // Whether its name is this: compared from the end, where the names of one length differ most.
+    // Whether its name is this.
     fn has_name(self, name: &[u8]) -> bool
         ensures { result ≡ bytes_eq (kind_name self) name.now }
     {
-        let own = self.name().as_bytes();
-        if own.len() != name.len() {
-            return false;
-        }
-        let mut rest = own.len();
-        while rest > 0 && own[rest - 1] == name[rest - 1] {
-            rest -= 1;
-        }
-        rest == 0
+        self.name().as_bytes() == name
     }
 
     /// The kind of this number, if there is one.

@@ -102,6 +102,36 @@ impl<T: Drop> RoomedList<T> {
 }
 
 impl<T: Copy + Drop> RoomedList<T> {
+    /// Keeps so many items at the front, or all where there are fewer.
+    pub fn truncate(&mut self, count: usize)
+        ensures rest { self.new ≡ record self.old { items = take count self.old.items } }
+        ensures within { length self.old.items ≤ self.old.room }
+    {
+        self.items.truncate(count);
+    }
+
+    /// Takes so many items away from the front, or all where there are fewer.
+    pub fn drop_front(&mut self, count: usize)
+        ensures rest { self.new ≡ record self.old { items = drop count self.old.items } }
+        ensures within { length self.old.items ≤ self.old.room }
+    {
+        let count = count.min(self.items.len());
+        let left = self.items.len() - count;
+        self.items.rotate_left(count);
+        self.items.truncate(left);
+    }
+
+    /// Puts items at the front.
+    pub fn extend_front(&mut self, items: &[T])
+        requires { length items.now + length self.old.items ≤ self.old.room }
+        ensures { self.new ≡ record self.old { items = items.now ++ self.old.items } }
+    {
+        let Ok(()) = self.items.extend_from_slice(items) else {
+            unreachable!()
+        };
+        self.items.rotate_right(items.len());
+    }
+
     /// An equal one, in room of its own. An error is that there is no memory for it.
     pub fn try_copy(&self, alloc: Global) -> Result<RoomedList<T>, Memory>
         ensures { IfOk result (λ t. t ≡ self.now) }

@@ -15,7 +15,7 @@ use Rattle.nr_rev.specs.declared.cell.Cell.{Cell}
 use Rattle.nr_rev.specs.declared.cell_value.CellValue.{CellValue}
 use Rattle.nr_rev.specs.declared.kind.Kind.{Kind}
 use Rattle.nr_rev.specs.declared.step.Step.{Step}
-use Rattle.nr_rev.proofs.AspectStepLemmas.{step_keeps_cell}
+use Rattle.nr_laws.proofs.AspectStepLemmas.{step_keeps_cell}
 use Rattle.nr_rev.proofs.CellValueLemmas.{same_value-self}
 use Rattle.nr_rev.proofs.RunLemmas.{IsWorldAt-next}
 use Rattle.nr_marks.specs.Hit.{hits_between, mark_hits, numbered, watched}

@@ -128,6 +128,7 @@ impl<C: Connections + Drop> LoggedCallers<C> {
     pub(crate) fn give_up(&mut self)
         ensures { self.new ≡ with_arrival Arrival.Failed self.old }
     {
+        self.connections = None;
         self.conversations = self.conversations.arrived(&Arrival::Failed);
     }
 }

@@ -1,4 +1,4 @@
--- what the laws of docs/THEOREM.md rest on, whole files
+-- what the laws of THEOREM.md rest on, whole files
 pub mod Order
 pub mod Line
 pub mod Index

@@ -5,24 +5,26 @@ from typing import Callable, NamedTuple, Optional
 
 from netrev_words.plain import plain
 
-from ..prompt.completion import candidates
+from ..interrupts import GivenUp, Interrupted, Interrupts
 from ..line_hints import hint
 from ..netrev import Ended
 from ..recording import NoRecording
 from ..scout import Lost
 from ..session import Misused
 from ..shapes import Refused, Strange
-from . import breakpoints
+from . import breakpoints, looks
 from .admission import Admission, Stranger
 from .capabilities import CAPABILITIES
 from .debuggee import debuggee
+from .hearing import CANCEL, Source
 from .looking import maker_of, thread_of
 from .messages import Body, Request, Unanswerable, Wire
 from .moving import Stop
 from .numbering import Numbering
 from .target import Launch, Target
+from .working import Work
 
-FIXED = "a recording is what happened: no value in it can be changed"
+CANCELLED, ENDS = "cancelled", "the editor ends the session"
 
 
 def shown(text: str) -> str:
@@ -31,19 +33,20 @@ def shown(text: str) -> str:
 
 
 class Outcome(NamedTuple):
-    """What comes of a request: the body of its response, and then that the session has stopped, or an event."""
+    """What comes of a request: the body of its response, and then that the session has stopped, an event, or its end."""
 
     body: Body = {}
     stop: Optional[Stop] = None
     event: str = ""
+    ends: bool = False
 
 
 class Adapter:
-    """Serves one editor. `program` is netrev's: no message names another."""
+    """Serves one editor, whose requests come from `source`. `program` is netrev's: no message names another."""
 
-    def __init__(self, wire: Wire, program: str, admission: Admission):
-        self._wire, self._program, self._admission = wire, program, admission
-        self._opened = ExitStack()
+    def __init__(self, wire: Wire, source: Source, program: str, admission: Admission):
+        self._wire, self._source, self._program, self._admission = wire, source, program, admission
+        self._opened, self._interrupts, self._shows_progress = ExitStack(), Interrupts(), False
         self._target_or_none: Optional[Target] = None
         self._numbering = Numbering()
         of_target = self._of_target
@@ -59,16 +62,18 @@ class Adapter:
             "dataBreakpointInfo": of_target(breakpoints.data_info),
             "setExceptionBreakpoints": of_target(breakpoints.set_filters),
             "exceptionInfo": of_target(breakpoints.exception_info),
-            "breakpointLocations": of_target(breakpoints.locations), "threads": self._threads, "stackTrace": self._stack,
-            "scopes": self._scopes, "variables": self._variables, "evaluate": self._evaluate,
-            "completions": self._completions, "setVariable": self._refuse_change, "setExpression": self._refuse_change,
+            "breakpointLocations": of_target(breakpoints.locations), "threads": of_target(looks.threads),
+            "stackTrace": of_target(looks.stack), "scopes": of_target(looks.scopes),
+            "variables": of_target(looks.variables), "readMemory": of_target(looks.read_memory),
+            "completions": of_target(looks.completions), "setVariable": of_target(looks.refuse_change),
+            "setExpression": of_target(looks.refuse_change), "evaluate": self._evaluate, CANCEL: self._cancel,
         }  # fmt: skip
 
     def serve(self) -> None:
         """Answers until the editor has gone, says that it goes, or turns out to be a stranger."""
         with self._opened:
             try:
-                while (request := self._wire.request()) is not None:
+                while (request := self._source.request()) is not None:
                     self._answer(request)
                     if request.command == "disconnect":
                         return
@@ -77,25 +82,56 @@ class Adapter:
 
     def _answer(self, request: Request) -> None:
         """Answers a request, and tells what comes of it; Stranger where nothing more is to be read."""
+        work = Work(self._wire, request, self._shows_progress)
         try:
-            self._admission.check(request)
-            outcome = self._outcome(request)
+            outcome = self._worked(request, work)
         except Stranger as why:
-            self._wire.refuse(request, str(why))
+            work.refuses(str(why))
             raise
         except Unanswerable as why:
-            self._wire.refuse(request, shown(str(why)))
-            return
+            self._refused(work, shown(str(why)))
+        except Interrupted:
+            self._refused(work, CANCELLED)
+        except GivenUp:  # (the request that ends it comes next, and is answered before all is closed)
+            work.refuses(ENDS)
+            self._target_or_none = None
         except (Ended, Strange, Lost) as why:
             said = str(why) if isinstance(why, (Strange, Lost)) else "netrev has ended"
-            self._wire.refuse(request, plain(said))
+            work.refuses(plain(said))
             self._end(said)
-            return
-        self._wire.respond(request, outcome.body)
-        if outcome.stop:
-            self._stopped(outcome.stop)
-        if outcome.event:
-            self._wire.event(outcome.event)
+        else:
+            work.responds(outcome.body)
+            if outcome.stop:
+                self._stopped(outcome.stop)
+            if outcome.event:
+                self._wire.event(outcome.event)
+            if outcome.ends:
+                self._close()
+
+    def _worked(self, request: Request, work: Work) -> Outcome:
+        """What comes of a request, while the editor is heard."""
+        self._admission.check(request)
+        if self._source.ends(request):
+            raise Interrupted
+        if request.command in ("launch", "attach"):
+            self._interrupts = Interrupts()
+        if self._target_or_none:
+            self._look_for_others(request)
+            self._target_or_none.moves.tells = work.tells
+        with self._source.work(request, self._interrupts):
+            return self._outcome(request)
+
+    def _look_for_others(self, request: Request) -> None:
+        """Tells where somebody else has moved a session that is shared."""
+        with self._source.work(request, self._interrupts):
+            moved = self._target.debuggee.others_moved()
+        if moved is not None:
+            self._stopped(Stop("goto", f"somebody has moved: at {moved}"))
+
+    def _refused(self, work: Work, why: str) -> None:
+        """Says that a request wasn't done. A move that was answered before stands where it stood."""
+        if work.refuses(why):
+            self._stopped(Stop("pause", why))
 
     def _outcome(self, request: Request) -> Outcome:
         """What comes of a request; Unanswerable where it can't be done."""
@@ -150,21 +186,29 @@ class Adapter:
 
     def _initialize(self, request: Request) -> Outcome:
         self._numbering = Numbering(0 if request.arguments.get("linesStartAt1") is False else 1)
+        self._shows_progress = request.arguments.get("supportsProgressReporting") is True
         return Outcome(CAPABILITIES)
 
     def _launch(self, request: Request) -> Outcome:
-        launch = Launch.of(request)
+        return self._begin(Launch.of(request))
+
+    def _attach(self, request: Request) -> Outcome:
+        return self._begin(Launch.of_attach(request))
+
+    def _begin(self, launch: Launch) -> Outcome:
         self._close()
-        debugged = self._opened.enter_context(debuggee(self._program, launch.recording))
+        debugged = self._opened.enter_context(
+            debuggee(self._program, launch.recording, self._interrupts, launch.address)
+        )
         debugged.say_nothing_yet()
         if debugged.recording.lines.fault:
             self._console(f"| {plain(debugged.recording.lines.why_unused(launch.recording))}\n")
-        self._target_or_none = Target(debugged, launch)
-        self._target.stop = self._target.moves.goto(launch.position(debugged.length), "entry")
+        self._target_or_none = Target(debugged, launch, self._interrupts)
+        self._target.stop = self._target.moves.goto(launch.position(debugged), "entry")
         return Outcome(event="initialized")
 
-    def _attach(self, request: Request) -> Outcome:
-        raise Unanswerable("a recording is launched; `nrdb --join` joins a session that others share")
+    def _cancel(self, request: Request) -> Outcome:
+        return Outcome()  # (what it was for was stopped when it was heard, or is done)
 
     def _configured(self, request: Request) -> Outcome:
         return Outcome(stop=self._target.stop)
@@ -173,12 +217,10 @@ class Adapter:
         return Outcome(stop=self._target.moves.goto(0, "entry"))
 
     def _terminate(self, request: Request) -> Outcome:
-        self._close()
-        return Outcome(event="terminated")
+        return Outcome(event="terminated", ends=True)
 
     def _disconnect(self, request: Request) -> Outcome:
-        self._close()
-        return Outcome()
+        return Outcome(ends=True)
 
     # --- moves
 
@@ -227,42 +269,9 @@ class Adapter:
             raise Unanswerable(f"the recording has {self._target.debuggee.length} steps")
         return Outcome(stop=self._target.moves.goto(position))
 
-    # --- looks
-
-    def _threads(self, request: Request) -> Outcome:
-        return Outcome({"threads": self._target.looks.threads()})
-
-    def _stack(self, request: Request) -> Outcome:
-        frames = self._target.looks.frames(maker_of(request.whole_number("threadId")))
-        shown = self._page(request, frames, "startFrame", "levels")
-        return Outcome({"stackFrames": [self._placed(frame) for frame in shown], "totalFrames": len(frames)})
-
-    def _placed(self, frame: Body) -> Body:
-        """A frame with its line as the editor counts; one that has none keeps 0."""
-        return frame | ({"line": self._numbering.to(frame["line"])} if frame["line"] else {})
-
-    def _scopes(self, request: Request) -> Outcome:
-        return Outcome({"scopes": self._target.looks.scopes(request.whole_number("frameId"))})
-
-    def _variables(self, request: Request) -> Outcome:
-        variables = self._target.looks.variables(request.whole_number("variablesReference"))
-        return Outcome({"variables": self._page(request, variables, "start", "count")})
-
-    def _page(self, request: Request, rows: list[Body], first: str, count: str) -> list[Body]:
-        """The rows that are asked for: all where no number is given."""
-        begin, most = (request.arguments.get(name) or 0 for name in (first, count))
-        if not isinstance(begin, int) or not isinstance(most, int) or begin < 0 or most < 0:
-            raise Unanswerable(f"{first} and {count} are whole numbers")
-        return rows[begin : begin + most if most else None]
-
     def _evaluate(self, request: Request) -> Outcome:
         text, context = request.text("expression"), request.arguments.get("context")
-        if context == "repl":
-            return self._typed(text)
-        shown = (self._target.looks.meaning if context == "hover" else self._target.looks.value)(text)
-        if shown is None:
-            raise Unanswerable(f"{text} is no cell: one is spelled as in print, rg 0 or gor 3")
-        return Outcome({"result": shown, "variablesReference": 0})
+        return self._typed(text) if context == "repl" else Outcome(looks.value(self._target, text, context))
 
     def _typed(self, text: str) -> Outcome:
         """Runs a line of nrdb's that was typed in the console."""
@@ -275,15 +284,3 @@ class Adapter:
             return Outcome(body, event="terminated")
         moved = Stop("goto", f"at {target.debuggee.position}") if target.debuggee.position != before else None
         return Outcome(body, moved)
-
-    def _completions(self, request: Request) -> Outcome:
-        text, column = request.text("text"), request.whole_number("column")
-        typed = text[: max(column - self._numbering.first, 0)]
-        *before, last = typed.split(" ")
-        found = candidates([word for word in before if word], self._target.debuggee.numbers)
-        labels = sorted({one for one in found if one.startswith(last)})
-        start = len(typed) - len(last) + self._numbering.first
-        return Outcome({"targets": [{"label": one, "start": start, "length": len(last)} for one in labels]})
-
-    def _refuse_change(self, request: Request) -> Outcome:
-        raise Unanswerable(FIXED)

@@ -12,6 +12,7 @@ TOKEN = "token"  # the argument of a launch
 NAMED_BY = "NRDB_TOKEN"  # the variable that has a token of one's own
 LEAST = 16  # characters of one
 BEFORE = ("initialize", "disconnect")  # that are answered to anybody
+OPENING = ("launch", "attach")  # that have the token
 
 
 class Stranger(Unanswerable):
@@ -43,7 +44,7 @@ class Admission:
         """Unanswerable where the request isn't answered yet, Stranger where it is a launch with another token."""
         if self.is_given or request.command in BEFORE:
             return
-        if request.command != "launch":
+        if request.command not in OPENING:
             raise Unanswerable("launch comes first, with the token that nrdb printed")
         given = request.arguments.get(TOKEN)
         assert self._token is not None

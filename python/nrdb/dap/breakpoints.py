@@ -4,10 +4,11 @@ from netrev_words.plain import plain
 from netrev_words.vocabulary import KINDS
 
 from .go_lines import FUNCTIONS
-from .marks import Sort, cell_wish, kind_wish, wish_of
+from .marks import Sort
 from .messages import Body, Request, Unanswerable
 from .numbering import Numbering
 from .target import Target
+from .wishes import Unset, Wish, cell_wish, kind_wish, positions_of, wish_of
 
 MOST_TARGETS = 1_000  # lines that are looked through for those with a step
 
@@ -18,13 +19,24 @@ def set_lines(target: Target, numbering: Numbering, request: Request) -> Body:
     if not is_the_recording(target, request):
         return {"breakpoints": in_the_program(target, numbering, path_of(request), asked)}
     steps = [target.debuggee.step_at(numbering.of(one)) for one in asked]
-    wishes = [
-        wish_of(f"@{step.number if step else target.debuggee.length + 1}", one.get("condition"))
-        for step, one in zip(steps, asked)
-    ]
-    made = target.marks.replace(Sort.LINE, wishes)
+    numbers = [step.number if step else target.debuggee.length + 1 for step in steps]
+    made = of_steps(target, path_of(request), [wish_of(f"@{number}", one) for number, one in zip(numbers, asked)])
     lines = [{"line": numbering.to(step.line)} if step else {} for step in steps]
     return {"breakpoints": [one | line for one, line in zip(made, lines)]}
+
+
+def of_steps(target: Target, path: str, wishes: list[Wish | Unset]) -> list[Body]:
+    """Sets breakpoints before steps in place of those that were; what the protocol says of each. Those with a message take no marks."""
+    session = target.debuggee.session
+    target.logpoints.clear(path)
+    told = [
+        target.logpoints.set(path, positions_of(session, wish.what), wish)
+        if isinstance(wish, Wish) and wish.message
+        else None
+        for wish in wishes
+    ]
+    of_marks = iter(target.marks.replace(Sort.LINE, [wish for wish, one in zip(wishes, told) if one is None]))
+    return [one or next(of_marks) for one in told]
 
 
 def in_the_program(target: Target, numbering: Numbering, path: str, asked: list[Body]) -> list[Body]:
@@ -35,7 +47,7 @@ def in_the_program(target: Target, numbering: Numbering, path: str, asked: list[
         )
         return [{"verified": False, "message": said} for _ in asked]
     target.go_lines.clear(path)
-    made = [target.go_lines.set_line(path, numbering.of(one), wish_of("", one.get("condition"))) for one in asked]
+    made = [target.go_lines.set_line(path, numbering.of(one), wish_of("", one)) for one in asked]
     return [body | ({"line": numbering.to(line)} if line else {}) for body, line in made]
 
 
@@ -56,12 +68,10 @@ def set_functions(target: Target, _: Numbering, request: Request) -> Body:
     asked = request.objects("breakpoints")
     target.go_lines.clear(FUNCTIONS)
     of_program = [
-        target.go_lines.set_function(str(one.get("name")), wish_of("", one.get("condition")))
-        if is_function(one)
-        else None
+        target.go_lines.set_function(str(one.get("name")), wish_of("", one)) if is_function(one) else None
         for one in asked
     ]
-    wishes = [kind_wish(one.get("name"), one.get("condition")) for one, made in zip(asked, of_program) if made is None]
+    wishes = [kind_wish(one) for one, made in zip(asked, of_program) if made is None]
     of_kinds = iter(target.marks.replace(Sort.FUNCTION, wishes))
     return {"breakpoints": [made or next(of_kinds) for made in of_program]}
 
@@ -94,7 +104,7 @@ def targets(target: Target, numbering: Numbering, request: Request) -> list[Body
 
 def set_data(target: Target, _: Numbering, request: Request) -> Body:
     """Watched cells."""
-    wishes = [cell_wish(one.get("dataId"), one.get("condition")) for one in request.objects("breakpoints")]
+    wishes = [cell_wish(one) for one in request.objects("breakpoints")]
     return {"breakpoints": target.marks.replace(Sort.DATA, wishes)}
 
 

@@ -7,6 +7,8 @@ CAPABILITIES: Body = {
     "supportsConfigurationDoneRequest": True,
     "supportsFunctionBreakpoints": True,
     "supportsConditionalBreakpoints": True,
+    "supportsHitConditionalBreakpoints": True,
+    "supportsLogPoints": True,
     "supportsDataBreakpoints": True,
     "supportsBreakpointLocationsRequest": True,
     "supportsExceptionInfoRequest": True,
@@ -17,5 +19,7 @@ CAPABILITIES: Body = {
     "supportsTerminateRequest": True,
     "supportsEvaluateForHovers": True,
     "supportsCompletionsRequest": True,
+    "supportsReadMemoryRequest": True,
+    "supportsCancelRequest": True,
     "completionTriggerCharacters": [" "],
 }

@@ -1,6 +1,6 @@
 """The recording that an editor debugs: its session, and what belongs to a position."""
 
-from contextlib import closing, contextmanager
+from contextlib import contextmanager
 from pathlib import Path
 from typing import Iterator, Optional
 
@@ -10,11 +10,11 @@ from ..arriving_changes import ArrivingChanges
 from ..prompt.answers import ANSWERS
 from ..backwards import last_steps
 from ..interrupts import Interrupts
-from ..netrev import Own
+from ..netrev import Joined, Netrev, Own
 from ..recording import NoRecording, Recording, Step
-from ..refusals import explained
+from ..refusals import explained, fault_of
 from ..scout import Scout
-from ..session import Session
+from ..session import Mismatched, Session
 from ..shapes import POSITION
 from ..collecting import Collecting
 from .messages import Unanswerable
@@ -87,29 +87,59 @@ class Debuggee:
         """Throws away what was said and wasn't shown."""
         self.printer.take()
 
+    def others_moved(self) -> Optional[int]:
+        """Where somebody else has moved a session that is shared, since this one was looked at; None where nobody has."""
+        if not isinstance(self.session.netrev, Joined):
+            return None
+        now = self.session.stands().position
+        if now == self.position:
+            return None
+        self.session.stood = now
+        return now
+
 
 @contextmanager
-def debuggee(program: str, path: str) -> Iterator[Debuggee]:
-    """The session of a recording, while it is debugged. Unanswerable where netrev or nrdb can't take the recording."""
-    interrupts, printer = Interrupts(), Collecting()
+def debuggee(
+    program: str, path: str, interrupts: Interrupts, address: Optional[tuple[str, int]] = None
+) -> Iterator[Debuggee]:
+    """The session of a recording, while it is debugged: one of its own, or the one that is shared at an address. Unanswerable where
+    netrev or nrdb can't take the recording."""
+    printer = Collecting()
     try:
         recording = Recording.read(path)
-        netrev = Own(program, path, interrupts)
+        if address and (fault := fault_of(program, path)):
+            raise NoRecording(f"{path} isn't a recording: {fault}")
+        netrev: Netrev = Joined(address, interrupts, lambda: None) if address else Own(program, path, interrupts)
     except OSError as error:
-        raise Unanswerable(f"{error.filename}: {error.strerror}") from None
+        named = error.filename or (":".join(map(str, address)) if address else path)
+        raise Unanswerable(f"{named}: {error.strerror or error}") from None
     except NoRecording as wrong:
         raise Unanswerable(str(wrong)) from None
-    with closing(netrev):
-        scout = Scout(lambda: Own(program, path, interrupts))
-        recording.changes = recorded = ArrivingChanges(program, path, interrupts, printer.note)
-        try:
-            session = Session(netrev, recording, scout, printer, interrupts, ANSWERS, recorded=recorded)
-            first = session.ask("info position")
-            if not POSITION.fullmatch(first):
-                raise Unanswerable("\n".join([first, *explained(program, path, first)]))
-            session.begin(first)
+    try:
+        with begun(program, path, recording, netrev, printer, interrupts) as session:
             yield Debuggee(session, recording, printer, path)
-        finally:
-            scout.drop()
-            recorded.drop()
-            netrev.drop()
+    finally:
+        netrev.drop()
+
+
+@contextmanager
+def begun(
+    program: str, path: str, recording: Recording, netrev: Netrev, printer: Collecting, interrupts: Interrupts
+) -> Iterator[Session]:
+    """A session that has begun, while it lasts."""
+    scout = Scout(lambda: Own(program, path, interrupts))
+    recording.changes = recorded = ArrivingChanges(program, path, interrupts, printer.note)
+    try:
+        session = Session(netrev, recording, scout, printer, interrupts, ANSWERS, recorded=recorded)
+        session.program, session.path = program, path
+        first = session.ask("info position")
+        if not POSITION.fullmatch(first):
+            raise Unanswerable("\n".join([first, *explained(program, path, first)]))
+        try:
+            session.begin(first)
+        except Mismatched as wrong:
+            raise Unanswerable(str(wrong)) from None
+        yield session
+    finally:
+        scout.drop()
+        recorded.drop()

@@ -42,7 +42,7 @@ def offered() -> list[Body]:
     ]
 
 
-class Wrong(NamedTuple):
+class Failure(NamedTuple):
     """Something that went wrong: the step, what sort of thing it is, and what is said of it."""
 
     step: int
@@ -68,15 +68,15 @@ class Filters:
         ]
 
     @cached_property
-    def _all(self) -> dict[Filter, list[Wrong]]:
+    def _all(self) -> dict[Filter, list[Failure]]:
         """What went wrong, by the filters, in the order of the steps."""
         shown = [one for one in suspects_of(self._recording).suspects if one.is_shown]
         failed = [call for call in book_of(self._recording).calls if call.last and call.outcome.is_error]
-        found: dict[Filter, list[Wrong]] = {one: [] for one in Filter}
-        found[Filter.SUSPECTS] = [Wrong(one.step, one.rule, one.sentence()) for one in shown]
+        found: dict[Filter, list[Failure]] = {one: [] for one in Filter}
+        found[Filter.SUSPECTS] = [Failure(one.step, one.rule, one.sentence()) for one in shown]
         for call in failed:
             sort = Filter.TIMEOUTS if call.outcome is Outcome.TIMED_OUT else Filter.ERRORS
-            found[sort].append(Wrong(call.last, call.outcome.value, f"goroutine {call.goroutine}'s {call.words()}"))
+            found[sort].append(Failure(call.last, call.outcome.value, f"goroutine {call.goroutine}'s {call.words()}"))
         return {one: sorted(wrong) for one, wrong in found.items()}
 
     def _positions(self) -> list[int]:
@@ -89,6 +89,6 @@ class Filters:
         at = bisect_right(positions, position) if forwards else bisect_left(positions, position) - 1
         return positions[at] if 0 <= at < len(positions) else None
 
-    def at(self, position: int) -> list[Wrong]:
+    def at(self, position: int) -> list[Failure]:
         """What goes wrong by the next step, by the filters that are set."""
         return [wrong for one in Filter if one in self._set for wrong in self._all[one] if wrong.step == position + 1]

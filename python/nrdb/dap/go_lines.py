@@ -2,31 +2,40 @@
 They are nrdb's, as the filters are, and take no marks of netrev's."""
 
 from bisect import bisect_left, bisect_right
+from functools import cached_property
 from pathlib import Path
-from typing import NamedTuple, Optional, Sequence
+from typing import Optional, Sequence
 
 from ..program.index import places_of
+from ..session import Session
 from .debuggee import Debuggee
-from .marks import Condition, Unset, Wish
+from .logpoints import LogPoints
 from .messages import Body
+from .roots import Roots
+from .wishes import Unset, Wish, is_in, refused
 
 FIRST = 1_000_000  # the numbers of such breakpoints, above those of all marks
 FUNCTIONS = "functions"  # in place of a file
 
 
-class Hits(NamedTuple):
-    """A breakpoint: its number, the positions that it stops at, rising, and its condition."""
+class Hits:
+    """A breakpoint: its number, the positions at which it is reached, rising, and what is wanted of it."""
 
-    number: int
-    positions: list[int]
-    condition: Optional[Condition]
+    def __init__(self, number: int, session: Session, reached: Sequence[int], wish: Wish):
+        self.number = number
+        self._session, self._reached, self._wish = session, reached, wish
+
+    @cached_property
+    def positions(self) -> list[int]:
+        """The positions that it stops at, rising."""
+        return self._wish.stops(self._session, self._reached)
 
 
 class GoLines:
     """The breakpoints that are set in the program's source, by file, and at its functions."""
 
-    def __init__(self, debuggee: Debuggee, root: Path):
-        self._debuggee, self._root = debuggee, root
+    def __init__(self, debuggee: Debuggee, roots: Roots, logpoints: LogPoints):
+        self._debuggee, self._roots, self._logpoints = debuggee, roots, logpoints
         self._of: dict[str, list[Hits]] = {}
         self._given = FIRST
 
@@ -36,15 +45,12 @@ class GoLines:
             wanted = Path(path).resolve()
         except (OSError, RuntimeError, ValueError):  # (no path, or one in a circle)
             return {}
-        return places_of(self._debuggee.recording).lines_of(lambda file: self._is_at(file, wanted))
-
-    def _is_at(self, file: str, wanted: Path) -> bool:
-        """Whether a file, as the recorder names it, is the one that the editor names."""
-        return (self._root / file).resolve() == wanted or str(wanted).endswith(f"/src/{file}")
+        return places_of(self._debuggee.recording).lines_of(lambda file: self._roots.is_at(file, wanted))
 
     def clear(self, path: str) -> None:
         """Takes those of a file away."""
         self._of[path] = []
+        self._logpoints.clear(path)
 
     def set_line(self, path: str, line: int, wish: "Wish | Unset") -> tuple[Body, Optional[int]]:
         """Sets one at a line, or the next one that steps come from; what the protocol says of it, and the line."""
@@ -62,36 +68,24 @@ class GoLines:
     def _set(self, path: str, positions: list[int], wish: "Wish | Unset") -> Body:
         if isinstance(wish, Unset):
             return refused(str(wish))
+        if wish.message:
+            return self._logpoints.set(path, positions, wish)
         self._given += 1
-        self._of.setdefault(path, []).append(Hits(self._given, positions, wish.condition))
+        self._of.setdefault(path, []).append(Hits(self._given, self._debuggee.session, positions, wish))
         return {"id": self._given, "verified": True}
 
     def nearest(self, position: int, forwards: bool) -> Optional[int]:
         """The nearest position that way at which to stop."""
-        found = [self._near(hits, position, forwards) for many in self._of.values() for hits in many]
+        found = [near(hits.positions, position, forwards) for many in self._of.values() for hits in many]
         return (min if forwards else max)((one for one in found if one is not None), default=None)
-
-    def _near(self, hits: Hits, position: int, forwards: bool) -> Optional[int]:
-        rows = hits.positions
-        at = bisect_right(rows, position) if forwards else bisect_left(rows, position) - 1
-        while 0 <= at < len(rows):
-            if self._holds(hits, rows[at]):
-                return rows[at]
-            at += 1 if forwards else -1
-        return None
 
     def at(self, position: int) -> Sequence[int]:
         """The numbers of those that stop at a position."""
         every = [hits for many in self._of.values() for hits in many]
-        return [one.number for one in every if position in one.positions and self._holds(one, position)]
-
-    def _holds(self, hits: Hits, position: int) -> bool:
-        """Whether a condition holds at a position."""
-        if hits.condition is None:
-            return True
-        session = self._debuggee.session
-        return hits.condition.is_met(session, session.changes().value(hits.condition.cell, position))
+        return [one.number for one in every if is_in(one.positions, position)]
 
 
-def refused(why: str) -> Body:
-    return {"verified": False, "message": why}
+def near(rising: Sequence[int], position: int, forwards: bool) -> Optional[int]:
+    """The nearest of these positions that way."""
+    at = bisect_right(rising, position) if forwards else bisect_left(rising, position) - 1
+    return rising[at] if 0 <= at < len(rising) else None

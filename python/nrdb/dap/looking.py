@@ -1,6 +1,5 @@
 """What an editor looks at: goroutines as threads, their stacks, and cells as variables."""
 
-import os
 from dataclasses import dataclass
 from pathlib import Path
 from typing import Optional, Sequence
@@ -8,13 +7,16 @@ from typing import Optional, Sequence
 from netrev_words.plain import plain
 from netrev_words.vocabulary import CELLS, KINDS, Of, cell_of
 
+from ..backwards import last_steps
 from ..calls import book_of
 from ..following import calls_at
 from ..where import OF_THE_PROGRAM, Call
 from ..words import status_words
 from ..world import World
 from .debuggee import Debuggee, Maker
+from .memory import reference_of
 from .messages import Body, Unanswerable
+from .roots import Roots
 
 NETWORK = 65_536  # the thread's number; a goroutine's is at most 4,096
 IN_QUEUES = ("acquiring", "queued", "relock", "owing")  # whose number is a socket's
@@ -98,8 +100,8 @@ class Looks:
     """Looks at the position at which the session stands. `goes_first` is whether the program's own line is shown first where
     it is known, else the recording's."""
 
-    def __init__(self, debuggee: Debuggee, goes_first: bool, root: Path):
-        self._debuggee, self._goes_first, self._root = debuggee, goes_first, root
+    def __init__(self, debuggee: Debuggee, goes_first: bool, roots: Roots):
+        self._debuggee, self._goes_first, self._roots = debuggee, goes_first, roots
         self.handles = Handles()
 
     @property
@@ -107,15 +109,27 @@ class Looks:
         return self._debuggee.session.world()
 
     def threads(self) -> list[Body]:
-        """The goroutines that aren't gone, and the network with the clock."""
+        """The goroutines that aren't gone, with the function and the line of the program that each is at, where these are known; and the
+        network with the clock."""
         world = self._world
         statuses = world.of_each(range(world.made(Of.GOROUTINE)), "gor")
+        there = [goroutine for goroutine, (status,) in statuses.items() if status != "gone"]
+        places = self._places(there) if self._debuggee.recording.lines else {}
         goroutines = [
-            {"id": thread_of(goroutine), "name": f"goroutine {goroutine}: {status}"}
-            for goroutine, (status,) in statuses.items()
-            if status != "gone"
+            {"id": thread_of(one), "name": f"goroutine {one}: {statuses[one][0]}{places.get(one, '')}"} for one in there
         ]
         return [*goroutines, {"id": NETWORK, "name": "network and clock"}]
+
+    def _places(self, goroutines: Sequence[int]) -> dict[int, str]:
+        """Where the program is in each goroutine, as its last step has it."""
+        recording = self._debuggee.recording
+        steps = last_steps(recording, self._debuggee.position, goroutines)
+        found = {one: recording.lines.of(step).own() for one, step in steps.items()}
+        return {
+            one: f" in {plain(own[0].function)} at {plain(own[0].place())}"
+            for one, own in found.items()
+            if own is not None
+        }
 
     def frames(self, maker: Maker) -> list[Body]:
         """A stack: the step that is about to be made, or was made last; the call that it is of, as `calls` has it; and the
@@ -148,8 +162,8 @@ class Looks:
 
     def _call_frame(self, frame: Frame, call: Call) -> Body:
         """The frame of a call of the program's, of a library's or of Go's."""
-        path = self._root / call.file
-        where = {"path": str(path)} if os.path.isfile(path) else {"origin": plain(call.file)}
+        path = self._roots.path_of(call.file)
+        where = {"path": str(path)} if path else {"origin": plain(call.file)}
         return {
             "id": self.handles.give(frame),
             "name": plain(call.function),
@@ -228,6 +242,7 @@ class Looks:
         values = self._world.values(names)
         return [
             {"name": cell, "value": self._with_words(cell, value), "evaluateName": cell, "variablesReference": 0}
+            | ({"memoryReference": cell} if reference_of(cell) and value != "absent" else {})
             for cell, value in zip(names, values)
         ]
 

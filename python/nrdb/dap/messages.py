@@ -2,6 +2,7 @@
 
 import json
 from dataclasses import dataclass, field
+from threading import Lock
 from typing import Any, BinaryIO, Optional
 
 LONGEST = 16 * 2**20  # bytes of a message
@@ -50,11 +51,11 @@ class Request:
 
 
 class Wire:
-    """The two streams to the editor."""
+    """The two streams to the editor. Several threads may write messages, and one may read them."""
 
     def __init__(self, reader: BinaryIO, writer: BinaryIO):
         self._reader, self._writer = reader, writer
-        self._sent = 0
+        self._sent, self._lock = 0, Lock()
 
     def request(self) -> Optional[Request]:
         """The next request; None where the editor has gone. Messages of other types are passed over."""
@@ -101,10 +102,11 @@ class Wire:
         self._send("event", event=name, body=body)
 
     def _send(self, sort: str, **message: Any) -> None:
-        self._sent += 1
-        data = json.dumps({"seq": self._sent, "type": sort, **message}).encode("ascii")
-        self._writer.write(b"Content-Length: %d\r\n\r\n%s" % (len(data), data))
-        self._writer.flush()
+        with self._lock:
+            self._sent += 1
+            data = json.dumps({"seq": self._sent, "type": sort, **message}).encode("ascii")
+            self._writer.write(b"Content-Length: %d\r\n\r\n%s" % (len(data), data))
+            self._writer.flush()
 
 
 def _object(data: bytes) -> Body:

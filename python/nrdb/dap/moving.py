@@ -1,15 +1,19 @@
 """The editor's moves, each a line of netrev's or several: where they lead, and why they stop there."""
 
-from typing import NamedTuple, Optional, Sequence
+from typing import Callable, NamedTuple, Optional, Sequence
 
 from ..following import Stay, finish_goal
+from ..interrupts import Interrupted, Interrupts
 from ..netrev import Reply
-from ..shapes import Listed, Move, move_of
+from ..shapes import MARK, Listed, Move, move_of
 from .debuggee import Debuggee, Maker
-from .filters import Filters, Wrong
+from .filters import Filters, Failure
 from .go_lines import GoLines
+from .logpoints import LogPoints
 from .marks import Marks
 from .messages import Unanswerable
+
+PIECE = 100_000  # steps that netrev goes through at a stretch: between two it is looked whether a pause came
 
 
 class Stop(NamedTuple):
@@ -21,11 +25,21 @@ class Stop(NamedTuple):
 
 
 class Moves:
-    """Moves of a session. All go on past marks whose conditions don't hold."""
+    """Moves of a session. All go on past marks whose conditions don't hold. A pause stops each: it then stands where netrev has come
+    to. `tells` is told how far a long one is."""
 
-    def __init__(self, debuggee: Debuggee, marks: Marks, filters: Filters, go_lines: GoLines):
-        self._debuggee, self._session = debuggee, debuggee.session
-        self._marks, self._filters, self._go_lines = marks, filters, go_lines
+    def __init__(
+        self,
+        debuggee: Debuggee,
+        marks: Marks,
+        filters: Filters,
+        go_lines: GoLines,
+        logpoints: LogPoints,
+        interrupts: Interrupts,
+    ):
+        self._debuggee, self._session, self._interrupts = debuggee, debuggee.session, interrupts
+        self._marks, self._filters, self._go_lines, self._logpoints = marks, filters, go_lines, logpoints
+        self.tells: Callable[[int, int], None] = lambda position, length: None
 
     def step(self, line: str) -> Stop:
         """One step, either way: `stepi` or `reverse-stepi`."""
@@ -39,38 +53,101 @@ class Moves:
         why = Stop(reason, "the recording's end" if position == self._debuggee.length else f"at {position}")
         if position == self._debuggee.position:
             return why
-        reply = self._session.go(position)
+        try:
+            reply = self._go(position)
+        except Interrupted:
+            return self._paused([])
         return self._arrived(f"goto {position}", reply, move_of("goto", reply), [], why)
 
     def next_of(self, maker: Maker) -> Stop:
         """To before the next step of a goroutine, or of the network, but the one that it is about to make."""
         numbers = range(self._debuggee.position + 2, self._debuggee.length + 1)
-        found = next((number for number in numbers if self._debuggee.maker(number) == maker), None)
+        try:
+            with self._interrupts.at_once():
+                found = next((number for number in numbers if self._debuggee.maker(number) == maker), None)
+        except Interrupted:
+            return self._paused([])
         return self.run(True, self._debuggee.length if found is None else found - 1)
 
     def out_of(self, goroutine: int) -> Stop:
         """Behind the step that ends a goroutine's call; Unanswerable where it is in none, or that doesn't end."""
         try:
-            goal = finish_goal(self._debuggee.recording, goroutine, self._debuggee.position)
+            with self._interrupts.at_once():
+                goal = finish_goal(self._debuggee.recording, goroutine, self._debuggee.position)
         except Stay as why:
             raise Unanswerable(str(why)) from None
+        except Interrupted:
+            return self._paused([])
         return self.run(True, goal.position)
 
     def run(self, forwards: bool, target: Optional[int] = None) -> Stop:
         """That way to the nearest position at which a mark hits or a filter stops, or to the target; else to the end."""
+        begun = self._debuggee.position
         stood = self._session.netrev.marks()
-        bound = self._bound(forwards, target)
+        try:
+            stop = self._run(forwards, target, stood)
+        except Interrupted:
+            stop = self._paused(stood)
+        for told in self._logpoints.told(begun, self._debuggee.position):
+            self._session.printer.note(told)
+        return stop
+
+    def _run(self, forwards: bool, target: Optional[int], stood: Sequence[Listed]) -> Stop:
+        with self._interrupts.at_once():
+            bound = self._bound(forwards, target)
         line = "continue" if forwards else "reverse-continue"
         self._face_forwards()
         while True:
-            reply = self._session.ask(line)
-            move = move_of(line, reply)
+            reply, move = self._searched(line, forwards, bound)
             if bound is not None and (move.position - bound) * (1 if forwards else -1) > 0:
                 return self._stop_at(bound, target)
             hit = self._marks.holding(move.marks)
             if hit or move.is_end or move.position == bound:
                 why = self._why(hit, move, target)
                 return self._arrived(line, reply, move._replace(marks=tuple(hit)), stood, why)
+
+    def _searched(self, line: str, forwards: bool, bound: Optional[int]) -> tuple[str, Move]:
+        """netrev's reply to a search, and the move that it was. It is made in pieces, each to a mark of its own, which no move names;
+        Interrupted between two where a pause came."""
+        here = self._session.stands().position
+        while True:
+            self._interrupts.check()
+            edge = here + (PIECE if forwards else -PIECE)
+            is_last = not 0 < edge < self._debuggee.length or (
+                bound is not None and (bound - edge) * (edge - here) <= 0
+            )
+            made = None if is_last else MARK.fullmatch(self._session.ask(f"tbreak @{edge + 1}"))
+            reply = self._session.ask(line)
+            move = move_of(line, reply)
+            if made is None:  # (or 64 marks stand)
+                return reply, move
+            if made[1] not in move.marks:
+                self._session.ask(f"delete {made[1]}")
+            if move.marks != (made[1],):
+                return reply, move._replace(marks=tuple(mark for mark in move.marks if mark != made[1]))
+            here = move.position
+            self.tells(here, self._debuggee.length)
+
+    def _go(self, position: int) -> str:
+        """netrev's reply to the move to a position, which is made in pieces too."""
+        here = self._session.stands().position
+        while abs(position - here) > PIECE:
+            self._interrupts.check()
+            here += PIECE if position > here else -PIECE
+            move_of("goto", self._session.go(here))
+            self.tells(here, self._debuggee.length)
+        self._interrupts.check()
+        return self._session.go(position)
+
+    def _paused(self, stood: Sequence[Listed]) -> Stop:
+        """Stopped since a pause came."""
+        position = self._session.stands().position
+        if position == self._debuggee.position:
+            return Stop("pause", f"at {position}")
+        reply = self._session.ask("info position")
+        self._session.printer.reply("info position", Reply(reply), "")
+        self._session.arrive(position, (), stood)
+        return Stop("pause", f"at {position}")
 
     def _bound(self, forwards: bool, target: Optional[int]) -> Optional[int]:
         """The position behind which a move doesn't go, whatever hits there."""
@@ -117,6 +194,6 @@ class Moves:
         return why
 
 
-def told(wrong: Sequence[Wrong]) -> str:
+def told(wrong: Sequence[Failure]) -> str:
     """What went wrong, each in its sentence."""
     return "; ".join(f"{one.sort}: {one.says}" for one in wrong)

@@ -1,15 +1,17 @@
 """Editors are served over the standard streams, or one after the other at a port of the loopback."""
 
+import os
 import socket
 import sys
 from contextlib import ExitStack, suppress
-from threading import Timer
+from threading import Timer, current_thread, main_thread
 from typing import BinaryIO
 
 from netrev_words.plain import plain
 
 from .adapter import Adapter
 from .admission import NAMED_BY, Admission, NoToken, token_for_a_port
+from .hearing import Hearing, Reading, Source
 from .messages import Malformed, Wire
 
 LOOPBACK = "127.0.0.1"
@@ -19,8 +21,9 @@ IN_TIME = 10.0  # seconds in which an editor at the port has to be launched: nob
 
 def serve(reader: BinaryIO, writer: BinaryIO, program: str, admission: Admission) -> int:
     """Serves one editor; the exit status."""
+    wire = Wire(reader, writer)
     try:
-        Adapter(Wire(reader, writer), program, admission).serve()
+        Adapter(wire, source_of(wire), program, admission).serve()
     except Malformed as wrong:
         print(f"nrdb --dap: {plain(str(wrong))}", file=sys.stderr)
         return FAILED
@@ -29,9 +32,19 @@ def serve(reader: BinaryIO, writer: BinaryIO, program: str, admission: Admission
     return DONE
 
 
+def source_of(wire: Wire) -> Source:
+    """Where the requests come from: a thread, which the main one can be stopped by, and no other."""
+    if current_thread() is main_thread():
+        return Hearing(wire)
+    return Reading(wire)
+
+
 def serve_streams(program: str) -> int:
     """Serves an editor over standard input and output; the exit status."""
-    return serve(sys.stdin.buffer, sys.stdout.buffer, program, Admission())
+    reader = open(
+        os.dup(sys.stdin.fileno()), "rb"
+    )  # (a thread may still read from it at the end, which sys.stdin's own doesn't bear)
+    return serve(reader, sys.stdout.buffer, program, Admission())
 
 
 def serve_port(program: str, port: int) -> int:
@@ -69,11 +82,17 @@ def serve_connection(connection: socket.socket, program: str, admission: Admissi
         opened.callback(late.cancel)
         reader = opened.enter_context(connection.makefile("rb"))
         writer = opened.enter_context(connection.makefile("wb"))
+        opened.callback(hang_up, connection)  # so that nobody reads any more when the streams are closed
         serve(reader, writer, program, admission)
 
 
 def end_stranger(connection: socket.socket, admission: Admission) -> None:
     """Ends a connection whose editor hasn't been let in."""
     if not admission.is_given:
-        with suppress(OSError):
-            connection.shutdown(socket.SHUT_RDWR)
+        hang_up(connection)
+
+
+def hang_up(connection: socket.socket) -> None:
+    """Ends a connection, whoever reads from it."""
+    with suppress(OSError):
+        connection.shutdown(socket.SHUT_RDWR)

@@ -3,6 +3,7 @@ Misused says what is wrong with them."""
 
 import re
 from fnmatch import fnmatchcase
+from typing import Iterator
 
 from netrev_words.vocabulary import CELLS, KINDS, REASONS, Of, cell_of, number_of
 
@@ -15,6 +16,7 @@ from ..holders import holders_table
 from ..output import Row, Table
 from ..places import descriptors_table, sockets_table, timers_table
 from .answers_of_program import OF_FRAMES, OF_PLACES, of_place, stack_at
+from .saving import answer_save
 from ..recorded_answers import spelled
 from ..reducing import answer_reduce, answer_report
 from ..session import Answering, Misused, Session
@@ -52,22 +54,29 @@ def taken_cell(name: str, words: list[str]) -> tuple[str, list[str]]:
 def answer_help(session: Session, words: list[str]) -> None:
     if not words:
         return session.printer.note("\n".join(all_help()))
-    word = " ".join(words)
+    told = list(help_of(words))
+    if not told:
+        raise Misused(f"{' '.join(words)} is no command, kind or cell; help alone lists them")
+    session.printer.note("\n".join(told))
+
+
+def help_of(words: list[str]) -> Iterator[str]:
+    """What a word means: as a command, as a kind of step, as a cell, as a reason's number; nothing where it means nothing."""
+    word, name = " ".join(words), whole_command(words[0])
     reason = number_of(word)
+    is_other = word in KINDS or word in CELLS
+    if name in COMMANDS and (not is_other or word == name):
+        short = f" (short: {', '.join(COMMANDS[name].short)})" if COMMANDS[name].short else ""
+        yield usage(name) + short
+    if name == "info" and not (is_other and word != name):
+        yield from (f"info {topic.usage}: {topic.says}" for topic in TOPICS.values())
     if word in KINDS:
-        return session.printer.note(f"step {KINDS[word].usage}: {KINDS[word].says}; it answers {spelled(word)}")
+        yield f"step {KINDS[word].usage}: {KINDS[word].says}; it answers {spelled(word)}"
     if word in CELLS:
         of = "" if CELLS[word].of is Of.ALL else f" of a {CELLS[word].of.value}"
-        return session.printer.note(f"cell {word}: {CELLS[word].says}{of}")
+        yield f"cell {word}: {CELLS[word].says}{of}"
     if reason is not None and reason < len(REASONS):
-        return session.printer.note(f"reason {reason}: {REASONS[reason]}")
-    name = whole_command(words[0])
-    if name not in COMMANDS:
-        raise Misused(f"{word} is no command, kind or cell; help alone lists them")
-    short = f" (short: {', '.join(COMMANDS[name].short)})" if COMMANDS[name].short else ""
-    session.printer.note(usage(name) + short)
-    if name == "info":
-        session.printer.note("\n".join(f"info {topic.usage}: {topic.says}" for topic in TOPICS.values()))
+        yield f"reason {reason}: {REASONS[reason]}"
 
 
 def all_help() -> list[str]:
@@ -225,6 +234,12 @@ def answer_source(session: Session, words: list[str]) -> bool:
         raise Misused(f"{words[0]}: {error.strerror}") from None
 
 
+def answer_pagination(session: Session, words: list[str]) -> None:
+    if words not in (["on"], ["off"]):
+        raise Misused(usage("pagination"))
+    session.printer.is_paged = words == ["on"]
+
+
 def answer_info(session: Session, words: list[str]) -> None:
     if not words:
         raise Misused(f"info what? {ALL_TOPICS}")
@@ -264,6 +279,8 @@ ANSWERS: dict[str, Answering] = {
     "report": answer_report,
     "explore": answer_explore,
     "source": answer_source,
+    "save": answer_save,
+    "pagination": answer_pagination,
     "info": answer_info,
     "break": OF_PLACES["break"],
     "tbreak": OF_PLACES["tbreak"],

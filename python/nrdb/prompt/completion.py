@@ -4,7 +4,7 @@ from typing import Callable
 
 from netrev_words.vocabulary import CELLS, DUMPS, KINDS, Of
 
-from ..commands import COMMANDS, DIRECTIONS, TOPICS, Ambiguous, whole_words
+from ..commands import COMMANDS, DIRECTIONS, PAGINATION, TOPICS, Ambiguous, whole_words
 
 NUMBERED_TOPICS = {"goroutines": Of.GOROUTINE, "sockets": Of.SOCKET, "descriptors": Of.DESCRIPTOR, "holders": Of.SOCKET}
 OF_CELL = ("print", "watch", "display", "undisplay", "history", "until", "reverse-until")
@@ -40,13 +40,15 @@ def candidates(before: list[str], numbers: Callable[[Of], list[str]]) -> list[st
             "dump": list(DUMPS),
             "info": list(TOPICS),
             "set": ["exec-direction"],
+            "save": ["breakpoints"],
+            PAGINATION: ["on", "off"],
             "delete": ["checkpoint"],
             "help": [*COMMANDS, *KINDS, *CELLS],
         }.get(first, [])
     if len(rest) == 1 and first == "dump":
         return numbers(Of.SOCKET)
     if len(rest) == 1 and first == "set":
-        return list(DIRECTIONS)
+        return ["on", "off"] if rest[0] == PAGINATION else list(DIRECTIONS)
     if len(rest) == 1 and first == "info" and rest[0] in NUMBERED_TOPICS:
         return numbers(NUMBERED_TOPICS[rest[0]])
     return []

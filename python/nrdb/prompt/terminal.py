@@ -1,15 +1,18 @@
 """The prompt: line editing, a history that is kept in a file, completion, and an empty line that repeats a step."""
 
 import os
+import sys
 from pathlib import Path
-from typing import Optional
+from typing import Optional, TextIO, cast
 
 from netrev_words.vocabulary import Of
 
 from ..commands import COMMANDS, Ambiguous, whole_words
 from .completion import candidates
+from .paging import Paged
 from ..interrupts import Interrupted
 from ..netrev import Ended
+from ..output import TextPrinter
 from ..session import Session
 from ..world import made_at
 
@@ -36,6 +39,7 @@ class Terminal:
 
     def __init__(self, session: Session):
         self.session = session
+        self._pager: Optional[Paged] = None
         self._last = ""
         self._found: list[str] = []
 
@@ -43,14 +47,24 @@ class Terminal:
         """Reads and answers lines until quit, or the end of the input."""
         self._load()
         self.session.printer.note(FIRST)
+        self._page()
         try:
             while self._turn():
                 pass
         finally:
             self._save()
 
+    def _page(self) -> None:
+        """Answers stop from now on where the screen is full, if the output is a terminal's that can stop."""
+        printer = self.session.printer
+        if isinstance(printer, TextPrinter) and printer.out.isatty() and os.environ.get("TERM") != "dumb":
+            self._pager = Paged(printer.out, sys.stdin.readline, lambda: printer.is_paged)
+            printer.out = cast(TextIO, self._pager)
+
     def _turn(self) -> bool:
         """Reads and answers one line. False where the session has ended."""
+        if self._pager is not None:
+            self._pager.begins()
         try:
             if self.session.attached.taking is not None:
                 return self.session.run(input(TAKING))

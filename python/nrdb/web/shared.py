@@ -13,7 +13,7 @@ from ..session import Answering, Misused, Session
 from ..shapes import Listed, Position, Refused
 
 OTHERS = "another front"
-WITH_FILES = ("source", "timeline", "trace", "reduce", "report", "explore", "frame", "up", "down")
+WITH_FILES = ("source", "save", "timeline", "trace", "reduce", "report", "explore", "frame", "up", "down")
 NO_FILES = "the page reads and writes no files: that is for nrdb's prompt"
 NO_LINES = "the page takes one line at a time: `commands` is for nrdb's prompt"
 NO_END = "the session goes on when you close the page; where nrdb runs, Ctrl-C ends it"

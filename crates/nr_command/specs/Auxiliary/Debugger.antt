@@ -1,4 +1,4 @@
--- Beside `Debugger`: what contracts and proofs cite, and no law of docs/THEOREM.md rests on.
+-- Beside `Debugger`: what contracts and proofs cite, and no law of THEOREM.md rests on.
 use Rattle.std.specs.Prelude.{ℕ, ◌≤◌, All, List}
 use Rattle.nr_rev.specs.Cell.{bytes_of, queue_of}
 use Rattle.nr_rev.specs.Run.{Recording, world_at}

@@ -1,4 +1,4 @@
--- Beside `Listing`: what contracts and proofs cite, and no law of docs/THEOREM.md rests on.
+-- Beside `Listing`: what contracts and proofs cite, and no law of THEOREM.md rests on.
 use Rattle.std.specs.Prelude.{ℕ, List, ◌++◌, flat_map, codes, decimal}
 use Rattle.nr_marks.specs.declared.mark.Mark.TheVariants as marks
 use Rattle.nr_command.specs.declared.listing.Listing.{Listing}

@@ -1,4 +1,4 @@
--- Beside `Value`: what contracts and proofs cite, and no law of docs/THEOREM.md rests on.
+-- Beside `Value`: what contracts and proofs cite, and no law of THEOREM.md rests on.
 use Rattle.std.specs.Prelude.{ℕ, List, decimal}
 use Rattle.nr_rev.specs.declared.cell.Cell.{Cell}
 use Rattle.nr_command.specs.declared.value.Piece.{Piece}

@@ -1,4 +1,4 @@
--- Beside `Word`: what contracts and proofs cite, and no law of docs/THEOREM.md rests on.
+-- Beside `Word`: what contracts and proofs cite, and no law of THEOREM.md rests on.
 use Rattle.std.specs.Prelude.{◌^◌, ◌<◌, IfSome, ⊤}
 use Rattle.nr_rev.specs.CellName.{cell_index}
 use Rattle.nr_marks.specs.declared.mark.Break.{Break}

@@ -1,4 +1,4 @@
--- Beside `Change`: what contracts and proofs cite, and no law of docs/THEOREM.md rests on.
+-- Beside `Change`: what contracts and proofs cite, and no law of THEOREM.md rests on.
 use Rattle.std.specs.Prelude.{ℕ, List, [], Option, Some, None, option_to_list}
 use Rattle.nr_rev.specs.declared.descriptor.Descriptor.{Descriptor}
 use Rattle.nr_rev.specs.declared.descriptor.WaitWord.{WaitWord}

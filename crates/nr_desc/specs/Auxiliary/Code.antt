@@ -1,4 +1,4 @@
--- Beside `Code`: what contracts and proofs cite, and no law of docs/THEOREM.md rests on.
+-- Beside `Code`: what contracts and proofs cite, and no law of THEOREM.md rests on.
 use Rattle.std.specs.Prelude.{◌≡◌, ℕ, ◌+◌, ◌-◌, ◌==◌, if◌then◌else◌}
 use Rattle.std.proofs.Common.{arith}
 use Rattle.std.proofs.lemmas.Bool.Decides.{nat_tests}

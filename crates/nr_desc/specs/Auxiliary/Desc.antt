@@ -1,4 +1,4 @@
--- Beside `Desc`: what contracts and proofs cite, and no law of docs/THEOREM.md rests on.
+-- Beside `Desc`: what contracts and proofs cite, and no law of THEOREM.md rests on.
 use Rattle.std.specs.Prelude.{ℕ}
 use Rattle.nr_rev.specs.declared.descriptor.Descriptor.{Descriptor}
 use Rattle.nr_desc.specs.Marks.{marks_number}

@@ -1,4 +1,4 @@
--- Beside `Op`: what contracts and proofs cite, and no law of docs/THEOREM.md rests on.
+-- Beside `Op`: what contracts and proofs cite, and no law of THEOREM.md rests on.
 use Rattle.std.specs.Prelude.{◌≡◌, ℕ, Option, Some, None, Ok, Err}
 use Rattle.nr_rev.specs.declared.descriptor.Descriptor.{Descriptor}
 use Rattle.nr_rev.specs.declared.refusal.Refusal.{Refusal}

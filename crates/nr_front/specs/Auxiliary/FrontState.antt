@@ -1,4 +1,4 @@
--- Beside `FrontState`: what contracts and proofs cite, and no law of docs/THEOREM.md rests on.
+-- Beside `FrontState`: what contracts and proofs cite, and no law of THEOREM.md rests on.
 use Rattle.std.specs.Prelude.{◌≡◌, ◌≢◌, ℕ, length, Option, Some, None}
 use Rattle.nr_rev.specs.Run.{Recording}
 use Rattle.nr_journal.specs.Pass.{Entered}

@@ -1,4 +1,4 @@
--- Beside `Replica`: what contracts and proofs cite, and no law of docs/THEOREM.md rests on.
+-- Beside `Replica`: what contracts and proofs cite, and no law of THEOREM.md rests on.
 use Rattle.std.specs.Prelude.{◌≡◌, ◌⊎◌, ℕ, true, if◌then◌else◌}
 use Rattle.nr_rev.specs.Run.{Recording}
 use Rattle.nr_walker.specs.Walk.{IsRefusedBy, Walk, route, walk_by}

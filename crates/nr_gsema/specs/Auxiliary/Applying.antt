@@ -1,4 +1,4 @@
--- Beside `Applying`: what contracts and proofs cite, and no law of docs/THEOREM.md rests on.
+-- Beside `Applying`: what contracts and proofs cite, and no law of THEOREM.md rests on.
 use Rattle.std.specs.Prelude.{◌≡◌, ◌≤◌, Result, Ok, Err}
 use Rattle.nr_rev.specs.declared.answer.Answer.{Answer}
 use Rattle.nr_rev.specs.declared.refusal.Refusal.{Refusal}

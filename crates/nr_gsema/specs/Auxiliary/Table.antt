@@ -1,4 +1,4 @@
--- Beside `Table`: what contracts and proofs cite, and no law of docs/THEOREM.md rests on.
+-- Beside `Table`: what contracts and proofs cite, and no law of THEOREM.md rests on.
 use Rattle.std.specs.Prelude.{ℕ, List, [], ◌∷◌, ◌-◌, length, slice_get, slice_set, Option, Some, None, option_map, if◌then◌else◌, ◌==◌}
 use Rattle.nr_rev.specs.declared.sides.Side.{Side}
 use Rattle.nr_rev.specs.declared.sides.Sides.{Sides}

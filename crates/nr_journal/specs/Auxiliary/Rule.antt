@@ -1,4 +1,4 @@
--- Beside `Rule`: what contracts and proofs cite, and no law of docs/THEOREM.md rests on.
+-- Beside `Rule`: what contracts and proofs cite, and no law of THEOREM.md rests on.
 use Rattle.std.specs.Prelude.{◌≡◌, ℕ, ◌+◌, ◌%◌, ◌<◌, ◌≤◌, if◌then◌else◌, List, [], ◌∷◌, ◌++◌, length, replicate}
 use Rattle.std.specs.List.{All}
 use Rattle.std.specs.Int.{bit_at}

@@ -1,4 +1,4 @@
--- Beside `Engine`: what contracts and proofs cite, and no law of docs/THEOREM.md rests on.
+-- Beside `Engine`: what contracts and proofs cite, and no law of THEOREM.md rests on.
 use Rattle.std.specs.Prelude.{◌≡◌, ℕ, ◌<◌, ◌≤◌, nat_lt, Bool, true, false, List, [], ◌∷◌, ◌++◌, length, take, filter, Result, Ok, Err}
 use Rattle.std.specs.List.{All, concat}
 use Rattle.nr_text.specs.Moments.{Moment}

@@ -1,4 +1,4 @@
--- Beside `Turn`: what contracts and proofs cite, and no law of docs/THEOREM.md rests on.
+-- Beside `Turn`: what contracts and proofs cite, and no law of THEOREM.md rests on.
 use Rattle.std.specs.Prelude.{◌≡◌, ℕ, ◌+◌, ◌<◌, nat_lt, List, length, take, Option, Some, None, Result, Ok, Err, if◌then◌else◌}
 use Rattle.nr_command.specs.Command.{meaning_of}
 use Rattle.nr_text.specs.Streams.{Outgoing, Sends, saturating_count}

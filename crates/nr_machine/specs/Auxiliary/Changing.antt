@@ -1,4 +1,4 @@
--- Beside `Changing`: what contracts and proofs cite, and no law of docs/THEOREM.md rests on.
+-- Beside `Changing`: what contracts and proofs cite, and no law of THEOREM.md rests on.
 use Rattle.std.specs.Prelude.{◌≡◌, ℕ, ◌+◌, ◌-◌, ◌^◌, ◌<◌, ◌≤◌, true, length, slice_get, slice_set, Option, Some, None, Result}
 use Rattle.nr_rev.specs.declared.descriptor.Descriptor.{Descriptor}
 use Rattle.nr_rev.specs.declared.lock.Lock.{Lock}

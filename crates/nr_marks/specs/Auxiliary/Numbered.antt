@@ -1,4 +1,4 @@
--- Beside `Numbered`: what contracts and proofs cite, and no law of docs/THEOREM.md rests on.
+-- Beside `Numbered`: what contracts and proofs cite, and no law of THEOREM.md rests on.
 use Rattle.std.specs.Prelude.{ℕ, ◌<◌, ◌≤◌, List, [], ◌∷◌, map, Option, Some, None, if◌then◌else◌}
 use Rattle.nr_marks.specs.declared.numbered.Numbered.{Numbered}
 use Rattle.nr_marks.specs.Numbered.{NumberedItems, is_full, newest}

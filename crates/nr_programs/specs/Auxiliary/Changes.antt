@@ -1,4 +1,4 @@
--- Beside `Changes`: what contracts and proofs cite, and no law of docs/THEOREM.md rests on.
+-- Beside `Changes`: what contracts and proofs cite, and no law of THEOREM.md rests on.
 use Rattle.std.specs.Prelude.{◌≡◌, ℕ, ◌+◌, List, ◌++◌, map, slice_get, Some, None}
 use Rattle.nr_rev.specs.Run.{next_of}
 use Rattle.nr_rev.specs.Step.{outcome}

@@ -1,4 +1,4 @@
--- Beside `Run`: what contracts and proofs cite, and no law of docs/THEOREM.md rests on.
+-- Beside `Run`: what contracts and proofs cite, and no law of THEOREM.md rests on.
 use Rattle.std.specs.Prelude.{◌≡◌, ◌⊎◌, ℕ, List, Result, Ok, Err}
 use Rattle.atomic_table.specs.Seated.{TableId}
 use Rattle.nr_rev.specs.Run.{Recording}

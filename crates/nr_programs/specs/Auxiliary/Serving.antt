@@ -1,4 +1,4 @@
--- Beside `Serving`: what contracts and proofs cite, and no law of docs/THEOREM.md rests on.
+-- Beside `Serving`: what contracts and proofs cite, and no law of THEOREM.md rests on.
 use Rattle.std.specs.Prelude.{Result, Ok, Err}
 use Rattle.nr_text.specs.Streams.{Outgoing}
 use Rattle.nr_recording.specs.Faults.{memory_line}

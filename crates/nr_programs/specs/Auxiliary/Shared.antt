@@ -1,4 +1,4 @@
--- Beside `Shared`: what contracts and proofs cite, and no law of docs/THEOREM.md rests on.
+-- Beside `Shared`: what contracts and proofs cite, and no law of THEOREM.md rests on.
 use Rattle.std.specs.Prelude.{ℕ, List, [], ◌∷◌, ◌++◌, drop, if◌then◌else◌}
 use Rattle.nr_rev.specs.Run.{Recording}
 use Rattle.nr_command.specs.Command.{meaning_of}

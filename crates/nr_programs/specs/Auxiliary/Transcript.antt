@@ -1,4 +1,4 @@
--- Beside `Transcript`: what contracts and proofs cite, and no law of docs/THEOREM.md rests on.
+-- Beside `Transcript`: what contracts and proofs cite, and no law of THEOREM.md rests on.
 use Rattle.std.specs.Prelude.{ℕ, true, List, []}
 use Rattle.nr_programs.specs.Transcript.{transcript_by}
 

@@ -1,4 +1,4 @@
--- Beside `Answer`: what contracts and proofs cite, and no law of docs/THEOREM.md rests on.
+-- Beside `Answer`: what contracts and proofs cite, and no law of THEOREM.md rests on.
 use Rattle.std.specs.Prelude.{◌≡◌, ℕ, ◌<◌, ◌^◌, List, codes, ⊤}
 use Rattle.serde_json.specs.Data.{Data, number, unsigned, string, array, no_items, item}
 use Rattle.nr_rev.specs.declared.answer.Answer.{Answer}

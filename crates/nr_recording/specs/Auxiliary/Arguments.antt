@@ -1,4 +1,4 @@
--- Beside `Arguments`: what contracts and proofs cite, and no law of docs/THEOREM.md rests on.
+-- Beside `Arguments`: what contracts and proofs cite, and no law of THEOREM.md rests on.
 use Rattle.std.specs.Prelude.{ℕ, ◌%◌, ◌==◌, List, length, Bool, false, not, ◌&&◌, Result, Ok, Err, nat_lt}
 use Rattle.std.specs.Option.{option_map_or}
 use Rattle.serde_json.specs.Data.{Data, Items, no_items, item}

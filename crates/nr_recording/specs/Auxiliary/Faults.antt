@@ -1,4 +1,4 @@
--- Beside `Faults`: what contracts and proofs cite, and no law of docs/THEOREM.md rests on.
+-- Beside `Faults`: what contracts and proofs cite, and no law of THEOREM.md rests on.
 use Rattle.nr_rev.specs.Refusing.{refused_memory}
 use Rattle.std.specs.Prelude.{◌≡◌, Result, Ok, Err}
 use Rattle.hex.specs.declared.error.FromHexError.{FromHexError}

@@ -1,4 +1,4 @@
--- Beside `Reading`: what contracts and proofs cite, and no law of docs/THEOREM.md rests on.
+-- Beside `Reading`: what contracts and proofs cite, and no law of THEOREM.md rests on.
 use Rattle.std.specs.Prelude.{◌≡◌, ℕ, ◌==◌, ◌≤◌, true, false, List, [], length, Bool, not, ◌&&◌, ◌||◌, Option, Some, None, Result, Ok, Err, IfSome, is_ok, nat_lt}
 use Rattle.std.specs.List.{list_any}
 use Rattle.serde_json.specs.Data.{Data}

@@ -1,4 +1,4 @@
--- Beside `Recording`: what contracts and proofs cite, and no law of docs/THEOREM.md rests on.
+-- Beside `Recording`: what contracts and proofs cite, and no law of THEOREM.md rests on.
 use Rattle.std.specs.Prelude.{◌≡◌, ◌≤◌, ◌==◌, pos, int_le, List, length, Bool, true, not, ◌&&◌, nat_lt, nat_le, if◌then◌else◌, Result, Ok, Err}
 use Rattle.std.specs.List.{list_all}
 use Rattle.nr_rev.specs.Kind.{kind_of}

@@ -1,4 +1,4 @@
--- Beside `Spelling`: what contracts and proofs cite, and no law of docs/THEOREM.md rests on.
+-- Beside `Spelling`: what contracts and proofs cite, and no law of THEOREM.md rests on.
 use Rattle.std.specs.Prelude.{◌≡◌, ℕ, ◌<◌, ◌^◌, ℤ, pos, negsuc, Bool, true, false, List, [], ◌∷◌, slice_index, codes, ⊤}
 use Rattle.hex.specs.Hex.{encode_lower}
 use Rattle.serde_json.specs.Data.{Data, number, unsigned, string, array, no_items, item, Items}

@@ -1,4 +1,4 @@
--- Beside `Steps`: what contracts and proofs cite, and no law of docs/THEOREM.md rests on.
+-- Beside `Steps`: what contracts and proofs cite, and no law of THEOREM.md rests on.
 use Rattle.std.specs.Prelude.{ℕ, List, [], ◌∷◌, ◌++◌, Bool, false, Option, Some, None, option_and_then}
 use Rattle.std.specs.Option.{option_map_or}
 use Rattle.serde_json.specs.Data.{Data, Items}

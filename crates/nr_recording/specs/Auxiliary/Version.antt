@@ -1,4 +1,4 @@
--- Beside `Version`: what contracts and proofs cite, and no law of docs/THEOREM.md rests on.
+-- Beside `Version`: what contracts and proofs cite, and no law of THEOREM.md rests on.
 use Rattle.std.specs.Prelude.{ℕ, Bool, true, false, Option, Some, None}
 use Rattle.nr_rev.specs.declared.answer.Answer.{Answer}
 use Rattle.nr_recording.specs.declared.version.Version.{Version}

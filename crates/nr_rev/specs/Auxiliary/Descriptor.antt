@@ -1,4 +1,4 @@
--- Beside `Descriptor`: what contracts and proofs cite, and no law of docs/THEOREM.md rests on.
+-- Beside `Descriptor`: what contracts and proofs cite, and no law of THEOREM.md rests on.
 use Rattle.std.specs.Prelude.{Result, Ok}
 use Rattle.nr_rev.specs.declared.sides.Side.TheVariants.{Read, Write}
 use Rattle.nr_rev.specs.declared.refusal.Refusal.{Refusal}

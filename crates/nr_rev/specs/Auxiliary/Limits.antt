@@ -1,4 +1,4 @@
--- Beside `Limits`: what contracts and proofs cite, and no law of docs/THEOREM.md rests on.
+-- Beside `Limits`: what contracts and proofs cite, and no law of THEOREM.md rests on.
 use Rattle.std.specs.Prelude.{Bool, ◌&&◌}
 use Rattle.nr_rev.specs.declared.limits.TheConstants.{MOST_GOROUTINES, MOST_SOCKETS, MOST_DESCRIPTORS, MOST_BUFFER}
 use Rattle.nr_rev.specs.declared.limits.Limits.{Limits}

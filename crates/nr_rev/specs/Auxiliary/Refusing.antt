@@ -1,4 +1,4 @@
--- Beside `Refusing`: what contracts and proofs cite, and no law of docs/THEOREM.md rests on.
+-- Beside `Refusing`: what contracts and proofs cite, and no law of THEOREM.md rests on.
 use Rattle.std.specs.Prelude.{◌≡◌, Result, Ok, Err}
 
 -- a value or a reason that was given, the value seen so, is what the definition gives

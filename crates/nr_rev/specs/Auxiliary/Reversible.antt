@@ -1,4 +1,4 @@
--- Beside `Reversible`: what contracts and proofs cite, and no law of docs/THEOREM.md rests on.
+-- Beside `Reversible`: what contracts and proofs cite, and no law of THEOREM.md rests on.
 use Rattle.std.specs.Prelude.{◌≡◌, ℕ, ◌+◌, ◌/◌, ◌≤◌, Bool, true}
 
 -- a delta weighs at most what its operation is allowed, and one word more for each eight bytes,

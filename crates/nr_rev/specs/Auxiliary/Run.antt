@@ -1,4 +1,4 @@
--- Beside `Run`: what contracts and proofs cite, and no law of docs/THEOREM.md rests on.
+-- Beside `Run`: what contracts and proofs cite, and no law of THEOREM.md rests on.
 use Rattle.std.specs.Prelude.{◌≡◌, ℕ, slice_get, Some, Err, IsOk}
 use Rattle.nr_rev.specs.declared.refusal.Refusal.{Refusal}
 use Rattle.nr_rev.specs.declared.step.Step.{Step}

@@ -1,4 +1,4 @@
--- Beside `Step`: what contracts and proofs cite, and no law of docs/THEOREM.md rests on.
+-- Beside `Step`: what contracts and proofs cite, and no law of THEOREM.md rests on.
 use Rattle.std.specs.Prelude.{◌≡◌, Ok}
 use Rattle.nr_rev.specs.declared.answer.Answer.{Answer}
 use Rattle.nr_rev.specs.declared.step.Step.{Step}

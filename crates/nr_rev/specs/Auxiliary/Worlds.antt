@@ -1,4 +1,4 @@
--- Beside `Worlds`: what contracts and proofs cite, and no law of docs/THEOREM.md rests on.
+-- Beside `Worlds`: what contracts and proofs cite, and no law of THEOREM.md rests on.
 use Rattle.std.specs.Prelude.{◌<◌, List, length, Option, Some, None}
 
 -- there is a list, and it isn't empty

@@ -1,4 +1,4 @@
--- Beside `Nearest`: what contracts and proofs cite, and no law of docs/THEOREM.md rests on.
+-- Beside `Nearest`: what contracts and proofs cite, and no law of THEOREM.md rests on.
 use Rattle.std.specs.Prelude.{◌≡◌, ℕ, ◌<◌, ◌≤◌, List, [], length}
 use Rattle.nr_marks.specs.Auxiliary.Numbered.{RisesWithin}
 use Rattle.nr_search.specs.declared.direction.Direction.{Direction}

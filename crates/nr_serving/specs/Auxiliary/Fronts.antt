@@ -1,4 +1,4 @@
--- Beside `Fronts`: what contracts and proofs cite, and no law of docs/THEOREM.md rests on.
+-- Beside `Fronts`: what contracts and proofs cite, and no law of THEOREM.md rests on.
 use Rattle.std.specs.Prelude.{◌≡◌, ℕ, List, [], ◌∷◌, ◌++◌, Option}
 use Rattle.atomic_table.specs.Seated.{TableId}
 use Rattle.nr_text.specs.Auxiliary.Streams.{unread, unwritten}

@@ -1,4 +1,4 @@
--- Beside `Session`: what contracts and proofs cite, and no law of docs/THEOREM.md rests on.
+-- Beside `Session`: what contracts and proofs cite, and no law of THEOREM.md rests on.
 use Rattle.std.specs.Prelude.{◌≡◌, ℕ, Bool, List, Option, Some, None, Result, Ok, Err}
 use Rattle.std.specs.List.{list_any}
 use Rattle.std.specs.Global.{Vec}

@@ -1,4 +1,4 @@
--- Beside `Answers`: what contracts and proofs cite, and no law of docs/THEOREM.md rests on.
+-- Beside `Answers`: what contracts and proofs cite, and no law of THEOREM.md rests on.
 use Rattle.std.specs.Prelude.{List, [], ◌∷◌}
 use Rattle.nr_recording.specs.Recording.{Recorded}
 use Rattle.nr_recording.specs.declared.recording.RecordedStep.{RecordedStep}

@@ -1,4 +1,4 @@
--- Beside `Fault`: what contracts and proofs cite, and no law of docs/THEOREM.md rests on.
+-- Beside `Fault`: what contracts and proofs cite, and no law of THEOREM.md rests on.
 use Rattle.nr_recording.specs.Recording.{Recorded}
 use Rattle.nr_snaps.specs.declared.fault.LoadFault.{LoadFault}
 use Rattle.nr_snaps.specs.declared.fault.LoadFault.TheVariants as fault

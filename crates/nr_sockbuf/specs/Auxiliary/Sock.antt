@@ -1,4 +1,4 @@
--- Beside `Sock`: what contracts and proofs cite, and no law of docs/THEOREM.md rests on.
+-- Beside `Sock`: what contracts and proofs cite, and no law of THEOREM.md rests on.
 use Rattle.std.specs.Prelude.{ℕ, Bool, true, false, List, [], Option, Some, None}
 use Rattle.nr_rev.specs.declared.sides.Side.{Side}
 use Rattle.nr_rev.specs.Sides.{of_side, with_side}

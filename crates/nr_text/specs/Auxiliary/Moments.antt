@@ -1,4 +1,4 @@
--- Beside `Moments`: what contracts and proofs cite, and no law of docs/THEOREM.md rests on.
+-- Beside `Moments`: what contracts and proofs cite, and no law of THEOREM.md rests on.
 use Rattle.std.specs.Prelude.{◌≡◌, ℕ, List, refl}
 use Rattle.std.specs.Coded.{Coded, code_by, coded×, coded_ℕ, coded_list}
 use Rattle.nr_text.specs.Moments.{Moment}

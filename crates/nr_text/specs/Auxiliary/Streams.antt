@@ -1,4 +1,4 @@
--- Beside `Streams`: what contracts and proofs cite, and no law of docs/THEOREM.md rests on.
+-- Beside `Streams`: what contracts and proofs cite, and no law of THEOREM.md rests on.
 use Rattle.std.specs.Prelude.{◌≡◌, ℕ, ◌<◌, ◌≤◌, true, false, List, [], length, take, Option, Result, Ok, Err}
 use Rattle.std.specs.List.{All}
 use Rattle.nr_text.specs.Moments.{Moment}

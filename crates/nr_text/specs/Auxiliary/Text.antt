@@ -1,4 +1,4 @@
--- Beside `Text`: what contracts and proofs cite, and no law of docs/THEOREM.md rests on.
+-- Beside `Text`: what contracts and proofs cite, and no law of THEOREM.md rests on.
 use Rattle.std.specs.Prelude.{ℕ, List, [], ◌∷◌, ◌++◌, flat_map, decimal}
 use Rattle.std.specs.Fmt.{signed_decimal}
 use Rattle.nr_text.specs.declared.token.Token.{Token}

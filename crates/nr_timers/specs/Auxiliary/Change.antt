@@ -1,4 +1,4 @@
--- Beside `Change`: what contracts and proofs cite, and no law of docs/THEOREM.md rests on.
+-- Beside `Change`: what contracts and proofs cite, and no law of THEOREM.md rests on.
 use Rattle.std.specs.Prelude.{◌≡◌, ◌⊎◌, ℕ, ◌<◌, ◌-◌, List, [], ◌∷◌, ◌++◌, length, take}
 use Rattle.std.specs.List.{swap}
 use Rattle.nr_rev.specs.declared.timer.Entry.{Entry}

@@ -1,4 +1,4 @@
--- Beside `Index`: what contracts and proofs cite, and no law of docs/THEOREM.md rests on.
+-- Beside `Index`: what contracts and proofs cite, and no law of THEOREM.md rests on.
 use Rattle.std.specs.Prelude.{◌≡◌, ℕ, zero, suc, ◌+◌, ◌-◌, ◌<◌, ◌≤◌, List, length, slice_index_or, sum_by}
 use Rattle.nr_rev.specs.declared.timer.Entry.{Entry}
 use Rattle.nr_timers.specs.Order.{at, AllBelow}

@@ -1,4 +1,4 @@
--- Beside `Line`: what contracts and proofs cite, and no law of docs/THEOREM.md rests on.
+-- Beside `Line`: what contracts and proofs cite, and no law of THEOREM.md rests on.
 use Rattle.std.specs.Prelude.{◌≡◌, ◌⊎◌, ℕ, zero, suc, ◌<◌, false, List, length}
 use Rattle.std.specs.List.{swap}
 use Rattle.nr_rev.specs.declared.timer.Entry.{Entry}

@@ -1,4 +1,4 @@
--- Beside `Step`: what contracts and proofs cite, and no law of docs/THEOREM.md rests on.
+-- Beside `Step`: what contracts and proofs cite, and no law of THEOREM.md rests on.
 use Rattle.std.specs.Prelude.{◌^◌, ◌-◌, ◌*◌, nat_lt, int_le, length, if◌then◌else◌, Option, Some, None}
 use Rattle.nr_rev.specs.declared.refusal.Refusal.{Refusal}
 use Rattle.nr_rev.specs.declared.refusal.Refusal.TheVariants.{NoSuchDescriptor, NoTimerDue, FiringsFull, NoSuchFiring, LastNumber}

@@ -1,4 +1,4 @@
--- Beside `TimersOf`: what contracts and proofs cite, and no law of docs/THEOREM.md rests on.
+-- Beside `TimersOf`: what contracts and proofs cite, and no law of THEOREM.md rests on.
 use Rattle.std.specs.Prelude.{◌≡◌, ℕ, List, slice_index_or, Option, None}
 use Rattle.nr_rev.specs.declared.sides.Sides.{Sides}
 use Rattle.nr_rev.specs.declared.timer.Entry.{Entry}

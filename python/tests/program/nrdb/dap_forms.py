@@ -15,7 +15,7 @@ BREAKPOINT = {
 }  # fmt: skip
 VARIABLE = {
     "name": str, "value": str, "type?": str, "evaluateName?": str, "variablesReference": int,
-    "namedVariables?": int, "indexedVariables?": int,
+    "namedVariables?": int, "indexedVariables?": int, "memoryReference?": str,
 }  # fmt: skip
 FRAME = {
     "id": int, "name": str, "source?": SOURCE, "line": int, "column": int, "presentationHint?": str,
@@ -24,7 +24,8 @@ SCOPE = {"name": str, "presentationHint?": str, "variablesReference": int, "expe
 FILTER = {"filter": str, "label": str, "description?": str, "default?": bool, "supportsCondition?": bool}
 CAPABILITIES = {
     "supportsConfigurationDoneRequest?": bool, "supportsFunctionBreakpoints?": bool, "supportsConditionalBreakpoints?": bool,
-    "supportsDataBreakpoints?": bool, "supportsBreakpointLocationsRequest?": bool, "supportsExceptionInfoRequest?": bool,
+    "supportsHitConditionalBreakpoints?": bool, "supportsLogPoints?": bool, "supportsReadMemoryRequest?": bool,
+    "supportsCancelRequest?": bool, "supportsDataBreakpoints?": bool, "supportsBreakpointLocationsRequest?": bool, "supportsExceptionInfoRequest?": bool,
     "exceptionBreakpointFilters?": [FILTER], "supportsStepBack?": bool, "supportsGotoTargetsRequest?": bool,
     "supportsRestartRequest?": bool, "supportsTerminateRequest?": bool, "supportsEvaluateForHovers?": bool,
     "supportsCompletionsRequest?": bool, "completionTriggerCharacters?": [str],
@@ -33,7 +34,7 @@ BREAKPOINTS = {"breakpoints": [BREAKPOINT]}
 
 BODIES: dict[str, Form] = {
     "initialize": CAPABILITIES,
-    "launch": {}, "configurationDone": {}, "terminate": {}, "disconnect": {}, "restart": {},
+    "launch": {}, "attach": {}, "cancel": {}, "configurationDone": {}, "terminate": {}, "disconnect": {}, "restart": {},
     "continue": {"allThreadsContinued?": bool},
     "reverseContinue": {}, "stepIn": {}, "stepBack": {}, "next": {}, "stepOut": {}, "pause": {}, "goto": {},
     "gotoTargets": {"targets": [{"id": int, "label": str, "line": int, "column?": int}]},
@@ -48,13 +49,17 @@ BODIES: dict[str, Form] = {
     "stackTrace": {"stackFrames": [FRAME], "totalFrames?": int},
     "scopes": {"scopes": [SCOPE]},
     "variables": {"variables": [VARIABLE]},
-    "evaluate": {"result": str, "type?": str, "variablesReference": int},
+    "evaluate": {"result": str, "type?": str, "variablesReference": int, "memoryReference?": str},
+    "readMemory": {"address": str, "data?": str, "unreadableBytes?": int},
     "completions": {"targets": [{"label": str, "start?": int, "length?": int}]},
 }  # fmt: skip
 
 EVENTS: dict[str, Form] = {
     "initialized": {}, "terminated": {},
     "output": {"category?": str, "output": str},
+    "progressStart": {"progressId": str, "title": str, "requestId?": int, "cancellable?": bool, "message?": str, "percentage?": int},
+    "progressUpdate": {"progressId": str, "message?": str, "percentage?": int},
+    "progressEnd": {"progressId": str, "message?": str},
     "stopped": {
         "reason": str, "description?": str, "threadId?": int, "preserveFocusHint?": bool, "text?": str,
         "allThreadsStopped?": bool, "hitBreakpointIds?": [int],

@@ -23,7 +23,7 @@ FREE = 10  # above all that are given away
 ENDING = 10  # seconds
 
 
-class Wrong(Exception):
+class BrowserFailure(Exception):
     """The browser, or a script in a page, says that something went wrong."""
 
 
@@ -53,7 +53,7 @@ class Chromium:
         return self
 
     def __exit__(self, *_: object) -> None:
-        with suppress(Wrong, OSError):
+        with suppress(BrowserFailure, OSError):
             self("Browser.close")
         limit, has_ended = time.monotonic() + ENDING, False
         while not has_ended and time.monotonic() < limit:
@@ -80,7 +80,7 @@ class Chromium:
                 break
             self.events.append(message)
         if "error" in message:
-            raise Wrong(f"{method}: {message['error']}")
+            raise BrowserFailure(f"{method}: {message['error']}")
         result: Body = message["result"]
         return result
 
@@ -89,10 +89,10 @@ class Chromium:
         limit = time.monotonic() + PATIENCE
         while b"\0" not in self._rest:
             if not select.select([self._from], [], [], max(limit - time.monotonic(), 0))[0]:
-                raise Wrong(f"chromium said nothing for {PATIENCE} s")
+                raise BrowserFailure(f"chromium said nothing for {PATIENCE} s")
             came = os.read(self._from, 1 << 16)
             if not came:
-                raise Wrong("chromium has ended")
+                raise BrowserFailure("chromium has ended")
             self._rest += came
         said, _, self._rest = self._rest.partition(b"\0")
         message: Body = json.loads(said)
@@ -124,7 +124,7 @@ class Page:
         """What an expression in the page is worth."""
         said = self.does("Runtime.evaluate", expression=script, awaitPromise=True, returnByValue=True)
         if "exceptionDetails" in said:
-            raise Wrong(f"{script}: {said['exceptionDetails']}")
+            raise BrowserFailure(f"{script}: {said['exceptionDetails']}")
         return said["result"].get("value")
 
     def until(self, script: str) -> Any:
@@ -134,7 +134,7 @@ class Page:
             if found := self.value(script):
                 return found
             time.sleep(0.02)
-        raise Wrong(f"{script} didn't come true; the page says: {self.value('document.body.innerText')}")
+        raise BrowserFailure(f"{script} didn't come true; the page says: {self.value('document.body.innerText')}")
 
     def types(self, text: str) -> None:
         """Types into what has the keyboard, and then Enter."""

@@ -44,7 +44,7 @@ class Documents(unittest.TestCase):
     def test_calls_with_options_print_what_is_shown(self):
         count, here = 0, os.getcwd()
         self.addCleanup(os.chdir, here)
-        for page in [ROOT / "README.md", *sorted((ROOT / "docs").glob("*.md"))]:
+        for page in [ROOT / "README.md", *sorted((ROOT / "docs").rglob("*.md"))]:
             for words, lines in calls(page.read_text(encoding="utf-8")):
                 with self.subTest(page.name, words=words), tempfile.TemporaryDirectory() as folder:
                     os.chdir(folder)
@@ -57,7 +57,7 @@ class Documents(unittest.TestCase):
 
     def test_sessions_are_what_is_printed(self):
         count = 0
-        for page in [ROOT / "README.md", *sorted((ROOT / "docs").glob("*.md"))]:
+        for page in [ROOT / "README.md", *sorted((ROOT / "docs").rglob("*.md"))]:
             for recording, lines in sessions(page.read_text(encoding="utf-8")):
                 asked = [line[len(PROMPT) :] for line in lines if line.startswith(PROMPT)]
                 words = [word for line in asked for word in ("-ex", line)]
@@ -68,7 +68,7 @@ class Documents(unittest.TestCase):
         self.assertGreaterEqual(count, 12)
 
     def test_each_command_and_topic_has_its_row(self):
-        page = (ROOT / "docs/NRDB.md").read_text(encoding="utf-8")
+        page = (ROOT / "docs/use/NRDB.md").read_text(encoding="utf-8")
         for name in (
             *OF_NRDB,
             *(f"info {topic.usage.split()[0]}" for topic in TOPICS.values() if topic.origin is Origin.NRDB),
@@ -78,7 +78,7 @@ class Documents(unittest.TestCase):
 
     def test_refused_recordings_are_explained_as_is_shown(self):
         count = 0
-        for page in sorted((ROOT / "docs").glob("*.md")):
+        for page in sorted((ROOT / "docs").rglob("*.md")):
             for recording, lines in refusals(page.read_text(encoding="utf-8")):
                 with self.subTest(page.name, recording=recording):
                     said = nrdb("--batch", ROOT / recording, status=1).splitlines()

@@ -2,6 +2,7 @@
 and the man page."""
 
 import os
+import re
 import shutil
 import subprocess
 import sys
@@ -15,7 +16,8 @@ from .support import EXAMPLES, NETREV, PATIENCE, ROOT, nrdb
 ENVIRONMENT = {name: value for name, value in os.environ.items() if name not in ("NETREV", "MAKEFLAGS", "PYTHONPATH")}
 ASKED = ("--batch", "-ex", "continue", "-ex", "info goroutines", EXAMPLES / "first.jsonl")
 PROJECT = ("pyproject.toml", "python", "LICENSE", "README.md")
-INSTALLED = ("nrdb", "netrev_words", "netrev_machine", "netrev_calls", "netrev_go")
+INCLUDED = re.findall(r"^include = \[(.*)\]$", (ROOT / "pyproject.toml").read_text(encoding="utf-8"), re.MULTILINE)
+INSTALLED = tuple(re.findall(r'"(\w+)\*"', "".join(INCLUDED)))  # the one list of the packages that are installed
 
 
 def printed(*words: object, **settings: str) -> str:
@@ -56,6 +58,17 @@ class Install(unittest.TestCase):
         folder = tempfile.TemporaryDirectory()
         self.addCleanup(folder.cleanup)
         self.folder = Path(folder.name)
+
+    def test_what_is_installed_needs_nothing_that_is_not(self) -> None:
+        self.assertEqual(len(INCLUDED), 1)
+        self.assertLessEqual({"nrdb", "netrev_go"}, set(INSTALLED))
+        every = {path.name for path in (ROOT / "python").iterdir() if (path / "__init__.py").exists()}
+        self.assertLess(set(INSTALLED), every)
+        named = re.compile(r"^\s*(?:from|import) (\w+)", re.MULTILINE)
+        for name in INSTALLED:
+            for path in (ROOT / "python" / name).rglob("*.py"):
+                imported = set(named.findall(path.read_text(encoding="utf-8")))
+                self.assertEqual(imported & every - set(INSTALLED), set(), path)
 
     def test_what_make_installs_runs_by_itself(self) -> None:
         for prefix, settings in ((self.folder / "p", ()), (self.folder / "d/usr", (f"DESTDIR={self.folder}/d",))):

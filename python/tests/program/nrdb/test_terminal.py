@@ -1,10 +1,13 @@
 """The prompt, on a terminal of the system (a pty): line editing, the history, completion, repetition and Ctrl-C."""
 
+import fcntl
 import os
 import pty
 import select
 import signal
+import struct
 import tempfile
+import termios
 import time
 import unittest
 from pathlib import Path
@@ -200,6 +203,62 @@ class Terminal(unittest.TestCase):
                     break
             person.until(given_up)
             self.assertEqual(person.ends(), 3)
+
+    def slow(self):
+        """A netrev that takes its time to begin, and the file that it leaves when it has been started."""
+        program, begun = Path(self.home) / "slow", Path(self.home) / "begun"
+        program.write_text(
+            f'#!/bin/sh\n[ "$1" = run ] && [ ! -e {begun} ] && touch {begun} && sleep 3\nexec {NETREV} "$@"\n'
+        )
+        program.chmod(0o755)
+        return program, begun
+
+    def loading(self):
+        """Somebody at a recording that is still read."""
+        program, begun = self.slow()
+        begun.unlink(missing_ok=True)
+        person = Typist(EXAMPLES / "first.jsonl", self.home, program)
+        limit = time.monotonic() + PATIENCE
+        while not begun.exists() and time.monotonic() < limit:
+            time.sleep(0.05)
+        time.sleep(0.5)
+        person.type(INTERRUPT)
+        person.until("| netrev reads the recording still; Ctrl-C once more ends nrdb\n")
+        return person
+
+    def test_one_ctrl_c_while_a_recording_is_read_ends_nothing(self):
+        with self.loading() as person:
+            self.assertIn("at 0 of 10 forward\n", person.ask("info position"))
+            self.assertTrue(person.ask("stepi 2").startswith("at 2\n"))
+
+    def test_a_second_one_ends_it(self):
+        person = self.loading()
+        person.type(INTERRUPT)
+        person.until("| netrev didn't answer: the session is given up\n")
+        self.assertEqual(person.ends(), 3)
+        person.__exit__()
+
+    def test_long_lines_are_broken_between_words(self):
+        with Typist(EXAMPLES / "first.jsonl", self.home, COLUMNS="60") as person:
+            told = person.ask("help until").splitlines()
+            self.assertGreater(len(told), 2)
+            self.assertTrue(all(len(line) <= 60 for line in told), told)
+            self.assertTrue(all(line.startswith("|     ") for line in told[1:]), told)
+
+    def test_an_answer_waits_where_the_screen_is_full(self):
+        with Typist(EXAMPLES / "first.jsonl", self.home, TERM="xterm", NO_COLOR="1") as person:
+            fcntl.ioctl(person.terminal, termios.TIOCSWINSZ, struct.pack("HHHH", 20, 200, 0, 0))
+            more = "--return for more, q to leave out the rest, c to go on without stopping--"
+            person.type("help\r")
+            self.assertEqual(person.until(more).count("\n| "), 19)
+            person.type("\r")
+            person.until(more)
+            person.type("q\r")
+            person.until(PROMPT)
+            self.assertTrue(person.ask("info position").endswith("at 0 of 10 forward\n"))
+            person.ask("set pagination off")
+            person.type("help\r")
+            self.assertNotIn(more, person.until("| cells: ", more))
 
     def test_ctrl_c_stops_a_walk_and_keeps_the_session(self):
         recording = Path(self.home) / "long.jsonl"

@@ -5,7 +5,7 @@ use Rattle.nr_rev.specs.declared.descriptor.Descriptor.{Descriptor}
 use Rattle.nr_rev.specs.Descriptor.{deadline_from, with_deadlines}
 use Rattle.nr_rev.specs.Auxiliary.Descriptor.{both_follow}
 use Rattle.nr_plain.specs.Change.{change_view}
-use Rattle.nr_rev.proofs.TimerFollowsLemmas.{refused_by_following, set_by_following}
+use Rattle.nr_laws.proofs.TimerFollowsLemmas.{refused_by_following, set_by_following}
 use Rattle.nr_plain.proofs.change.change_by_deadline.Goals as goal
 
 pub returns-in_err-change : goal.returns-in_err-change

@@ -1,4 +1,4 @@
-use Rattle.nr_rev.proofs.StepKeepsLemmas.{step_keeps}
+use Rattle.nr_laws.proofs.StepKeepsLemmas.{step_keeps}
 use Rattle.nr_plain.specs.Plan.{after_edits}
 use Rattle.nr_plain.proofs.apply.PlainWorldReversible.apply.Goals as goal
 

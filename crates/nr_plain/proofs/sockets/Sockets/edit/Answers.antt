@@ -1,17 +1,11 @@
-use Rattle.std.proofs.Common.{true, refl, arith}
-use Rattle.std.proofs.lemmas.Option.{IfSome_then}
-use Rattle.std.specs.Prelude.{slice_get}
-use Rattle.nr_plain.specs.declared.socket_edit.SocketEdit.TheVariants as edit
-use Rattle.nr_plain.specs.declared.socket_edit.SocketUndo.TheVariants as undo
-use Rattle.nr_plain.proofs.ItemLemmas.{for_all}
-use Rattle.nr_plain.proofs.SocketEditLemmas.{edited, peer_opened}
+use Rattle.std.proofs.Common.{arith}
+use Rattle.nr_plain.proofs.SocketTableLemmas.{edited, room_of}
 use Rattle.nr_plain.proofs.sockets.Sockets.edit.Goals as goal
 
-pub returns-in-ClosePeer : goal.returns-in-ClosePeer
-returns-in-ClosePeer c =
-    let old = c.args.self.now in
-    let there = slice_get old.sockets c.args.socket in
-    rw c.in-ClosePeer.is
-    (edited c.args.socket edit.ClosePeer undo.OpenPeer old c.set_peer_closed.new.self (λ x. record x { peer_closed = true })
-    c.set_peer_closed.ensures (for_all there (λ x. refl))
-    (IfSome_then there (rw c.in-ClosePeer.is at c.requires) (λ x still. peer_opened old.queue_room old.byte_room x still)) (omega arith))
+pub returns : goal.returns
+returns c =
+    let t = c.self.inside in
+    let few = c.self.invariant.opened in
+    let room = room_of t.all.items c.args.socket c.index_mut.result.now c.self.invariant.roomed (omega arith) c.index_mut.ensures.value in
+    rw (← c.self.view_is)
+    (edited t.all.items t.opened c.args.socket few (omega arith) t.queue_room t.byte_room c.index_mut.result.now c.edit.new.self c.args.edit c.edit.result c.index_mut.ensures.value room c.edit.ensures)

@@ -1,4 +1,4 @@
-use Rattle.nr_rev.proofs.FreeNumberLemmas.{closable_has_room}
+use Rattle.nr_laws.proofs.FreeNumberLemmas.{closable_has_room}
 use Rattle.nr_plain.proofs.world.PlainWorld.closable_row_of.Goals as goal
 
 pub returns-clause-room : goal.returns-clause-room

@@ -1,0 +1,52 @@
+//! netrev's programs over lists: the oracle with whose output `make agree` compares netrev's, byte for byte.
+//!
+//! `netrev_plain run FILE`, `netrev_plain check FILE` and `netrev_plain upgrade FILE` do as netrev's do: by the same code, over the
+//! world of `nr_plain`.
+#![tactic(auto)]
+
+use nr_plain::PlainWorld;
+use nr_programs::{ExitStatus, check_bytes, run_bytes, upgrade_bytes};
+use nr_text::{Sink, Source};
+use std::process::ExitCode;
+use std::thread::Threads;
+use std::{env, fs, io};
+
+/// How the program is called.
+const USAGE: &str =
+    "usage: netrev_plain run FILE\n       netrev_plain check FILE\n       netrev_plain upgrade FILE\n";
+
+// Plays one of the programs over the bytes of its file, on the process's streams.
+fn play<H: Threads + Sync>(
+    rt: &HostRuntime,
+    handles: &H,
+    program: &str,
+    bytes: &[u8],
+) -> ExitStatus {
+    let alloc = rt.alloc();
+    let mut input = Source::new(rt.stdin());
+    let mut output = Sink::new(rt.stdout());
+    match program {
+        "run" => run_bytes::<PlainWorld, _, _, _>(handles, alloc, bytes, &mut input, &mut output),
+        "check" => check_bytes::<PlainWorld, _>(alloc, bytes, &mut output),
+        "upgrade" => upgrade_bytes::<PlainWorld, _>(alloc, bytes, &mut output),
+        _ => ExitStatus::Usage,
+    }
+}
+
+// Plays the program that the arguments ask for. What reads the arguments or the file may fail.
+fn play_asked<H: Threads + Sync>(rt: &HostRuntime, handles: &H) -> io::Result<ExitStatus> {
+    let words: Vec<String> = env::args(rt)?.collect(rt.alloc())?;
+    let [_, program, file] = words.as_slice() else {
+        return Ok(ExitStatus::Usage);
+    };
+    let bytes = fs::read(rt, file.as_str())?;
+    Ok(play(rt, handles, program.as_str(), bytes.as_slice()))
+}
+
+fn main(rt: HostRuntime) -> ExitCode {
+    let status = play_asked(&rt, &rt).unwrap_or(ExitStatus::StreamFailed);
+    if status == ExitStatus::Usage {
+        let _printed = eprint!(rt; "{USAGE}");
+    }
+    ExitCode::from(status)
+}

@@ -1,0 +1,35 @@
+//! The changes of a list, and making them.
+
+ghost use Rattle.std.specs.Prelude.{◌≡◌, ◌≤◌, length};
+ghost use Rattle.nr_plain.specs.ListEdit.{CanEditList, after_list_edit};
+
+use nr_rev::RoomedList;
+
+/// A change of a list.
+#[derive(Clone, Copy)]
+pub(crate) enum ListEdit<'a, T> {
+    /// Puts items at the end.
+    Extend(&'a [T]),
+    /// Puts items at the front.
+    ExtendFront(&'a [T]),
+    /// So many items leave the front, or all where there are fewer.
+    DropFront(usize),
+    /// So many items stay, or all where there are fewer.
+    Truncate(usize),
+}
+
+/// Makes the change of a list.
+pub(crate) fn edit_list<T: Copy + Drop>(list: &mut RoomedList<T>, edit: ListEdit<T>)
+    requires { CanEditList list.old.room edit list.old.items }
+    ensures after { list.new ≡ record list.old {
+      items = after_list_edit edit.entry list.old.items;
+    } }
+    ensures short { length list.old.items ≤ list.old.room }
+{
+    match edit {
+        ListEdit::Extend(items) => list.extend(items),
+        ListEdit::ExtendFront(items) => list.extend_front(items),
+        ListEdit::DropFront(count) => list.drop_front(count),
+        ListEdit::Truncate(count) => list.truncate(count),
+    }
+}

@@ -1,5 +1,0 @@
-use Rattle.nr_rev.proofs.AspectStepLemmas.{step_keeps_cell}
-use Rattle.nr_rev.proofs.laws.steps_change_their_aspects_alone.Goals as goal
-
-pub returns : goal.returns
-returns c = step_keeps_cell

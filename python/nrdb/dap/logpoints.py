@@ -1,0 +1,55 @@
+"""Breakpoints that tell a message where a move comes by, and stop nothing. They are nrdb's, and take no marks of netrev's: what stands in
+braces in a message is the cell's value there, as `netrev changes` has it."""
+
+from typing import Iterator, NamedTuple, Sequence
+
+from ..session import Session
+from .messages import Body
+from .wishes import HERE, IN_BRACES, Wish
+
+FIRST = 2_000_000  # the numbers of such breakpoints, above those of all others
+MOST = 1_000  # messages that a move tells
+
+
+class LogPoint(NamedTuple):
+    """A breakpoint that tells: its message, and the positions at which it does, rising."""
+
+    message: str
+    positions: list[int]
+
+
+class LogPoints:
+    """The breakpoints that tell which are set, by the file that they stand in."""
+
+    def __init__(self, session: Session):
+        self._session = session
+        self._of: dict[str, list[LogPoint]] = {}
+        self._given = FIRST
+
+    def clear(self, path: str) -> None:
+        """Takes those of a file away."""
+        self._of[path] = []
+
+    def set(self, path: str, positions: Sequence[int], wish: Wish) -> Body:
+        """Sets one that is reached at these positions; what the protocol says of it."""
+        self._given += 1
+        self._of.setdefault(path, []).append(LogPoint(wish.message, wish.stops(self._session, positions)))
+        return {"id": self._given, "verified": True}
+
+    def told(self, begun: int, ended: int) -> Iterator[str]:
+        """What a move tells that led from one position to another, in its order."""
+        low, high = (begun + 1, ended) if ended > begun else (ended, begun - 1)
+        every = (one for many in self._of.values() for one in many)
+        hits = [(position, one.message) for one in every for position in one.positions if low <= position <= high]
+        hits.sort(key=lambda hit: hit[0], reverse=ended < begun)
+        for position, message in hits[:MOST]:
+            yield f"at {position}: {self._filled(message, position)}"
+        if len(hits) > MOST:
+            yield f"and {len(hits) - MOST} messages more"
+
+    def _filled(self, message: str, position: int) -> str:
+        """A message with the values of what it names in braces."""
+        return IN_BRACES.sub(lambda found: self._value(found[1].strip(), position), message)
+
+    def _value(self, named: str, position: int) -> str:
+        return str(position) if named == HERE else self._session.changes().value(" ".join(named.split()), position)

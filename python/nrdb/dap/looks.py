@@ -1,0 +1,72 @@
+"""What is answered of the position at which the session stands: goroutines, stacks, variables, values, memory and completions."""
+
+from ..prompt.completion import candidates
+from . import memory
+from .looking import maker_of
+from .messages import Body, Request, Unanswerable
+from .numbering import Numbering
+from .target import Target
+
+FIXED = "a recording is what happened: no value in it can be changed"
+
+
+def threads(target: Target, _: Numbering, __: Request) -> Body:
+    """The goroutines."""
+    return {"threads": target.looks.threads()}
+
+
+def stack(target: Target, numbering: Numbering, request: Request) -> Body:
+    """The stack of one, or a part of it."""
+    frames = target.looks.frames(maker_of(request.whole_number("threadId")))
+    shown = page(request, frames, "startFrame", "levels")
+    placed = [frame | ({"line": numbering.to(frame["line"])} if frame["line"] else {}) for frame in shown]
+    return {"stackFrames": placed, "totalFrames": len(frames)}
+
+
+def scopes(target: Target, _: Numbering, request: Request) -> Body:
+    """What a frame has to do with."""
+    return {"scopes": target.looks.scopes(request.whole_number("frameId"))}
+
+
+def variables(target: Target, _: Numbering, request: Request) -> Body:
+    """The variables of a scope, or a part of them."""
+    found = target.looks.variables(request.whole_number("variablesReference"))
+    return {"variables": page(request, found, "start", "count")}
+
+
+def page(request: Request, rows: list[Body], first: str, count: str) -> list[Body]:
+    """The rows that are asked for: all where no number is given."""
+    begin, most = (request.arguments.get(name) or 0 for name in (first, count))
+    if not isinstance(begin, int) or not isinstance(most, int) or begin < 0 or most < 0:
+        raise Unanswerable(f"{first} and {count} are whole numbers")
+    return rows[begin : begin + most if most else None]
+
+
+def value(target: Target, text: str, context: object) -> Body:
+    """The value of a cell; under the pointer the meaning of a kind of step too."""
+    shown = (target.looks.meaning if context == "hover" else target.looks.value)(text)
+    if shown is None:
+        raise Unanswerable(f"{text} is no cell: one is spelled as in print, rg 0 or gor 3")
+    named = memory.reference_of(text) if text.split() else None
+    return {"result": shown, "variablesReference": 0} | ({"memoryReference": named} if named else {})
+
+
+def read_memory(target: Target, _: Numbering, request: Request) -> Body:
+    """The bytes in a buffer."""
+    return memory.read(target.debuggee.session.netrev, request)
+
+
+def completions(target: Target, numbering: Numbering, request: Request) -> Body:
+    """What a word in the console can be completed to."""
+    text, column = request.text("text"), request.whole_number("column")
+    typed = text[: max(column - numbering.first, 0)]
+    *before, last = typed.split(" ")
+    found = candidates([word for word in before if word], target.debuggee.numbers)
+    labels = sorted({one for one in found if one.startswith(last)})
+    start = len(typed) - len(last) + numbering.first
+    return {"targets": [{"label": one, "start": start, "length": len(last)} for one in labels]}
+
+
+def refuse_change(_: Target, __: Numbering, ___: Request) -> Body:
+    """No value is set."""
+    raise Unanswerable(FIXED)

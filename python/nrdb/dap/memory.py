@@ -1,0 +1,38 @@
+"""The bytes in a socket's buffers, as an editor reads memory: named by the cell that counts them, `in 0` or `out 0`."""
+
+import base64
+from typing import Optional
+
+from ..netrev import Netrev
+from .messages import Body, Request, Unanswerable
+
+BUFFERS = ("in", "out")
+
+
+def reference_of(cell: str) -> Optional[str]:
+    """The buffer that a cell counts the bytes of; None where it counts none."""
+    name, *number = cell.split()
+    return cell if name in BUFFERS and number else None
+
+
+def read(netrev: Netrev, request: Request) -> Body:
+    """The bytes that are asked for, of those in the buffer where the session stands. What isn't there can't be read."""
+    named = request.text("memoryReference")
+    begin, count = _offset(request), request.whole_number("count")
+    words = named.split()
+    if len(words) != 2 or words[0] not in BUFFERS or not words[1].isdecimal():
+        raise Unanswerable(f"{named} is no buffer: one is named as in 0 or out 0")
+    if count < 0:
+        raise Unanswerable("count is a whole number from 0")
+    (shown,) = netrev.looks([f"dump {words[0]} {int(words[1])}"])
+    if shown == "absent":
+        raise Unanswerable(f"{named} isn't there")
+    held = b"" if shown == "-" else bytes.fromhex(shown)
+    there = held[max(begin, 0) : max(begin + count, 0)] if begin >= 0 else b""
+    missing = count - len(there)
+    data: Body = {"data": base64.b64encode(there).decode("ascii")} if there else {}
+    return {"address": hex(max(begin, 0)), **data, **({"unreadableBytes": missing} if missing else {})}
+
+
+def _offset(request: Request) -> int:
+    return request.whole_number("offset") if "offset" in request.arguments else 0

@@ -1,0 +1,36 @@
+"""Where the files are that NAME.where names: below the folder of the program's source, and Go's own below that of Go."""
+
+import os
+from pathlib import Path
+from typing import NamedTuple, Optional
+
+SOURCES_OF_GO = "src"  # in the folder of a release of Go
+
+
+class Roots(NamedTuple):
+    """The folder that the program's files are named from, and where Go is, if that is known."""
+
+    program: Path
+    go: Optional[Path] = None
+
+    def path_of(self, file: str) -> Optional[Path]:
+        """Where a file is, as the recorder names it; None where it isn't here."""
+        return next((path for path in self._places(file) if os.path.isfile(path)), None)
+
+    def is_at(self, file: str, wanted: Path) -> bool:
+        """Whether a file, as the recorder names it, is the one of this path, which leads there whole."""
+        if any(whole(path) == wanted for path in self._places(file)):
+            return True
+        return self.go is None and str(wanted).endswith(f"/{SOURCES_OF_GO}/{file}")
+
+    def _places(self, file: str) -> list[Path]:
+        """Where a file may be."""
+        return [self.program / file, *([self.go / SOURCES_OF_GO / file] if self.go else [])]
+
+
+def whole(path: Path) -> Optional[Path]:
+    """A path without links; None where it is none, or leads in a circle."""
+    try:
+        return path.resolve()
+    except (OSError, RuntimeError, ValueError):
+        return None

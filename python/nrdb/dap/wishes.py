@@ -1,0 +1,144 @@
+"""What an editor wants of a breakpoint: what is marked, a condition, how often it has to be reached, and a message in place of a stop.
+All of it goes by the position, so it is the same whichever way a move goes."""
+
+import re
+from bisect import bisect_left
+from dataclasses import dataclass
+from fnmatch import fnmatchcase
+from typing import NamedTuple, Optional, Sequence
+
+from netrev_words.vocabulary import KINDS, cell_of
+
+from ..session import Session
+from .messages import Body
+
+HIT_COUNT = re.compile(r"(==?|>=?|<=?|%)?\s*(\d{1,9})")
+IN_BRACES = re.compile(r"\{([^{}]*)\}")
+HERE = "position"  # in braces, beside the cells
+
+
+class Unset(Exception):
+    """A breakpoint that can't be set: why."""
+
+
+class Condition(NamedTuple):
+    """A cell, and what its value or the value's words have to be; `*` is any text."""
+
+    cell: str
+    value: str
+
+    @classmethod
+    def of(cls, text: str) -> "Condition":
+        """The condition that a text spells, as `until` has it: gor 3 parked*, rg 0 = ready."""
+        words = [word for word in text.split() if word not in ("=", "==")]
+        for length in (2, 1):
+            if (cell := cell_of(words[:length])) and words[length:]:
+                return cls(cell, " ".join(words[length:]))
+        raise Unset(f"{text} is no condition: it is a cell with a value, as gor 3 parked* or rg 0 = ready")
+
+    def holds(self, session: Session) -> bool:
+        """Whether it holds where the session stands."""
+        return self.is_met(session, session.netrev.values([self.cell])[0])
+
+    def holds_at(self, session: Session, position: int) -> bool:
+        """Whether it holds at a position."""
+        return self.is_met(session, session.changes().value(self.cell, position))
+
+    def is_met(self, session: Session, value: str) -> bool:
+        """Whether the cell's value is what it has to be."""
+        return fnmatchcase(value, self.value) or fnmatchcase(session.words_of(self.cell, value), self.value)
+
+
+class HitCount(NamedTuple):
+    """The times that a breakpoint stops of those that it is reached, counted from the recording's start."""
+
+    relation: str
+    number: int
+
+    @classmethod
+    def of(cls, text: str) -> "HitCount":
+        """The times that a text spells: 3 or == 3, >= 3, < 3, and % 3 for each third."""
+        found = HIT_COUNT.fullmatch(text.strip())
+        if found is None or (found[1] == "%" and not int(found[2])):
+            raise Unset(f"{text} is no number of times: it is as 3, >= 3, < 3, or % 3 for each third")
+        return cls((found[1] or "=").replace("==", "="), int(found[2]))
+
+    def holds(self, count: int) -> bool:
+        """Whether it stops the time of that number, from 1."""
+        number = self.number
+        return {
+            "=": count == number, ">": count > number, ">=": count >= number, "<": count < number, "<=": count <= number,
+            "%": count % max(number, 1) == 0,
+        }[self.relation]  # fmt: skip
+
+
+@dataclass(frozen=True)
+class Wish:
+    """A breakpoint that is wanted: what is marked, as netrev's commands spell it or empty where the program's source says it, its
+    condition, the times that it stops, and the message that it tells in place of stopping."""
+
+    what: str
+    condition: Optional[Condition] = None
+    times: Optional[HitCount] = None
+    message: str = ""
+
+    def stops(self, session: Session, positions: Sequence[int]) -> list[int]:
+        """Those of the positions at which it is reached, rising, at which it stops, or tells its message."""
+        condition, times = self.condition, self.times
+        met = [one for one in positions if condition is None or condition.holds_at(session, one)]
+        return [one for count, one in enumerate(met, 1) if times is None or times.holds(count)]
+
+
+def positions_of(session: Session, what: str) -> list[int]:
+    """The positions at which a mark of netrev's is reached, rising."""
+    if what.startswith("@"):
+        return [int(what[1:]) - 1]
+    if what in KINDS:
+        return [step.number - 1 for step in session.text().steps_of((what,), session.length)]
+    return list(session.changes().steps_of(what))
+
+
+def is_in(rising: Sequence[int], position: int) -> bool:
+    """Whether a position is among these, which rise."""
+    at = bisect_left(rising, position)
+    return at < len(rising) and rising[at] == position
+
+
+def wish_of(what: str, asked: Body) -> "Wish | Unset":
+    """The wish for a mark, with the condition, the times and the message that the editor names, if it names them."""
+    condition, times, message = (_text_of(asked, name) for name in ("condition", "hitCondition", "logMessage"))
+    try:
+        for named in IN_BRACES.findall(message):
+            if named.strip() != HERE and cell_of(named.split()) is None:
+                raise Unset(f"{{{named}}} is no cell: a message has cells in braces, as {{rg 0}}, or {{{HERE}}}")
+        return Wish(
+            what, Condition.of(condition) if condition else None, HitCount.of(times) if times else None, message
+        )
+    except Unset as why:
+        return why
+
+
+def _text_of(asked: Body, name: str) -> str:
+    """What an editor names by that name; empty where that is nothing, or no text."""
+    value = asked.get(name)
+    return value if isinstance(value, str) and value.strip() else ""
+
+
+def kind_wish(asked: Body) -> "Wish | Unset":
+    """The wish for a breakpoint at each step of a kind."""
+    name = asked.get("name")
+    if isinstance(name, str) and name in KINDS:
+        return wish_of(name, asked)
+    return Unset(f"{name} is no kind of step, and no function that steps come from; the kinds are {' '.join(KINDS)}")
+
+
+def cell_wish(asked: Body) -> "Wish | Unset":
+    """The wish for a breakpoint at each change of a cell."""
+    identity = asked.get("dataId")
+    cell = cell_of(str(identity).split())
+    return wish_of(cell, asked) if cell else Unset(f"{identity} is no cell")
+
+
+def refused(why: str) -> Body:
+    """What the protocol says of a breakpoint that can't be set."""
+    return {"verified": False, "message": why}

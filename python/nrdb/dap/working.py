@@ -1,0 +1,82 @@
+"""A request that is worked on. Where that takes long the editor is told: a move is answered before it is done, since an editor offers to
+pause only what runs, and one that shows progress is shown it."""
+
+from contextlib import suppress
+from threading import Event, Lock, Thread
+
+from .hearing import MOVES, progress_of
+from .messages import Body, Request, Wire
+
+LATE = 0.3  # seconds, behind which a request takes long
+AGAIN = 0.5  # seconds between two words of how far it is
+TITLES = {"launch": "netrev reads the recording", "attach": "netrev's session is joined", "evaluate": "nrdb answers"}
+TITLE = "netrev goes through the steps"
+
+
+class Work:
+    """The work on one request. A thread tells the editor of it where it takes long, so the main thread writes nothing before it is
+    done."""
+
+    def __init__(self, wire: Wire, request: Request, shows_progress: bool):
+        self._wire, self._request, self._shows_progress = wire, request, shows_progress
+        self._lock, self._done = Lock(), Event()
+        self._is_answered = self._is_shown = False
+        self._position, self._length = 0, 0  # how far it is, where that is known
+        Thread(target=self._tell, daemon=True).start()
+
+    def tells(self, position: int, length: int) -> None:
+        """The work has come so far. This only remembers it: it may be stopped anywhere."""
+        self._position, self._length = position, length
+
+    def responds(self, body: Body) -> None:
+        """The request was done."""
+        if not self._ends():
+            self._wire.respond(self._request, body)
+
+    def refuses(self, why: str) -> bool:
+        """The request wasn't done. Whether it was answered before, so that this is still to be told."""
+        if self._ends():
+            return True
+        self._wire.refuse(self._request, why)
+        return False
+
+    def _ends(self) -> bool:
+        """Nothing more is told of the work; whether it was answered already."""
+        with self._lock:
+            self._done.set()
+            if self._is_shown:
+                self._event("progressEnd")
+            return self._is_answered
+
+    def _tell(self) -> None:
+        """Tells the editor, in the thread, that the work takes long, and how far it is."""
+        if self._done.wait(LATE):
+            return
+        with self._lock, suppress(OSError, ValueError):  # (the editor has gone: who reads finds that out)
+            self._is_late()
+        told = 0
+        while self._is_shown and not self._done.wait(AGAIN):
+            with self._lock, suppress(OSError, ValueError):
+                if self._position != told and not self._done.is_set():
+                    told = self._position
+                    said, part = f"at {told} of {self._length}", 100 * told // max(self._length, 1)
+                    self._event("progressUpdate", message=said, percentage=part)
+
+    def _is_late(self) -> None:
+        if self._done.is_set():
+            return
+        if self._shows_progress:
+            self._is_shown = True
+            title = TITLES.get(self._request.command, TITLE)
+            self._event("progressStart", title=title, requestId=self._request.number, cancellable=True)
+        if self._request.command in MOVES:
+            self._is_answered = True
+            self._wire.respond(self._request, body_of_move(self._request.command))
+
+    def _event(self, name: str, **body: object) -> None:
+        self._wire.event(name, progressId=progress_of(self._request), **body)
+
+
+def body_of_move(command: str) -> Body:
+    """What a move is answered."""
+    return {"allThreadsContinued": True} if command == "continue" else {}

@@ -1,0 +1,72 @@
+"""The pager: where an answer is longer than the screen it waits, as in GDB, for a word whether to go on. `pagination off` ends that."""
+
+import io
+import os
+import signal
+from typing import Callable, TextIO
+
+MORE = "--return for more, q to leave out the rest, c to go on without stopping--"
+LEAST = 4  # lines of a screen that is worth stopping at
+
+
+class Paged(io.TextIOBase):
+    """Writes to a terminal, a screen at a time. What is left out of an answer is left out up to the next one: nothing that is under way is
+    stopped by it."""
+
+    def __init__(self, out: TextIO, answer: Callable[[], str], is_on: Callable[[], bool]):
+        self._out, self._answer, self._is_on = out, answer, is_on
+        self._lines, self._is_left_out, self._goes_on = 0, False, False
+
+    def begins(self) -> None:
+        """Another answer begins."""
+        self._lines, self._is_left_out, self._goes_on = 0, False, False
+
+    def write(self, text: str) -> int:
+        for line in text.splitlines(keepends=True):
+            if not self._is_left_out:
+                self._write(line)
+        return len(text)
+
+    def _write(self, line: str) -> None:
+        """Writes a line, or the end of one; where the screen is full asks before it."""
+        rows, columns = self._screen()
+        if rows >= LEAST and self._lines >= rows - 1 and not self._goes_on and self._is_on():
+            self._ask()
+        if self._is_left_out:
+            return
+        self._out.write(line)
+        if line.endswith("\n"):
+            self._lines += 1 + max(len(line) - 2, 0) // max(columns, 1)
+
+    def _ask(self) -> None:
+        """Waits for a word. Ctrl-C says q."""
+        self._out.flush()
+        before = signal.signal(signal.SIGINT, signal.default_int_handler)
+        try:
+            self._out.write(MORE)
+            self._out.flush()
+            word = self._answer().strip().lower()
+        except KeyboardInterrupt:
+            self._out.write("\n")
+            word = "q"
+        finally:
+            signal.signal(signal.SIGINT, before)
+        self._lines = 0
+        self._is_left_out, self._goes_on = word.startswith("q"), word.startswith("c")
+
+    def _screen(self) -> tuple[int, int]:
+        """How many lines and columns the terminal shows; no lines where that isn't known."""
+        try:
+            size = os.get_terminal_size(self._out.fileno())
+        except (OSError, ValueError):
+            return 0, 0
+        return size.lines, size.columns
+
+    def flush(self) -> None:
+        self._out.flush()
+
+    def isatty(self) -> bool:
+        return True
+
+    def fileno(self) -> int:
+        return self._out.fileno()

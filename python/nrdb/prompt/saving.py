@@ -1,0 +1,30 @@
+"""`save breakpoints FILE`: the lines that set the marks that stand, as `source FILE` takes them."""
+
+from typing import Iterator
+
+from ..attached import END
+from ..files import writing
+from ..session import Misused, Session
+from ..words import counted
+from .answers_of_calls import usage
+
+
+def answer_save(session: Session, words: list[str]) -> None:
+    """Writes what stands: netrev's marks, those at places of the program, and the lines that run where they hit."""
+    if len(words) != 2 or words[0] != "breakpoints":
+        raise Misused(usage("save"))
+    lines = list(lines_of_marks(session))
+    with writing(words[1], session.path) as file:
+        file.writelines(f"{line}\n" for line in lines)
+    count = len(session.netrev.marks()) + len(session.breaks.standing)
+    session.printer.note(f"{words[1]}: {counted(count, 'mark')}; source {words[1]} sets them")
+
+
+def lines_of_marks(session: Session) -> Iterator[str]:
+    """The lines that set them."""
+    for mark in session.netrev.marks():
+        yield f"{mark.sort} {mark.what}"
+        if attached := session.attached.lines.get(mark.number):
+            yield from ("commands", *(f"  {line}" for line in attached), END)
+    for one in session.breaks.standing.values():
+        yield f"{'tbreak' if one.is_temporary else 'break'} {one.place.spelled}"

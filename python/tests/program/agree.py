@@ -1,0 +1,146 @@
+"""Plays netrev and netrev_plain, whose world is made of lists, with the same recordings and lines: both print the same, byte for byte.
+Each case has a name in plain words, which begins so:
+
+    recording  each recording that is here is checked, upgraded and walked, both ways
+    bad        recordings that are refused, each for the fault that `tests/program/hostile.py` has for it
+    sizes      as much of everything as a recording may have, in few steps
+    random     random cases of the fuzzer's: each cell at each position both ways, random lines, damaged recordings, upgrades;
+               `--random N` says how many (`pytest python/tests/program/agree.py`), and `--seed` from which seed on
+
+What is proved of both is the same text. Here it is seen of what compilers made of the two worlds: a mistake in one of them shows as a
+difference, wherever it is.
+"""
+
+import os
+import random
+import re
+import subprocess
+from pathlib import Path
+from typing import Sequence
+
+import pytest
+from netrev_fuzz.cases import SORTS, Made, large_buffers
+from netrev_fuzz.lines import Speaker, every_cell
+from netrev_words.reading import read_text
+from netrev_words.recording import Step
+from netrev_words.vocabulary import CELLS, KINDS
+
+from .hostile import faulty_headers, faulty_lines, refused_steps, text_of, versions_and_answers
+from .sharing import NETREV, ROOT, expect, is_program
+from .sizes import DESCRIPTORS, GOROUTINES, HEADER, PIECE, SOCKETS
+from .upgrades import RECORDINGS
+
+PLAIN = os.path.abspath(os.environ.get("NETREV_PLAIN", ROOT / "crates/netrev_plain/out/netrev_plain"))
+WAITS = 300  # seconds
+SHORT = 300  # steps, up to which each cell is looked at at each position
+MANY = 1_000  # random cases, among which is each kind of step and each cell
+SHOWN = re.compile(rb"^(\w+)(?: \d+)? = ", re.MULTILINE)  # a cell with its value
+RUN_ALONE = ("full_journal", "many_steps")  # sorts of cases that take long, which `sizes` has
+
+
+def ended(program: str, words: Sequence[object], script: bytes) -> tuple[int, bytes]:
+    """The status of a program, and its output."""
+    ran = subprocess.run([program, *map(str, words)], input=script, capture_output=True, timeout=WAITS, check=False)
+    return ran.returncode, ran.stdout
+
+
+def agree(words: Sequence[object], script: bytes = b"") -> tuple[int, bytes]:
+    """Sees that both programs print the same, and end so; that is returned."""
+    came = ended(NETREV, words, script)
+    expect("what the world of lists shows", came, ended(PLAIN, words, script))
+    return came
+
+
+def walk(steps: Sequence[Step], seed: str) -> bytes:
+    """Lines that go to the end and back, and random ones."""
+    return b"continue\nreverse-continue\n" + Speaker(random.Random(seed), steps).script(60)
+
+
+@pytest.fixture(autouse=True)
+def plain() -> None:
+    """Both are built, or the test says which one isn't."""
+    assert is_program(PLAIN), f"{PLAIN} is no program: `make agree` builds it, and NETREV_PLAIN=FILE names another"
+
+
+@pytest.mark.parametrize("path", [pytest.param(path, id=f"recording {path.relative_to(ROOT)}") for path in RECORDINGS])
+def test_recording(path: Path) -> None:
+    status, _ = agree(["check", path])
+    agree(["upgrade", path])
+    if status:
+        agree(["run", path], b"info position\n")
+        return
+    recording = read_text(path.read_bytes())
+    agree(["run", path], walk(recording.steps, path.name))
+    if len(recording.steps) <= SHORT:
+        agree(["run", path], every_cell(recording.limits, len(recording.steps), True))
+
+
+def bad_texts() -> list[bytes]:
+    """The recordings that the rows of hostile.py refuse."""
+    rows = (*refused_steps(), *faulty_lines(), *faulty_headers(), *versions_and_answers())
+    return [text_of(row.values[0]) for row in rows]
+
+
+def test_bad(folder: Path) -> None:
+    path = folder / "bad.jsonl"
+    texts = bad_texts()
+    assert len(texts) > 100
+    for text in texts:
+        path.write_bytes(text)
+        for program in ("check", "upgrade", "run"):
+            agree([program, path])
+
+
+def sizes() -> list[str]:
+    """Steps that open all sockets and descriptors, make goroutines up to the limit, set all deadlines, and fill the last socket's
+    buffers and empty them."""
+    last, full = SOCKETS - 1, "00" * PIECE
+    steps = [f'["sockopen",{PIECE},{PIECE}]'] * SOCKETS + ['["spawn"]'] * (GOROUTINES - 1)
+    steps += [f'["pollopen",0,{number}]' for number in range(DESCRIPTORS)]
+    steps += [f'["setdeadline",0,{number},"rw",{number + 1}]' for number in range(DESCRIPTORS)]
+    steps += [f'["arrive",{last},"{full}"]', f'["syswrite",0,{last},"{full}"]']
+    return steps + [f'["sysread",0,{last},{PIECE}]', f'["drain",{last},{PIECE}]', '["tick",64]', '["pop"]']
+
+
+@pytest.mark.long
+def test_sizes(folder: Path) -> None:
+    """As much of everything as version 1 allows, and the greatest buffers, which version 2 has."""
+    path, last = folder / "greatest.jsonl", SOCKETS - 1
+    path.write_text("\n".join((HEADER % (1, GOROUTINES, SOCKETS, DESCRIPTORS, PIECE), *sizes())) + "\n", "ascii")
+    looks = f"print in {last}\nprint out {last}\nprint timers\nprint gor {GOROUTINES - 1}\n"
+    script = f"stepi 999999\n{looks}reverse-stepi 3\n{looks}reverse-stepi\n{looks}reverse-continue\n{looks}"
+    status, output = agree(["run", path], script.encode())
+    assert status == 0 and f"in {last} = {PIECE}".encode() in output, "the buffers are full before the read"
+    agree(["check", path])
+    text, lines = large_buffers(random.Random(1))
+    path.write_bytes(text)
+    assert agree(["run", path], lines or b"")[0] == 0
+
+
+def case(seed: str) -> tuple[str, Made]:
+    """The sort of a random case, and what it is made of."""
+    dice = random.Random(seed)
+    sorts = {sort: weight for sort, weight in SORTS.items() if sort.__name__ not in RUN_ALONE}
+    sort = dice.choices(list(sorts), list(sorts.values()))[0]
+    return sort.__name__, sort(dice)
+
+
+def test_random(folder: Path, request: pytest.FixtureRequest) -> None:
+    """Random cases. Where one differs its seed is told."""
+    first, count = request.config.getoption("--seed"), request.config.getoption("--random")
+    path = folder / "random.jsonl"
+    kinds: set[str] = set()
+    cells: set[str] = set()
+    for seed in range(first, first + count):
+        sort, (text, script) = case(f"agree {seed}")
+        print(f"--seed {seed} --random 1: {sort}")
+        path.write_bytes(text)
+        status, _ = agree(["check", path])
+        agree(["upgrade", path])
+        _, output = agree(["run", path], script if script is not None else b"continue\nreverse-continue\n")
+        if not status:
+            kinds.update(step[0] for step in read_text(text).steps)
+        cells.update(name.decode() for name in SHOWN.findall(output))
+    if count >= MANY:
+        expect("kinds that no case has", set(), set(KINDS) - kinds)
+        expect("cells that no case shows", set(), {cell.name for cell in CELLS.values()} - cells)

@@ -1,0 +1,74 @@
+// Decodes messages of the Debug Adapter Protocol, a line of JSON each, by Debian's go-dap. Prints the type of each, and what it has that
+// go-dap doesn't know.
+package main
+
+import (
+	"bufio"
+	"encoding/json"
+	"fmt"
+	"os"
+	"reflect"
+
+	"github.com/google/go-dap"
+)
+
+// lost says where a value of the first has none in the second, which has the same but for what is zero.
+func lost(sent, known any, where string) string {
+	switch sent := sent.(type) {
+	case map[string]any:
+		known, _ := known.(map[string]any)
+		for name, value := range sent {
+			other, there := known[name]
+			if !there && !isZero(value) {
+				return where + "." + name
+			}
+			if there {
+				if said := lost(value, other, where+"."+name); said != "" {
+					return said
+				}
+			}
+		}
+	case []any:
+		known, _ := known.([]any)
+		if len(known) != len(sent) {
+			return where
+		}
+		for at := range sent {
+			if said := lost(sent[at], known[at], where); said != "" {
+				return said
+			}
+		}
+	default:
+		if !reflect.DeepEqual(sent, known) {
+			return where
+		}
+	}
+	return ""
+}
+
+func isZero(value any) bool {
+	switch value := value.(type) {
+	case map[string]any:
+		return len(value) == 0
+	case []any:
+		return len(value) == 0
+	}
+	return value == nil || reflect.ValueOf(value).IsZero()
+}
+
+func main() {
+	lines := bufio.NewScanner(os.Stdin)
+	lines.Buffer(make([]byte, 1<<20), 1<<24)
+	for lines.Scan() {
+		message, err := dap.DecodeProtocolMessage(lines.Bytes())
+		if err != nil {
+			fmt.Println("not decoded:", err)
+			continue
+		}
+		again, _ := json.Marshal(message)
+		var sent, known any
+		json.Unmarshal(lines.Bytes(), &sent)
+		json.Unmarshal(again, &known)
+		fmt.Printf("%T %s\n", message, lost(sent, known, ""))
+	}
+}

@@ -1,0 +1,142 @@
+"""The extension for VS Code, packed without node:  scripts/vsix.py OUT.vsix, or scripts/vsix.py --check FILE.vsix
+
+editors/vscode is an extension without code. A .vsix is a zip file of it, with two files of XML that say what it is. The same folder gives
+the same bytes. --check reads a packed one, says what is wrong with it, and has the status 1 where something is.
+"""
+
+import argparse
+import json
+import sys
+import zipfile
+from pathlib import Path
+from typing import Any, Iterator
+from xml.etree import ElementTree
+from xml.sax.saxutils import escape, quoteattr
+
+ROOT = Path(__file__).resolve().parents[1]
+FOLDER, LICENSES = ROOT / "editors/vscode", ("LICENSE-MIT", "LICENSE-APACHE")
+LEFT_OUT = ("launch.json",)  # an example for a folder of one's own
+WITHIN, TYPES, MANIFEST = "extension/", "[Content_Types].xml", "extension.vsixmanifest"
+SORTS = {".json": "application/json", ".md": "text/markdown", ".txt": "text/plain", ".vsixmanifest": "text/xml"}
+OF_TYPES = "{http://schemas.openxmlformats.org/package/2006/content-types}"
+OF_MANIFEST = "{http://schemas.microsoft.com/developer/vsx-schema/2011}"
+CODE = ("main", "browser", "activationEvents", "scripts", "dependencies")  # of package.json, where there is any
+WHEN = (2020, 1, 1, 0, 0, 0)
+
+
+def types() -> str:
+    """The file that says of each ending what it is."""
+    rows = "".join(f'<Default Extension="{ending}" ContentType="{sort}"/>' for ending, sort in SORTS.items())
+    return f'<?xml version="1.0" encoding="utf-8"?>\n<Types xmlns="{OF_TYPES[1:-1]}">{rows}</Types>\n'
+
+
+def manifest(package: dict[str, Any]) -> str:
+    """The file that says what the extension is, from its package.json."""
+    name, version, publisher = (quoteattr(package[key]) for key in ("name", "version", "publisher"))
+    return f"""<?xml version="1.0" encoding="utf-8"?>
+<PackageManifest Version="2.0.0" xmlns="{OF_MANIFEST[1:-1]}">
+<Metadata><Identity Language="en-US" Id={name} Version={version} Publisher={publisher}/>
+<DisplayName>{escape(package["displayName"])}</DisplayName>
+<Description xml:space="preserve">{escape(package["description"])}</Description>
+<Categories>{escape(",".join(package["categories"]))}</Categories>
+<License>{WITHIN}LICENSE-MIT.txt</License>
+<Properties><Property Id="Microsoft.VisualStudio.Code.Engine" Value={quoteattr(package["engines"]["vscode"])}/></Properties></Metadata>
+<Installation><InstallationTarget Id="Microsoft.VisualStudio.Code"/></Installation><Dependencies/>
+<Assets><Asset Type="Microsoft.VisualStudio.Code.Manifest" Path="{WITHIN}package.json" Addressable="true"/>
+<Asset Type="Microsoft.VisualStudio.Services.Content.Details" Path="{WITHIN}README.md" Addressable="true"/></Assets>
+</PackageManifest>
+"""
+
+
+def parts(folder: Path) -> dict[str, bytes]:
+    """What a .vsix of a folder has, by name."""
+    package = json.loads((folder / "package.json").read_text(encoding="utf-8"))
+    files = {f"{WITHIN}{path.name}": path for path in sorted(folder.iterdir()) if path.name not in LEFT_OUT}
+    files |= {f"{WITHIN}{name}.txt": ROOT / name for name in LICENSES}
+    return {
+        TYPES: types().encode(),
+        MANIFEST: manifest(package).encode(),
+        **{name: path.read_bytes() for name, path in files.items()},
+    }
+
+
+def pack(folder: Path, out: Path) -> None:
+    """Packs a folder."""
+    with zipfile.ZipFile(out, "w") as packed:
+        for name, data in parts(folder).items():
+            part = zipfile.ZipInfo(name, WHEN)
+            part.external_attr, part.compress_type = 0o644 << 16, zipfile.ZIP_DEFLATED
+            packed.writestr(part, data)
+
+
+def faults(file: Path) -> list[str]:
+    """What is wrong with a packed extension."""
+    try:
+        with zipfile.ZipFile(file) as packed:
+            if damaged := packed.testzip():
+                return [f"{damaged} is damaged"]
+            data = {name: packed.read(name) for name in packed.namelist()}
+        package = json.loads(data[f"{WITHIN}package.json"])
+        return [*faults_of_parts(data), *faults_of_manifest(data, package), *faults_of_package(package)]
+    except (
+        OSError,
+        ValueError,
+        KeyError,
+        TypeError,
+        AttributeError,
+        zipfile.BadZipFile,
+        ElementTree.ParseError,
+    ) as wrong:
+        return [f"it is no extension: {wrong}"]
+
+
+def faults_of_parts(data: dict[str, bytes]) -> Iterator[str]:
+    """Of the names of its parts: each has a type, and is where extensions are unpacked."""
+    known = {one.get("Extension") for one in ElementTree.fromstring(data[TYPES]).iter(f"{OF_TYPES}Default")}
+    for name in data:
+        if name != TYPES and Path(name).suffix not in known:
+            yield f"{name} has no type in {TYPES}"
+        if name not in (TYPES, MANIFEST) and (not name.startswith(WITHIN) or ".." in name):
+            yield f"{name} isn't in {WITHIN}"
+
+
+def faults_of_manifest(data: dict[str, bytes], package: dict[str, Any]) -> Iterator[str]:
+    """Of the manifest: it says what package.json says, and names what is there."""
+    top = ElementTree.fromstring(data[MANIFEST])
+    identity = top.find(f"{OF_MANIFEST}Metadata/{OF_MANIFEST}Identity")
+    for key, named in (("Id", "name"), ("Version", "version"), ("Publisher", "publisher")):
+        if identity is None or identity.get(key) != package[named]:
+            yield f"{MANIFEST} has another {named} than package.json"
+    named_parts = [one.get("Path") for one in top.iter(f"{OF_MANIFEST}Asset")]
+    named_parts += [one.text for one in top.iter(f"{OF_MANIFEST}License")]
+    yield from (f"{MANIFEST} names {path}, which isn't there" for path in named_parts if path not in data)
+
+
+def faults_of_package(package: dict[str, Any]) -> Iterator[str]:
+    """Of package.json: the extension has no code, and takes no files from a language of VS Code's own."""
+    yield from (f"package.json has {name}, and the extension has no code" for name in CODE if name in package)
+    if "languages" in package["contributes"]:
+        yield "package.json has a language of its own, which would take files from another one"
+    for debugger in package["contributes"]["debuggers"]:
+        if (debugger["runtime"], debugger["args"]) != ("nrdb", ["--dap"]):
+            yield f"the debugger {debugger['type']} isn't nrdb --dap"
+
+
+def main() -> int:
+    """Packs or checks; the exit status."""
+    parser = argparse.ArgumentParser(
+        prog="vsix.py", description="packs the extension for VS Code, or checks a packed one"
+    )
+    parser.add_argument("file", type=Path)
+    parser.add_argument("--check", action="store_true", help="checks FILE, in place of writing it")
+    wanted = parser.parse_args()
+    if not wanted.check:
+        pack(FOLDER, wanted.file)
+    found = faults(wanted.file)
+    for fault in found:
+        print(f"{wanted.file}: {fault}", file=sys.stderr)
+    return 1 if found else 0
+
+
+if __name__ == "__main__":
+    sys.exit(main())
