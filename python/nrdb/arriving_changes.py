@@ -77,8 +77,11 @@ class ArrivingChanges(RecordedChanges):
             raise Lost(f"{' '.join(self._words)}: {why}")
 
     def texts(self) -> Iterator[tuple[str, str, str]]:
+        self._wait(None)
         try:
-            yield from super().texts()
+            for piece in range(len(self._lines.pieces)):
+                self._interrupts.check()
+                yield from self._lines.texts(piece, piece + 1)
         except NoChanges as wrong:
             raise Lost(f"{' '.join(self._words)}: {wrong}") from None
 
