@@ -10,6 +10,8 @@ from threading import Timer
 from typing import Any, Callable
 from unittest.mock import patch
 
+import pytest
+
 from nrdb.collecting import Collecting
 from nrdb.dap import moving, working
 from nrdb.dap.debuggee import Debuggee
@@ -95,6 +97,7 @@ class Heard(unittest.TestCase):
         late.join()
         self.assertLess(time.monotonic() - begun, 0.1 + SOON)
 
+    @pytest.mark.alone
     def test_an_end_is_heard_in_any_work(self) -> None:
         for number, work in enumerate((busy, polled, rules, unanswered)):
             with self.subTest(work=work.__name__):
@@ -107,6 +110,7 @@ class Heard(unittest.TestCase):
         self.interrupts = Interrupts()
         self.stopped(self.asked(framed(7, "variables")), busy, framed(8, "disconnect"), GivenUp)
 
+    @pytest.mark.alone
     def test_a_pause_and_a_cancel_stop_what_can_be_stopped(self) -> None:
         for number, work in enumerate((polled, rules), 1):
             self.stopped(self.asked(framed(number, "continue")), work, framed(10 + number, "pause"), Interrupted)

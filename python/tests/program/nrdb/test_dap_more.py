@@ -8,6 +8,8 @@ import unittest
 from pathlib import Path
 from typing import Any
 
+import pytest
+
 from tests.program.nrdb.dap_client import Adapter, Refusal
 from tests.program.nrdb.support import EXAMPLES
 from tests.program.nrdb.test_join import FIRST, Other, serving
@@ -192,6 +194,7 @@ class Shared(unittest.TestCase):
                     editor("attach", **arguments)
 
 
+@pytest.mark.alone
 class Stopped(unittest.TestCase):
     """A move of a million steps, and what is said in the midst of it."""
 
@@ -249,7 +252,7 @@ class Stopped(unittest.TestCase):
             self.assertRegex(found[1_002][0]["body"]["result"], r"at \d+ of 999999 forward")
 
     def test_an_end_is_heard(self):
-        for command, soon in (("continue", SOON), ("evaluate", SOON), ("launch", 4 * SOON)):
+        for command, soon in (("continue", SOON), ("evaluate", SOON), ("launch", 10 * SOON)):
             with self.subTest(command=command), Adapter() as editor:
                 if command != "launch":
                     self.begun(editor)

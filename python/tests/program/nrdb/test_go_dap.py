@@ -7,10 +7,12 @@ import shutil
 import subprocess
 import tempfile
 import unittest
+from functools import lru_cache
 from pathlib import Path
 from typing import Optional
 from unittest.mock import patch
 
+from netrev_go.fetching import here
 from tests.program.nrdb.dap_client import Adapter, Body, Client, Refusal
 
 from tests.program.nrdb.test_dap_more import HIJACKED, LOST, SAMPLE
@@ -18,26 +20,35 @@ from tests.program.nrdb.test_editors import SAYS, conversation
 from tests.test_dap_heard import told_of_work
 
 GOPATH = Path("/usr/share/gocode")
+FETCHED = next((folder / "go" for release in ("1.19", "1.27") if (folder := here(release))), None)
+GO = shutil.which("go") or (str(FETCHED) if FETCHED else None)
 GO_DAP = GOPATH / "src/github.com/google/go-dap"
 PROGRAM = Path(__file__).with_name("go_dap.go")
+BUILT = tempfile.TemporaryDirectory()
+
+
+@lru_cache(maxsize=None)
+def decoder() -> Path:
+    """The program that decodes, which is built once."""
+    assert GO
+    folder = Path(BUILT.name)
+    source = folder / "decoding/main.go"
+    source.parent.mkdir()
+    source.write_bytes(PROGRAM.read_bytes())
+    settings = {"GO111MODULE": "off", "GOPATH": str(GOPATH), "GOFLAGS": "", "GOTOOLCHAIN": "local"}
+    environment = os.environ | settings | {"GOCACHE": str(folder / "cache")}
+    subprocess.run([GO, "build", "-o", folder / "decode", source], env=environment, check=True, timeout=300)
+    return folder / "decode"
 
 
 def decoded(messages: list[Body]) -> list[str]:
     """What go-dap says of messages."""
-    environment = os.environ | {"GO111MODULE": "off", "GOPATH": str(GOPATH), "GOFLAGS": "", "GOTOOLCHAIN": "local"}
-    with tempfile.TemporaryDirectory() as folder:
-        environment["GOCACHE"] = str(Path(folder, "cache"))
-        source = Path(folder, "decoding/main.go")
-        source.parent.mkdir()
-        source.write_bytes(PROGRAM.read_bytes())
-        program = Path(folder, "decode")
-        subprocess.run(["go", "build", "-o", program, source], env=environment, check=True, timeout=300)
-        lines = "".join(f"{json.dumps(one)}\n" for one in messages)
-        ended = subprocess.run([program], input=lines, capture_output=True, text=True, check=True, timeout=60)
+    lines = "".join(f"{json.dumps(one)}\n" for one in messages)
+    ended = subprocess.run([decoder()], input=lines, capture_output=True, text=True, check=True, timeout=60)
     return ended.stdout.splitlines()
 
 
-@unittest.skipUnless(shutil.which("go"), "Go isn't here (Debian: apt-get install golang-go)")
+@unittest.skipUnless(GO, "Go isn't here (Debian: apt-get install golang-go)")
 @unittest.skipUnless(GO_DAP.is_dir(), "go-dap isn't here (Debian: apt-get install golang-github-google-go-dap-dev)")
 class Decoded(unittest.TestCase):
     def kept(self) -> list[Body]:
