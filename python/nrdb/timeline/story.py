@@ -120,7 +120,7 @@ def times_of(recording: Recording, window: Window, most: int) -> Data:
         return {}
     every = -(-(window.last - window.first) // most) or 1
     positions = [*range(window.first, window.last, every), window.last]
-    told = [times[position - 1] if position else 0 for position in positions]
+    told = [times[max(position, 1) - 1] for position in positions]  # (it begins with the first step)
     return {
         "first": window.first,
         "last": window.last,

@@ -76,6 +76,7 @@ class Data(unittest.TestCase):
             self.assertEqual(bool(data["causes"]), not suspects)
             first = (data["suspects"] + data["causes"])[0]
             self.assertEqual((first["rule"], first["steps"]), (rule, steps), name)
+            self.assertEqual(first["texts"], [str(recording.step(step)) for step in steps])
 
     def test_suspects_by_calls_are_told_too(self) -> None:
         path = Path(__file__).parents[2] / "caused/both-bad.jsonl"
@@ -215,7 +216,7 @@ class InChromium(unittest.TestCase):
     def test_the_axis_of_time_is_the_recorders(self) -> None:
         recording = Recording.read(str(REAL / "hijacked.jsonl"))
         later = [1_000 * (step % 7) ** 3 for step in range(1, recording.length + 1)]
-        times = [0, *accumulate(later)]
+        times = [later[0], *accumulate(later)]
         with tempfile.TemporaryDirectory() as folder:
             path = Path(folder) / "hijacked.jsonl"
             shutil.copy(REAL / "hijacked.jsonl", path)
@@ -234,7 +235,9 @@ class InChromium(unittest.TestCase):
         for seen in (told, few):
             self.assertEqual(seen["times"], times)
             for x, now in zip(seen["x"], times):
-                self.assertAlmostEqual((x - seen["x"][0]) / wide, now / times[-1], delta=0.002)
+                self.assertAlmostEqual(
+                    (x - seen["x"][0]) / wide, (now - times[0]) / (times[-1] - times[0]), delta=0.002
+                )
         self.assertEqual(told["half"], (times[6] + times[7]) / 2)
         self.assertIn("by the recorder's time of each step", told["help"])
 
