@@ -299,7 +299,7 @@ class Traffic(Program):
         if self.do("increfclose", g, s)[0] != "yes":
             return (yield)
         yield
-        yield from self.releases(g)
+        yield from self.goes_on(g)
         if self.is_due(Bug.NOT_EVICTED) and self.world.inside(d, "r"):
             self.plant(s, g, d)
             self.stopped.add(g)

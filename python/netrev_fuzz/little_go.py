@@ -5,12 +5,12 @@ import json
 import random
 from typing import Any, Callable, Generator
 
+from netrev_calls.flow import ASLEEP, LAST, step_by_status
 from netrev_machine.machine import Refused, World
 from netrev_machine.steps import apply
-from netrev_words.recording import Limits
+from netrev_words.recording import Answer, Limits
 
 Turns = Generator[None, None, Any]  # a call: it yields behind each of its steps, and returns what Go's function does
-ASLEEP = ("parked", "queued")
 CLOSED, EOF = -1, 0  # what a read returns in place of a count; a code of the poller, negated, is one too
 
 
@@ -65,60 +65,44 @@ class Program:
 
     # ---- Go's calls
 
+    def operation(self, kind: str, g: int, *arguments: Any) -> Turns:
+        """An operation, which begins with this step; its first answer and its last one."""
+        answer = self.do(kind, g, *arguments)
+        yield
+        return answer, (yield from self.goes_on(g, answer))
+
+    def goes_on(self, g: int, answer: Answer = ()) -> Turns:
+        """Goes on with an operation until its goroutine is idle; the last answer."""
+        while (step := step_by_status(g, self.world.goroutines[g])) or self.world.goroutines[g][0] in ASLEEP:
+            if step:
+                answer = self.do(*step)
+            yield
+        return answer
+
     def rwlock(self, g: int, s: int, side: str) -> Turns:
-        while True:
-            answer = self.do("rwlock", g, s, side)[0]
-            yield
-            if answer != "wait":
-                return answer == "yes"
-            while self.world.goroutines[g][0] in ("acquiring", "queued"):
-                if self.world.goroutines[g][0] == "acquiring":
-                    self.do("acquire", g)
-                yield
+        _, answer = yield from self.operation("rwlock", g, s, side)
+        return answer == ("yes",)
 
-    def releases(self, g: int) -> Turns:
-        while self.world.goroutines[g][0] == "owing":
-            self.do("release", g)
-            yield
+    def rwunlock(self, g: int, s: int, side: str) -> Turns:
+        yield from self.gives("rwunlock", g, s, side)
 
-    def destroy(self, g: int, s: int, answer: str) -> Turns:
-        if answer == "last":
+    def decref(self, g: int, s: int) -> Turns:
+        yield from self.gives("decref", g, s)
+
+    def gives(self, kind: str, g: int, s: int, *side: str) -> Turns:
+        """Gives up a reference; who gave up the last one destroys."""
+        answer, _ = yield from self.operation(kind, g, s, *side)
+        if answer == LAST:
             self.do("pollclose", g, self.descriptors[s])
             yield
 
-    def rwunlock(self, g: int, s: int, side: str) -> Turns:
-        answer = self.do("rwunlock", g, s, side)[0]
-        yield
-        yield from self.releases(g)
-        yield from self.destroy(g, s, answer)
-
     def reset(self, g: int, s: int, side: str) -> Turns:
-        code = self.do("pollreset", g, self.descriptors[s], side)[1]
-        yield
+        _, (_, code) = yield from self.operation("pollreset", g, self.descriptors[s], side)
         return code
 
     def wait(self, g: int, s: int, side: str) -> Turns:
-        code = self.do("waitbegin", g, self.descriptors[s], side)[1]
-        yield
-        while code == 0:
-            answer = self.do("blockarm", g)
-            yield
-            if answer[0] == "code":
-                return 0
-            self.do("blockcheck", g)
-            yield
-            if self.world.goroutines[g][0] == "parking":
-                self.do("parkcommit", g)
-                yield
-            while self.world.goroutines[g][0] == "parked":
-                yield
-            answer = self.do("blockswap", g)
-            yield
-            if answer[0] == "yes":
-                return 0
-            code = self.do("waitcheck", g)[1]
-            yield
-        return code
+        _, answer = yield from self.operation("waitbegin", g, self.descriptors[s], side)
+        return answer[1] if answer[0] == "code" else 0
 
     def read(self, g: int, s: int, most: int) -> Turns:
         if not (yield from self.rwlock(g, s, "r")):
@@ -154,11 +138,6 @@ class Program:
         self.do("setdeadline", g, self.descriptors[s], mode, time)
         yield
         yield from self.decref(g, s)
-
-    def decref(self, g: int, s: int) -> Turns:
-        answer = self.do("decref", g, s)[0]
-        yield
-        yield from self.destroy(g, s, answer)
 
     # ---- the network and the clock
 

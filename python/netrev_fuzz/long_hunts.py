@@ -70,7 +70,7 @@ class Hunt(Program):
         """Closes a connection."""
         if self.do("increfclose", g, s)[0] == "yes":
             yield
-            yield from self.releases(g)
+            yield from self.goes_on(g)
             self.do("evict", g, self.descriptors[s])
             yield
             yield from self.decref(g, s)

@@ -5,21 +5,13 @@ recording: most have a theme."""
 import random
 from typing import Iterator, Optional, Sequence
 
+from netrev_calls.flow import ASLEEP, step_by_status
 from netrev_machine.machine import IDLE, Refused, World
 from netrev_machine.steps import apply
 from netrev_words.reading import ARGUMENTS, KINDS, RANGES
 from netrev_words.recording import GREATEST_TIME, Answer, Limits, Recording, Step
 from netrev_words.vocabulary import COUNTED_ANSWERS, KINDS as OF_NRDB, PLAIN_ANSWERS, VERSIONS
 
-NEXT = {
-    "acquiring": "acquire",
-    "owing": "release",
-    "entering": "blockarm",
-    "armed": "blockcheck",
-    "parking": "parkcommit",
-    "swapping": "blockswap",
-    "checking": "waitcheck",
-}
 OF_IDLE = {
     **{"rwlock": 6, "rwunlock": 9, "incref": 2, "decref": 2, "increfclose": 0.12, "exit": 0.1},
     **{"sysread": 4, "syswrite": 4, "pollreset": 3, "waitbegin": 8, "setdeadline": 6},
@@ -160,16 +152,13 @@ class Author:
 
     def goroutine(self, world: World) -> int:
         """One that is there, and often one that has something to do."""
-        able = [g for g, status in enumerate(world.goroutines) if status[0] not in ("gone", "queued", "parked")]
+        able = [g for g, status in enumerate(world.goroutines) if status[0] not in ("gone", *ASLEEP)]
         return self.dice.choice(able or [0])
 
     def step_of(self, world: World, g: int) -> Step:
         """What a goroutine does next."""
-        status = world.goroutines[g]
-        if status[0] == "relock":
-            return ("rwlock", g, *status[1:])
-        if status[0] in NEXT:
-            return (NEXT[status[0]], g)
+        if step := step_by_status(g, world.goroutines[g]):
+            return step
         if world.sockets and len(world.descs) == len(world.free) and self.dice.random() < 0.3:
             return self.with_arguments(world, "pollopen", g)
         closing = [d for d, desc in enumerate(world.descs) if desc.closing and d not in world.free]

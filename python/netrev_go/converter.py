@@ -9,9 +9,12 @@ from collections import defaultdict
 from collections.abc import Callable
 from itertools import chain
 
+from netrev_machine.deadlines import READING, WRITING, Deadlines
+from netrev_machine.machine import SIDES
+from netrev_machine.polling import deadline_of
+
 from .answering import BROKEN_PIPE, Unconvertible, can_answer, lock_answer, mode_of, parts, side_of
 from .beside import Beside
-from .deadlines import READING, SIDES, WRITING, Deadlines
 from .orders import Made
 from .points import LOCKING, Kind, Point
 from .sockets import AGAIN, BUFFER, Socket
@@ -282,7 +285,7 @@ class Converter:
         g, mode = self.goroutine(point.goroutine), mode_of(point)
         now = point.time - self.begin
         self.go_on_to(now)
-        ends = min(now + point.b, GREATEST) if point.b > 0 else point.b
+        ends = deadline_of(now, point.b)
         self.pop_what_fires(socket, [side for side, _ in self.deadlines.changing(socket.descriptor, mode, ends)])
         time = point.b
         if time > 0:

@@ -4,7 +4,7 @@ changed. So a step that is refused leaves nothing, the last steps can be undone,
 from __future__ import annotations
 
 from collections import deque
-from typing import Any, NamedTuple, Optional
+from typing import Any, NamedTuple, Optional, TypeVar
 
 from netrev_words.recording import Answer, Limits, Step
 
@@ -12,6 +12,8 @@ from .machine import IDLE, INSIDE, Desc, Refused, Socket, Status, Timer, World
 from .steps import OF_KIND
 
 ONE_OF_MANY = ("goroutines", "sockets", "descs")
+STATE = World._fields
+Itself = TypeVar("Itself", bound="Machine")
 WHOLE = -1  # the place of what isn't one of many
 
 
@@ -30,7 +32,7 @@ Changes = list[Change]  # of one step, in their order
 class Machine:
     """The state, and what the last steps changed: so many as it is to remember."""
 
-    __slots__ = (*World._fields, "steps", "_changes", "_seats")
+    __slots__ = (*STATE, "steps", "_changes", "_seats")
 
     def __init__(self, limits: Limits, remembers: Optional[int] = 1) -> None:
         self.limits = limits
@@ -68,6 +70,15 @@ class Machine:
             return False
         self._lead_back(self.steps.pop())
         return True
+
+    def copy(self: Itself) -> Itself:
+        """It as it is, with no step to undo."""
+        made = object.__new__(type(self))
+        for name in STATE:
+            value = getattr(self, name)
+            setattr(made, name, list(value) if name in ONE_OF_MANY else value)
+        made.steps, made._changes, made._seats = deque(maxlen=self.steps.maxlen), [], dict(self._seats)
+        return made
 
     def world(self) -> World:
         """A snapshot of it."""
@@ -140,8 +151,13 @@ class Machine:
                 setattr(self, of, old)
             elif old is None:
                 getattr(self, of).pop()
-            elif of == "goroutines":
-                self._sits(place, old)
             else:
-                getattr(self, of)[place] = old
+                self.put(of, place, old)
         changes.clear()
+
+    def put(self, of: str, place: int, item: Any) -> None:
+        """Has this goroutine's status, this socket or descriptor at a place."""
+        if of == "goroutines":
+            self._sits(place, item)
+        else:
+            getattr(self, of)[place] = item

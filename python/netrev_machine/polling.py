@@ -1,6 +1,6 @@
 """What a descriptor does inside one step: the check, unblocking, deadlines with their timers, events and closing."""
 
-from typing import Optional
+from typing import Optional, Sequence
 
 from netrev_words.recording import GREATEST_TIME
 
@@ -71,17 +71,35 @@ def event(world: World, d: int, mode: str, error: bool) -> World:
     return world
 
 
+def are_both(deadlines: Sequence[int]) -> bool:
+    """Whether both deadlines, of reading and of writing, are the same time to come: one timer serves both then."""
+    read, write = deadlines
+    return read > 0 and read == write
+
+
 def is_combo(desc: Desc) -> bool:
     """Whether both deadlines are the same time to come."""
-    read, write = desc.deadlines
-    return read > 0 and read == write
+    return are_both(desc.deadlines)
+
+
+def followed(is_running: bool, place: int, before: Sequence[int], now: Sequence[int]) -> Optional[bool]:
+    """Whether the timer of a side is armed anew where these were the deadlines and are so now; None where it stays as it is."""
+    both = are_both(now)
+    is_wanted = now[place] > 0 and not (place == at("w") and both)
+    has_moved = now[place] != before[place] or both != are_both(before)
+    return is_wanted if (has_moved if is_running else is_wanted) else None
+
+
+def deadline_of(clock: int, time: int) -> int:
+    """The deadline that a time from now comes to; none or one in the past as it is given."""
+    return min(clock + time, GREATEST_TIME) if time > 0 else time
 
 
 def set_deadline(world: World, d: int, mode: str, time: int) -> World:
     before = world.descs[d]
     if before.closing:
         return world
-    deadline = min(world.clock + time, GREATEST_TIME) if time > 0 else time
+    deadline = deadline_of(world.clock, time)
     deadlines = tuple(deadline if side in mode else old for side, old in zip("rw", before.deadlines))
     world = world.with_desc(d, deadlines=deadlines)
     for side in "rw":
@@ -95,19 +113,15 @@ def set_deadline(world: World, d: int, mode: str, time: int) -> World:
 def follow(world: World, d: int, side: str, before: Desc) -> World:
     """The timer of a side follows the deadlines, which were those of the descriptor before."""
     desc, place = world.descs[d], at(side)
-    combo = is_combo(desc)
-    changed = desc.deadlines[place] != before.deadlines[place] or combo != is_combo(before)
-    wanted = desc.deadlines[place] > 0 and not (side == "w" and combo)
+    wanted = followed(desc.running[place], place, before.deadlines, desc.deadlines)
+    if wanted is None:
+        return world
     if desc.running[place]:
-        if not changed:
-            return world
         sequences = put(desc.sequences, place, raised(desc.sequences[place]))
         world = world.with_desc(d, sequences=sequences)
-    elif not wanted:
-        return world
     world = without_timer(world, d, side)
     world = world.with_desc(d, running=put(desc.running, place, wanted))
-    return with_timer(world, d, side, combo) if wanted else world
+    return with_timer(world, d, side, is_combo(desc)) if wanted else world
 
 
 def without_timer(world: World, d: int, side: str) -> World:

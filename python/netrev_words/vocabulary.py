@@ -87,6 +87,8 @@ KINDS = {
     )
 }
 
+OF_A_GOROUTINE = tuple(name for name, kind in KINDS.items() if kind.arguments[:1] == ("g",))  # which one makes
+
 NUMBERS = {name: number for number, name in enumerate(KINDS, 1)}  # a kind's number is its place in the table
 
 # a recorded answer is one of these names, or an array of one of those with a number

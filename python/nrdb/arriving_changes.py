@@ -4,7 +4,7 @@ waits for it."""
 import subprocess
 import time
 from threading import Condition, Thread, current_thread
-from typing import Callable, Optional
+from typing import Callable, Iterator, Optional
 
 from .interrupts import Interrupts
 from .netrev import READ, SILENCE
@@ -13,6 +13,8 @@ from .recorded_changes import RecordedChanges
 from .scout import Lost
 
 LOOKS = 0.05  # seconds between two looks whether Ctrl-C came
+PAUSE = 0.001  # seconds until more has come, since netrev says little at once
+PIPE = 2**20  # bytes
 SILENT = "netrev goes through all steps of the recording; nrdb waits"
 
 
@@ -26,6 +28,7 @@ class ArrivingChanges(RecordedChanges):
         self._process: Optional["subprocess.Popen[bytes]"] = None
         self._reader: Optional[Thread] = None
         self._came = Condition()
+        self._wanted: Optional[int] = 0  # the position up to which somebody waits for them; None for all
         self._failure = ""
 
     def prepare(self) -> None:
@@ -33,7 +36,12 @@ class ArrivingChanges(RecordedChanges):
             return
         try:
             process = subprocess.Popen(
-                self._words, stdin=subprocess.DEVNULL, stdout=subprocess.PIPE, bufsize=0, start_new_session=True
+                self._words,
+                stdin=subprocess.DEVNULL,
+                stdout=subprocess.PIPE,
+                bufsize=0,
+                pipesize=PIPE,
+                start_new_session=True,
             )
         except OSError as error:
             raise Lost(f"{error.filename}: {error.strerror}") from None
@@ -55,7 +63,7 @@ class ArrivingChanges(RecordedChanges):
             return
         with self._interrupts.shielded():
             self.prepare()
-        until = time.monotonic() + SILENCE
+        until, self._wanted = time.monotonic() + SILENCE, position
         while not self._is_settled(position):
             self._interrupts.check()
             with self._came:
@@ -67,6 +75,12 @@ class ArrivingChanges(RecordedChanges):
             super().__init__()
             self._process, self._reader, self._failure = None, None, ""
             raise Lost(f"{' '.join(self._words)}: {why}")
+
+    def texts(self) -> Iterator[tuple[str, str, str]]:
+        try:
+            yield from super().texts()
+        except NoChanges as wrong:
+            raise Lost(f"{' '.join(self._words)}: {wrong}") from None
 
     def _hold(self) -> None:
         try:
@@ -89,8 +103,11 @@ class ArrivingChanges(RecordedChanges):
         try:
             while self._is_current() and (piece := process.stdout.read(READ)):
                 self.take(piece)
-                with self._came:
-                    self._came.notify_all()
+                if self.has(self._wanted):
+                    with self._came:
+                        self._came.notify_all()
+                if len(piece) < READ:
+                    time.sleep(PAUSE)
         except NoChanges as wrong:
             failure = str(wrong)
         if failure or not self._is_current():

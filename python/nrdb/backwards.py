@@ -5,14 +5,13 @@ import re
 from itertools import islice
 from typing import Collection, Iterator
 
-from netrev_words.vocabulary import KINDS
+from netrev_words.vocabulary import OF_A_GOROUTINE
 
 from .recording import Recording, Step
 
 Lock = tuple[int, str]  # a socket and a side
 FEW = 8
 LOCKS = rb'\[\s*"rw(un)?lock"\s*,\s*\d+\s*,\s*(%s)\s*,\s*"([rw])"'
-OF_A_GOROUTINE = [name for name, kind in KINDS.items() if kind.arguments[:1] == ("g",)]
 GOROUTINES = rb'\[\s*"(?:%s)"\s*,\s*(\d+)\b' % "|".join(OF_A_GOROUTINE).encode()
 
 

@@ -6,6 +6,7 @@ from bisect import bisect_left, bisect_right
 from typing import Iterator, Optional
 
 LINE = re.compile(rb"\d+ [a-z]+(?: \d+)? = [ -~]+")
+LINES = re.compile(r"^(\d+) ([a-z]+(?: \d+)?) = ([ -~]+)$", re.MULTILINE | re.ASCII)
 
 
 class NoChanges(ValueError):
@@ -32,6 +33,14 @@ class ChangedLines:
         """The last step that has a line, 0 where none has."""
         return self._lasts[-1] if self._lasts else 0
 
+    def texts(self, first: int, end: int) -> Iterator[tuple[str, str, str]]:
+        """The step of each line of these pieces, the cell and its value, as texts; NoChanges where a line has none."""
+        for piece in self.pieces[first:end]:
+            found = LINES.findall(piece.decode("latin-1"))
+            if len(found) != piece.count(b"\n"):
+                raise NoChanges("a line that is no change")
+            yield from found
+
     def at(self, step: int) -> list[tuple[str, str]]:
         """The cells that a step changed, each with its value behind it."""
         line = re.compile(rb"^%d (.*) = (.*)$" % step, re.MULTILINE)
@@ -53,15 +62,14 @@ class ChangedLines:
                     return
                 yield step, value.decode()
 
-    def value(self, cell: str, position: int) -> Optional[str]:
-        """What a cell shows at a position, None where no step changed it up to there."""
+    def back(self, cell: str, position: int) -> Iterator[tuple[int, str]]:
+        """The steps that changed a cell, falling, from a position on, each with its value behind it."""
         named = b" %s = " % cell.encode()
         for place in range(min(bisect_right(self._lasts, position), len(self._lasts) - 1), -1, -1):
             piece = self.pieces[place]
             at = piece.rfind(named)
             while at >= 0:
                 begin = piece.rfind(b"\n", 0, at) + 1
-                if int(piece[begin:at]) <= position:
-                    return piece[at + len(named) : piece.index(b"\n", at)].decode()
+                if (step := int(piece[begin:at])) <= position:
+                    yield step, piece[at + len(named) : piece.index(b"\n", at)].decode()
                 at = piece.rfind(named, 0, at)
-        return None

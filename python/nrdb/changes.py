@@ -1,9 +1,10 @@
 """`history CELL`, and what the watches that hit at a stop saw change."""
 
+from itertools import islice
 from typing import Optional
 
 from .output import Row, Table, Values
-from .recorded_changes import RecordedChanges
+from .recorded_changes import RecordedChanges, value_at_start
 from .recording import Recording
 from .shapes import Listed
 from .timers import timer_words
@@ -16,10 +17,11 @@ def history_table(
     changes: RecordedChanges, recording: Recording, cell: str, position: int, most: Optional[int] = MOST
 ) -> Table:
     """The last changes of the cell up to the position, at most so many where `most` isn't None."""
-    steps = changes.steps_of(cell, position)
-    shown = steps if most is None else steps[-most:]
-    rows = [_row(recording, cell, step, *(changes.value(cell, at) for at in (step - 1, step))) for step in shown]
-    if len(shown) < len(steps):
+    found = list(islice(changes.back(cell, position), None if most is None else most + 1))
+    before = [value for _, value in found[1:]] + [value_at_start(cell)]
+    shown = [(step, old, new) for (step, new), old in zip(found, before)][:most]
+    rows = [_row(recording, cell, *change) for change in reversed(shown)]
+    if len(shown) < len(found):
         rest = f"earlier ones: history {cell} all"
     else:
         rest = "" if rows else f"{cell} hasn't changed up to position {position}"

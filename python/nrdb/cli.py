@@ -2,6 +2,7 @@
 file, the program or the connection failed; and 4 where --suspects, --explore or --explore-failures prints some."""
 
 import argparse
+import gc
 import io
 import os
 import shutil
@@ -17,7 +18,7 @@ from .exploring import explored
 from .interrupts import GivenUp, Interrupted, Interrupts
 from .netrev import Ended, Joined, Netrev, Own, Reply
 from .options import parsed, parser
-from .output import JsonPrinter, Printer, TextPrinter
+from .output import JsonPrinter, Printer, TextPrinter, has_colours
 from .recording import NoRecording, Recording
 from .reducing import reduced_file
 from .refusals import explained, fault_of
@@ -37,6 +38,7 @@ LOADING = "netrev reads the recording still; Ctrl-C once more ends nrdb"
 
 def main(words: Optional[Sequence[str]] = None) -> int:
     """Runs nrdb with these words; its exit status."""
+    gc.set_threshold(200_000)  # (of a million steps some millions of objects are kept, and few are in cycles)
     wanted = parsed(sys.argv[1:] if words is None else words)
     if wanted.dap_port is not None:
         return serve_port(wanted.netrev, wanted.dap_port)
@@ -57,11 +59,6 @@ def main(words: Optional[Sequence[str]] = None) -> int:
         return FAILED
 
 
-def has_colours() -> bool:
-    """Whether what is printed goes to a terminal that has colours, and nobody asked for none (https://no-color.org)."""
-    return sys.stdout.isatty() and os.environ.get("TERM", "dumb") != "dumb" and not os.environ.get("NO_COLOR")
-
-
 def run(wanted: argparse.Namespace, printer: Printer) -> int:
     """Runs the session that is wanted, and tells how it ended; its exit status."""
     try:
@@ -69,7 +66,7 @@ def run(wanted: argparse.Namespace, printer: Printer) -> int:
     except Ended as ended:
         printer.note("netrev has ended")
         status = ended.status if ended.status and ended.status > 0 else FAILED
-    except (Mismatched, NoRecording, Strange) as wrong:
+    except (Lost, Mismatched, NoRecording, Strange) as wrong:
         printer.note(str(wrong))
         status = FAILED
     except (GivenUp, KeyboardInterrupt):
@@ -102,9 +99,9 @@ def begun(wanted: argparse.Namespace, netrev: Netrev, interrupts: Interrupts, pr
     with interrupts.held(lambda: printer.note(LOADING)) if has_prompt(wanted) else nullcontext():
         session = session_of(wanted, netrev, interrupts, printer)
         first = session.ask("info position")
-    if not POSITION.fullmatch(first):
-        return refused(wanted, netrev, first, printer)
     try:
+        if not POSITION.fullmatch(first):
+            return refused(wanted, netrev, first, printer)
         session.begin(first)
         if session.recording and session.recording.lines.fault:
             printer.note(session.recording.lines.why_unused(wanted.file))
@@ -129,10 +126,13 @@ def session_of(wanted: argparse.Namespace, netrev: Netrev, interrupts: Interrupt
     if wanted.join and wanted.file and (fault := fault_of(wanted.netrev, wanted.file)):
         raise NoRecording(f"{wanted.file} isn't a recording: {fault}")
     scout = Scout(lambda: Own(wanted.netrev, wanted.file, interrupts)) if wanted.file else None
-    recorded = ArrivingChanges(wanted.netrev, wanted.file, interrupts, printer.note) if wanted.file else None
+    tell = printer.note if has_prompt(wanted) else lambda _: None  # (a batch is the same at any pace)
+    recorded = ArrivingChanges(wanted.netrev, wanted.file, interrupts, tell) if wanted.file else None
     session = Session(netrev, recording, scout, printer, interrupts, ANSWERS, recorded=recorded)
-    if recording and shutil.which(wanted.netrev):
+    if recording and recorded and shutil.which(wanted.netrev):
         recording.changes = recorded
+        if wanted.lines or wanted.suspects or wanted.trace or wanted.timeline:
+            recorded.prepare()  # (while the other netrev reads the recording)
     session.program, session.path = wanted.netrev, wanted.file or ""
     return session
 

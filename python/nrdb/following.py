@@ -59,7 +59,7 @@ def _numbers(recording: Recording, subject: Subject, position: int) -> Iterator[
     if subject.name in KINDS:
         yield from (step.number for step in recording.steps_of((subject.name,), position))
         return
-    book = book_of(recording)
+    book = book_of(recording).whose
     whose = {"gor": book.goroutines, "sock": book.sockets, "desc": book.descriptors}[subject.name]
     for number, one in enumerate(whose[:position], 1):
         if one == subject.number:
@@ -149,7 +149,7 @@ class Goal(NamedTuple):
 
 def goroutine_at(recording: Recording, position: int) -> int:
     """The goroutine of the last step, or of the last one before that is of any; at the start of the next one."""
-    whose = book_of(recording).goroutines
+    whose = book_of(recording).whose.goroutines
     for at in chain(range(position - 1, -1, -1), range(position, len(whose))):
         if whose[at] >= 0:
             return whose[at]
@@ -188,7 +188,7 @@ def start_goal(recording: Recording, goroutine: int, position: int) -> Goal:
 
 def _own_step(book: Book, goroutine: int, numbers: range) -> int:
     """The first step of the goroutine among these."""
-    found = next((number for number in numbers if book.goroutines[number - 1] == goroutine), None)
+    found = next((number for number in numbers if book.whose.goroutines[number - 1] == goroutine), None)
     if found is None:
         raise Stay(f"goroutine {goroutine} makes no {'later' if numbers.step > 0 else 'earlier'} step")
     return found

@@ -1,18 +1,34 @@
 """The changes of a recording that no netrev is asked for: of schedules that are only played, of what is left of a recording on the way to the
 least one. The machine in Python says them, as `netrev changes` does."""
 
-from typing import Iterator
+from typing import Any, Callable, Iterable, Iterator, Optional
 
 from netrev_machine.changing import lines_of
 from netrev_machine.in_place import Machine
-from netrev_words.recording import Limits
+from netrev_words.recording import Limits, Step
 from netrev_words.vocabulary import KINDS, MOST
 
 from .recorded_changes import RecordedChanges
-from .recording import Recording
+from .recording import Recording, Row
 
 WIDE = Limits(MOST, MOST, MOST, MOST)  # (whoever made the steps kept to the limits)
 OF_BYTES = frozenset(kind for kind, row in KINDS.items() if "bytes" in row.arguments)
+
+
+class PlayedSteps(Recording):
+    """Steps that were only played, for the rules."""
+
+    def __init__(self, steps: Iterable[Step]) -> None:
+        super().__init__(b"")
+        self._steps = list(steps)
+
+    @property
+    def has_answers(self) -> bool:
+        return False
+
+    def rows(self, made: Callable[[list[Any]], Row], begin: int = 1, end: Optional[int] = None) -> Iterator[Row]:
+        steps = self._steps[begin - 1 : end]
+        return (made([part.hex() if isinstance(part, bytes) else part for part in step]) for step in steps)
 
 
 def changes_of(recording: Recording) -> RecordedChanges:
@@ -25,11 +41,11 @@ def changes_of(recording: Recording) -> RecordedChanges:
 def _lines(recording: Recording) -> Iterator[str]:
     """The lines that netrev would print."""
     machine, number = Machine(WIDE), 0
-    for number, values in enumerate(recording.arrays(), 1):
+    for number, (kind, *arguments) in enumerate(recording.arrays(), 1):
         if recording.has_answers:
-            values.pop()
-        if values[0] in OF_BYTES:
-            values[-1] = bytes.fromhex(values[-1])
-        machine.step(tuple(values))
+            arguments.pop()
+        if kind in OF_BYTES:
+            arguments[-1] = bytes.fromhex(arguments[-1])
+        machine.step((kind, *arguments))
         yield from lines_of(machine, number)
     yield f"ok {number} steps"

@@ -1,6 +1,5 @@
 """What is noted of a recording: each sort of note, and the uses of descriptors, which most are of."""
 
-from array import array
 from bisect import bisect_left, bisect_right
 from typing import NamedTuple, Optional
 
@@ -8,12 +7,13 @@ CLOSING, TIMED_OUT, EVENT_ERROR = 1, 2, 3  # the codes of a side
 
 
 class Setting(NamedTuple):
-    """A `setdeadline`: its step, who made it, for which sides, and the time that it was given."""
+    """A `setdeadline`: its step, who made it, for which sides, the time that it was given, and the sides whose deadlines had passed."""
 
     step: int
     goroutine: int
     mode: str
     time: int
+    late: str
 
 
 class Passing(NamedTuple):
@@ -83,24 +83,32 @@ class Pauses:
             self.longest = steps
 
 
-class Use:
-    """A use of a descriptor: for which socket, since which step, and what happened in it."""
+AT = {"r": 0, "w": 1}  # where what is kept of both sides has those of each
 
-    def __init__(self, descriptor: int, socket: int, opened: int) -> None:
-        self.descriptor, self.socket, self.opened = descriptor, socket, opened
+
+class Use:
+    """A use of a descriptor: for which socket, since which step, its tag, and what happened in it."""
+
+    __slots__ = (
+        *("descriptor", "socket", "opened", "tag", "settings", "last_settings", "passings", "last_events", "errors"),
+        *("waits", "thrown", "taken"),
+    )
+
+    def __init__(self, descriptor: int, socket: int, opened: int, tag: int) -> None:
+        self.descriptor, self.socket, self.opened, self.tag = descriptor, socket, opened, tag
         self.settings: list[Setting] = []
-        self.last_setting: dict[str, Setting] = {}  # of each side
-        self.passings: dict[str, list[Passing]] = {"r": [], "w": []}
-        self.events = {"r": array("I"), "w": array("I")}
         self.errors: list[ErrorEvent] = []
-        self.waits: dict[str, list[Wait]] = {"r": [], "w": []}
         self.thrown: list[Taking] = []  # readinesses for reading that a pollreset threw away
         self.taken: Optional[Taking] = None  # the last one that was taken, or thrown away
+        # of both sides: the step that set its deadline last, those at which it passed, the last event, and the waits
+        self.last_settings = [0, 0]
+        self.passings: tuple[list[Passing], ...] = ([], [])
+        self.last_events = [0, 0]
+        self.waits: tuple[list[Wait], ...] = ([], [])
 
     def last_event(self, side: str) -> int:
         """The step of the last event of a side; 0 where none came."""
-        events = self.events[side]
-        return events[-1] if events else 0
+        return self.last_events[AT[side]]
 
     def settings_since(self, side: str, step: int) -> list[Setting]:
         """The last setting of a side before a step, and those of the other side alone that came between."""
@@ -110,7 +118,7 @@ class Use:
 
     def passing(self, side: str, position: int) -> Optional[Passing]:
         """When a side's deadline passed last, up to a position."""
-        passings = self.passings[side]
+        passings = self.passings[AT[side]]
         at = bisect_right(passings, position, key=lambda one: one.step)
         return passings[at - 1] if at else None
 

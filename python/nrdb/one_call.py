@@ -29,7 +29,7 @@ class Outcome(Enum):
 MOVING = {"Read": "got", "Write": "put"}
 
 
-@dataclass
+@dataclass(slots=True)
 class Call:
     """A call: its first and its last step, which is 0 as long as it hasn't ended, and what came of it."""
 

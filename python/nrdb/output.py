@@ -2,6 +2,7 @@
 printed as they are; all else begins with `|`."""
 
 import json
+import os
 import sys
 from abc import ABC, abstractmethod
 from dataclasses import dataclass
@@ -178,3 +179,8 @@ class JsonPrinter(Printer):
 
     def end(self, status: int) -> None:
         self._event("end", status=status)
+
+
+def has_colours() -> bool:
+    """Whether what is printed goes to a terminal that has colours, and nobody asked for none (https://no-color.org)."""
+    return sys.stdout.isatty() and os.environ.get("TERM", "dumb") != "dumb" and not os.environ.get("NO_COLOR")

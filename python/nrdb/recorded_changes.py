@@ -1,5 +1,6 @@
 """What `netrev changes` says of a recording: the cells that each step changed, with what they show behind it. The lines are kept as they
-came. Whoever asks much has them in arrays of numbers, and each name and value once, since a million steps change some millions of cells."""
+came. Whoever asks much has them in arrays of numbers, two for each cell, and each value once, since a million steps change some millions
+of cells."""
 
 from array import array
 from bisect import bisect_left, bisect_right
@@ -8,6 +9,7 @@ from typing import Callable, Iterable, Iterator, NamedTuple, Optional, Sequence
 from .changed_lines import ChangedLines, NoChanges
 
 FEW = 300  # questions, up to which the answer is looked for in the lines
+NONE = ("", "", "")  # what comes behind the last change, as texts
 AT_START = {"clock": "0", "waiters": "0", "timers": "0", "firings": "0", "gor 0": "idle"}
 
 
@@ -32,6 +34,14 @@ class Texts(dict[str, int]):
         return number
 
 
+class OfCells(dict[str, "array[int]"]):
+    """Of each cell an array of numbers."""
+
+    def __missing__(self, cell: str) -> "array[int]":
+        self[cell] = made = array("I")
+        return made
+
+
 def value_at_start(cell: str) -> str:
     """What a cell shows before the first step."""
     return AT_START.get(cell, "absent")
@@ -41,9 +51,7 @@ class RecordedChanges:
     """The changes of a recording's steps, which may still be read: whoever asks for more than is there waits for it."""
 
     def __init__(self) -> None:
-        self._steps, self._cells, self._values = array("I"), array("I"), array("I")  # of each change
-        self._names, self._texts = Texts(), Texts()
-        self._places: list[array[int]] = []  # of each cell the places of its changes in those arrays
+        self._steps, self._values, self._texts = OfCells(), OfCells(), Texts()  # of each cell's changes
         self._lines = ChangedLines()
         self._held = 0  # how many of its pieces are in the arrays
         self._asked = 0
@@ -77,21 +85,19 @@ class RecordedChanges:
     def at(self, step: int) -> list[tuple[str, str]]:
         """The cells that a step changed, each with its value behind it, in netrev's order."""
         self._wait(step)
-        if self._is_asked_little():
-            return self._lines.at(step)
-        first, last = bisect_left(self._steps, step), bisect_right(self._steps, step)
-        names, texts = self._names.all, self._texts.all
-        return [(names[self._cells[place]], texts[self._values[place]]) for place in range(first, last)]
+        return self._lines.at(step)
 
     def value(self, cell: str, position: int) -> str:
         """What a cell shows at a position."""
+        return next((value for _, value in self.back(cell, position)), value_at_start(cell))
+
+    def back(self, cell: str, position: int) -> Iterator[tuple[int, str]]:
+        """The steps that changed a cell, falling, from a position on, each with its value behind it."""
         self._wait(position)
         if self._is_asked_little():
-            shown = self._lines.value(cell, position)
-            return value_at_start(cell) if shown is None else shown
-        places = self._places_of(cell)
-        at = bisect_left(places, bisect_right(self._steps, position))
-        return self._texts.all[self._values[places[at - 1]]] if at else value_at_start(cell)
+            return self._lines.back(cell, position)
+        steps, values, texts = self._steps.get(cell, ()), self._values.get(cell, ()), self._texts.all
+        return ((steps[at], texts[values[at]]) for at in range(bisect_right(steps, position) - 1, -1, -1))
 
     def values(self, position: int, cells: Iterable[str]) -> list[str]:
         """What cells show at a position."""
@@ -115,40 +121,34 @@ class RecordedChanges:
         self._wait(until)
         if self._is_asked_little():
             return list(self._lines.changes_of(cell, until))
-        places, texts = self._places_of(cell), self._texts.all
-        end = len(places) if until is None else bisect_left(places, bisect_right(self._steps, until))
-        return [(self._steps[place], texts[self._values[place]]) for place in places[:end]]
+        steps, texts = self._steps.get(cell, array("I")), self._texts.all
+        end = len(steps) if until is None else bisect_right(steps, until)
+        return [(step, texts[value]) for step, value in zip(steps[:end], self._values.get(cell, ()))]
 
     def cells(self) -> list[str]:
         """The cells that any step changed, in the order in which they first did."""
+        return list(dict.fromkeys(cell for _, cell, _ in self.texts()))
+
+    def texts(self) -> Iterator[tuple[str, str, str]]:
+        """All changes, step by step, as texts: the step, the cell and its value."""
         self._wait(None)
-        self._hold()
-        return list(self._names.all)
+        return self._lines.texts(0, len(self._lines.pieces))
 
     def __iter__(self) -> Iterator[Change]:
         """All changes, step by step."""
-        self._wait(None)
-        self._hold()
-        cells = map(self._names.all.__getitem__, self._cells)
-        return map(Change, self._steps, cells, map(self._texts.all.__getitem__, self._values))
+        return (Change(int(step), cell, value) for step, cell, value in self.texts())
 
     def by_step(self) -> Iterator[list[tuple[str, str]]]:
         """Of each step in turn what it changed, as `at` has it."""
-        self._wait(None)
-        self._hold()
-        names, texts, place, end = self._names.all, self._texts.all, 0, len(self._steps)
-        steps, cells, values = self._steps, self._cells, self._values
+        changes = self.texts()
+        upcoming, cell, value = next(changes, NONE)
         for step in range(1, self._length + 1):
             changed: list[tuple[str, str]] = []
-            while place < end and steps[place] == step:
-                changed.append((names[cells[place]], texts[values[place]]))
-                place += 1
+            number = str(step)
+            while upcoming == number:
+                changed.append((cell, value))
+                upcoming, cell, value = next(changes, NONE)
             yield changed
-
-    def _places_of(self, cell: str) -> "array[int]":
-        """The places of a cell's changes, which rise."""
-        number = self._names.get(cell)
-        return array("I") if number is None or number >= len(self._places) else self._places[number]
 
     def _is_asked_little(self) -> bool:
         """Whether little was asked, so that the lines are searched. Else what has come is in the arrays."""
@@ -164,10 +164,10 @@ class RecordedChanges:
 
     def _hold_piece(self) -> None:
         """Holds the next piece in arrays, whole."""
-        try:
-            self._take_lines(self._lines.pieces[self._held].decode("ascii").removesuffix("\n"))
-        except (ValueError, IndexError):
-            raise NoChanges("a line that is no change") from None
+        steps, values, texts = self._steps, self._values, self._texts
+        for step, cell, value in self._lines.texts(self._held, self._held + 1):
+            steps[cell].append(int(step))
+            values[cell].append(texts[value])
         self._held += 1
 
     def _wait(self, position: Optional[int]) -> None:
@@ -206,21 +206,6 @@ class RecordedChanges:
                 self._take_end(last.decode("ascii"))
             except (ValueError, IndexError):
                 raise NoChanges("a line that is no change") from None
-
-    def _take_lines(self, lines: str) -> None:
-        """Takes whole lines of changes into the arrays."""
-        parts = lines.replace(" = ", "\n").split("\n")
-        numbers, names = zip(*[head.split(" ", 1) for head in parts[::2]])
-        steps, cells = array("I", map(int, numbers)), array("I", map(self._names.__getitem__, names))
-        values = array("I", map(self._texts.__getitem__, parts[1::2]))
-        if len(values) != len(steps):
-            raise NoChanges("a line without a value")
-        self._places += (array("I") for _ in range(len(self._places), len(self._names)))
-        for place, cell in enumerate(cells, len(self._cells)):
-            self._places[cell].append(place)
-        self._cells.extend(cells)
-        self._values.extend(values)
-        self._steps.extend(steps)
 
     def _take_end(self, line: str) -> None:
         """Takes the last line: how many steps there are, or the fault."""

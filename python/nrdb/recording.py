@@ -10,7 +10,7 @@ from bisect import bisect_left, bisect_right
 from functools import cached_property
 from itertools import accumulate
 from os.path import commonprefix
-from typing import Any, Iterable, Iterator, NamedTuple, Optional, Sequence
+from typing import Any, Callable, Iterable, Iterator, NamedTuple, Optional, Sequence, TypeVar
 
 from netrev_words.files import check_name
 from netrev_words.vocabulary import KINDS
@@ -18,10 +18,12 @@ from netrev_words.vocabulary import KINDS
 from .recorded_changes import RecordedChanges
 from .where import Lines
 
+BEFORE_BLANKS = (b"\n\n", b"\n ", b"\n\t", b"\n\r")  # one of these is in a text that has a blank line behind the first
 BLANK_LINE = re.compile(rb"^[ \t\r]*$", re.MULTILINE)
 SHOWN = 40
 PIECE = 1_024  # steps
 AT_ONCE = 16_384  # steps that are read together
+Row = TypeVar("Row")
 
 
 class Step(NamedTuple):
@@ -69,9 +71,15 @@ class Recording:
     def __init__(self, data: bytes):
         self.data = data
         lengths = map(len, data.split(b"\n"))
-        self._starts = array("q", accumulate(lengths, lambda start, length: start + length + 1, initial=0))
-        blank = {bisect_right(self._starts, found.start()) for found in BLANK_LINE.finditer(data)}
-        numbers = range(1, len(self._starts))
+        self._starts = array("q", accumulate(map((1).__add__, lengths), initial=0))
+        end = len(data.rstrip(b" \t\r\n"))  # (behind it there are blank lines alone)
+        numbers = range(1, bisect_right(self._starts, end) + (end > 0))
+        blanks = (
+            BLANK_LINE.finditer(data, 0, end)
+            if data[:1].isspace() or any(map(data.__contains__, BEFORE_BLANKS))
+            else ()
+        )
+        blank = {bisect_right(self._starts, found.start()) for found in blanks}
         self._numbers: Sequence[int] = [number for number in numbers if number not in blank] if blank else numbers
         self.header_line = self._numbers[0] if self._numbers else 1
         self.lines = Lines()
@@ -149,16 +157,23 @@ class Recording:
         return bisect_left(self._numbers, bisect_right(self._starts, place))
 
     def arrays(self) -> Iterator[list[Any]]:
-        """Each step's array as JSON has it, one after the other."""
+        """Each step's array as JSON has it, one after the other. Like lines may share one: nobody changes it."""
         return self.arrays_of(1, self.length)
 
     def arrays_of(self, begin: int, end: int) -> Iterator[list[Any]]:
         """The arrays of the steps from one number to another, as far as there are so many."""
-        end = min(end, self.length)
+        return self.rows(lambda values: values, begin, end)
+
+    def rows(self, made: Callable[[list[Any]], Row], begin: int = 1, end: Optional[int] = None) -> Iterator[Row]:
+        """What is made of each step's array, one after the other: once of lines that are alike and near."""
+        end = self.length if end is None else min(end, self.length)
         for first in range(begin, end + 1, AT_ONCE):
             last = min(first + AT_ONCE, end + 1) - 1
             text = self.data[self._starts[self._numbers[first] - 1] : self._starts[self._numbers[last]]]
-            yield from parsed(b"[%s]" % b",".join(line for line in text.split(b"\n") if line.strip()))
+            lines = [line for line in text.split(b"\n") if line and not line.isspace()]
+            unlike = dict.fromkeys(lines)
+            rows = dict(zip(unlike, map(made, parsed(b"[%s]" % b",".join(unlike)))))
+            yield from map(rows.__getitem__, lines)
 
     def steps_of(self, kinds: tuple[str, ...], until: int, socket: Optional[int] = None) -> Iterator[Step]:
         """The steps of these kinds among the first so many; and, where one is named, of this socket."""

@@ -1,18 +1,19 @@
 """Whose timer a `pop` starts and a `fire` runs, and who set it: by the recording's steps, since netrev shows how many timers
 there are and no more."""
 
-import heapq
 from functools import lru_cache
-from typing import Mapping, NamedTuple, Optional
+from typing import Any, Mapping, NamedTuple, Optional
 
-from .modelled_changes import changes_of
+from netrev_machine.deadlines import Deadlines
+from netrev_machine.deadlines import Timer as Armed
+from netrev_machine.polling import deadline_of
+
 from .output import Row, Table
-from .recorded_changes import RecordedChanges
 from .recording import Recording, Step
 from .words import SIDES
 
-# the steps that arm, stop and run timers; the socket of a descriptor comes with the step that opened it
-FOLLOWED = ("pollopen", "setdeadline", "evict", "pop", "fire")
+# the steps that arm, stop and run timers, and those by which descriptors are used again and the time goes on
+FOLLOWED = frozenset(("pollopen", "pollclose", "setdeadline", "evict", "tick", "pop", "fire"))
 
 
 class Timer(NamedTuple):
@@ -33,110 +34,57 @@ class Timer(NamedTuple):
         return f"the {sides} timer of descriptor {self.descriptor}, set at step {self.set_at} by goroutine {self.set_by}{stale}"
 
 
-class Armed(NamedTuple):
-    """An armed timer, in the order in which timers run: when it is due, its arming number, and whose it is."""
+class Following:
+    """The machine's timers, behind the steps that were gone through."""
 
-    due: int
-    number: int
-    descriptor: int
-    side: str
-    covers: str
-    socket: int
-    set_at: int
-    set_by: int
+    def __init__(self) -> None:
+        self._deadlines = Deadlines()
+        self._clock = 0
+        self._free: list[int] = []  # descriptors, the one that was freed last at the end
+        self._sockets: dict[int, int] = {}  # of descriptors
 
-
-class Heap:
-    """The timers that are armed, and those that were popped and aren't run yet, behind the steps that were gone through."""
-
-    def __init__(self, changes: RecordedChanges) -> None:
-        self._changes = changes
-        self._heap: list[Armed] = []  # some of them are given up
-        self._armed: dict[tuple[int, str], Armed] = {}
-        self._running: set[tuple[int, str]] = set()  # the sides that have a timer, armed or popped
-        self._set: dict[
-            tuple[int, str], tuple[int, int]
-        ] = {}  # of each side the step that set its deadline, and by whom
-        self._socket: dict[int, int] = {}
-        self._firings: list[Armed] = []
-        self._number = 0
-
-    def follow(self, step: Step) -> Optional[Timer]:
+    def follow(self, number: int, kind: str, *arguments: Any) -> Optional[Timer]:
         """Goes through a step; the timer that it pops or runs."""
-        if step.kind == "pollopen":
-            d = next(int(cell.split()[1]) for cell, _ in self._changes.at(step.number) if cell.startswith("rseq "))
-            self._socket[d] = step.argument("s")
-            self._running -= {(d, "r"), (d, "w")}
-        elif step.kind == "setdeadline":
-            self._sets(step)
-        elif step.kind == "evict":
-            for side in "rw":
-                self._stop((step.argument("d"), side))
-        elif step.kind == "pop":
-            return self._pops()
-        else:
-            return self._fires(step)
+        deadlines = self._deadlines
+        match kind, *arguments:
+            case "tick", time:
+                self._clock = time
+            case "pollopen", _, s:
+                d = self._free.pop() if self._free else len(self._sockets)
+                self._sockets[d] = s
+                deadlines.open(d)
+            case "pollclose", _, d:
+                self._free.append(d)
+            case "evict", _, d:
+                deadlines.evict(d)
+            case "setdeadline", g, d, mode, time:
+                deadlines.set(d, mode, deadline_of(self._clock, time), (self._sockets[d], number, g))
+            case ("pop",):
+                return _timer(deadlines.pop(), False)
+            case "fire", place:
+                return _timer(*deadlines.fire(place))
         return None
 
-    def _sets(self, step: Step) -> None:
-        """The timers of a descriptor follow its deadlines; those of one that is closing don't."""
-        d, n = step.argument("d"), step.number
-        if int(self._changes.value(f"info {d}", n - 1)) & 1:
-            return
-        for side in step.argument("mode"):
-            self._set[d, side] = n, step.argument("g")
-        before, now = ([int(self._changes.value(f"{side}d {d}", position)) for side in "rw"] for position in (n - 1, n))
-        was_both, both = before[0] == before[1] > 0, now[0] == now[1] > 0
-        for side, old, deadline in zip("rw", before, now):
-            is_wanted = deadline > 0 and not (side == "w" and both)
-            is_as_before = deadline == old and both == was_both
-            if is_as_before if (d, side) in self._running else not is_wanted:
-                continue
-            self._stop((d, side))
-            if is_wanted:
-                self._arm((d, side), deadline, "rw" if both else side)
 
-    def _arm(self, of: tuple[int, str], due: int, covers: str) -> None:
-        self._number += 1
-        armed = Armed(due, self._number, *of, covers, self._socket[of[0]], *self._set[of])
-        self._armed[of] = armed
-        self._running.add(of)
-        heapq.heappush(self._heap, armed)
-
-    def _stop(self, of: tuple[int, str]) -> None:
-        self._armed.pop(of, None)
-        self._running.discard(of)
-
-    def _pops(self) -> Timer:
-        while True:
-            armed = heapq.heappop(self._heap)
-            if self._armed.get((armed.descriptor, armed.side)) == armed:
-                break
-        del self._armed[armed.descriptor, armed.side]
-        self._firings.append(armed)
-        return _timer(armed, False)
-
-    def _fires(self, step: Step) -> Timer:
-        armed = self._firings.pop(step.argument("i"))
-        cell = f"{armed.covers[0]}d {armed.descriptor}"
-        return _timer(armed, all(changed != cell for changed, _ in self._changes.at(step.number)))
-
-
-def _timer(armed: Armed, is_stale: bool) -> Timer:
-    return Timer(armed.covers, armed.descriptor, armed.socket, armed.due, armed.set_at, armed.set_by, is_stale)
+def _timer(armed: Optional[Armed], is_stale: bool) -> Timer:
+    """A timer as it is told of."""
+    assert armed  # (netrev has popped one)
+    socket, step, g = armed.setter
+    return Timer(armed.covers, armed.descriptor, socket, armed.due, step, g, is_stale)
 
 
 @lru_cache(maxsize=2)
 def timers_of(recording: Recording) -> Mapping[int, Timer]:
     """The timer of each `pop` and each `fire`, by the step's number."""
-    heap = Heap(changes_of(recording))
-    followed = ((step.number, heap.follow(step)) for step in recording.steps_of(FOLLOWED, recording.length))
-    return {number: timer for number, timer in followed if timer}
+    following, end = Following(), -1 if recording.has_answers else None
+    rows = recording.rows(lambda values: tuple(values[:end]) if values[0] in FOLLOWED else None)
+    timers = ((number, following.follow(number, *row)) for number, row in enumerate(rows, 1) if row)
+    return {number: timer for number, timer in timers if timer}
 
 
 def timer_of(recording: Recording, step: Optional[Step]) -> Optional[Timer]:
     """The timer of a step; None where it is of none."""
-    return timers_of(recording).get(step.number) if step and step.kind in ("pop", "fire") else None
+    return timers_of(recording)[step.number] if step and step.kind in ("pop", "fire") else None
 
 
 def timer_words(recording: Recording, step: Step) -> str:

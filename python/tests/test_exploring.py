@@ -14,17 +14,19 @@ from netrev_machine.steps import apply
 from netrev_words.recording import Limits
 from netrev_words.vocabulary import KINDS
 from netrev_words.writing import line_of
+from netrev_calls.flow import Sort
 from nrdb.calls import book_of
 from nrdb.exploring import commands
 from nrdb.exploring.arrivals import with_events
-from nrdb.exploring.finding import HANG, Exploring, Steps
+from nrdb.exploring.finding import HANG, Exploring
 from nrdb.exploring.making import script_of
 from nrdb.exploring.playing import Player
 from nrdb.exploring.runs import Delay, Impossible
 from nrdb.exploring.schedules import Schedule, drawn, schedules, single_delays, touched
-from nrdb.exploring.scripts import Script, Sort
+from nrdb.exploring.scripts import Script
 from nrdb.exploring.telling import LEFT_UNKNOWN, UNKNOWN, UNLESS, Telling, summary
 from nrdb.interrupts import Interrupted
+from nrdb.modelled_changes import PlayedSteps
 from nrdb.recording import Recording
 from nrdb.session import Misused
 from nrdb.suspects.ranking import suspects_of
@@ -211,7 +213,7 @@ class Races(unittest.TestCase):
         self.assertEqual(suspects_of(recording_of(GOOD)).suspects, [])
         exploring = explored(script_of(recording_of(GOOD)), 40)
         finding = exploring.found["deadline taken back too soon", 1, 0]
-        again = suspects_of(Steps(finding.played.steps)).suspects
+        again = suspects_of(PlayedSteps(made.step for made in finding.played.steps)).suspects
         self.assertEqual((again[0].rule, again[0].goroutine), ("deadline taken back too soon", 1))
         self.assertEqual(len(finding.schedule.delays), 1)
         self.assertEqual(finding.played.world.goroutines[1], ("parked", 0, "r"))

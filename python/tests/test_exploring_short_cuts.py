@@ -29,12 +29,13 @@ TRAFFIC, LENGTH = (720, 726), 400  # seeds, and how long those are
 
 
 class PlainBoard(Board):
-    """It asks the model for each step."""
+    """It has the machine make each step, and a snapshot of it too."""
 
     def make(self, step: Step, number: int) -> Made:
-        world, answer = apply(self.world(), step)
-        self._take(world)
-        return Made(step, answer, number)
+        behind = apply(self.world(), step)
+        made = Made(step, self.step(step), number)
+        assert (self.world(), made.answer) == behind
+        return made
 
 
 class PlainPlayer(Player):

@@ -79,7 +79,7 @@ def of_close(index: Index, call: Call, begins: str, deep: int) -> Cause:
     """Who closed the descriptor, or the write side, and whether that came while the call was under way."""
     recording = index.recording
     by = index.at(call.cause)
-    goroutine = index.book.goroutines[call.cause - 1]
+    goroutine = recording.step(call.cause).argument("g")
     what = "Its write side was closed" if call.outcome is Outcome.BROKEN_PIPE else "It was closed"
     when = ", while the call was under way" if call.first < call.cause else ", before the call began"
     says = [f"{begins}.", f"{what}{place_of_step(recording, call.cause, goroutine)}{when}."]

@@ -39,7 +39,7 @@ class Index:
 
     def at(self, step: int) -> Optional[Call]:
         """The innermost call that a step is part of."""
-        goroutine = self.book.goroutines[step - 1]
+        goroutine = self.recording.step(step).argument("g")
         calls = self.by_goroutine.get(goroutine, ())
         return next((one for one in reversed(calls) if one.first <= step and (not one.last or one.last >= step)), None)
 

@@ -4,8 +4,10 @@ the event that told of it came before. So for other schedules such bytes come wi
 from dataclasses import replace
 from typing import NamedTuple, Optional
 
+from netrev_calls.flow import Sort
+
 from ..reducing.events import Event
-from .scripts import Item, Operation, Script, Sort
+from .scripts import Item, Operation, Script
 
 SIDE_OF = {"arrive": "r", "peerclose": "r", "drain": "w"}
 TRYING = {Sort.READ: ("sysread", "r"), Sort.WRITE: ("syswrite", "w")}

@@ -4,40 +4,15 @@ machine's answer."""
 from bisect import bisect_right
 from typing import NamedTuple, Optional
 
+from netrev_calls.flow import BY_STATUS, NAMES, Came, Sort, came, first_step, step_by_status
 from netrev_machine.machine import Status
 from netrev_words.recording import Answer, Step
 
 from .board import Board
-from .scripts import Operation, Sort
+from .scripts import Operation
 
-BY_STATUS = {
-    "acquiring": "acquire",
-    "owing": "release",
-    "entering": "blockarm",
-    "armed": "blockcheck",
-    "parking": "parkcommit",
-    "swapping": "blockswap",
-    "checking": "waitcheck",
-}
-BY_SORT = {
-    Sort.LOCK: "rwlock",
-    Sort.UNLOCK: "rwunlock",
-    Sort.REFER: "incref",
-    Sort.GIVE_UP: "decref",
-    Sort.CLOSE: "increfclose",
-    Sort.SHUT: "closewrite",
-    Sort.OPEN: "pollopen",
-    Sort.RESET: "pollreset",
-    Sort.EVICT: "evict",
-    Sort.DESTROY: "pollclose",
-    Sort.SET: "setdeadline",
-    Sort.EXIT: "exit",
-    Sort.MAKE: "sockopen",
-}
 NEVER = float("inf")
 GOROUTINE, CLOCK, MADE, NETWORK = range(4)  # who acts
-OF_SOCKETS = frozenset((Sort.LOCK, Sort.UNLOCK, Sort.REFER, Sort.GIVE_UP, Sort.CLOSE, Sort.SHUT, Sort.OPEN))
-
 
 About = tuple[bool, int]  # whether it is a socket, and which; else which use of a descriptor
 
@@ -90,6 +65,10 @@ class Stream:
             return tries[min(turn, len(tries) - 1)]
         following = bisect_right(self._starts, place)
         return self.bytes[place : self._starts[following] if following < len(self._starts) else len(self.bytes)]
+
+
+class NotMade(Exception):
+    """What a step is about isn't there yet: another goroutine has still to make it."""
 
 
 class Numbers:
@@ -150,100 +129,72 @@ class Numbers:
         is_socket, which = about
         return (self.sockets if is_socket else self.descriptors).get(which, -1)
 
-
-class NotMade(Exception):
-    """What a step is about isn't there yet: another goroutine has still to make it."""
+    def needed(self, about: Optional[About]) -> int:
+        """The number of what is needed for a step; NotMade where there is none."""
+        number = self.of(about)
+        if number < 0 and about is not None:
+            raise NotMade
+        return number
 
 
 def next_step(
     board: Board, numbers: Numbers, g: int, place: Place, operation: Operation, stream: Optional[Stream]
 ) -> Step:
     """The step that a goroutine makes next; NotMade where it waits for another to make what it is about."""
-    status = board.goroutines[g]
-    if kind := BY_STATUS.get(status[0]):
-        return kind, g
-    if status[0] == "relock":
-        return "rwlock", g, *status[1:]
+    if step := step_by_status(g, board.goroutines[g]):
+        return step
     if place.destroys >= 0:
-        return "pollclose", g, numbers.descriptors[place.destroys]
-    sort = operation.sort
-    if place.is_waiting or sort is Sort.WAIT:
-        return "waitbegin", g, _of(numbers.descriptors, operation.use), operation.side
+        return first_step(Sort.DESTROY, g, numbers.descriptors[place.destroys], "", ())
+    sort, values = Sort.WAIT if place.is_waiting else operation.sort, operation.values
     if sort is Sort.READ:
-        return "sysread", g, _of(numbers.sockets, operation.socket), operation.values[place.tries]
-    if sort is Sort.WRITE:
+        values = (operation.values[place.tries],)
+    elif sort is Sort.WRITE:
         assert stream
-        return "syswrite", g, _of(numbers.sockets, operation.socket), stream.at(place.tries, place.waits)
-    kind = BY_SORT[sort]
-    if sort in OF_SOCKETS:
-        side = (operation.side,) if operation.side else ()
-        return kind, g, _of(numbers.sockets, operation.socket), *side
-    if sort is Sort.MAKE:
-        return kind, *operation.values
-    if sort is Sort.EXIT:
-        return kind, g
-    side = (operation.side,) if operation.side else ()
-    return kind, g, _of(numbers.descriptors, operation.use), *side, *operation.values
+        values = (stream.at(place.tries, place.waits),)
+    elif sort is Sort.WAIT:
+        values = ()
+    return first_step(sort, g, numbers.needed(_about(sort, operation)), operation.side, values)
+
+
+def _about(sort: Sort, operation: Operation) -> Optional[About]:
+    """What the first step of this sort names."""
+    of = NAMES[sort].of
+    return (True, operation.socket) if of == "s" else (False, operation.use) if of == "d" else None
 
 
 def is_about(status: Status, place: Place, operation: Operation) -> Optional[About]:
     """What the next step names of which it needs the number; None where its goroutine's status has that, or nothing is named."""
-    sort = operation.sort
-    if status[0] in BY_STATUS or status[0] == "relock" or sort in (Sort.MAKE, Sort.EXIT):
+    if status[0] in BY_STATUS:
         return None
-    if not place.is_waiting and (sort in OF_SOCKETS or sort in (Sort.READ, Sort.WRITE)):
-        return True, operation.socket
-    return False, operation.use
-
-
-def _of(numbers: dict[int, int], which: int) -> int:
-    if which not in numbers:
-        raise NotMade
-    return numbers[which]
+    return _about(Sort.WAIT if place.is_waiting else operation.sort, operation)
 
 
 def behind(
     place: Place, operation: Operation, kind: str, answer: Answer, status: str, stream: Optional[Stream]
 ) -> Place:
     """Where a goroutine is behind a step of this kind."""
-    handler = WAITING.get(kind)
-    if handler is not None:
-        return handler(place, operation, answer)
-    if kind == "pollclose" and operation.sort is not Sort.DESTROY:
-        return _following(place._replace(destroys=-1), status)
-    if kind == "release":
-        return _following(place, status)
-    if kind == "acquire":
-        return place
+    match came(kind, answer):
+        case Came.STAYS:
+            return place
+        case Came.FAILS:
+            return Place(operation.on_failure)
+        case Came.WAITS:
+            return place._replace(is_waiting=True, waits=place.waits + (kind == "waitbegin"))
+        case Came.READY:
+            return _ready(place, operation)
     if kind == "sysread":
         return _read(place, operation, answer)
     if kind == "syswrite":
         assert stream
         return _written(place, operation, answer, stream)
-    if answer == ("wait",):
-        return place
-    if answer == ("no",) or (kind == "pollreset" and answer[1]):
-        return Place(operation.on_failure)
+    if kind == "pollclose" and operation.sort is not Sort.DESTROY:
+        return _following(place._replace(destroys=-1), status)
     return _following(place, status)
 
 
 def _following(place: Place, status: str) -> Place:
     """The next operation, where this one is over."""
     return place if status == "owing" or place.destroys >= 0 else Place(place.operation + 1)
-
-
-def _begun(place: Place, operation: Operation, answer: Answer) -> Place:
-    if answer[1]:
-        return Place(operation.on_failure)
-    return place._replace(is_waiting=True, waits=place.waits + 1)
-
-
-def _armed(place: Place, operation: Operation, answer: Answer) -> Place:
-    return place if answer == ("wait",) else _ready(place, operation)
-
-
-def _swapped(place: Place, operation: Operation, answer: Answer) -> Place:
-    return _ready(place, operation) if answer == ("yes",) else place
 
 
 def _ready(place: Place, operation: Operation) -> Place:
@@ -255,37 +206,11 @@ def _ready(place: Place, operation: Operation) -> Place:
     return place._replace(is_waiting=False)
 
 
-def _checked(place: Place, operation: Operation, answer: Answer) -> Place:
-    return Place(operation.on_failure) if answer[1] else place
-
-
-def _stays(place: Place, operation: Operation, answer: Answer) -> Place:
-    return place
-
-
-WAITING = {
-    "waitbegin": _begun,
-    "blockarm": _armed,
-    "blockcheck": _stays,
-    "parkcommit": _stays,
-    "blockswap": _swapped,
-    "waitcheck": _checked,
-}
-
-
 def _read(place: Place, operation: Operation, answer: Answer) -> Place:
-    if answer == ("again",):
-        return place._replace(is_waiting=True)
-    if answer[0] == "eof":
-        return Place(operation.on_failure)
     is_more = answer[1] == operation.values[place.tries] and place.tries + 1 < len(operation.values)
     return place._replace(tries=place.tries + 1) if is_more else Place(place.operation + 1)
 
 
 def _written(place: Place, operation: Operation, answer: Answer, stream: Stream) -> Place:
-    if answer == ("again",):
-        return place._replace(is_waiting=True)
-    if answer[0] == "pipe":
-        return Place(operation.on_failure)
     tries = place.tries + answer[1]
     return place._replace(tries=tries, waits=0) if tries < len(stream.bytes) else Place(place.operation + 1)

@@ -5,8 +5,10 @@ from bisect import bisect_left
 from enum import Enum
 from typing import Any, Iterator, NamedTuple, Optional
 
+from netrev_calls.flow import Sort
+
 from .runs import Delay, Made
-from .scripts import Operation, Script, Sort
+from .scripts import Operation, Script
 
 FAILS = "a call that fails"
 

@@ -8,7 +8,7 @@ from typing import Any, Callable, Iterator, NamedTuple, Optional
 from netrev_machine.machine import Status, World
 from netrev_words.recording import Answer, Limits, Step
 
-from ..recording import Recording
+from ..modelled_changes import PlayedSteps
 from ..suspects.found import Suspect
 from ..suspects.loading import LEFT_BEHIND, LOST_WAKE_UP, TAKEN_BACK, WRITE_BEHIND_SHUT
 from ..suspects.ranking import suspects_of
@@ -42,22 +42,6 @@ class Played(NamedTuple):
 
     def pairs(self) -> list[tuple[Step, Answer]]:
         return [(made.step, made.answer) for made in self.steps]
-
-
-class Steps(Recording):
-    """Steps for the rules."""
-
-    def __init__(self, steps: list[Made]) -> None:
-        super().__init__(b"")
-        self._steps = [made.step for made in steps]
-
-    @property
-    def has_answers(self) -> bool:
-        return False
-
-    def arrays(self) -> Iterator[list[Any]]:
-        for step in self._steps:
-            yield [part.hex() if isinstance(part, bytes) else part for part in step]
 
 
 class Finding(NamedTuple):
@@ -190,7 +174,8 @@ class Exploring:
         if self.script.watched:
             yield from self._failure(schedule, played)
             return
-        suspects = [one for one in suspects_of(Steps(played.steps)).suspects if self._counts(one, played)]
+        ranked = suspects_of(PlayedSteps(made.step for made in played.steps))
+        suspects = [one for one in ranked.suspects if self._counts(one, played)]
         for suspect in suspects:
             yield Finding(self._key(suspect, played), suspect, -1, schedule, played)
         named = {suspect.goroutine for suspect in suspects}

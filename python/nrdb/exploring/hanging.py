@@ -3,11 +3,12 @@ in this schedule too; where it wasn't, since who sets it hangs itself or waits, 
 
 from typing import Optional
 
+from netrev_calls.flow import Sort
 from netrev_machine.machine import SIDES, Status, World
 
 from .control import Place
 from .runs import Made
-from .scripts import Operation, Script, Sort
+from .scripts import Operation, Script
 
 TIMED_OUT = ("code", 2)
 

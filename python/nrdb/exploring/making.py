@@ -1,12 +1,13 @@
 """Makes the script of a recording."""
 
+from netrev_calls.flow import Sort
 from netrev_words.recording import Limits
 
 from ..recording import Recording
 from ..reducing.events import Events
 from ..where import Lines
 from .orders import causes_of, orders_of
-from .scripts import Item, Operation, Script, Sort
+from .scripts import Item, Operation, Script
 from .taking_apart import goroutines_of
 
 CLOCK = ("tick", "pop", "fire")

@@ -5,6 +5,7 @@ has still to make."""
 from heapq import heappop, heappush
 from typing import Optional
 
+from netrev_calls.flow import ASLEEP, Sort
 from netrev_machine.machine import Refused, Status
 from netrev_words.recording import Answer, Step
 
@@ -12,10 +13,9 @@ from ..reducing.events import Event
 from .control import GOROUTINE, MADE, NETWORK, NEVER, NotMade, Place, behind, is_about, next_number, number_of
 from .orders import Waiting
 from .runs import Delay, Impossible
-from .scripts import Script, Sort
+from .scripts import Script
 from .standing import Standing, Turn
 
-ASLEEP = ("parked", "queued")
 WAKING = frozenset(("pollevent", "setdeadline", "evict", "fire", "release"))
 NEWS = (("code", 2), ("pipe",))  # a time ran out, a pipe is broken
 MAKING = frozenset(("spawn", "sockopen", "pollopen"))

@@ -6,8 +6,10 @@ from bisect import bisect_left, bisect_right
 from itertools import islice
 from typing import Iterator, NamedTuple
 
+from netrev_calls.flow import Sort
+
 from .runs import Delay
-from .scripts import Operation, Script, Sort
+from .scripts import Operation, Script
 
 NEAR = 4  # steps of others about the same thing, until which one pauses
 AROUND = 40  # steps, within which several delays are drawn

@@ -3,36 +3,12 @@ goroutine's is a row of operations, which its calls are made of; it goes on to a
 otherwise than it did."""
 
 from dataclasses import dataclass, field
-from enum import Enum, auto
 from typing import Any, NamedTuple, Optional
 
+from netrev_calls.flow import Sort
 from netrev_words.recording import Limits
 
 from ..reducing.events import Event, Timer
-
-
-class Sort(Enum):
-    """What an operation is. A read, a write and a wait go round until they are done."""
-
-    MAKE = auto()
-    OPEN = auto()
-    LOCK = auto()
-    UNLOCK = auto()
-    RESET = auto()
-    WAIT = auto()
-    READ = auto()
-    WRITE = auto()
-    REFER = auto()
-    GIVE_UP = auto()
-    CLOSE = auto()
-    EVICT = auto()
-    DESTROY = auto()
-    SET = auto()
-    SHUT = auto()
-    EXIT = auto()
-
-
-ENDS = {Sort.UNLOCK: (Sort.LOCK,), Sort.GIVE_UP: (Sort.REFER, Sort.CLOSE)}  # what each of these ends
 
 
 @dataclass

@@ -4,7 +4,8 @@ copied, and compared with where another stands."""
 from heapq import heapify, heappush
 from typing import NamedTuple, Optional, TypeVar
 
-from netrev_machine.machine import Status, World
+from netrev_calls.flow import Sort
+from netrev_machine.machine import Status
 from netrev_words.recording import Answer, Step
 
 from .board import Board
@@ -14,7 +15,7 @@ from .failing import OVER, Failed, fault_of
 from .orders import Passing
 from .others import Others
 from .runs import Delay, Made
-from .scripts import Script, Sort
+from .scripts import Script
 
 Due = tuple[float, int, int, int]  # when, which of those at that time, who acts, and its number
 Itself = TypeVar("Itself", bound="Standing")
@@ -42,7 +43,7 @@ class Standing:
     def __init__(self, script: Script, delays: tuple[Delay, ...] = ()) -> None:
         self.script = script
         self.until = {delay.before: delay.until + 0.5 for delay in delays}
-        self.board = Board(World(script.limits), not delays)
+        self.board = Board(script.limits, not delays)
         self.turns: dict[int, Turn] = {}  # of the recorded run, by the numbers of their steps
         self.numbers = Numbers()
         self.before = 0  # steps of the player that it is a copy of

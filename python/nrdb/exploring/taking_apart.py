@@ -2,12 +2,14 @@
 
 from typing import Any, Optional
 
-from ..reducing.events import Event, Events
-from .scripts import ENDS, Operation, Sort
+from netrev_calls.flow import ENDS, LAST, SORTS, TRIES, Came, Sort, came
+from netrev_words.vocabulary import KINDS
 
-AGAIN, LAST, NO = ("again",), ("last",), ("no",)
+from ..reducing.events import Event, Events
+from .scripts import Operation
+
 ROOM = 4_096  # bytes that a read asks for, where none is known
-TRIES = (Sort.RESET, Sort.WAIT, Sort.READ, Sort.WRITE)
+OF_EACH = ("g", "s", "d", "side", "mode")  # the arguments that an operation has apart from its values
 
 
 class TakenApart:
@@ -17,11 +19,10 @@ class TakenApart:
         self.events, self.asked, self.told = events, asked, told
         self.operations: list[Operation] = []
         self.answer: tuple[Any, ...] = ()  # of its last step
-        self.is_waiting = False
 
     def see(self, event: Event) -> None:
         """Behind each of its steps."""
-        handler = getattr(self, f"_{event.kind}", self._goes_on)
+        handler = getattr(self, f"_{event.kind}", self._begins if event.kind in SORTS else self._goes_on)
         handler(event)
         self.answer = event.answer
 
@@ -29,11 +30,18 @@ class TakenApart:
     def last(self) -> Optional[Operation]:
         return self.operations[-1] if self.operations else None
 
-    def _begins(self, sort: Sort, event: Event, socket: int, use: int = -1, side: str = "", *values: Any) -> Operation:
-        """An operation begins with this step."""
-        self.operations.append(Operation(sort, socket, use, side, values))
+    def _begins(self, event: Event) -> Operation:
+        """An operation begins with this step, which names what it is about."""
+        arguments = dict(zip(KINDS[event.kind].arguments, event.arguments))
+        socket, use = self.events.socket_of(event), arguments.get("d", -1)
+        values = tuple(value for form, value in arguments.items() if form not in OF_EACH)
+        side = arguments.get("side", arguments.get("mode", ""))
+        return self._adds(event, Operation(SORTS[event.kind], -1 if socket is None else socket, use, side, values))
+
+    def _adds(self, event: Event, operation: Operation) -> Operation:
+        self.operations.append(operation)
         self._goes_on(event)
-        return self.operations[-1]
+        return operation
 
     def _goes_on(self, event: Event) -> None:
         """The last operation has this step too."""
@@ -47,7 +55,7 @@ class TakenApart:
         """A wait may have ended with this step."""
         last = self.last
         assert last
-        is_ready = event.answer in (("yes",), ("code", 0)) and event.kind != "waitcheck"
+        is_ready = came(event.kind, event.answer) is Came.READY
         if is_ready and last.sort is Sort.WAIT:
             cause = self.told.get((last.use, last.side))
             last.is_brief = event.kind == "blockarm" and (cause is None or cause < last.steps[0])
@@ -69,19 +77,19 @@ class TakenApart:
             self._supposed(Sort.WRITE, socket, use, side, b"\0")
 
     def _sockopen(self, event: Event) -> None:
-        self._begins(Sort.MAKE, event, event.arguments[2], -1, "", *event.arguments[:2])
+        self._adds(event, Operation(Sort.MAKE, event.arguments[2], values=event.arguments[:2]))
 
     def _pollopen(self, event: Event) -> None:
         use = next(at for at, one in enumerate(self.events.uses) if one.opened == event.number)
-        self._begins(Sort.OPEN, event, event.arguments[1], use)
+        self._begins(event).use = use
 
     def _rwlock(self, event: Event) -> None:
         _, s, side = event.arguments
         if self.last and self.last.sort is Sort.LOCK and self.last.kinds[-1] == "acquire":
             self._goes_on(event)
         else:
-            self._begins(Sort.LOCK, event, s, -1, side)
-        if event.answer == NO:
+            self._begins(event)
+        if came(event.kind, event.answer) is Came.FAILS:
             use = self._use_of(s)
             if use is not None:
                 self._supposed(Sort.RESET, s, use, side)
@@ -91,43 +99,24 @@ class TakenApart:
     def _use_of(self, socket: int) -> Optional[int]:
         return next((at for at, use in enumerate(self.events.uses) if use.socket == socket), None)
 
-    def _rwunlock(self, event: Event) -> None:
-        self._begins(Sort.UNLOCK, event, event.arguments[1], -1, event.arguments[2])
-
     def _incref(self, event: Event) -> None:
-        self._begins(Sort.REFER, event, event.arguments[1])
-        if event.answer == NO:
+        self._begins(event)
+        if came(event.kind, event.answer) is Came.FAILS:
             self._supposed(Sort.GIVE_UP, event.arguments[1])
-
-    def _decref(self, event: Event) -> None:
-        self._begins(Sort.GIVE_UP, event, event.arguments[1])
 
     def _increfclose(self, event: Event) -> None:
         s = event.arguments[1]
-        self._begins(Sort.CLOSE, event, s)
-        if event.answer == NO:
+        self._begins(event)
+        if came(event.kind, event.answer) is Came.FAILS:
             use = self._use_of(s)
             if use is not None:
                 self._supposed(Sort.EVICT, s, use)
             self._supposed(Sort.GIVE_UP, s)
 
-    def _closewrite(self, event: Event) -> None:
-        self._begins(Sort.SHUT, event, event.arguments[1])
-
-    def _evict(self, event: Event) -> None:
-        self._begins(Sort.EVICT, event, self._socket_of(event), event.arguments[1])
-
     def _socket_of(self, event: Event) -> int:
         socket = self.events.socket_of(event)
         assert socket is not None
         return socket
-
-    def _setdeadline(self, event: Event) -> None:
-        _, use, mode, time = event.arguments
-        self._begins(Sort.SET, event, self._socket_of(event), use, mode, time)
-
-    def _exit(self, event: Event) -> None:
-        self._begins(Sort.EXIT, event, -1)
 
     def _pollclose(self, event: Event) -> None:
         if (
@@ -138,21 +127,21 @@ class TakenApart:
         ):
             self._goes_on(event)
         else:
-            self._begins(Sort.DESTROY, event, self._socket_of(event), event.arguments[1])
+            self._begins(event)
 
     def _pollreset(self, event: Event) -> None:
         _, use, side = event.arguments
-        self._begins(Sort.RESET, event, self._socket_of(event), use, side)
-        if event.answer != ("code", 0):
+        self._begins(event)
+        if came(event.kind, event.answer) is Came.FAILS:
             self._supposed_try(self._socket_of(event), use, side)
 
     def _waitbegin(self, event: Event) -> None:
         _, use, side = event.arguments
-        if self.answer == AGAIN and self.last and self.last.sort in (Sort.READ, Sort.WRITE) and self.last.side == side:
+        if self.answer == ("again",) and self.last and self.last.side == side:
             self.last.use = use
             self._goes_on(event)
         else:
-            self._begins(Sort.WAIT, event, self._socket_of(event), use, side)
+            self._begins(event)
 
     def _sysread(self, event: Event) -> None:
         self._tries(Sort.READ, "r", event)
@@ -172,7 +161,7 @@ class TakenApart:
             last.ends_unread = False
             self._goes_on(event)
         else:
-            last = self._begins(sort, event, s, self._use_at(s, event), side, value)
+            last = self._adds(event, Operation(sort, s, self._use_at(s, event), side, (value,)))
         if sort is Sort.WRITE:
             last.moved.append(event.answer[1] if event.answer[0] == "put" else 0)
 

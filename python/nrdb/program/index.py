@@ -28,7 +28,7 @@ class Places:
     def __init__(self, recording: Recording) -> None:
         self._recording, self._lines = recording, recording.lines
         book = book_of(recording)
-        self._makers = book.goroutines
+        self._makers = book.whose.goroutines
         self._begins = {call.first for call in book.calls}
 
     def place(self, spelled: str) -> Optional[Place]:

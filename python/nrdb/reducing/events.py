@@ -1,12 +1,13 @@
 """A recording's steps with what they name: a goroutine and a socket by its number, a descriptor by its use, since its number is
 used again, and a timer by the use and the side that it is for. So a step keeps its meaning where others are left out."""
 
+from functools import partial
 from typing import Any, NamedTuple, Optional
 
 from netrev_words.recording import Answer
-from netrev_words.vocabulary import KINDS
+from netrev_words.vocabulary import KINDS, OF_A_GOROUTINE
 
-from ..notes import BY_GOROUTINE, Notes
+from ..notes import Notes
 from ..recording import Recording
 from ..timers import timers_of
 
@@ -55,7 +56,8 @@ class Events:
         self.uses: list[Use] = []
         self._of: dict[int, int] = {}  # of each descriptor its last use
         self._firings: list[Timer] = []
-        notes, timers = Notes(recording, self._rests), timers_of(recording)
+        notes = Notes(recording, {kind: partial(self._rests, kind) for kind in KINDS})
+        timers = timers_of(recording)
         for number, (kind, *arguments, answer) in enumerate(recording.arrays(), 1):
             self.all.append(self._event(notes, number, kind, arguments, answer))
             if kind == "pop":
@@ -75,9 +77,9 @@ class Events:
         use = event.timer[0] if event.timer else event.named("d")
         return None if use is None else self.uses[use].socket
 
-    def _rests(self, notes: Notes, kind: str, arguments: list[Any]) -> None:
+    def _rests(self, kind: str, notes: Notes, *arguments: Any) -> None:
         """Keeps what is kept of who has made a step."""
-        if kind not in BY_GOROUTINE:
+        if kind not in OF_A_GOROUTINE:
             return self.rests.append(Rest(True, 0))
         g = arguments[0]
         self.rests.append(Rest(notes.status(g) in ("idle", "gone"), notes.held.get(g, 0)))

@@ -6,7 +6,7 @@ from typing import Optional
 from urllib.parse import quote
 
 from netrev_words.plain import plain
-from netrev_words.vocabulary import KINDS
+from netrev_words.vocabulary import OF_A_GOROUTINE
 
 from ..netrev import Own
 from ..output import Table
@@ -106,6 +106,6 @@ def _steps(recording: Recording, reduced: Reduced) -> list[str]:
 def _told(step: Step, is_wide: bool) -> str:
     """A step, without its goroutine where that has a column, and its answer."""
     words = str(step).split()
-    if is_wide and KINDS[step.kind].arguments[:1] == ("g",):
+    if is_wide and step.kind in OF_A_GOROUTINE:
         del words[1]
     return " ".join(words) + (f" = {answer_text(step.answer)}" if step.answer not in (None, "done") else "")

@@ -2,13 +2,13 @@
 
 from abc import ABC, abstractmethod
 from fnmatch import fnmatchcase
-from typing import Any, Iterator, Optional, Sequence
+from typing import Optional, Sequence
 
 from netrev_machine.cells import value as value_of_cell
+from netrev_machine.machine import INSIDE
 from netrev_words.vocabulary import CELLS, Of
 
-from ..notes import INSIDE
-from ..recording import Recording
+from ..modelled_changes import PlayedSteps
 from ..suspects.ranking import suspects_of
 from ..suspects.found import Suspect
 from ..words import in_words
@@ -16,22 +16,6 @@ from .events import Events
 from .playing import Player
 
 LETTER = {Of.GOROUTINE: "g", Of.SOCKET: "s", Of.DESCRIPTOR: "d"}
-
-
-class Replayed(Recording):
-    """The steps that a player has played, for the rules."""
-
-    def __init__(self, player: Player) -> None:
-        super().__init__(b"")
-        self._steps = [step for step, _ in player.steps]
-
-    @property
-    def has_answers(self) -> bool:
-        return False
-
-    def arrays(self) -> Iterator[list[Any]]:
-        for step in self._steps:
-            yield [part.hex() if isinstance(part, bytes) else part for part in step]
 
 
 class Target(ABC):
@@ -58,7 +42,8 @@ class SuspectTarget(Target):
         self.steps, self.until = [suspect.step, *suspect.steps], len(events.all)
 
     def shows(self, player: Player) -> bool:
-        found = [one for one in suspects_of(Replayed(player)).suspects[: self.rank] if one.is_shown]
+        ranked = suspects_of(PlayedSteps(step for step, _ in player.steps))
+        found = [one for one in ranked.suspects[: self.rank] if one.is_shown]
         named = (("g", self.goroutine), ("s", self.socket), ("d", self.use))
         mine = [None if which is None else player.numbers[form].get(which, -1) for form, which in named]
         return any(

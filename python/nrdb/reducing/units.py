@@ -4,12 +4,12 @@ timer that starts, with the run of its function; and each other step alone."""
 from enum import Enum
 from typing import Iterable, NamedTuple, Optional
 
-from netrev_words.vocabulary import KINDS
+from netrev_calls.flow import LAST
+from netrev_words.vocabulary import OF_A_GOROUTINE
 
 from .events import Event, Events
 
 SIDE_OF = {"arrive": "r", "peerclose": "r", "drain": "w"}
-LAST = ("last",)
 
 
 class Sort(Enum):
@@ -43,7 +43,7 @@ def _calls(events: Events) -> list[Unit]:
     kept: dict[int, int] = {}
     has_ended: dict[int, bool] = {}
     for place, (event, rest) in enumerate(zip(events.all, events.rests)):
-        if KINDS[event.kind].arguments[:1] != ("g",):
+        if event.kind not in OF_A_GOROUTINE:
             continue
         g = event.arguments[0]
         if has_ended.get(g, True) and not _frees(events, calls.get(g), event):
@@ -79,7 +79,7 @@ def _others(events: Events) -> list[Unit]:
         elif event.kind == "fire":
             assert event.timer
             firings.pop(event.arguments[0]).events.append(place)
-        elif KINDS[event.kind].arguments[:1] != ("g",):
+        elif event.kind not in OF_A_GOROUTINE:
             sort = {"spawn": Sort.GOROUTINE, "sockopen": Sort.SOCKET}.get(event.kind, Sort.TICK)
             units.append(Unit(sort, [place]))
     return units + [Unit(Sort.NETWORK, [place]) for places in came.values() for place in places]

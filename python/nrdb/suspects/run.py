@@ -3,9 +3,11 @@
 from functools import cached_property
 from typing import Optional
 
+from netrev_machine.machine import INSIDE
+
 from ..causes.index import Index, index_of
-from ..noted import Use
-from ..notes import INSIDE, Notes
+from ..noted import AT, Use
+from ..notes import Notes
 from ..words import counted
 
 SIDES = {"Read": "r", "Write": "w"}  # of the calls that a deadline ends
@@ -45,7 +47,7 @@ class Run:
 
     def inside(self, use: Use, side: str, position: int) -> Optional[int]:
         """Who is inside the wait of a side."""
-        wait = next((one for one in reversed(use.waits[side]) if one.step <= position), None)
+        wait = next((one for one in reversed(use.waits[AT[side]]) if one.step <= position), None)
         if wait is None:
             return None
         place, *at = self.status(wait.goroutine, position)

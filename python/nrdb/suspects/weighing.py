@@ -1,7 +1,8 @@
 """What a suspect weighs by what became of whom it is about: whether it hangs for it, a call ended by it, or it is in a call of Go's own."""
 
+from netrev_machine.machine import INSIDE
+
 from ..recording import Recording
-from ..notes import INSIDE
 from .found import HANGS, STILL_THERE, TIMED_OUT, WENT_ON, Suspect, Weight
 from .run import Run
 

@@ -28,17 +28,17 @@ def spelled(text: str) -> str:
 
 
 def _lines(recording: Recording, story: Optional[Data]) -> Iterator[str]:
-    book = book_of(recording)
+    whose = book_of(recording).whose
     names = names_data(recording, Window(0, recording.length))
     yield from (
         f"participant g{g} as {spelled(f'g{g} {names.get(g, str())}'.strip())}"
-        for g in sorted(set(book.goroutines) - {-1})
+        for g in sorted(set(whose.goroutines) - {-1})
     )
     yield f"participant {NETWORK} as network and clock"
-    yield from (f"participant s{s} as socket {s}" for s in sorted(set(book.sockets) - {-1}))
+    yield from (f"participant s{s} as socket {s}" for s in sorted(set(whose.sockets) - {-1}))
     numbers = {step: number for number, step in enumerate(story["steps"], 1)} if story else {}
     for number in range(1, recording.length + 1):
-        step, g, s = recording.step(number), book.goroutines[number - 1], book.sockets[number - 1]
+        step, g, s = recording.step(number), whose.goroutines[number - 1], whose.sockets[number - 1]
         who = NETWORK if g < 0 else f"g{g}"
         yield f"{who}->>{who if s < 0 else f's{s}'}: {number} {spelled(_told(step, recording))}"
         if number in numbers:

@@ -4,8 +4,9 @@ program. That is nrdb's own, unproved."""
 from collections import Counter
 from typing import Any
 
+from netrev_machine.machine import INSIDE
+
 from ..calls import book_of
-from ..notes import INSIDE
 from ..recorded_changes import RecordedChanges
 from ..recording import Recording
 from ..shapes import Listed
@@ -26,8 +27,8 @@ class Connections:
         self._window = window
         self._touched: dict[int, dict[int, int]] = {}
         self._opens(recording, window.last)
-        book, first = book_of(recording), max(window.first - 1, 0)
-        steps = Counter(zip(book.goroutines[first : window.last], book.sockets[first : window.last]))
+        whose, first = book_of(recording).whose, max(window.first - 1, 0)
+        steps = Counter(zip(whose.goroutines[first : window.last], whose.sockets[first : window.last]))
         for (g, s), many in sorted(steps.items()):
             if g >= 0 and s >= 0:
                 self._touched.setdefault(g, {})[s] = many

@@ -14,7 +14,7 @@ HABIT = 2  # settings of one side alone, from which on a goroutine is used to it
 
 def rule(run: Run) -> Iterator[Suspect]:
     for use in run.notes.uses:
-        for side, passings in use.passings.items():
+        for side, passings in zip("rw", use.passings):
             for step, kind in passings:
                 if kind == "fire" and (found := left_behind(run, use, side, step)):
                     yield of_a_deadline(run, found)

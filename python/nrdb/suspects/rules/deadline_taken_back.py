@@ -13,17 +13,15 @@ NOT_LOOKED = ("armed", "parking", "swapping", "checking")  # inside a wait, and 
 
 def rule(run: Run) -> Iterator[Suspect]:
     for use in run.notes.uses:
-        for setting in use.settings if any(use.passings.values()) else ():
-            for side in setting.mode if setting.time >= 0 else "":
+        for setting in use.settings:
+            for side in setting.late if setting.time >= 0 else "":
                 who = not_looked(run, use, side, setting.step - 1)
-                if who is not None:
+                if side in setting.mode and who is not None:
                     yield of_a_goroutine(run, suspect_of(run, use, side, setting, who))
 
 
 def not_looked(run: Run, use: Use, side: str, position: int) -> Optional[int]:
     """Who was woken by a side's deadline, which has passed, and hasn't looked why."""
-    if run.number(f"{side}d {use.descriptor}", position) >= 0:
-        return None
     who, word = run.inside(use, side, position), run.changes.value(f"{side}g {use.descriptor}", position)
     place = "" if who is None else run.status(who, position)[0]
     is_woken = place in ("swapping", "checking") or word == "nil"

@@ -7,7 +7,7 @@ from ..run import Run
 
 
 def rule(run: Run) -> Iterator[Suspect]:
-    for use, before in run.notes.before.items():
+    for use, before in run.notes.socket_before.items():
         d = use.descriptor
         for step, mode in use.errors:
             yield Suspect(

@@ -3,7 +3,7 @@ and it waits again though bytes are unread. It weighs more where the goroutine h
 
 from typing import Iterator
 
-from ...noted import Taking, Use, Wait
+from ...noted import AT, Taking, Use, Wait
 from ..coming import waiting_for_what_came
 from ..found import Evidence, Suspect, Weight
 from ..run import Run
@@ -24,7 +24,7 @@ def rule(run: Run) -> Iterator[Suspect]:
 def waits_behind_a_throw(use: Use) -> Iterator[tuple[Taking, Wait]]:
     """The waits for reading whose goroutine threw a readiness away and hasn't read or written since."""
     thrown, at = use.thrown, 0
-    for wait in use.waits["r"]:
+    for wait in use.waits[AT["r"]]:
         while at < len(thrown) and thrown[at].step < wait.step:
             at += 1
         if at and thrown[at - 1].goroutine == wait.goroutine and wait.tried < thrown[at - 1].step:
@@ -54,7 +54,7 @@ def taken_for_nothing(run: Run) -> Iterator[Suspect]:
         use, g, taken = waits.use, waits.goroutine, waits.use.taken
         if not waits.has_event or taken is None or taken.step <= taken.event:
             continue
-        entered = use.waits["r"][-1].step
+        entered = use.waits[AT["r"]][-1].step
         how = (
             f"the event of step {taken.event} was taken at step {taken.step} by goroutine {taken.goroutine}, and goroutine {g} "
             f"began its wait at step {entered} without reading until EAGAIN"

@@ -1,23 +1,28 @@
-"""The timers that are armed, as the model machine keeps them: so a firing of the log finds its place in the list of those
-that went off and weren't run yet."""
+"""The machine's timers without the rest of it: those that are armed, in a heap, and those that went off and weren't run yet. For whom the
+other parts are no matter, or too many steps."""
 
 from __future__ import annotations
 
 import heapq
 from dataclasses import dataclass, field
+from typing import Any
 
-SIDES = "rw"
+from .machine import SIDES
+from .polling import are_both, followed
+
 READING, WRITING = 0, 1
 
 
 @dataclass(eq=False)
 class Timer:
-    """An armed timer, or one that went off."""
+    """An armed timer, or one that went off: whose it is, the sides that its function is for, and who had set the deadline."""
 
     due: int
     descriptor: int
     side: int
     sequence: int
+    covers: str
+    setter: Any
     armed: bool = True
 
 
@@ -30,11 +35,7 @@ class Descriptor:
     sequences: list[int] = field(default_factory=lambda: [0, 0])
     running: list[bool] = field(default_factory=lambda: [False, False])
     timers: list[Timer | None] = field(default_factory=lambda: [None, None])
-
-
-def combo(deadlines: list[int]) -> bool:
-    """One timer serves both sides."""
-    return 0 < deadlines[READING] == deadlines[WRITING]
+    setters: list[Any] = field(default_factory=lambda: [None, None])
 
 
 class Deadlines:
@@ -82,22 +83,17 @@ class Deadlines:
             return []
         old = descriptor.deadlines
         new = [deadline if SIDES[side] in mode else old[side] for side in (READING, WRITING)]
-        changes = []
-        for side in (READING, WRITING):
-            wants = new[side] > 0 and not (side == WRITING and combo(new))
-            moved = new[side] != old[side] or combo(new) != combo(old)
-            if moved if descriptor.running[side] else wants:
-                changes.append((side, wants))
-        return changes
+        wanted = [followed(descriptor.running[side], side, old, new) for side in (READING, WRITING)]
+        return [(side, wants) for side, wants in enumerate(wanted) if wants is not None]
 
-    def set(self, number: int, mode: str, deadline: int) -> None:
+    def set(self, number: int, mode: str, deadline: int, setter: Any = None) -> None:
         changes = self.changing(number, mode, deadline)
         descriptor = self.descriptors[number]
         if descriptor.closing:
             return
         for side in (READING, WRITING):
             if SIDES[side] in mode:
-                descriptor.deadlines[side] = deadline
+                descriptor.deadlines[side], descriptor.setters[side] = deadline, setter
         for side, wants in changes:
             descriptor.sequences[side] += descriptor.running[side]
             descriptor.running[side] = wants
@@ -107,7 +103,9 @@ class Deadlines:
 
     def arm(self, number: int, side: int) -> None:
         descriptor = self.descriptors[number]
-        timer = Timer(descriptor.deadlines[side], number, side, descriptor.sequences[side])
+        covers = SIDES if are_both(descriptor.deadlines) else SIDES[side]
+        due, sequence, setter = descriptor.deadlines[side], descriptor.sequences[side], descriptor.setters[side]
+        timer = Timer(due, number, side, sequence, covers, setter)
         descriptor.timers[side] = timer
         self.armings += 1
         heapq.heappush(self.heap, (timer.due, self.armings, timer))
@@ -117,14 +115,15 @@ class Deadlines:
             heapq.heappop(self.heap)
         return self.heap[0][2] if self.heap else None
 
-    def pop(self) -> None:
-        """The least timer goes off."""
+    def pop(self) -> Timer | None:
+        """The least timer goes off, if there is one."""
         timer = self.least()
         if timer:
             timer.armed = False
             self.firings.append(timer)
             self._keys.append((timer.descriptor, timer.side, timer.sequence))
             self.most_firings = max(self.most_firings, len(self.firings))
+        return timer
 
     def place(self, number: int, side: int, sequence: int) -> int | None:
         """Where a firing stands in the list, if it does."""
@@ -133,11 +132,13 @@ class Deadlines:
         except ValueError:
             return None
 
-    def fire(self, place: int, sides: str) -> None:
+    def fire(self, place: int, sides: str = "") -> tuple[Timer, bool]:
+        """The function of a timer runs, for these sides or those that it covers; the timer, and whether it is stale."""
         firing = self.firings.pop(place)
         del self._keys[place]
         descriptor = self.descriptors[firing.descriptor]
-        if descriptor.sequences[firing.side] == firing.sequence:
-            for side in (READING, WRITING):
-                if SIDES[side] in sides:
-                    descriptor.deadlines[side] = -1
+        is_stale = descriptor.sequences[firing.side] != firing.sequence
+        for side in (READING, WRITING):
+            if not is_stale and SIDES[side] in (sides or firing.covers):
+                descriptor.deadlines[side] = -1
+        return firing, is_stale
