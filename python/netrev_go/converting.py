@@ -90,8 +90,8 @@ def converted(read: ReadLog, name: pathlib.Path, go: Go | None, wish: Wish, test
         calls = lines_of(log, used, program_of(read.path, log.program), go.program, roots)
     has_lines = any(known.calls for known in calls.values())
     more = of_tests(recording, read.tests)
-    if has_lines or recording.orders is not None or more:
-        write_where(lines, recording.stacks, calls, recording.orders, recording.beside, more)
+    if has_lines or recording.orders is not None or more or recording.times:
+        write_where(lines, recording.stacks, calls, recording.orders, recording.beside, more, recording.times)
     if any(recording.stacks) and not has_lines:
         recording.notes.append(
             "no lines: Go or the program's copy isn't here, or Go reads no lines of it (-buildmode=pie)"

@@ -15,6 +15,7 @@ from .converter import Converter
 from .orders import Made, orders_of
 from .points import ORDERING, WAITING, Log, Point
 from .sockets import FEW_BYTES, MOST_MEGABYTES, MOST_SOCKETS, MOST_STEPS, Owned, Socket, chosen, owned
+from .times import times_of
 from .waits import waits_of
 from .zeros import Line
 
@@ -44,6 +45,7 @@ class Recording:
     beside: Beside = field(default_factory=Beside)
     bytes: int | None = None  # as which a read or a write counts at most, where one moved more
     made: list[Made] = field(default_factory=list)  # the goroutines' steps
+    times: list[int] | None = None  # of the steps, from the log's begin; None where the log has none
 
 
 Part = Callable[[Log, Owned], list[Socket]]
@@ -81,6 +83,7 @@ def make(
         converter.header(), converter.lines, converter.stacks, converter.words,
         len(converter.goroutines), converter.last_steps, converter.sockets, orders, notes, converter.olds,
         converter.beside, FEW_BYTES if found.cut else None, converter.made,
+        times_of((point for point, _ in converter.points), converter.ended, log.begin),
     )  # fmt: skip
 
 

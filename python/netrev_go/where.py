@@ -11,6 +11,7 @@ from netrev_words.files import written_whole
 from .beside import Beside
 from .lines import OF_A_LIBRARY, OF_THE_PROGRAM, Call, Calls
 from .orders import parts
+from .times import deltas
 
 STEPS_A_LINE = 1_000
 Order = tuple[int, int]
@@ -54,9 +55,10 @@ def write_where(
     orders: list[Order] | None = None,
     beside: Beside = Beside(),
     more: Iterable[object] = (),
+    times: list[int] | None = None,
 ) -> None:
     """Writes the file of a recording whose steps have these stacks, which the program puts in these orders, and what the log has
-    besides; and more lines."""
+    besides; more lines; and the steps' times."""
     numbered = Numbered(calls)
     numbered.add({"where": 1, "steps": len(stacks)})
     given = {key: numbered.stack(key) for key in dict.fromkeys(stacks)}
@@ -74,6 +76,9 @@ def write_where(
         numbered.add({"waits": waits[first : first + STEPS_A_LINE]})
     for line in more:
         numbered.add(line)
+    later = deltas(times or [])
+    for first in range(0, len(later), STEPS_A_LINE):
+        numbered.add({"times": later[first : first + STEPS_A_LINE]})
     written_whole(name, "".join(numbered.lines).encode("ascii"))
 
 

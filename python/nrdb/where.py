@@ -5,6 +5,7 @@ import json
 import os
 import stat
 from array import array
+from itertools import accumulate
 from pathlib import Path
 from typing import Any, Iterable, NamedTuple, Optional
 
@@ -116,6 +117,9 @@ class Lines:
         self.peers: dict[int, int] = {}  # of a socket the one at the connection's other end
         self.errors: dict[int, str] = {}  # of the system, by the step behind which a goroutine's call had them
         self.waits: dict[int, list[Wait]] = {}  # outside of the poller, by goroutine
+        self.times = array(
+            "q"
+        )  # of the steps, nanoseconds from the recorder's begin; empty where the recorder had none
         self._calls: dict[int, Call] = {}
 
     def _take(self, lines: Iterable[str], steps: int) -> None:
@@ -136,6 +140,8 @@ class Lines:
             self.fault = f"line {number} isn't one of its form"
         if self.fault:
             self._begin()
+        if len(self.times) != steps:
+            self.times = array("q")
 
     def _add(self, line: dict[str, Any]) -> None:
         """Adds what a line behind the first says."""
@@ -156,6 +162,9 @@ class Lines:
         elif "peers" in line:
             for one, other in line["peers"]:
                 self.peers[_typed(one, int)], self.peers[_typed(other, int)] = other, one
+        elif "times" in line:
+            self.times.extend(accumulate(map(_later, line["times"]), initial=self.times[-1] if self.times else 0))
+            del self.times[-len(line["times"]) - 1]  # (that from which it is counted)
         elif "waits" in line:
             for values in line["waits"]:
                 wait = Wait(*map(_typed, values, (int, int, int, str, int, int)))
@@ -193,6 +202,13 @@ def of_steps(first: Any, steps: int) -> None:
         raise Unusable("it is of another version")
     if first["steps"] != steps:
         raise Unusable(f"it is of a recording of {_typed(first['steps'], int)} steps, and this one has {steps}")
+
+
+def _later(value: Any) -> int:
+    """A time that has passed; a ValueError where it is none."""
+    if _typed(value, int) < 0:
+        raise ValueError
+    return int(value)
 
 
 def _typed(value: Any, sort: type) -> Any:

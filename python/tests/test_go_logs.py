@@ -72,6 +72,46 @@ class Stored(unittest.TestCase):
                 self.assertEqual(made.read_text(), (REAL / f"{name}.where").read_text())
 
 
+class Times(unittest.TestCase):
+    def timed(self, times: list[int]) -> Log:
+        """A log of sockets, at whose points there were these times."""
+        log = read(binary(opened(len(times) // 2)))
+        log.points = [point._replace(time=time) for point, time in zip(log.points, times)]
+        log.begin = 1_000
+        return log
+
+    def test_each_step_has_the_time_of_its_point(self) -> None:
+        self.assertEqual(make(self.timed([1_010, 1_020, 1_300, 1_305])).times, [10, 20, 300, 305])
+
+    def test_a_time_before_the_one_before_is_taken_for_that(self) -> None:
+        self.assertEqual(make(self.timed([990, 1_020, 1_015, 1_305])).times, [0, 20, 20, 305])
+
+    def test_without_the_time_of_a_point_there_are_none(self) -> None:
+        self.assertIsNone(make(self.timed([1_010, 0, 1_300, 1_305])).times)
+        for name in NAMES:
+            self.assertIsNone(make(read(from_text((REAL / f"{name}.log").read_text())[0])).times)
+
+    def test_steps_that_a_point_brings_besides_have_its_time(self) -> None:
+        points = [*self.timed([1_010, 1_020]).points]
+        points.append(Point(2, Kind.SET_DEADLINE, 1, points[1].at, ord("r") + ord("w"), 500, 0, 1_700, 0))
+        log = self.timed([1_010, 1_020])
+        log.points = points
+        recording = make(log)
+        kinds = [str(line).split('"')[1] for line in recording.lines]
+        self.assertEqual(kinds, ["sockopen", "pollopen", "tick", "setdeadline"])
+        self.assertEqual(recording.times, [10, 20, 700, 700])
+
+    def test_nrdb_reads_the_times_that_were_written(self) -> None:
+        times = [17 * at * at for at in range(2_500)]
+        with tempfile.TemporaryDirectory() as folder:
+            name = pathlib.Path(folder, "x.where")
+            write_where(name, [0] * len(times), {}, times=times)
+            lines = Lines.beside(str(name.with_suffix(".jsonl")), len(times))
+            self.assertEqual((lines.fault, list(lines.times)), ("", times))
+            write_where(name, [0] * len(times), {}, times=times[:-1])
+            self.assertEqual(list(Lines.beside(str(name.with_suffix(".jsonl")), len(times)).times), [])
+
+
 class Reading(unittest.TestCase):
     def test_what_is_no_log_is_said(self) -> None:
         whole = binary(opened(3))

@@ -32,6 +32,8 @@ WRONG: tuple[tuple[int, Any, str], ...] = (
     (2, {"stack": 1, "calls": [1], "made": 9}, SAID), (2, {"stack": 1}, SAID),
     (3, {"step": 1, "stacks": [1.5, {}]}, SAID), (3, {"step": 1, "stacks": 1}, SAID), (3, {}, SAID),
     (3, {"orders": [[1]]}, SAID), (3, {"orders": [[1, "2"]]}, SAID), (3, {"orders": 1}, SAID), (3, {"orders": [[1.0, 2]]}, SAID),
+    (3, {"times": [7, -1]}, SAID), (3, {"times": [7, "1"]}, SAID), (3, {"times": [7, 1.5]}, SAID), (3, {"times": 7}, SAID),
+    (3, {"times": [2**63, 1]}, SAID), (3, {"times": [True, 1]}, SAID),
 )  # fmt: skip
 # the same, as bytes
 NO_JSON: tuple[bytes, ...] = (

@@ -1,9 +1,22 @@
 // Where a position is across the picture: by steps, each as wide as all others, or by time. The recorder's times of the steps are an axis
 // that is true; where only the clock's ticks are known, what lies between two of them is drawn at the first, a hair apart.
-const TIMES = D.times && D.times.length ? D.times : D.ticks;
-const IS_TRUE = TIMES === D.times;
-const ALL_TIME = TIMES[TIMES.length - 1][1] - TIMES[0][1];
-const HAIR = (Math.max(ALL_TIME, 1) * (IS_TRUE ? 0.001 : 0.05)) / COUNT; // that a step has at least, so that no two are one
+const IS_TRUE = Boolean(D.times.ns);
+let TIMES = timesNow();
+const ALL_TIME = Math.max(TIMES[TIMES.length - 1][1] - TIMES[0][1], 1);
+const HAIR = (ALL_TIME * (IS_TRUE ? 0.001 : 0.05)) / COUNT; // that a step has at least, so that no two are one
+
+// The times of some positions: those of the whole run, and in the part with netrev's values each.
+function timesNow() {
+  const own = IS_TRUE ? pairsOf(D.ownTimes) : (D.cells.clock || []).map(([position, value]) => [position, Number(value)]);
+  const all = IS_TRUE ? pairsOf(D.times) : D.ticks;
+  if (!own.length) return all;
+  return [...all.filter(([position]) => position < D.first), ...own, ...all.filter(([position]) => position > D.last)];
+}
+
+function pairsOf({ first, last, every, ns = [] }) {
+  let now = 0;
+  return ns.map((later, at) => [Math.min(first + at * every, last), (now += later)]);
+}
 
 // The time of a position. Between two that the recorder has it goes on evenly; between two ticks it stands.
 function timeAt(position) {

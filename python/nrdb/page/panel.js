@@ -22,7 +22,7 @@ function fillStory() {
   const story = storyNow();
   if (!story) return;
   const list = element("ol", undefined, "story");
-  for (const step of story.steps) list.append(storyStep(story, step));
+  story.steps.forEach((step, at) => list.append(storyStep(story, step, story.texts[at])));
   $("panel").append(element("h2", story.rule), list);
   const looks = element("p", "look ");
   for (const line of story.looks) looks.append(pushed(line, () => lookAt(line), LIVE ? "asks the session" : "copies the line for nrdb's prompt"), " ");
@@ -30,10 +30,10 @@ function fillStory() {
   $("panel").append(looks);
 }
 
-function storyStep(story, step) {
+function storyStep(story, step, text) {
   const item = element("li"), line = story.lines.find((one) => one.startsWith(`step ${step},`)) || "";
-  const [, kind = "", where = ""] = /^step \d+, (\S+): (.*)$/.exec(line) || [];
-  item.append(pushed(`${step}: ${stepAt(step) || kind || "step"}`, () => choose(step, true)));
+  const [, where = ""] = /^step \d+, \S+: (.*)$/.exec(line) || [];
+  item.append(pushed(`${step}: ${text}`, () => choose(step, true)));
   if (step === V.chosen) item.className = "chosen";
   if (where || lineAt(step)) item.append(element("small", where || lineAt(step)));
   return item;

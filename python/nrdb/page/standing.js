@@ -22,6 +22,7 @@ function stand(position, follows) {
 function setPart(part) {
   Object.assign(D, part);
   GROUPS = grouped();
+  TIMES = timesNow();
   density = null;
   fillPanel();
   show(V.from, V.span);

@@ -23,7 +23,7 @@ const KEYS = [
 const SOURCE = [
   "Each value is netrev's own: it told what each step changed, and was asked for all cells and queues at",
   `${D.compared} positions, which agreed. Calls, arrows, suspects, causes, connections and lines of the program are what nrdb's rules`,
-  "and the recorder's file say, unproved.",
+  `and the recorder's file say, unproved. ${IS_TRUE ? "The axis of time is by the recorder's time of each step." : ""}`,
 ].join(" ");
 const STATES = [[DONE, "a call; darker below: its goroutine sleeps"], [FAILED, "it failed"], [HANGS, "it hangs, to the end"], [OPEN, "it hasn't ended"],
   [LISTENS, "it waits for connections"]];

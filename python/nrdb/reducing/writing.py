@@ -76,6 +76,9 @@ def where_text(lines: Lines, numbers: Sequence[int]) -> str:
             told.append({"stack": stacks[stack], "calls": [calls[call] for call in stack.calls], **made})
         of_steps.append(stacks[stack])
     told.append({"step": 1, "stacks": of_steps})
+    if lines.times:
+        times = [lines.times[number - 1] for number in numbers]
+        told.append({"times": [after - before for before, after in zip([0, *times], times)]})
     return "".join(f"{json.dumps(one, separators=(',', ':'))}\n" for one in told)
 
 

@@ -15,7 +15,7 @@ from .calls import Data, calls_data, names_data, waits_data
 from .runs import Runs, Window, runs_of
 from .shades import SHADES, shade
 from .stories import stories_data
-from .story import Connections, lines_data, marks_of, ticks_of, wakes_of
+from .story import MOST_TIMES, Connections, lines_data, marks_of, ticks_of, times_of, wakes_of
 
 MOST = 20_000  # steps of a part
 AT_ONCE = 8_000  # of which a longer recording's part has these, where nobody names another
@@ -82,6 +82,7 @@ def whole_of(shown: Shown) -> Data:
         "waits": waits_data(recording, every),
         "peers": recording.lines.peers,
         "ticks": ticks_of(shown.changes),
+        "times": times_of(recording, every, MOST_TIMES),
         "shades": {name: vars(one) | {"of": one.of.value} for name, one in SHADES.items()},
         "suspects": suspects,
         "causes": causes,
@@ -106,6 +107,7 @@ def part_of(shown: Shown, window: Window) -> Data:
         "groups": connections.groups(runs),
         "wakes": wakes_of(recording, runs),
         "words": words_of(runs),
+        "ownTimes": times_of(recording, window, MOST) if recording.length > MOST_TIMES else {},
         "marks": marks_of(shown.marks, recording, window, runs),
     }
 

@@ -29,7 +29,7 @@ def suspects_data(scout: Scout, recording: Recording) -> Iterator[Data]:
     rows = [row.values for row in suspects_table(scout, recording, ranked).rows if row.values]
     for row, suspect in zip(rows, shown_of(ranked), strict=True):
         about = {"g": suspect.goroutine, "s": suspect.socket, "d": suspect.descriptor}
-        yield {**row, **about, "steps": sorted({suspect.step, *suspect.steps})}
+        yield {**row, **about, **steps_data(recording, {suspect.step, *suspect.steps})}
 
 
 def causes_data(recording: Recording) -> Iterator[Data]:
@@ -45,9 +45,11 @@ def causes_data(recording: Recording) -> Iterator[Data]:
 
 def cause_data(recording: Recording, rule: str, cause: Cause, of: set[int]) -> Data:
     """What is told of a call that hangs or failed, with these steps."""
-    call, steps = cause.call, sorted(of)
+    call, steps = cause.call, steps_data(recording, of)
     lines = [
-        f"step {step}, {recording.step(step).kind}: {words}" for step in steps if (words := recording.lines.words(step))
+        f"step {step}, {recording.step(step).kind}: {words}"
+        for step in steps["steps"]
+        if (words := recording.lines.words(step))
     ]
     return {
         "rule": rule,
@@ -59,5 +61,10 @@ def cause_data(recording: Recording, rule: str, cause: Cause, of: set[int]) -> D
         "g": call.goroutine,
         "s": call.socket,
         "d": call.descriptor,
-        "steps": steps,
+        **steps,
     }
+
+
+def steps_data(recording: Recording, steps: set[int]) -> Data:
+    """The steps of a story, in their order, and their texts."""
+    return {"steps": sorted(steps), "texts": [str(recording.step(step)) for step in sorted(steps)]}

@@ -14,6 +14,7 @@ from .calls import Data
 from .runs import Runs, Window
 
 MOST_TICKS = 2_000
+MOST_TIMES = 4_000
 WAKES = {"parked": ("swapping", "desc"), "queued": ("acquiring", "sock")}  # what whoever slept does then, and where
 
 
@@ -110,3 +111,20 @@ def ticks_of(changes: RecordedChanges) -> list[list[int]]:
     ticks = [[step, int(time)] for step, time in changes.changes_of("clock")]
     every = -(-len(ticks) // MOST_TICKS) or 1
     return [[0, 0], *ticks[::every], *(ticks[-1:] if (len(ticks) - 1) % every else [])]
+
+
+def times_of(recording: Recording, window: Window, most: int) -> Data:
+    """The recorder's times behind the steps of a window: behind each, or of more than so many behind some at like distances. `every` is that
+    distance, from the first position on, `ns` each time less the one before. Empty where the recorder had none."""
+    times = recording.lines.times
+    if not times:
+        return {}
+    every = -(-(window.last - window.first) // most) or 1
+    positions = [*range(window.first, window.last, every), window.last]
+    told = [times[max(position, 1) - 1] for position in positions]  # (it begins with the first step)
+    return {
+        "first": window.first,
+        "last": window.last,
+        "every": every,
+        "ns": [after - before for before, after in zip([0, *told], told)],
+    }

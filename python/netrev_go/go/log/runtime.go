@@ -251,10 +251,13 @@ func netrevKeepProgram(path string) {
 	netrevSystem(netrevClosing, from)
 }
 
-// netrevLog writes a point: what, by which goroutine, at which address, what was seen there, and a time where one was read.
-// Its number is taken here, inside the lock of what the point is of.
+// netrevLog writes a point: what, by which goroutine, at which address, what was seen there, and the time: where Go read none for
+// what the point is of, that is now. Its number is taken here, inside the lock of what the point is of.
 func netrevLog(kind uint64, goid uint64, at uintptr, a, b, c, now int64) {
 	number := atomic.Xadd64(netrevWord(netrevHeadPassed), 1) - 1
+	if now == 0 {
+		now = nanotime()
+	}
 	if number%netrevChunk == 0 && !netrevRoom(uint64(number)) {
 		return
 	}

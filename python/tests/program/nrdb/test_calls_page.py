@@ -1,11 +1,15 @@
 """The timeline's calls and stories: they are those of nrdb's other answers; and in chromium how they are drawn, folded, filtered, picked,
 saved and read on a phone. Left out where there is no chromium (Debian: apt-get install chromium)."""
 
+import json
+import shutil
 import tempfile
 import unittest
 import xml.etree.ElementTree as ET
+from itertools import accumulate
 from pathlib import Path
 from typing import Any
+from unittest.mock import patch
 
 from nrdb.calls import book_of
 from nrdb.causes.hanging import hangs_at
@@ -72,6 +76,7 @@ class Data(unittest.TestCase):
             self.assertEqual(bool(data["causes"]), not suspects)
             first = (data["suspects"] + data["causes"])[0]
             self.assertEqual((first["rule"], first["steps"]), (rule, steps), name)
+            self.assertEqual(first["texts"], [str(recording.step(step)) for step in steps])
 
     def test_suspects_by_calls_are_told_too(self) -> None:
         path = Path(__file__).parents[2] / "caused/both-bad.jsonl"
@@ -207,6 +212,34 @@ class InChromium(unittest.TestCase):
         for position, (x, now) in enumerate(zip(told["x"], told["times"])):
             self.assertAlmostEqual((x - told["x"][0]) / wide, now / told["times"][-1], delta=0.06, msg=str(position))
         self.assertLess(told["zoomed"][1], 120)
+
+    def test_the_axis_of_time_is_the_recorders(self) -> None:
+        recording = Recording.read(str(REAL / "hijacked.jsonl"))
+        later = [1_000 * (step % 7) ** 3 for step in range(1, recording.length + 1)]
+        times = [later[0], *accumulate(later)]
+        with tempfile.TemporaryDirectory() as folder:
+            path = Path(folder) / "hijacked.jsonl"
+            shutil.copy(REAL / "hijacked.jsonl", path)
+            where = (REAL / "hijacked.where").read_text(encoding="utf-8")
+            path.with_suffix(".where").write_text(f"{where}{json.dumps({'times': later})}\n", encoding="utf-8")
+            page = opened(page_of(path))
+            script = """
+                const { V, D, xOf, timeAt } = inside; key("t"); told.x = []; told.times = [];
+                for (let p = 0; p <= D.length; p++) { told.x.push(xOf(p)); told.times.push(timeAt(p)); }
+                told.half = timeAt(6.5); key("?"); told.help = text("help");
+            """
+            told = used(page, script)
+            with patch("nrdb.timeline.picture.MOST_TIMES", 10):
+                few = used(opened(page_of(path)), script)
+        wide = told["x"][-1] - told["x"][0]
+        for seen in (told, few):
+            self.assertEqual(seen["times"], times)
+            for x, now in zip(seen["x"], times):
+                self.assertAlmostEqual(
+                    (x - seen["x"][0]) / wide, (now - times[0]) / (times[-1] - times[0]), delta=0.002
+                )
+        self.assertEqual(told["half"], (times[6] + times[7]) / 2)
+        self.assertIn("by the recorder's time of each step", told["help"])
 
     def test_pictures_are_saved(self) -> None:
         with Chromium() as chromium, tempfile.TemporaryDirectory() as folder:
