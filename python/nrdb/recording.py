@@ -158,7 +158,7 @@ class Recording:
 
     def arrays(self) -> Iterator[list[Any]]:
         """Each step's array as JSON has it, one after the other. Like lines may share one: nobody changes it."""
-        return self.arrays_of(1, self.length)
+        return self.rows(lambda values: values)
 
     def arrays_of(self, begin: int, end: int) -> Iterator[list[Any]]:
         """The arrays of the steps from one number to another, as far as there are so many."""
