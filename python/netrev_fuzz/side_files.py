@@ -24,7 +24,7 @@ VIEWS = (
     "reduce d.jsonl rg 9 absent", "report e.md gor 0 *", "history lock 0 all", "until gor 0 parked*", "source nothing", "help explore",
     "break main.go:7", "frame", "up", "history main.go:7", "list main.go:7", "goto 1ns",
 )  # fmt: skip
-WRITTEN = (".html", ".json", ".jsonl", ".md", ".where")
+WRITTEN = (".html", ".json", ".jsonl", ".md", ".svg", ".where")
 STRANGE = ("\x1b[2J", "\u202e", "\ud800", "</script>", "main.go", "x" * 300, "|`*", "\n")
 NESTED = (b"[" * 100_000, b'{"call":' * 50_000, b"9" * 5_000, b"\xff", b"null", b"{}")
 
@@ -50,6 +50,7 @@ def lines_of(dice: random.Random, steps: int) -> list[Any]:
         words = dice.choice(STRANGE), dice.choice(ends), dice.choice([-1, 0, 1])
         found.append({"waits": [[dice.choice(ends), 0, dice.randrange(3), *words]]})
         found.append({"bytes": dice.choice(ends)})
+        found.append({"times": [dice.choice([0, 1, 2**40]) for _ in range(dice.choice([steps, 1]))]})
         names = {name: dice.choice(STRANGE) for name in ("test", "package")}
         found.append({**names, "steps": [dice.choice(ends), dice.choice(ends)]})
     return found
