@@ -8,7 +8,7 @@ import stat
 from array import array
 from bisect import bisect_left, bisect_right
 from functools import cached_property
-from itertools import accumulate
+from itertools import accumulate, islice
 from os.path import commonprefix
 from typing import Any, Callable, Iterable, Iterator, NamedTuple, Optional, Sequence, TypeVar
 
@@ -23,6 +23,7 @@ BLANK_LINE = re.compile(rb"^[ \t\r]*$", re.MULTILINE)
 SHOWN = 40
 PIECE = 1_024  # steps
 AT_ONCE = 16_384  # steps that are read together
+BYTES = 2**20  # whose lines are counted together
 Row = TypeVar("Row")
 
 
@@ -65,13 +66,23 @@ def shortened(text: str) -> str:
     return text if len(text) <= SHOWN else f"{text[: SHOWN - 2]}.."
 
 
+def starts_of(data: bytes) -> "array[int]":
+    """Where each line begins, and where one behind the last would. Few lines are apart at a time: there may be a million."""
+    starts = array("q" if len(data) >> 31 else "I", [0])
+    for begin in range(0, len(data), BYTES):
+        lines = data[begin : begin + BYTES].split(b"\n")
+        ends = accumulate(map((1).__add__, map(len, lines)), initial=begin)
+        starts.extend(islice(ends, 1, len(lines)))
+    starts.append(len(data) + 1)
+    return starts
+
+
 class Recording:
     """A recording's text. Steps are read when they are asked for: there may be a million."""
 
     def __init__(self, data: bytes):
         self.data = data
-        lengths = map(len, data.split(b"\n"))
-        self._starts = array("q", accumulate(map((1).__add__, lengths), initial=0))
+        self._starts = starts_of(data)
         end = len(data.rstrip(b" \t\r\n"))  # (behind it there are blank lines alone)
         numbers = range(1, bisect_right(self._starts, end) + (end > 0))
         blanks = (

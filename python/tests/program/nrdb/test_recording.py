@@ -5,6 +5,7 @@ import json
 import tempfile
 import unittest
 from pathlib import Path
+from unittest import mock
 
 from nrdb.recording import Recording
 
@@ -50,6 +51,15 @@ class Text(unittest.TestCase):
                                 if kind in ("rwlock", "incref") and socket in (None, arguments[1])
                             ]
                             self.assertEqual(told, wanted)
+
+    def test_lines_that_are_counted_in_pieces(self):
+        texts = [b"", b"\n", b"\n\n", HEADER.encode(), *(path.read_bytes()[:2000] for path in recordings())]
+        for size in (1, 2, 7, 64):
+            with mock.patch("nrdb.recording.BYTES", size):
+                for text in texts:
+                    recording, lines = Recording(text), text.split(b"\n")
+                    self.assertEqual([recording.line(number) for number in range(1, len(lines) + 1)], lines)
+                    self.assertEqual(recording.line(len(lines) + 1), b"")
 
     def test_without_steps(self):
         for data in (b"", b"\n\n", HEADER.encode()):
