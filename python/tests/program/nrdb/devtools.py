@@ -127,9 +127,9 @@ class Page:
             raise BrowserFailure(f"{script}: {said['exceptionDetails']}")
         return said["result"].get("value")
 
-    def until(self, script: str) -> Any:
+    def until(self, script: str, patience: float = PATIENCE) -> Any:
         """The worth of an expression, as soon as that is true."""
-        limit = time.monotonic() + PATIENCE
+        limit = time.monotonic() + patience
         while time.monotonic() < limit:
             if found := self.value(script):
                 return found

@@ -12,7 +12,7 @@ import pytest
 
 from tests.program.sharing import ROOT
 
-from .browser import CHROMIUM
+from .browser import CHROMIUM, PATIENCE
 from .devtools import Chromium, Page
 from .support import EXAMPLES
 from .test_web_page import LOADED, says, stands
@@ -118,7 +118,7 @@ class Working(unittest.TestCase):
             self.assertEqual(page.value(f"{LINE}.value"), "stepi 3")
             says(page, "at 3")
 
-    @pytest.mark.long
+    @pytest.mark.alone
     def test_a_long_run_is_there_at_once_and_its_parts_as_one_zooms(self) -> None:
         with tempfile.TemporaryDirectory() as folder:
             path = Path(folder) / "mix.jsonl"
@@ -136,7 +136,7 @@ class Working(unittest.TestCase):
                 self.assertLess(time.monotonic() - began, 5)
                 self.assertFalse(page.value(LOADED), "the picture was there before the line was answered")
                 self.assertRegex(waits, r"picture.*Lines are answered meanwhile|session is waited for")
-                page.until(LOADED)
+                page.until(LOADED, 5 * PATIENCE)
                 self.assertEqual(page.value("document.getElementById('part').hidden"), True)
                 self.assertIn(f"of {LONG:,}", page.value("document.getElementById('said').innerText"))
                 writes(page, "goto 50000")
