@@ -110,7 +110,9 @@ class Working(unittest.TestCase):
                 page.presses("Enter", "\r")
                 says(page, f"browser 1> {line}")
             page.does("Page.reload")
-            page.until("document.getElementById('you')?.innerText === 'browser 2>'")
+            page.until(
+                r"/^browser (?!1>)\d+>$/.test(document.getElementById('you')?.innerText)"
+            )  # (the next, or the one behind it)
             page.value(f"{LINE}.focus()")
             presses(page, "ArrowUp")
             self.assertEqual(page.value(f"{LINE}.value"), "print clock")
