@@ -32,7 +32,8 @@ def children(process: int) -> list[int]:
     """The processes that this one has begun."""
     found = []
     for task in Path(f"/proc/{process}/task").iterdir():
-        found += [int(word) for word in (task / "children").read_text().split()]
+        with suppress(FileNotFoundError):  # (a thread may have ended meanwhile)
+            found += [int(word) for word in (task / "children").read_text().split()]
     return found
 
 
