@@ -1,6 +1,7 @@
 """Go's calls in place of steps: which `Read`, `Write`, `SetDeadline` or `Close` each step is part of, how long the call waited
 and how it ended. They are found by the recording's steps, in one pass, and are nrdb's own reckoning."""
 
+from collections import defaultdict
 from functools import cached_property, lru_cache, partial
 from typing import Any, Callable, Optional
 
@@ -8,14 +9,14 @@ from netrev_calls.flow import ASLEEP, BY_STATUS
 from netrev_words.vocabulary import OF_A_GOROUTINE
 
 from .one_call import CLOSE, CLOSE_WRITE, CONTROL, OPEN, Call, Outcome
-from .noted import AT
-from .notes import Notes
+from .noted import AT, Goroutine
+from .notes import CLOSED, Look, Looks, Notes
 from .recording import Recording
 from .whose import NONE, Whose
 
-Handler = Callable[
-    ..., None
-]  # takes the book, the notes, the calls that the goroutine is in, and the arguments of the step
+Maker = Callable[
+    ..., Look
+]  # takes the book, the notes, and the arguments of the step, of which the first is its goroutine
 SETTING = {"r": "SetReadDeadline", "w": "SetWriteDeadline", "rw": "SetDeadline"}
 LOCKING = {"r": "Read", "w": "Write"}
 WAITING = {"r": "WaitRead", "w": "WaitWrite"}
@@ -30,65 +31,58 @@ class Book:
     def __init__(self, recording: Recording) -> None:
         self.calls: list[Call] = []
         self._recording, self._errors = recording, recording.lines.errors
-        self._open: dict[int, list[Call]] = {}  # the calls that each goroutine is in, the innermost last
-        self._asleep: dict[int, tuple[int, str]] = {}  # since which step, and the clock then
-        self._descriptor_of: dict[int, int] = {}  # of a socket that is open
-        seen = OF_A_GOROUTINE if self._errors else {*HANDLERS, *BY_STATUS.values()}
-        self.notes = Notes(recording, {kind: partial(self._see, HANDLERS.get(kind)) for kind in seen})
+        self.error = ""  # the system's name of the step's error, as long as no call has it
+        self.open: dict[int, list[Call]] = defaultdict(list)  # the calls that each goroutine is in, the innermost last
+        self.asleep: dict[int, tuple[int, int]] = {}  # since which step, and the clock then
+        self.descriptor_of: dict[int, int] = {}  # of a socket that is open
+        self.notes = Notes(recording, self._looks())
 
     @cached_property
     def whose(self) -> Whose:
         """Whose each step is."""
         return Whose(self._recording, self.notes)
 
-    def _see(self, handler: Optional[Handler], notes: Notes, g: int, *arguments: Any) -> None:
-        """Behind each step by which a call begins, goes on or ends."""
-        calls = self._open.get(g)
-        if calls is None:
-            calls = self._open[g] = []
-        if g in self._asleep:
-            self._wakes(notes, calls, *self._asleep.pop(g))
-        if handler:
-            handler(self, notes, calls, g, *arguments)
-        if calls and notes.step in self._errors:
-            calls[-1].outcome, calls[-1].error = Outcome.SYSTEM_ERROR, self._errors[notes.step]
-        status = notes.now[f"gor {g}"]
-        if status.startswith(ASLEEP):
-            self._asleep[g] = notes.step, notes.now["clock"]
-        while calls and calls[-1].is_ending and not calls[-1].destroys and status == "idle":
-            calls.pop().last = notes.step
-
-    @staticmethod
-    def _wakes(notes: Notes, calls: list[Call], step: int, clock: str) -> None:
-        if calls:
-            calls[-1].waited += notes.step - step - 1
-            calls[-1].slept += int(notes.now["clock"]) - int(clock)
-
     def sleeps_at_the_end(self, call: Call) -> bool:
         """Whether the recording ends while a call's goroutine sleeps in it."""
-        inside = self._open.get(call.goroutine)
-        return call.goroutine in self._asleep and bool(inside) and inside is not None and inside[-1] is call
+        inside = self.open.get(call.goroutine)
+        return call.goroutine in self.asleep and bool(inside) and inside is not None and inside[-1] is call
 
-    def opens(self, socket: int, descriptor: int) -> None:
-        """The socket has this descriptor."""
-        self._descriptor_of[socket] = descriptor
+    def _looks(self) -> Looks:
+        """What makes who looks behind each step of a kind."""
+        if not self._errors:
+            return {kind: partial(look, self) for kind, look in LOOKS.items()}
+        return {kind: partial(self._seeing_errors, LOOKS.get(kind)) for kind in OF_A_GOROUTINE}
 
-    def frees(self, socket: int) -> None:
-        """The socket's descriptor is free."""
-        self._descriptor_of.pop(socket, None)
+    def _seeing_errors(self, maker: Optional[Maker], notes: Notes, g: int, *arguments: Any) -> Look:
+        """Where steps have errors of the system: the innermost call has it, which may end with this step."""
+        made, goroutine, calls = maker and maker(self, notes, g, *arguments), notes.goroutine(g), self.open[g]
 
-    def begin(self, notes: Notes, calls: list[Call], g: int, name: str, socket: int, side: str = "") -> Call:
+        def look(step: int) -> None:
+            self.error = self._errors.get(step, "")
+            if made:
+                made(step)
+            if self.error:
+                self.settle(step, goroutine, calls)
+
+        return look
+
+    def begin(self, step: int, g: int, name: str, socket: int, calls: list[Call]) -> Call:
         """A call of a socket begins with this step."""
-        return self.begins(calls, Call(g, name, socket, self._descriptor_of.get(socket, NONE), notes.step, side=side))
-
-    def begins(self, calls: list[Call], call: Call) -> Call:
-        """A call begins."""
+        call = Call(g, name, socket, self.descriptor_of.get(socket, NONE), step)
         calls.append(call)
         self.calls.append(call)
         return call
 
+    def settle(self, step: int, goroutine: Goroutine, calls: list[Call]) -> None:
+        """Behind a step by which a call of the goroutine's may end."""
+        if self.error and calls:
+            calls[-1].outcome, calls[-1].error = Outcome.SYSTEM_ERROR, self.error
+            self.error = ""
+        while calls and calls[-1].is_ending and goroutine.status == "idle" and not calls[-1].destroys:
+            calls.pop().last = step
 
-def _fails(notes: Notes, call: Call, outcome: Outcome) -> None:
+
+def fail(notes: Notes, call: Call, outcome: Outcome) -> None:
     """A call has this outcome; which step brought that about is known of a timeout, of a close and of a shut write side."""
     call.outcome = outcome
     if outcome is Outcome.CLOSED and call.socket in notes.closer:
@@ -101,104 +95,204 @@ def _fails(notes: Notes, call: Call, outcome: Outcome) -> None:
         call.passed = timeout.passing.step
 
 
-def _opens(book: Book, notes: Notes, calls: list[Call], g: int, s: int) -> None:
-    book.opens(s, notes.uses[-1].descriptor)
-    book.begin(notes, calls, g, OPEN, s).is_ending = True
+# What looks behind the steps of each kind, made of the book, the notes and a step's arguments, as in `noting.py`. (`sysread`, `syswrite`,
+# `setdeadline` and `closewrite` end no call.)
 
 
-def _locks(book: Book, notes: Notes, calls: list[Call], g: int, s: int, side: str) -> None:
-    top = calls[-1] if calls else None
-    if not (top and top.is_asking):
-        top = book.begin(notes, calls, g, LOCKING[side], s, side)
-    top.is_asking = notes.status(g) == "acquiring"
-    if not top.is_asking and notes.is_closed(s):
-        top.is_ending = True
-        _fails(notes, top, Outcome.CLOSED)
+def goes_on(book: Book, notes: Notes, g: int, *_: object) -> Look:
+    goroutine, calls, settle = notes.goroutine(g), book.open[g], book.settle
+
+    def look(step: int) -> None:
+        if calls and calls[-1].is_ending:
+            settle(step, goroutine, calls)
+
+    return look
 
 
-def _gives(book: Book, notes: Notes, calls: list[Call], g: int, s: int, side: str = "") -> None:
+def goes_on_or_sleeps(book: Book, notes: Notes, g: int) -> Look:
+    """`acquire`, `parkcommit` and `blockswap`: the goroutine may have slept before, and may sleep behind it."""
+    goroutine, calls, asleep, settle = notes.goroutine(g), book.open[g], book.asleep, book.settle
+
+    def look(step: int) -> None:
+        if g in asleep:
+            since, clock = asleep.pop(g)
+            if calls:
+                calls[-1].waited += step - since - 1
+                calls[-1].slept += notes.clock - clock
+        if calls and calls[-1].is_ending:
+            settle(step, goroutine, calls)
+        if goroutine.status.startswith(ASLEEP):
+            asleep[g] = step, notes.clock
+
+    return look
+
+
+def opens(book: Book, notes: Notes, g: int, s: int) -> Look:
+    goroutine, calls = notes.goroutine(g), book.open[g]
+
+    def look(step: int) -> None:
+        book.descriptor_of[s] = notes.uses[-1].descriptor
+        book.begin(step, g, OPEN, s, calls).is_ending = True
+        book.settle(step, goroutine, calls)
+
+    return look
+
+
+def locks(book: Book, notes: Notes, g: int, s: int, side: str) -> Look:
+    goroutine, calls, name, locked = notes.goroutine(g), book.open[g], LOCKING[side], notes.locks
+
+    def look(step: int) -> None:
+        top = calls[-1] if calls else None
+        if not (top and top.is_asking):
+            top = book.begin(step, g, name, s, calls)
+            top.side = side
+        top.is_asking = goroutine.status.startswith("acquiring")
+        if not top.is_asking and locked.get(s, 0) & CLOSED:
+            top.is_ending = True
+            fail(notes, top, Outcome.CLOSED)
+            book.settle(step, goroutine, calls)
+
+    return look
+
+
+def gives(book: Book, notes: Notes, g: int, s: int, side: str = "") -> Look:
     """A call gives up its reference, with the lock of a side or without."""
-    call = next((one for one in reversed(calls) if one.side == side and one.socket == s), None)
-    if call:
-        call.is_ending = True
-        call.destroys = notes.is_closed(s) and not notes.holds[s]
+    goroutine, calls, locked = notes.goroutine(g), book.open[g], notes.locks
+
+    def look(step: int) -> None:
+        for call in reversed(calls):
+            if call.side == side and call.socket == s:
+                call.is_ending = True
+                call.destroys = bool(locked.get(s, 0) & CLOSED) and not notes.holds[s]
+                break
+        book.settle(step, goroutine, calls)
+
+    return look
 
 
-def _refers(book: Book, notes: Notes, calls: list[Call], g: int, s: int) -> None:
-    call = book.begin(notes, calls, g, CONTROL, s)
-    if notes.is_closed(s):
-        call.is_ending = True
-        _fails(notes, call, Outcome.CLOSED)
+def refers(book: Book, notes: Notes, g: int, s: int) -> Look:
+    goroutine, calls = notes.goroutine(g), book.open[g]
+
+    def look(step: int) -> None:
+        call = book.begin(step, g, CONTROL, s, calls)
+        if notes.is_closed(s):
+            call.is_ending = True
+            fail(notes, call, Outcome.CLOSED)
+            book.settle(step, goroutine, calls)
+
+    return look
 
 
-def _closes(book: Book, notes: Notes, calls: list[Call], g: int, s: int) -> None:
-    call = book.begin(notes, calls, g, CLOSE, s)
-    if notes.closer[s] != (notes.step, g):
-        call.is_ending = True
-        _fails(notes, call, Outcome.CLOSED)
+def closes(book: Book, notes: Notes, g: int, s: int) -> Look:
+    goroutine, calls = notes.goroutine(g), book.open[g]
+
+    def look(step: int) -> None:
+        call = book.begin(step, g, CLOSE, s, calls)
+        if notes.closer[s] != (step, g):
+            call.is_ending = True
+            fail(notes, call, Outcome.CLOSED)
+            book.settle(step, goroutine, calls)
+
+    return look
 
 
-def _destroys(book: Book, notes: Notes, calls: list[Call], g: int, d: int) -> None:
-    book.frees(notes.use_of[d].socket)
-    if calls:
-        calls[-1].destroys = False
+def destroys(book: Book, notes: Notes, g: int, d: int) -> Look:
+    goroutine, calls = notes.goroutine(g), book.open[g]
+
+    def look(step: int) -> None:
+        book.descriptor_of.pop(notes.use_of[d].socket, None)
+        if calls:
+            calls[-1].destroys = False
+        book.settle(step, goroutine, calls)
+
+    return look
 
 
-def _checks(book: Book, notes: Notes, calls: list[Call], g: int, d: int, side: str) -> None:
+def checks(book: Book, notes: Notes, g: int, d: int, side: str) -> Look:
     """A step that checks a descriptor's side; outside of a call, as `Dial` waits, it is one of its own."""
-    wait = Call(g, WAITING[side], notes.use_of[d].socket, d, notes.step)
-    top = calls[-1] if calls else book.begins(calls, wait)
-    if notes.code:
-        _fails(notes, top, CODES[notes.code])
-    if top.name in WAITING.values():
-        top.is_ending = True
+    goroutine, calls, names = notes.goroutine(g), book.open[g], tuple(WAITING.values())
+
+    def look(step: int) -> None:
+        if not calls:
+            calls.append(Call(g, WAITING[side], notes.use_of[d].socket, d, step))
+            book.calls.append(calls[-1])
+        if notes.code:
+            fail(notes, calls[-1], CODES[notes.code])
+        if calls[-1].name in names:
+            calls[-1].is_ending = True
+            book.settle(step, goroutine, calls)
+
+    return look
 
 
-def _checks_again(book: Book, notes: Notes, calls: list[Call], g: int) -> None:
+def checks_again(book: Book, notes: Notes, g: int) -> Look:
     """`waitcheck`: the side is that of the wait which it ends."""
-    if calls and notes.status(g) == "idle":
-        _fails(notes, calls[-1], CODES[notes.code])
+    goroutine, calls = notes.goroutine(g), book.open[g]
+
+    def look(step: int) -> None:
+        if calls and goroutine.status == "idle":
+            fail(notes, calls[-1], CODES[notes.code])
+        book.settle(step, goroutine, calls)
+
+    return look
 
 
-def _reads(book: Book, notes: Notes, calls: list[Call], g: int, s: int, most: int) -> None:
-    if calls:
-        calls[-1].moved = (calls[-1].moved or 0) + notes.moved
-        if not notes.moved and s in notes.peer:
-            calls[-1].outcome = Outcome.EOF
+def reads(book: Book, notes: Notes, g: int, s: int, most: int) -> Look:
+    calls, peer = book.open[g], notes.peer
+
+    def look(step: int) -> None:
+        if calls:
+            calls[-1].moved = (calls[-1].moved or 0) + notes.moved
+            if s in peer and not notes.moved:
+                calls[-1].outcome = Outcome.EOF
+
+    return look
 
 
-def _writes(book: Book, notes: Notes, calls: list[Call], g: int, s: int, digits: str) -> None:
-    if calls and s in notes.shut:
-        _fails(notes, calls[-1], Outcome.BROKEN_PIPE)
-    elif calls:
-        calls[-1].moved = (calls[-1].moved or 0) + notes.moved
+def writes(book: Book, notes: Notes, g: int, s: int, digits: str) -> Look:
+    calls, shut = book.open[g], notes.shut
+
+    def look(step: int) -> None:
+        if calls and s in shut:
+            fail(notes, calls[-1], Outcome.BROKEN_PIPE)
+        elif calls:
+            calls[-1].moved = (calls[-1].moved or 0) + notes.moved
+
+    return look
 
 
-def _sets(book: Book, notes: Notes, calls: list[Call], g: int, d: int, mode: str, time: int) -> None:
-    if calls and calls[-1].name == CONTROL:
-        calls[-1].name = SETTING[mode]
+def names(name: Callable[[str], str]) -> Maker:
+    """A step that tells what a `Control` is: by its mode, where it has one."""
+
+    def of(book: Book, notes: Notes, g: int, which: int, mode: str = "", *_: object) -> Look:
+        calls = book.open[g]
+
+        def look(step: int) -> None:
+            if calls and calls[-1].name == CONTROL:
+                calls[-1].name = name(mode)
+
+        return look
+
+    return of
 
 
-def _shuts(book: Book, notes: Notes, calls: list[Call], g: int, s: int) -> None:
-    if calls and calls[-1].name == CONTROL:
-        calls[-1].name = CLOSE_WRITE
-
-
-HANDLERS: dict[str, Handler] = {
-    "pollopen": _opens,
-    "rwlock": _locks,
-    "rwunlock": _gives,
-    "incref": _refers,
-    "decref": _gives,
-    "increfclose": _closes,
-    "pollclose": _destroys,
-    "pollreset": _checks,
-    "waitbegin": _checks,
-    "waitcheck": _checks_again,
-    "sysread": _reads,
-    "syswrite": _writes,
-    "setdeadline": _sets,
-    "closewrite": _shuts,
+LOOKS: dict[str, Maker] = {
+    **dict.fromkeys(BY_STATUS.values(), goes_on),
+    **dict.fromkeys(("acquire", "parkcommit", "blockswap"), goes_on_or_sleeps),
+    "pollopen": opens,
+    "rwlock": locks,
+    "rwunlock": gives,
+    "incref": refers,
+    "decref": gives,
+    "increfclose": closes,
+    "pollclose": destroys,
+    "pollreset": checks,
+    "waitbegin": checks,
+    "waitcheck": checks_again,
+    "sysread": reads,
+    "syswrite": writes,
+    "setdeadline": names(lambda mode: SETTING[mode]),
+    "closewrite": names(lambda _: CLOSE_WRITE),
 }
 
 

@@ -9,6 +9,9 @@ LINE = re.compile(rb"\d+ [a-z]+(?: \d+)? = [ -~]+")
 LINES = re.compile(r"^(\d+) ([a-z]+(?: \d+)?) = ([ -~]+)$", re.MULTILINE | re.ASCII)
 
 
+WINDOW = 2**16  # bytes of lines that are taken apart at once
+
+
 class NoChanges(ValueError):
     """A text isn't what `netrev changes` says, or isn't all of it."""
 
@@ -41,26 +44,51 @@ class ChangedLines:
                 raise NoChanges("a line that is no change")
             yield from found
 
+    def whole_steps(self, end: int) -> Iterator[tuple[int, str]]:
+        """The lines in texts that have all lines of their steps, a line feed before the first; and behind which step each text ends. The last
+        one ends before `end`."""
+        text, pieces = "\n", [b""]
+        for piece in self.pieces:
+            pieces.append(piece)
+            if sum(map(len, pieces)) < WINDOW:
+                continue
+            text += b"".join(pieces).decode("latin-1")
+            last = text[text.rindex("\n", 0, -1) + 1 :]
+            step = last[: last.index(" ")]  # (more lines of it may come)
+            begin = text.index(f"\n{step} ") + 1
+            if begin > 1:
+                yield int(step), text[:begin]
+            text, pieces = f"\n{text[begin:]}", []
+        yield end, text + b"".join(pieces).decode("latin-1")
+
     def at(self, step: int) -> list[tuple[str, str]]:
         """The cells that a step changed, each with its value behind it."""
-        line = re.compile(rb"^%d (.*) = (.*)$" % step, re.MULTILINE)
         found: list[tuple[str, str]] = []
+        number = b"\n%d " % step
         for place in range(bisect_left(self._lasts, step), len(self._lasts)):
-            found += [(cell.decode(), value.decode()) for cell, value in line.findall(self.pieces[place])]
+            piece = self.pieces[place]
+            begin = 0 if piece.startswith(number[1:]) else piece.find(number) + 1
+            while piece.startswith(number[1:], begin):
+                end = piece.index(b"\n", begin)
+                cell, _, value = piece[begin + len(number) - 1 : end].decode().partition(" = ")
+                found.append((cell, value))
+                begin = end + 1
             if self._lasts[place] > step:
                 break
         return found
 
     def changes_of(self, cell: str, until: Optional[int] = None) -> Iterator[tuple[int, str]]:
         """The steps that changed a cell, rising, each with its value behind it; up to a position, where one is named."""
-        line = re.compile(rb"^(\d+) %s = (.*)$" % cell.encode(), re.MULTILINE)
+        named = b" %s = " % cell.encode()
         end = len(self._lasts) if until is None else bisect_right(self._lasts, until) + 1
         for piece in self.pieces[:end]:
-            for number, value in line.findall(piece):
-                step = int(number)
+            before, *parts = piece.split(named)  # (each ends with the step of the next one)
+            for part in parts:
+                step = int(before[before.rfind(b"\n") + 1 :])
                 if until is not None and step > until:
                     return
-                yield step, value.decode()
+                yield step, part[: part.index(b"\n")].decode()
+                before = part
 
     def back(self, cell: str, position: int) -> Iterator[tuple[int, str]]:
         """The steps that changed a cell, falling, from a position on, each with its value behind it."""

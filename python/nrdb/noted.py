@@ -72,15 +72,49 @@ class By(NamedTuple):
     goroutine: int
 
 
-class Pauses:
-    """How many pauses of a place ended, and the longest of them."""
+MANY = 3  # pauses of a place that ended, from which on the longest of them says something
 
-    count = longest = 0
+
+class Pauses:
+    """How many pauses of a place ended, as far as MANY, and the longest of them. One that is longer than `enough` has to be told."""
+
+    __slots__ = ("count", "longest", "enough")
+
+    def __init__(self) -> None:
+        self.count, self.longest, self.enough = 0, 0, -1
 
     def ends(self, steps: int) -> None:
+        """A pause of so many steps has ended."""
         self.count += 1
-        if steps > self.longest:
-            self.longest = steps
+        self.longest = max(self.longest, steps)
+        if self.count >= MANY:
+            self.enough = self.longest
+
+
+class NoPauses(Pauses):
+    """Of who has nothing to do: no pause has to be told."""
+
+    __slots__ = ()
+
+    def __init__(self) -> None:
+        super().__init__()
+        self.enough = 2**63
+
+
+class Goroutine:
+    """A goroutine: its status, since when, the step from which on it could make its next one, its last step, `pollreset`, and read or write, how
+    many references it holds, and the pauses of its place."""
+
+    __slots__ = ("number", "status", "since", "stood", "last", "reset", "tried", "held", "pauses")
+
+    def __init__(self, number: int, pauses: Pauses) -> None:
+        self.number, self.pauses = number, pauses
+        self.status = "absent"
+        self.since = self.stood = self.last = self.reset = self.tried = self.held = 0
+
+    def is_made(self, step: int) -> None:
+        self.status = "idle"
+        self.since = self.stood = self.last = step
 
 
 AT = {"r": 0, "w": 1}  # where what is kept of both sides has those of each
@@ -91,7 +125,7 @@ class Use:
 
     __slots__ = (
         *("descriptor", "socket", "opened", "tag", "settings", "last_settings", "passings", "last_events", "errors"),
-        *("waits", "thrown", "taken"),
+        *("waits", "thrown", "taken", "late"),
     )
 
     def __init__(self, descriptor: int, socket: int, opened: int, tag: int) -> None:
@@ -100,11 +134,17 @@ class Use:
         self.errors: list[ErrorEvent] = []
         self.thrown: list[Taking] = []  # readinesses for reading that a pollreset threw away
         self.taken: Optional[Taking] = None  # the last one that was taken, or thrown away
+        self.late = ""  # the sides whose deadlines have passed, in the order "rw"
         # of both sides: the step that set its deadline last, those at which it passed, the last event, and the waits
         self.last_settings = [0, 0]
         self.passings: tuple[list[Passing], ...] = ([], [])
         self.last_events = [0, 0]
         self.waits: tuple[list[Wait], ...] = ([], [])
+
+    def passes(self, side: str, is_late: bool) -> None:
+        """The deadline of a side has passed, or it has one that hasn't."""
+        if is_late or self.late:  # (in most runs few pass)
+            self.late = "".join(one for one in "rw" if (is_late if one == side else one in self.late))
 
     def last_event(self, side: str) -> int:
         """The step of the last event of a side; 0 where none came."""

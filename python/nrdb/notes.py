@@ -1,36 +1,38 @@
 """What no cell says of a recording, gathered from its steps in one pass beside the changes that they made: who holds which reference since
-when, who set which deadline, which event was taken by whom, and how long everybody paused. That is nrdb's own reckoning."""
+when, who set which deadline, which event was taken by whom, and how long everybody paused. That is nrdb's own reckoning.
 
+There may be a million steps, so what is to be done for a step is made ready once for all lines that are alike and near: a function that knows
+already whom the step names, and which cells it asks for (`noting.py`)."""
+
+import gc
 from types import MappingProxyType
-from typing import Any, Callable, Mapping, Optional
+from typing import Any, Callable, Iterator, Mapping, Optional
 
 from netrev_words.vocabulary import OF_A_GOROUTINE
 
 from .modelled_changes import changes_of
-from .noted import (
-    AT,
-    CLOSING,
-    TIMED_OUT,
-    By,
-    ErrorEvent,
-    Hold,
-    Passing,
-    Pauses,
-    Setting,
-    Taking,
-    Timeout,
-    Use,
-    Wait,
-    code_of,
-)
-from .recorded_changes import AT_START, NONE
+from .noted import AT, TIMED_OUT, By, Goroutine, Hold, NoPauses, Pauses, Timeout, Use, code_of
+from .noting import NOTES, Note
+from .recorded_changes import RecordedChanges, Told
 from .recording import Recording
 
-Row = tuple[str, Optional[Callable[..., None]], Optional[Callable[..., None]], list[Any]]
-REFERENCES, CLOSED = (2**20 - 1) << 3, 1  # in a lock word
+Look = Callable[[int], None]  # takes the step's number
+Looks = Mapping[str, Callable[..., Look]]  # of a kind what makes such, of the notes and a step's arguments
+Row = tuple[Goroutine, Optional[Note], Optional[Look]]
+CLOSED = 1  # in a lock word
+MOST_CHANGED = 2_000  # bytes of the lines of a step, of which there are a dozen at most
 
 
-Looks = Mapping[str, Callable[..., None]]  # who looks behind each step of a kind: at the notes, and at its arguments
+class Now(dict[str, str]):
+    """What cells show behind the last step, each asked for once."""
+
+    def __init__(self, changes: RecordedChanges, position: int) -> None:
+        super().__init__()
+        self._changes, self._position = changes, position
+
+    def __missing__(self, cell: str) -> str:
+        value = self[cell] = self._changes.value(cell, self._position)
+        return value
 
 
 class Notes:
@@ -39,238 +41,155 @@ class Notes:
     def __init__(self, recording: Recording, looks: Looks = MappingProxyType({})) -> None:
         self.recording, self.changes, self._looks = recording, changes_of(recording), looks
         self.step = self.moved = self.code = 0  # the step, the bytes that it moved, and the code that it found
-        self.now = dict(AT_START)  # what cells show, but for those that are absent
-        self.was: dict[str, str] = {}  # what those showed that this step changed, but for those that it made
-        self.since: dict[str, int] = {}  # when they changed last
-        # of goroutines: their last step, `pollreset` and read or write, and how many references they hold
-        self.last: dict[int, int] = {0: 0}
-        self.reset: dict[int, int] = {}
-        self.tried: dict[int, int] = {}
-        self.held: dict[int, int] = {}
-        # of sockets: who holds them, who closed them or their write sides, and when bytes came, the peer closed, and an evict was
+        self.told: dict[str, str] = {}  # what the steps near this one changed: `12 lock 0`, with what that shows
+        self._text = ""  # the same as lines, and where in it the last step was looked for
+        self._from = 0
+        self.clock = 0
+        self.pauses: dict[str, Pauses] = {
+            "idle": Pauses()
+        }  # of each place; who is idle pauses as long as it holds a reference
+        self._pauses_at: dict[str, Pauses] = {"idle": NoPauses()}  # of each status those of its place
+        self.goroutines: dict[int, Goroutine] = {}
+        self.goroutine(0).is_made(0)
+        self.made = 1  # goroutines
+        self.parked: dict[str, Goroutine] = {}  # who is at a status that one alone can have: `parked 0 r`
+        self.queued: dict[str, dict[Goroutine, None]] = {}  # who sleeps for a lock, by the status, the first one first
+        # of sockets: their lock words and what their buffers hold, who holds them, who closed them or their write sides, and when bytes
+        # came, the peer closed, and an evict was
+        self.locks: dict[int, int] = {}
+        self.inputs: dict[int, int] = {}
+        self.outputs: dict[int, int] = {}
         self.holds: dict[int, list[Hold]] = {}
         self.closer: dict[int, By] = {}
         self.shut: dict[int, By] = {}
         self.arrived: dict[int, int] = {}
         self.peer: dict[int, int] = {}
         self.evicted: dict[int, int] = {}
-        # of descriptors: all uses, which are open, and the last event that was dropped, with its tag
+        # of descriptors: their tags and what is told of them, all uses, which are open, which are ready for reading, and the last event that was
+        # dropped, with its tag
+        self.tags: dict[int, int] = {}
+        self.infos: dict[int, int] = {}
         self.uses: list[Use] = []
         self.use_of: dict[int, Use] = {}  # the last one of each
         self.socket_before: dict[Use, int] = {}  # the socket of the use before
         self.open: set[int] = set()
+        self.free: list[int] = []  # the one that was freed last at the end
+        self.ready: set[int] = set()
         self.stale: dict[int, tuple[int, int]] = {}
         self.timeouts: list[Timeout] = []
         self.refused_writes: list[
             tuple[int, int, int]
         ] = []  # those behind a CloseWrite: the step, by whom, and the socket
         self.longest_holds: dict[str, int] = {}  # of each kind, of those that ended
-        self.pauses: dict[str, Pauses] = {}  # of each place
         self._go_through()
+        self.goroutines = dict(sorted(self.goroutines.items()))
+        self.now = Now(self.changes, self.step)
 
     def _go_through(self) -> None:
-        now, was, since, changes = (
-            self.now,
-            self.was,
-            self.since,
-            self.changes.texts(),
-        )  # (there may be a million steps)
-        upcoming, cell, value = next(changes, NONE)
-        for self.step, (goroutine, note, look, arguments) in enumerate(self.recording.rows(self._row), 1):
-            if goroutine:
-                self._begins(arguments[0], goroutine)
-            was.clear()
-            number = str(self.step)
-            while upcoming == number:
-                was[cell] = now.get(cell, "")
-                now[cell] = value
-                since[cell] = self.step
-                upcoming, cell, value = next(changes, NONE)
-            if note:
-                note(self, *arguments)
-            if look:
-                look(self, *arguments)
+        rows = self.recording.rows(self._row)
+        for told in without_collections(self.changes.told()):
+            self._holds(told)
+            steps = range(told.first, told.end)
+            for step, number, (goroutine, note, look) in zip(steps, map(str, steps), rows):
+                self.step = step
+                if step - goroutine.stood > goroutine.pauses.enough:
+                    goroutine.pauses.ends(step - goroutine.stood)
+                goroutine.last = goroutine.stood = step
+                if note:
+                    note(step, number)
+                if look:
+                    look(step)
+        self.told.clear()
+        self._text = ""
+
+    def _holds(self, told: Told) -> None:
+        """Has what the next steps changed. It stays one table, which those know who ask it."""
+        self.told.clear()
+        self.told.update(told.values)
+        self._text, self._from = told.text, 0
 
     def _row(self, values: list[Any]) -> Row:
-        """What is made of a step's array: the cell of the goroutine that makes the step, if one does, who notes it and who looks at it,
-        and the arguments."""
+        """What is made of a step's array: the goroutine that makes the step, if one does, who notes it and who looks at it."""
         kind, *arguments = values[:-1] if self.recording.has_answers else values
-        goroutine = f"gor {arguments[0]}" if kind in OF_A_GOROUTINE else ""
-        return goroutine, NOTES.get(kind), self._looks.get(kind), arguments
+        goroutine = self.goroutine(arguments[0]) if kind in OF_A_GOROUTINE else NOBODY
+        note, look = NOTES.get(kind), self._looks.get(kind)
+        return goroutine, note and note(self, *arguments), look and look(self, *arguments)
 
-    def _begins(self, g: int, cell: str) -> None:
-        """A goroutine makes a step: its pause, if it could have gone on before, has ended."""
-        status = self.now[cell]
-        if status != "idle" or self.held.get(g):
-            place, last, since = status.partition(" ")[0], self.last[g], self.since.get(cell, 0)
-            known = self.pauses.get(place)
-            if known is None:
-                known = self.pauses[place] = Pauses()
-            known.ends(self.step - (last if last > since else since))
-        self.last[g] = self.step
+    def goroutine(self, g: int) -> Goroutine:
+        """A goroutine, which may still have to be made."""
+        found = self.goroutines.get(g)
+        if found is None:
+            found = self.goroutines[g] = Goroutine(g, self._pauses_at["idle"])
+        return found
 
-    def before(self, cell: str) -> str:
-        """What a cell showed before the step."""
-        return self.was.get(cell) or self.now[cell]
+    def changed(self, names: tuple[str, ...]) -> list[tuple[str, int, str]]:
+        """What this step changed of cells with these names, each with its number and its value."""
+        number, found = f"\n{self.step} ", []
+        at = self._from = max(self._text.find(number, self._from), self._from)
+        *lines, last = self._text[at : at + MOST_CHANGED].split(number)[1:] or ["\n"]
+        for line in (*lines, last[: last.index("\n")]):
+            cell, _, value = line.partition(" = ")
+            name, _, which = cell.partition(" ")
+            if name in names:
+                found.append((name, int(which), value))
+        return found
+
+    # what a step may do to a goroutine
+
+    def moves(self, goroutine: Goroutine, step: int, status: str) -> None:
+        """A goroutine has another status."""
+        before, goroutine.status = goroutine.status, status
+        goroutine.since = goroutine.stood = step
+        if status == "idle" and goroutine.held:
+            goroutine.pauses = self.pauses["idle"]
+        else:
+            goroutine.pauses = self._pauses_at.get(status) or self._pauses_of(status)
+        if status.startswith("parked"):
+            self.parked[status] = goroutine
+        elif status.startswith("queued"):
+            self.queued.setdefault(status, {})[goroutine] = None
+        elif before.startswith("queued"):
+            del self.queued[before][goroutine]
+
+    def _pauses_of(self, status: str) -> Pauses:
+        """The pauses of the place of a status."""
+        pauses = self._pauses_at[status] = self.pauses.setdefault(status.partition(" ")[0], Pauses())
+        return pauses
+
+    def holds_more(self, goroutine: Goroutine, more: int) -> None:
+        """A goroutine holds a reference more, or one less."""
+        goroutine.held += more
+        if goroutine.status == "idle":
+            goroutine.pauses = self.pauses["idle"] if goroutine.held else self._pauses_at["idle"]
+
+    def ends(self, step: int, g: int, d: int, side: str) -> bool:
+        """Whether a call ends with the code that its side has."""
+        info = self.infos[d]
+        self.code = code_of(info, side) if info else 0
+        if self.code == TIMED_OUT:
+            self.timeouts.append(Timeout(step, g, d, side, self.use_of[d].passings[AT[side]][-1]))
+        return self.code > 0
 
     # what is there behind the last step
 
     def status(self, g: int) -> str:
         """Where a goroutine is."""
-        return self.now[f"gor {g}"].partition(" ")[0]
+        return self.goroutines[g].status.partition(" ")[0]
 
     def is_closed(self, s: int) -> bool:
         """Whether a socket is closed."""
-        return bool(int(self.now[f"lock {s}"]) & CLOSED)
-
-    # what the steps of a kind tell
-
-    def spawns(self) -> None:
-        self.last[len(self.last)] = self.step
-
-    def arrives(self, s: int, digits: str) -> None:
-        self.arrived[s] = self.step
-
-    def peer_closes(self, s: int) -> None:
-        self.peer[s] = self.step
-
-    def reads(self, g: int, s: int, most: int) -> None:
-        self.tried[g] = self.step
-        self.moved = -self.grown(f"in {s}")
-
-    def writes(self, g: int, s: int, digits: str) -> None:
-        self.tried[g] = self.step
-        self.moved = self.grown(f"out {s}")
-        if s in self.shut:
-            self.refused_writes.append((self.step, g, s))
-
-    def grown(self, cell: str) -> int:
-        """By how much the step raised a cell."""
-        return int(self.now[cell]) - int(self.was[cell]) if cell in self.was else 0
-
-    def shuts(self, g: int, s: int) -> None:
-        self.shut.setdefault(s, By(self.step, g))
-
-    def refers(self, kind: str, g: int, s: int, side: str = "") -> None:
-        """A goroutine takes a reference where the lock word has one more, and the lock of a side with it, if one is named."""
-        cell = f"lock {s}"
-        if cell in self.was and int(self.now[cell]) & REFERENCES > int(self.was[cell]) & REFERENCES:
-            self.holds.setdefault(s, []).append(Hold(g, self.step, kind, side))
-            self.held[g] = self.held.get(g, 0) + 1
-            if kind == "increfclose":
-                self.closer[s] = By(self.step, g)
-
-    def gives(self, g: int, s: int, side: str = "") -> None:
-        """A goroutine gives up a reference: its own last one of that sort, else another's, since Go counts and names none."""
-        holds = self.holds[s]
-        hold = holds[-1]
-        if hold.goroutine != g or hold.side != side:
-            fitting = [one for one in holds if one.side == side]
-            own = [one for one in fitting if one.goroutine == g]
-            hold = (own or fitting or holds)[-1]
-        holds.remove(hold)
-        self.held[hold.goroutine] -= 1
-        self.longest_holds[hold.kind] = max(self.longest_holds.get(hold.kind, 0), self.step - hold.step)
-
-    def opens(self, g: int, s: int) -> None:
-        d = next(int(cell[len("rseq ") :]) for cell in self.was if cell.startswith("rseq "))
-        use = Use(d, s, self.step, int(self.now[f"fdseq {d}"]))
-        if d in self.use_of:
-            self.socket_before[use] = self.use_of[d].socket
-        self.uses.append(use)
-        self.use_of[d] = use
-        self.open.add(d)
-
-    def closes(self, g: int, d: int) -> None:
-        self.open.discard(d)
-
-    def resets(self, g: int, d: int, side: str) -> None:
-        if self.ends(g, d, side):
-            return
-        self.reset[g] = self.step
-        if side == "r" and self.before(f"rg {d}") == "ready":
-            use = self.use_of[d]
-            use.taken = Taking(self.step, g, use.last_event(side))
-            use.thrown.append(use.taken)
-
-    def waits(self, g: int, d: int, side: str) -> None:
-        if not self.ends(g, d, side):
-            self.use_of[d].waits[AT[side]].append(Wait(self.step, g, self.tried.get(g, 0)))
-
-    def takes(self, g: int) -> None:
-        """A goroutine arms its wait or wakes: where its word was ready it takes that."""
-        _, number, side = self.before(f"gor {g}").split()
-        if side == "r" and self.before(f"rg {number}") == "ready":
-            use = self.use_of[int(number)]
-            use.taken = Taking(self.step, g, use.last_event(side))
-
-    def looks(self, g: int) -> None:
-        """A goroutine looks why it was woken."""
-        _, number, side = self.before(f"gor {g}").split()
-        self.ends(g, int(number), side)
-
-    def ends(self, g: int, d: int, side: str) -> bool:
-        """Whether a call ends with the code that its side has."""
-        self.code = code_of(int(self.now[f"info {d}"]), side)
-        if self.code == TIMED_OUT:
-            self.timeouts.append(Timeout(self.step, g, d, side, self.use_of[d].passings[AT[side]][-1]))
-        return self.code > 0
-
-    def sets(self, g: int, d: int, mode: str, time: int) -> None:
-        if int(self.now[f"info {d}"]) & CLOSING:
-            return
-        late = "".join(side for side in "rw" if self.before(f"{side}d {d}").startswith("-"))
-        use = self.use_of[d]
-        use.settings.append(Setting(self.step, g, mode, time, late))
-        for side in mode:
-            use.last_settings[AT[side]] = self.step
-            if time < 0:
-                use.passings[AT[side]].append(Passing(self.step, "setdeadline"))
-
-    def evicts(self, g: int, d: int) -> None:
-        self.evicted[self.use_of[d].socket] = self.step
-
-    def comes(self, d: int, tag: int, mode: str, error: int) -> None:
-        """An event comes."""
-        if d not in self.open or tag != self.use_of[d].tag:
-            self.stale[d] = self.step, tag
-            return
-        use = self.use_of[d]
-        if error:
-            use.errors.append(ErrorEvent(self.step, mode))
-        for side in mode:
-            use.last_events[AT[side]] = self.step
-
-    def fires(self, i: int) -> None:
-        for name, _, number in (cell.partition(" ") for cell in self.was):
-            if name in ("rd", "wd"):
-                self.use_of[int(number)].passings[AT[name[0]]].append(Passing(self.step, "fire"))
+        return bool(self.locks.get(s, 0) & CLOSED)
 
 
-def _kept(kind: str) -> Callable[..., None]:
-    """What notes a step of a kind by which a reference is taken."""
-    return lambda notes, *rest: notes.refers(kind, *rest)
+def without_collections(told: Iterator[Told]) -> Iterator[Told]:
+    """These, while nobody looks for objects in cycles: nearly all that are made meanwhile are kept, and none is in a cycle."""
+    was_on = gc.isenabled()
+    gc.disable()
+    try:
+        yield from told
+    finally:
+        if was_on:
+            gc.enable()
 
 
-NOTES: dict[str, Callable[..., None]] = {
-    "spawn": Notes.spawns,
-    "arrive": Notes.arrives,
-    "peerclose": Notes.peer_closes,
-    "sysread": Notes.reads,
-    "syswrite": Notes.writes,
-    "closewrite": Notes.shuts,
-    **{kind: _kept(kind) for kind in ("incref", "increfclose", "rwlock")},
-    "decref": Notes.gives,
-    "rwunlock": Notes.gives,
-    "pollopen": Notes.opens,
-    "pollclose": Notes.closes,
-    "pollreset": Notes.resets,
-    "waitbegin": Notes.waits,
-    "blockarm": Notes.takes,
-    "blockswap": Notes.takes,
-    "waitcheck": Notes.looks,
-    "setdeadline": Notes.sets,
-    "evict": Notes.evicts,
-    "pollevent": Notes.comes,
-    "fire": Notes.fires,
-}
+NOBODY = Goroutine(-1, NoPauses())  # who makes the steps of the network and of the clock

@@ -21,6 +21,16 @@ class Change(NamedTuple):
     value: str
 
 
+class Told(NamedTuple):
+    """What the steps from one number to another changed: each value by the step and the cell (`12 lock 0`), and the same as lines, with a line feed
+    before the first."""
+
+    first: int
+    end: int
+    values: Iterator[tuple[str, str]]
+    text: str
+
+
 class Texts(dict[str, int]):
     """Texts, each once, and their numbers in the order in which they came."""
 
@@ -149,6 +159,15 @@ class RecordedChanges:
                 changed.append((cell, value))
                 upcoming, cell, value = next(changes, NONE)
             yield changed
+
+    def told(self) -> Iterator[Told]:
+        """All changes, some thousands of steps at a time, for who needs few of them: no line is looked at alone."""
+        self._wait(None)
+        first = 1
+        for end, text in self._lines.whole_steps(self._length + 1):
+            cells_and_values = text[1:-1].replace(" = ", "\n").split("\n")
+            yield Told(first, end, zip(cells_and_values[::2], cells_and_values[1::2]), text)
+            first = end
 
     def _is_asked_little(self) -> bool:
         """Whether little was asked, so that the lines are searched. Else what has come is in the arrays."""

@@ -181,7 +181,11 @@ class Recording:
         for first in range(begin, end + 1, AT_ONCE):
             last = min(first + AT_ONCE, end + 1) - 1
             text = self.data[self._starts[self._numbers[first] - 1] : self._starts[self._numbers[last]]]
-            lines = [line for line in text.split(b"\n") if line and not line.isspace()]
+            lines = text.split(b"\n")
+            if not lines[-1]:
+                lines.pop()
+            if not isinstance(self._numbers, range):  # (some are blank)
+                lines = [line for line in lines if line and not line.isspace()]
             unlike = dict.fromkeys(lines)
             rows = dict(zip(unlike, map(made, parsed(b"[%s]" % b",".join(unlike)))))
             yield from map(rows.__getitem__, lines)

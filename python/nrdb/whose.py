@@ -1,7 +1,8 @@
 """Whose each step of a recording is: of which goroutine, socket and descriptor."""
 
 from array import array
-from typing import Any
+from collections import Counter
+from typing import Any, NamedTuple
 
 from netrev_words.vocabulary import KINDS
 
@@ -12,47 +13,112 @@ from .timers import timers_of
 NONE = -1
 Place = tuple[int, int]  # a socket and a descriptor
 NOWHERE = NONE, NONE
+OF_A_SOCKET, OF_A_DESCRIPTOR, AS_BEFORE, OF_NONE, OTHER = range(
+    5
+)  # how it is found of which socket and descriptor a step is
+OTHERS = ("sockopen", "pollopen", "pollclose", "pollevent", "pop", "fire")
+
+
+class Row(NamedTuple):
+    """What is known of a step by its line: how its socket and descriptor are found, its goroutine, the socket or descriptor that it names, and its
+    kind and arguments."""
+
+    how: int
+    goroutine: int
+    which: int
+    kind: str
+    arguments: list[Any]
+
+
+def row_of(values: list[Any]) -> Row:
+    """What is known by a step's array."""
+    kind, *arguments = values
+    named = dict(zip(KINDS[kind].arguments, arguments))
+    how = AS_BEFORE
+    if kind in OTHERS:
+        how = OTHER
+    elif "s" in named:
+        how = OF_A_SOCKET
+    elif "d" in named:
+        how = OF_A_DESCRIPTOR
+    elif kind in ("exit", "spawn", "tick"):
+        how = OF_NONE
+    return Row(how, named.get("g", NONE), named.get("s", named.get("d", NONE)), kind, arguments)
 
 
 class Whose:
     """Of each step its goroutine, socket and descriptor, -1 where it is of none."""
 
     def __init__(self, recording: Recording, notes: Notes) -> None:
-        self.goroutines, self.sockets, self.descriptors = array("i"), array("i"), array("i")
-        self._timers, self._opened = timers_of(recording), iter(notes.uses)
+        self._recording = recording
+        self.goroutines, self._sockets, self._descriptors = array("i"), array("i"), array("i")
+        self._of_timers: list[int] = []  # the steps of timers, as long as nobody has asked whose those are
+        self._opened = iter(notes.uses)
         self._made = 0  # sockets
         self._named: dict[int, Place] = {}  # what a goroutine named last
         self._descriptor_of: dict[int, int] = {}
         self._socket_of: dict[int, int] = {}
-        self._tagged: dict[tuple[int, int], int] = {}  # the socket of a use of a descriptor, by its tag
-        for number, (kind, *values) in enumerate(recording.arrays(), 1):
-            arguments = dict(zip(KINDS[kind].arguments, values))
-            g = arguments.get("g", NONE)
-            s, d = self._place(number, kind, arguments, g)
-            self.goroutines.append(g)
-            self.sockets.append(s)
-            self.descriptors.append(d)
+        self._tagged: dict[Place, int] = {}  # the socket of a use of a descriptor, by its tag
+        self._go_through()
 
-    def _place(self, number: int, kind: str, arguments: dict[str, Any], g: int) -> Place:
+    @property
+    def sockets(self) -> "array[int]":
+        self._look_at_timers()
+        return self._sockets
+
+    @property
+    def descriptors(self) -> "array[int]":
+        self._look_at_timers()
+        return self._descriptors
+
+    def touched(self, first: int, last: int) -> "Counter[Place]":
+        """How many steps of each goroutine are of each socket, in some steps."""
+        begin = max(first - 1, 0)
+        return Counter(zip(self.goroutines[begin:last], self._sockets[begin:last]))
+
+    def _go_through(self) -> None:
+        named, descriptor_of, socket_of = self._named, self._descriptor_of, self._socket_of
+        is_of, socket_is, descriptor_is = (one.append for one in (self.goroutines, self._sockets, self._descriptors))
+        for number, (how, g, which, kind, arguments) in enumerate(self._recording.rows(row_of), 1):
+            if how == AS_BEFORE:
+                s, d = named.get(g, NOWHERE)
+            elif how == OF_A_SOCKET:
+                s, d = named[g] = which, descriptor_of.get(which, NONE)
+            elif how == OF_A_DESCRIPTOR:
+                s, d = named[g] = socket_of.get(which, NONE), which
+            else:
+                s, d = NOWHERE if how == OF_NONE else self._other(number, kind, g, arguments)
+            is_of(g)
+            socket_is(s)
+            descriptor_is(d)
+
+    def _other(self, number: int, kind: str, g: int, arguments: list[Any]) -> Place:
+        """The socket and the descriptor of a step that makes such, or frees one, or is of a timer or an event."""
         if kind == "sockopen":
             self._made += 1
             return self._made - 1, NONE
         if kind in ("pop", "fire"):
-            timer = self._timers[number]
-            return timer.socket, timer.descriptor
+            self._of_timers.append(number)
+            return NOWHERE
         if kind == "pollevent":
-            return self._tagged.get((arguments["d"], arguments["tag"]), NONE), arguments["d"]
+            d, tag, *_ = arguments
+            return self._tagged.get((d, tag), NONE), d
         if kind == "pollopen":
             use = next(self._opened)
             self._descriptor_of[use.socket], self._socket_of[use.descriptor] = use.descriptor, use.socket
             self._tagged[use.descriptor, use.tag] = use.socket
-        if "s" in arguments:
-            place = arguments["s"], self._descriptor_of.get(arguments["s"], NONE)
-        elif "d" in arguments:
-            place = self._socket_of.get(arguments["d"], NONE), arguments["d"]
+            place = use.socket, use.descriptor
         else:
-            return self._named.get(g, NOWHERE) if kind not in ("exit", "spawn", "tick") else NOWHERE
-        if kind == "pollclose":
+            d = arguments[1]
+            place = self._socket_of.get(d, NONE), d
             self._descriptor_of.pop(place[0], None)
         self._named[g] = place
         return place
+
+    def _look_at_timers(self) -> None:
+        """Who asks about sockets and descriptors of all steps asks whose the timers are."""
+        timers = timers_of(self._recording) if self._of_timers else {}
+        for number in self._of_timers:
+            timer = timers[number]
+            self._sockets[number - 1], self._descriptors[number - 1] = timer.socket, timer.descriptor
+        self._of_timers = []

@@ -7,7 +7,7 @@ from typing import Any, NamedTuple, Optional
 from netrev_words.recording import Answer
 from netrev_words.vocabulary import KINDS, OF_A_GOROUTINE
 
-from ..notes import Notes
+from ..notes import Look, Notes
 from ..recording import Recording
 from ..timers import timers_of
 
@@ -77,12 +77,12 @@ class Events:
         use = event.timer[0] if event.timer else event.named("d")
         return None if use is None else self.uses[use].socket
 
-    def _rests(self, kind: str, notes: Notes, *arguments: Any) -> None:
-        """Keeps what is kept of who has made a step."""
+    def _rests(self, kind: str, notes: Notes, *arguments: Any) -> Look:
+        """What keeps what is kept of who has made a step."""
         if kind not in OF_A_GOROUTINE:
-            return self.rests.append(Rest(True, 0))
-        g = arguments[0]
-        self.rests.append(Rest(notes.status(g) in ("idle", "gone"), notes.held.get(g, 0)))
+            return lambda step: self.rests.append(Rest(True, 0))
+        goroutine = notes.goroutine(arguments[0])
+        return lambda step: self.rests.append(Rest(goroutine.status in ("idle", "gone"), goroutine.held))
 
     def _event(self, notes: Notes, number: int, kind: str, arguments: list[Any], answer: Any) -> Event:
         """The event of a step."""

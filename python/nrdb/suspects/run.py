@@ -6,12 +6,11 @@ from typing import Optional
 from netrev_machine.machine import INSIDE
 
 from ..causes.index import Index, index_of
-from ..noted import AT, Use
+from ..noted import AT, MANY, Use
 from ..notes import Notes
 from ..words import counted
 
 SIDES = {"Read": "r", "Write": "w"}  # of the calls that a deadline ends
-MANY = 3  # pauses of a place that ended, from which on the longest of them says something
 SHORT = 10  # a pause of so few steps says nothing, however long others were
 TWICE = 2  # longer than the longest that ended, by which a pause or a hold is too long
 
@@ -38,12 +37,12 @@ class Run:
 
     def statuses(self, place: str) -> list[tuple[int, list[str]]]:
         """The goroutines that are at a place in the end, each with what stands behind that."""
-        found = ((g, self.notes.now[f"gor {g}"].split()) for g in self.notes.last)
+        found = ((g, one.status.split()) for g, one in self.notes.goroutines.items())
         return [(g, words) for g, (at, *words) in found if at == place]
 
     def since(self, g: int) -> int:
         """Since which step a goroutine is where it is in the end."""
-        return self.notes.since.get(f"gor {g}", 0)
+        return self.notes.goroutines[g].since
 
     def inside(self, use: Use, side: str, position: int) -> Optional[int]:
         """Who is inside the wait of a side."""
@@ -64,7 +63,7 @@ class Run:
         empty."""
         known = self.notes.pauses.get(self.notes.status(g))
         longest = known.longest if known and known.count >= MANY else None
-        pause = self.end - max(self.notes.last[g], self.since(g))
+        pause = self.end - max(self.notes.goroutines[g].last, self.since(g))
         if pause <= max(TWICE * (longest or 0), SHORT):
             return ""
         behind = "" if longest is None else f", and the longest that ended was {longest}"

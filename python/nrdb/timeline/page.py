@@ -14,6 +14,7 @@ from .picture import MOST, Shown, collected
 from .runs import Window
 
 PAGE = Path(__file__).parents[1] / "page"
+NUMBERS = frozenset((int, float, bool, type(None)))
 SCRIPTS = (
     "data",
     "calls",
@@ -74,4 +75,6 @@ def plainly(value: Any) -> Any:
         return plain(value)
     if isinstance(value, dict):
         return {plainly(key): plainly(one) for key, one in value.items()}
-    return [plainly(one) for one in value] if isinstance(value, (list, tuple)) else value
+    if not isinstance(value, (list, tuple)):
+        return value
+    return value if NUMBERS.issuperset(map(type, value)) else [plainly(one) for one in value]  # (columns are long)

@@ -1,7 +1,6 @@
 """What the page tells beside the cells: whose the descriptors and goroutines are, who was woken by what, marks, and the lines of the
 program. That is nrdb's own, unproved."""
 
-from collections import Counter
 from typing import Any
 
 from netrev_machine.machine import INSIDE
@@ -27,9 +26,7 @@ class Connections:
         self._window = window
         self._touched: dict[int, dict[int, int]] = {}
         self._opens(recording, window.last)
-        whose, first = book_of(recording).whose, max(window.first - 1, 0)
-        steps = Counter(zip(whose.goroutines[first : window.last], whose.sockets[first : window.last]))
-        for (g, s), many in sorted(steps.items()):
+        for (g, s), many in sorted(book_of(recording).whose.touched(window.first, window.last).items()):
             if g >= 0 and s >= 0:
                 self._touched.setdefault(g, {})[s] = many
 
@@ -108,9 +105,10 @@ def marks_of(listed: list[Listed], recording: Recording, window: Window, runs: R
 
 def ticks_of(changes: RecordedChanges) -> list[list[int]]:
     """The steps at which the clock went on, each with its time; of more than so many some at like distances, with the last."""
-    ticks = [[step, int(time)] for step, time in changes.changes_of("clock")]
+    ticks = changes.changes_of("clock")
     every = -(-len(ticks) // MOST_TICKS) or 1
-    return [[0, 0], *ticks[::every], *(ticks[-1:] if (len(ticks) - 1) % every else [])]
+    shown = [*ticks[::every], *(ticks[-1:] if (len(ticks) - 1) % every else [])]
+    return [[0, 0], *([step, int(time)] for step, time in shown)]
 
 
 def times_of(recording: Recording, window: Window, most: int) -> Data:

@@ -18,7 +18,7 @@ def rule(run: Run) -> Iterator[Suspect]:
         elif one.is_unevicted(run):
             continue
         elif one.pause:
-            how = f"and has done nothing since step {run.notes.last[one.hold.goroutine]}: {one.pause}"
+            how = f"and has done nothing since step {run.notes.goroutines[one.hold.goroutine].last}: {one.pause}"
         elif one.age and not one.hold.side:
             weights, how = (Weight.POSSIBLE, Weight.STRONG), f"and has gone on since: {one.age}"
         else:

@@ -37,4 +37,4 @@ def how_it_is_held(run: Run, g: int) -> str:
     if status == "gone":
         return "is gone"
     pause = run.stalled(g) if status == "idle" else ""
-    return f"has done nothing since step {run.notes.last[g]}: {pause}" if pause else ""
+    return f"has done nothing since step {run.notes.goroutines[g].last}: {pause}" if pause else ""
