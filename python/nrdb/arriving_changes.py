@@ -9,7 +9,7 @@ from typing import Callable, Iterator, Optional
 from .interrupts import Interrupts
 from .netrev import READ, SILENCE
 from .changed_lines import NoChanges
-from .recorded_changes import RecordedChanges
+from .recorded_changes import RecordedChanges, Told
 from .scout import Lost
 
 LOOKS = 0.05  # seconds between two looks whether Ctrl-C came
@@ -84,6 +84,11 @@ class ArrivingChanges(RecordedChanges):
                 yield from self._lines.texts(piece, piece + 1)
         except NoChanges as wrong:
             raise Lost(f"{' '.join(self._words)}: {wrong}") from None
+
+    def told(self) -> Iterator[Told]:
+        for told in super().told():
+            self._interrupts.check()
+            yield told
 
     def _hold(self) -> None:
         try:

@@ -54,7 +54,9 @@ class ChangedLines:
                 continue
             text += b"".join(pieces).decode("latin-1")
             last = text[text.rindex("\n", 0, -1) + 1 :]
-            step = last[: last.index(" ")]  # (more lines of it may come)
+            step = last[
+                : last.index(" ")
+            ]  # (more lines of it may come; `take` has looked at the last line of each piece)
             begin = text.index(f"\n{step} ") + 1
             if begin > 1:
                 yield int(step), text[:begin]

@@ -1,5 +1,7 @@
 """How nrdb is called, and its exit status, which is netrev's: 0 done, 1 the recording was refused, 2 other words, 3 the
-file, the program or the connection failed; and 4 where --suspects, --explore or --explore-failures prints some."""
+file, the program or the connection failed; and 4 where --suspects, --explore or --explore-failures prints some.
+
+What most sessions do without is imported where it is called, so that the prompt is there sooner."""
 
 import argparse
 import gc
@@ -13,22 +15,15 @@ from typing import Callable, Optional, Sequence
 
 from .arriving_changes import ArrivingChanges
 from .prompt.answers import ANSWERS
-from .dap import serve_port, serve_streams
-from .exploring import explored
 from .interrupts import GivenUp, Interrupted, Interrupts
 from .netrev import Ended, Joined, Netrev, Own, Reply
 from .options import parsed, parser
 from .output import JsonPrinter, Printer, TextPrinter, has_colours
 from .recording import NoRecording, Recording
-from .reducing import reduced_file
 from .refusals import explained, fault_of
 from .scout import Lost, Scout
 from .session import Mismatched, Misused, Session
 from .shapes import POSITION, Refused, Strange
-from .suspects.table import suspects_table
-from .prompt.terminal import Terminal
-from .timeline import write_timeline, write_trace
-from .web import serve_page
 
 DONE, REFUSED, USAGE, FAILED, SUSPECTS = range(5)
 SILENT = "no reply yet: somebody else is at this front, or netrev goes through what all have searched; nrdb waits"
@@ -40,10 +35,10 @@ def main(words: Optional[Sequence[str]] = None) -> int:
     """Runs nrdb with these words; its exit status."""
     gc.set_threshold(200_000)  # (of a million steps some millions of objects are kept, and few are in cycles)
     wanted = parsed(sys.argv[1:] if words is None else words)
-    if wanted.dap_port is not None:
-        return serve_port(wanted.netrev, wanted.dap_port)
-    if wanted.dap:
-        return serve_streams(wanted.netrev)
+    if wanted.dap or wanted.dap_port is not None:
+        from .dap import serve_port, serve_streams
+
+        return serve_streams(wanted.netrev) if wanted.dap_port is None else serve_port(wanted.netrev, wanted.dap_port)
     if not wanted.file and not wanted.join:
         parser().error("a recording has to be named, or a session to join")
     for stream in (sys.stdin, sys.stdout):
@@ -170,6 +165,8 @@ def played(session: Session, wanted: argparse.Namespace) -> int:
         if (file := getattr(wanted, name)) is not None:
             return unless_stopped(session, partial(made, session, file, write, wanted.part))
     if wanted.web is not None:
+        from .web import serve_page
+
         return serve_page(session, wanted.web, lambda printer: opened(wanted, session.interrupts, printer))
     if not wanted.batch:
         typed(session)
@@ -188,6 +185,8 @@ def unless_stopped(session: Session, work: Callable[[], int]) -> int:
 
 def suspected(session: Session) -> int:
     """Prints the suspects; the exit status."""
+    from .suspects.table import suspects_table
+
     table = suspects_table(session.looks(), session.text())
     session.printer.table(table)
     return SUSPECTS if table.rows else DONE
@@ -195,6 +194,8 @@ def suspected(session: Session) -> int:
 
 def schedules_tried(session: Session, is_of_failures: bool) -> int:
     """Explores; the exit status."""
+    from .exploring import explored
+
     said = explored(session, is_of_failures=is_of_failures)
     session.printer.note(said.text)
     return SUSPECTS if said.found else DONE
@@ -206,11 +207,25 @@ def made(session: Session, path: str, write: Callable[..., str], part: Sequence[
     return DONE
 
 
-WRITERS: dict[str, Callable[..., str]] = {
-    "timeline": write_timeline,
-    "trace": write_trace,
-    "reduce": lambda session, path: reduced_file(session, [path]),
-}
+def timeline(session: Session, path: str, *part: int) -> str:
+    from .timeline import write_timeline
+
+    return write_timeline(session, path, *part)
+
+
+def trace(session: Session, path: str) -> str:
+    from .timeline import write_trace
+
+    return write_trace(session, path)
+
+
+def reduced(session: Session, path: str) -> str:
+    from .reducing import reduced_file
+
+    return reduced_file(session, [path])
+
+
+WRITERS: dict[str, Callable[..., str]] = {"timeline": timeline, "trace": trace, "reduce": reduced}
 
 
 def typed(session: Session) -> None:
@@ -218,6 +233,8 @@ def typed(session: Session) -> None:
     if sys.stdin.isatty():
         if session.recorded:
             session.recorded.prepare()
+        from .prompt.terminal import Terminal
+
         Terminal(session).run()
         return
     for line in map(str.rstrip, sys.stdin):

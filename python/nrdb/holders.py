@@ -1,6 +1,7 @@
 """Who holds the references of a socket: the steps that changed how many its lock word counts."""
 
 from dataclasses import dataclass
+from typing import NamedTuple
 
 from .output import Row, Table
 from .recorded_changes import RecordedChanges
@@ -20,22 +21,33 @@ class Reference:
     side: list[str]
 
 
+class Holding(NamedTuple):
+    """A reference on the way there, by the number of its step."""
+
+    number: int
+    goroutine: int
+    side: list[str]
+
+
 def holders_of(recording: Recording, changes: RecordedChanges, socket: int, position: int) -> list[Reference]:
     """The references of the socket at the position, the oldest first: one more where a step raised their number, one less where it
     lowered that."""
     counts = {step: LockWord.of(int(word)).references for step, word in changes.changes_of(f"lock {socket}", position)}
-    held: list[Reference] = []
-    for step in recording.steps_of(LOCKING, position, socket):
-        goroutine, _, *side = step.arguments
-        count = counts.get(step.number, len(held))
+    held: list[Holding] = []
+    end = -1 if recording.has_answers else None
+    for number, (kind, *arguments) in recording.arrays_like(LOCKING, position, socket):
+        count = counts.get(number, len(held))
+        if count == len(held) or kind not in LOCKING or arguments[1] != socket:
+            continue
+        goroutine, _, *side = arguments[:end]
         if count > len(held):
-            held.append(Reference(step, goroutine, side))
-        elif count < len(held):
+            held.append(Holding(number, goroutine, side))
+        else:
             held.remove(_given(held, goroutine, side))
-    return held
+    return [Reference(recording.step(number), goroutine, side) for number, goroutine, side in held]
 
 
-def _given(held: list[Reference], goroutine: int, side: list[str]) -> Reference:
+def _given(held: list[Holding], goroutine: int, side: list[str]) -> Holding:
     """The reference that is given up: one of the same goroutine, where it has one, and the newest such."""
     fits = [one for one in held if one.side == side]
     own = [one for one in fits if one.goroutine == goroutine]

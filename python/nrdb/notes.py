@@ -4,12 +4,13 @@ when, who set which deadline, which event was taken by whom, and how long everyb
 There may be a million steps, so what is to be done for a step is made ready once for all lines that are alike and near: a function that knows
 already whom the step names, and which cells it asks for (`noting.py`)."""
 
-import gc
+from collections import deque
 from types import MappingProxyType
-from typing import Any, Callable, Iterator, Mapping, Optional
+from typing import Any, Callable, Mapping, Optional
 
 from netrev_words.vocabulary import OF_A_GOROUTINE
 
+from .long_passes import without_collections
 from .modelled_changes import changes_of
 from .noted import AT, TIMED_OUT, By, Goroutine, Hold, NoPauses, Pauses, Timeout, Use, code_of
 from .noting import NOTES, Note
@@ -81,26 +82,34 @@ class Notes:
             tuple[int, int, int]
         ] = []  # those behind a CloseWrite: the step, by whom, and the socket
         self.longest_holds: dict[str, int] = {}  # of each kind, of those that ended
+        self._rows = recording.rows(self._row)
         self._go_through()
         self.goroutines = dict(sorted(self.goroutines.items()))
         self.now = Now(self.changes, self.step)
 
     def _go_through(self) -> None:
-        rows = self.recording.rows(self._row)
-        for told in without_collections(self.changes.told()):
-            self._holds(told)
-            steps = range(told.first, told.end)
-            for step, number, (goroutine, note, look) in zip(steps, map(str, steps), rows):
-                self.step = step
-                if step - goroutine.stood > goroutine.pauses.enough:
-                    goroutine.pauses.ends(step - goroutine.stood)
-                goroutine.last = goroutine.stood = step
-                if note:
-                    note(step, number)
-                if look:
-                    look(step)
+        try:
+            with without_collections():
+                for told in self.changes.told():
+                    self._holds(told)
+                    self._note_steps(range(told.first, told.end))
+        except (KeyError, IndexError, ValueError):
+            deque(self.changes.texts(), maxlen=0)  # (if a line is no change, that tells it)
+            raise
         self.told.clear()
         self._text = ""
+
+    def _note_steps(self, steps: range) -> None:
+        """Goes through these steps."""
+        for step, number, (goroutine, note, look) in zip(steps, map(str, steps), self._rows):
+            self.step = step
+            if step - goroutine.stood > goroutine.pauses.enough:
+                goroutine.pauses.ends(step - goroutine.stood)
+            goroutine.last = goroutine.stood = step
+            if note:
+                note(step, number)
+            if look:
+                look(step)
 
     def _holds(self, told: Told) -> None:
         """Has what the next steps changed. It stays one table, which those know who ask it."""
@@ -179,17 +188,6 @@ class Notes:
     def is_closed(self, s: int) -> bool:
         """Whether a socket is closed."""
         return bool(self.locks.get(s, 0) & CLOSED)
-
-
-def without_collections(told: Iterator[Told]) -> Iterator[Told]:
-    """These, while nobody looks for objects in cycles: nearly all that are made meanwhile are kept, and none is in a cycle."""
-    was_on = gc.isenabled()
-    gc.disable()
-    try:
-        yield from told
-    finally:
-        if was_on:
-            gc.enable()
 
 
 NOBODY = Goroutine(-1, NoPauses())  # who makes the steps of the network and of the clock

@@ -5,16 +5,15 @@ import json
 import os
 import re
 import stat
-from array import array
-from bisect import bisect_left, bisect_right
+from bisect import bisect_left
 from functools import cached_property
-from itertools import accumulate, islice
 from os.path import commonprefix
 from typing import Any, Callable, Iterable, Iterator, NamedTuple, Optional, Sequence, TypeVar
 
 from netrev_words.files import check_name
 from netrev_words.vocabulary import KINDS
 
+from .line_starts import LineStarts
 from .recorded_changes import RecordedChanges
 from .where import Lines
 
@@ -23,7 +22,6 @@ BLANK_LINE = re.compile(rb"^[ \t\r]*$", re.MULTILINE)
 SHOWN = 40
 PIECE = 1_024  # steps
 AT_ONCE = 16_384  # steps that are read together
-BYTES = 2**20  # whose lines are counted together
 Row = TypeVar("Row")
 
 
@@ -66,35 +64,28 @@ def shortened(text: str) -> str:
     return text if len(text) <= SHOWN else f"{text[: SHOWN - 2]}.."
 
 
-def starts_of(data: bytes) -> "array[int]":
-    """Where each line begins, and where one behind the last would. Few lines are apart at a time: there may be a million."""
-    starts = array("q" if len(data) >> 31 else "I", [0])
-    for begin in range(0, len(data), BYTES):
-        lines = data[begin : begin + BYTES].split(b"\n")
-        ends = accumulate(map((1).__add__, map(len, lines)), initial=begin)
-        starts.extend(islice(ends, 1, len(lines)))
-    starts.append(len(data) + 1)
-    return starts
-
-
 class Recording:
     """A recording's text. Steps are read when they are asked for: there may be a million."""
 
     def __init__(self, data: bytes):
         self.data = data
-        self._starts = starts_of(data)
+        self._starts = LineStarts(data)
         end = len(data.rstrip(b" \t\r\n"))  # (behind it there are blank lines alone)
-        numbers = range(1, bisect_right(self._starts, end) + (end > 0))
+        numbers = range(1, self._starts.line_at(end) + (end > 0))
         blanks = (
             BLANK_LINE.finditer(data, 0, end)
-            if data[:1].isspace() or any(map(data.__contains__, BEFORE_BLANKS))
+            if data[:1].isspace() or (not self._are_arrays(end) and any(map(data.__contains__, BEFORE_BLANKS)))
             else ()
         )
-        blank = {bisect_right(self._starts, found.start()) for found in blanks}
+        blank = {self._starts.line_at(found.start()) for found in blanks}
         self._numbers: Sequence[int] = [number for number in numbers if number not in blank] if blank else numbers
         self.header_line = self._numbers[0] if self._numbers else 1
         self.lines = Lines()
         self.changes: Optional[RecordedChanges] = None  # that its steps make, as netrev says them, where that was asked
+
+    def _are_arrays(self, end: int) -> bool:
+        """Whether each line up to that place begins as an array does, but for the first: none is blank then."""
+        return self.data.count(b"\n[", 0, end) == self._starts.line_at(end) - 1
 
     @classmethod
     def read(cls, path: str) -> "Recording":
@@ -116,7 +107,9 @@ class Recording:
         """The line of that number, from 1, without its line feed; empty where there is none."""
         if not 1 <= number < len(self._starts):
             return b""
-        return self.data[self._starts[number - 1] : self._starts[number] - 1]
+        begin = self._starts[number - 1]
+        end = self.data.find(b"\n", begin)
+        return self.data[begin:] if end < 0 else self.data[begin:end]
 
     def before_line(self, number: int) -> bytes:
         """The lines before that one."""
@@ -165,7 +158,7 @@ class Recording:
 
     def number_at(self, place: int) -> int:
         """The number of the step at this place of the text."""
-        return bisect_left(self._numbers, bisect_right(self._starts, place))
+        return bisect_left(self._numbers, self._starts.line_at(place))
 
     def arrays(self) -> Iterator[list[Any]]:
         """Each step's array as JSON has it, one after the other. Like lines may share one: nobody changes it."""
@@ -192,12 +185,18 @@ class Recording:
 
     def steps_of(self, kinds: tuple[str, ...], until: int, socket: Optional[int] = None) -> Iterator[Step]:
         """The steps of these kinds among the first so many; and, where one is named, of this socket."""
-        numbers = list(self._numbers_of(kinds, until, socket))
-        lines = [self.line(self._numbers[number]) for number in numbers]
-        for number, values in zip(numbers, parsed(b"[%s]" % b",".join(lines))):
+        for number, values in self.arrays_like(kinds, until, socket):
             step = self._made(number, values)
             if step.kind in kinds and socket in (None, step.argument("s")):
                 yield step
+
+    def arrays_like(
+        self, kinds: tuple[str, ...], until: int, socket: Optional[int] = None
+    ) -> Iterator[tuple[int, list[Any]]]:
+        """The arrays of such steps with their numbers, and maybe of others."""
+        numbers = list(self._numbers_of(kinds, until, socket))
+        lines = [self.line(self._numbers[number]) for number in numbers]
+        yield from zip(numbers, parsed(b"[%s]" % b",".join(lines)))
 
     @cached_property
     def has_escapes(self) -> bool:

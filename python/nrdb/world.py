@@ -55,16 +55,16 @@ def opened_by(recording: Recording, position: int) -> tuple[dict[int, int], int]
     next: the one that was freed last, else the next new one."""
     free: list[int] = []
     made, open_now = 0, dict[int, int]()
-    for step in recording.steps_of(("pollopen", "pollclose"), position):
-        if step.kind == "pollclose":
-            free.append(step.argument("d"))
+    for _, (kind, *arguments) in recording.arrays_like(("pollopen", "pollclose"), position):
+        if kind == "pollclose":
+            free.append(arguments[1])
             del open_now[free[-1]]
-            continue
-        if free:
-            descriptor = free.pop()
-        else:
-            descriptor, made = made, made + 1
-        open_now[descriptor] = step.argument("s")
+        elif kind == "pollopen":
+            if free:
+                descriptor = free.pop()
+            else:
+                descriptor, made = made, made + 1
+            open_now[descriptor] = arguments[1]
     return open_now, free[-1] if free else made
 
 

@@ -1,5 +1,5 @@
 """What nrdb answers itself, a function for each of its commands. Each has the session and the words behind the command;
-Misused says what is wrong with them."""
+Misused says what is wrong with them. What most sessions do without is imported where it is called, so that the prompt is there sooner."""
 
 import re
 from fnmatch import fnmatchcase
@@ -10,18 +10,13 @@ from netrev_words.vocabulary import CELLS, KINDS, REASONS, Of, cell_of, number_o
 from .answers_of_calls import OF_CALLS, answer_errors, arrive, taken_most, usage
 from ..changes import history_table
 from ..commands import ALL_TOPICS, COMMANDS, OF_NETREV, OF_NRDB, TOPICS, Origin, whole_command
-from ..causes import hangs_table
-from ..exploring import answer_explore
 from ..holders import holders_table
 from ..output import Row, Table
 from ..places import descriptors_table, sockets_table, timers_table
 from .answers_of_program import OF_FRAMES, OF_PLACES, of_place, stack_at
 from .saving import answer_save
 from ..recorded_answers import spelled
-from ..reducing import answer_reduce, answer_report
 from ..session import Answering, Misused, Session
-from ..suspects.table import suspects_table
-from ..timeline import write_timeline, write_trace
 from ..timers import timer_words
 from ..waiting import goroutines_table
 from ..where import stack_lines
@@ -216,13 +211,35 @@ def answer_timeline(session: Session, words: list[str]) -> None:
     numbers = [number_of(word) for word in words[1:]]
     if len(words) not in (1, 3) or None in numbers:
         raise Misused(usage("timeline"))
+    from ..timeline import write_timeline
+
     session.printer.note(write_timeline(session, words[0], *numbers))
 
 
 def answer_trace(session: Session, words: list[str]) -> None:
     if len(words) != 1:
         raise Misused(usage("trace"))
+    from ..timeline import write_trace
+
     session.printer.note(write_trace(session, words[0]))
+
+
+def answer_reduce(session: Session, words: list[str]) -> None:
+    from ..reducing import answer_reduce as answer
+
+    answer(session, words)
+
+
+def answer_report(session: Session, words: list[str]) -> None:
+    from ..reducing import answer_report as answer
+
+    answer(session, words)
+
+
+def answer_explore(session: Session, words: list[str]) -> None:
+    from ..exploring import answer_explore as answer
+
+    answer(session, words)
 
 
 def answer_source(session: Session, words: list[str]) -> bool:
@@ -247,8 +264,12 @@ def answer_info(session: Session, words: list[str]) -> None:
     if topic == "timers" and not rest:
         return session.printer.table(timers_table(session.world()))
     if topic == "suspects" and not rest:
+        from ..suspects.table import suspects_table
+
         return session.printer.table(suspects_table(session.looks(), session.text()))
     if topic == "hangs" and not rest:
+        from ..causes import hangs_table
+
         return session.printer.table(hangs_table(session.text(), session.stands().position))
     if topic == "errors":
         return answer_errors(session, rest)

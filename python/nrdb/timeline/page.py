@@ -8,6 +8,7 @@ from typing import Any, Optional
 from netrev_words.plain import plain
 
 from ..files import writing
+from ..long_passes import without_collections
 from ..session import Misused, Session
 from .calls import Data
 from .picture import MOST, Shown, collected
@@ -42,7 +43,8 @@ def write_timeline(session: Session, path: str, first: Optional[int] = None, las
             raise Misused(f"the recording's positions are 0 to {recording.length}")
         if last - first > MOST:
             raise Misused(f"a page has room for the values of {MOST} steps: timeline {path} FROM TO")
-    data = collected(Shown.by(session, told_at_the_terminal), window)
+    with without_collections():
+        data = collected(Shown.by(session, told_at_the_terminal), window)
     told_at_the_terminal("")
     with writing(path, session.path) as file:
         file.write(page(data))

@@ -34,14 +34,14 @@ class Connections:
         """Follows which descriptor is whose: one that was closed last is opened first."""
         of: dict[int, list[Any]] = {}
         free: list[int] = []
-        for step in recording.steps_of(("pollopen", "pollclose"), last):
-            if step.kind == "pollclose":
-                free.append(step.argument("d"))
-                of[free[-1]][3] = step.number
-                continue
-            d = free.pop() if free else len(of)
-            of[d] = [d, step.argument("s"), step.number, None]
-            self.uses.append(of[d])
+        for number, (kind, *arguments) in recording.arrays_like(("pollopen", "pollclose"), last):
+            if kind == "pollclose":
+                free.append(arguments[1])
+                of[free[-1]][3] = number
+            elif kind == "pollopen":
+                d = free.pop() if free else len(of)
+                of[d] = [d, arguments[1], number, None]
+                self.uses.append(of[d])
 
     def groups(self, runs: Runs) -> dict[int, int]:
         """The socket of each goroutine: the one at which it waits for the most steps, or makes the most."""

@@ -1,0 +1,44 @@
+"""Where the lines of a text begin. There may be a million, so they are counted by blocks, and found in a block when one of its lines is asked
+for."""
+
+from bisect import bisect_left
+from itertools import accumulate
+
+BLOCK = 2**16  # bytes
+
+
+class LineStarts:
+    """Of each line, from 0, where it begins; behind the last one where a further one would."""
+
+    def __init__(self, data: bytes) -> None:
+        self._data = data
+        counts = (data.count(b"\n", begin, begin + BLOCK) for begin in range(0, len(data), BLOCK))
+        self._before = list(accumulate(counts, initial=0))  # how many line feeds are before each block
+        # of the block that was asked last: how many line feeds are before it and up to its end, and the places behind its own
+        self._first = self._last = 0
+        self._behind = [0]
+
+    def __len__(self) -> int:
+        return self._before[-1] + 2
+
+    def __getitem__(self, line: int) -> int:
+        if not self._first < line <= self._last:
+            if not 0 < line <= self._before[-1]:
+                return self._at_an_end(line)
+            block = bisect_left(self._before, line) - 1
+            self._first, self._last = self._before[block : block + 2]
+            begin = block * BLOCK
+            lines = self._data[begin : begin + BLOCK].split(b"\n")
+            self._behind = list(accumulate(map((1).__add__, map(len, lines)), initial=begin))
+        return self._behind[line - self._first]
+
+    def _at_an_end(self, line: int) -> int:
+        """Where the first line begins, or one behind the last would."""
+        if line not in (0, self._before[-1] + 1):
+            raise IndexError(line)
+        return len(self._data) + 1 if line else 0
+
+    def line_at(self, place: int) -> int:
+        """The number, from 1, of the line at a place of the text."""
+        block = place // BLOCK
+        return self._before[block] + self._data.count(b"\n", block * BLOCK, place) + 1
