@@ -115,6 +115,10 @@ class Recording:
         """The lines before that one."""
         return self.data[: self._starts[number - 1]]
 
+    def before_step(self, number: int) -> bytes:
+        """The lines before that of a step, from 1 to one more than there are."""
+        return self.before_line(self._numbers[number]) if number <= self.length else self.data
+
     def is_last(self, number: int) -> bool:
         """Whether nothing but blanks stands behind that line."""
         return not self.data[self._starts[number] :].strip(b" \t\r\n\0")

@@ -1,6 +1,7 @@
 """What is there at the session's position, by netrev's replies, and what the recording's steps tell of it besides:
 which descriptors are open, and whose they are."""
 
+import re
 from typing import Iterable, Sequence
 
 from netrev_words.vocabulary import Of
@@ -8,6 +9,7 @@ from netrev_words.vocabulary import Of
 from .netrev import Netrev
 from .recording import Recording
 
+OF_POLL = re.compile(rb'"poll(?:close"\s*,\s*\d+\s*,\s*(\d+)|open"\s*,\s*\d+\s*,\s*(\d+))')
 COUNTED_BY = {Of.GOROUTINE: "gor", Of.SOCKET: "lock", Of.DESCRIPTOR: "fdseq"}
 AT_FIRST = 64
 
@@ -55,17 +57,26 @@ def opened_by(recording: Recording, position: int) -> tuple[dict[int, int], int]
     next: the one that was freed last, else the next new one."""
     free: list[int] = []
     made, open_now = 0, dict[int, int]()
-    for _, (kind, *arguments) in recording.arrays_like(("pollopen", "pollclose"), position):
-        if kind == "pollclose":
-            free.append(arguments[1])
+    for closed, socket in closings_and_openings(recording, position):
+        if closed:
+            free.append(int(closed))
             del open_now[free[-1]]
-        elif kind == "pollopen":
-            if free:
-                descriptor = free.pop()
-            else:
-                descriptor, made = made, made + 1
-            open_now[descriptor] = arguments[1]
+            continue
+        if free:
+            descriptor = free.pop()
+        else:
+            descriptor, made = made, made + 1
+        open_now[descriptor] = int(socket)
     return open_now, free[-1] if free else made
+
+
+def closings_and_openings(recording: Recording, position: int) -> Iterable[tuple[bytes, bytes]]:
+    """Of each `pollclose` and `pollopen` among so many steps the descriptor, or the socket, as they are spelled; the other one is empty."""
+    if not recording.has_escapes:
+        return OF_POLL.findall(recording.before_step(position + 1))
+    steps = recording.steps_of(("pollopen", "pollclose"), position)
+    numbers = ((b"%d" % step.arguments[1], step.kind == "pollclose") for step in steps)
+    return ((number, b"") if is_closed else (b"", number) for number, is_closed in numbers)
 
 
 def made_at(netrev: Netrev, of: Of) -> int:

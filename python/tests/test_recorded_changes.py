@@ -15,7 +15,7 @@ from netrev_machine.changing import changes as said_by_model
 from netrev_machine.observing import Observer
 from netrev_machine.program import replay
 from netrev_words.vocabulary import CELLS, Of
-from nrdb import recorded_changes
+from nrdb import changed_lines, recorded_changes
 from nrdb.arriving_changes import SILENT, ArrivingChanges
 from nrdb.changed_lines import NoChanges
 from nrdb.interrupts import Interrupted, Interrupts
@@ -74,6 +74,24 @@ def test_pieces_may_end_within_lines(size: int) -> None:
     assert list(changes) == [(1, "gor 1", "idle"), (3, "lock 0", "0"), (3, "in 0", "0"), (4, "lock 0", "8")]
     assert changes.length == 5 and changes.at(2) == [] and changes.at(3) == [("lock 0", "0"), ("in 0", "0")]
     assert list(changes.steps_of("lock 0")) == [3, 4] and list(changes.steps_of("wg 7")) == []
+
+
+@pytest.mark.parametrize("window", [1, 60, 10**6])
+@pytest.mark.parametrize("path", RECORDINGS, ids=lambda path: path.stem)
+def test_what_is_told_together_has_all_lines_of_its_steps(
+    path: Path, window: int, monkeypatch: pytest.MonkeyPatch
+) -> None:
+    monkeypatch.setattr(changed_lines, "WINDOW", window)
+    changes = RecordedChanges.read(in_pieces(said(path), 40))
+    end, found = 1, []
+    for told in changes.told():
+        assert told.first == end
+        end, values = told.end, list(told.values)
+        assert told.text == "\n" + "".join(f"{name} = {value}\n" for name, value in values)
+        assert all(told.first <= int(name.split()[0]) < told.end for name, _ in values)
+        found += values
+    assert end == changes.length + 1
+    assert found == [(f"{step} {cell}", value) for step, cell, value in changes]
 
 
 def test_before_the_first_change_the_empty_world_shows() -> None:

@@ -7,7 +7,9 @@ import unittest
 from pathlib import Path
 from unittest import mock
 
+from nrdb.line_starts import LineStarts
 from nrdb.recording import Recording
+from nrdb.world import opened_by
 
 from .support import events, recordings
 
@@ -55,11 +57,24 @@ class Text(unittest.TestCase):
     def test_lines_that_are_counted_in_pieces(self):
         texts = [b"", b"\n", b"\n\n", HEADER.encode(), *(path.read_bytes()[:2000] for path in recordings())]
         for size in (1, 2, 7, 64):
-            with mock.patch("nrdb.recording.BYTES", size):
+            with mock.patch("nrdb.line_starts.BLOCK", size):
                 for text in texts:
                     recording, lines = Recording(text), text.split(b"\n")
-                    self.assertEqual([recording.line(number) for number in range(1, len(lines) + 1)], lines)
+                    numbers = range(1, len(lines) + 1)
+                    self.assertEqual([recording.line(number) for number in numbers], lines)
+                    self.assertEqual([recording.line(number) for number in reversed(numbers)], lines[::-1])
                     self.assertEqual(recording.line(len(lines) + 1), b"")
+                    places = range(len(text) + 1)
+                    at = [LineStarts(text).line_at(place) for place in places]
+                    self.assertEqual(at, [text.count(b"\n", 0, place) + 1 for place in places])
+
+    def test_open_descriptors_are_found_though_a_kind_is_spelled_with_escapes(self):
+        steps = ['["sockopen",16,16]', '["pollopen",0,0]', '["pollopen",0,0]', '["pollclose",0,0]', '["pollopen",0,0]']
+        texts = ["\n".join([HEADER, *steps, ""]), "\n".join([HEADER, *steps, ""]).replace("pollo", "\\u0070ollo")]
+        for text in texts:
+            recording = Recording(text.encode())
+            found = [opened_by(recording, position) for position in range(len(steps) + 1)]
+            self.assertEqual(found[2:], [({0: 0}, 1), ({0: 0, 1: 0}, 2), ({1: 0}, 0), ({1: 0, 0: 0}, 2)])
 
     def test_without_steps(self):
         for data in (b"", b"\n\n", HEADER.encode()):
