@@ -4,6 +4,7 @@ Each case has a name in plain words, which begins so:
     recording  each recording that is here is checked, upgraded and walked, both ways
     bad        recordings that are refused, each for the fault that `tests/program/hostile.py` has for it
     sizes      as much of everything as a recording may have, in few steps
+    sides      writing alone is waited for, and the second of two firings goes first, is put back and goes again
     random     random cases of the fuzzer's: each cell at each position both ways, random lines, damaged recordings, upgrades;
                `--random N` says how many (`pytest python/tests/program/agree.py`), and `--seed` from which seed on
 
@@ -115,6 +116,39 @@ def test_sizes(folder: Path) -> None:
     text, lines = large_buffers(random.Random(1))
     path.write_bytes(text)
     assert agree(["run", path], lines or b"")[0] == 0
+
+
+# Whoever mixes up sides shows one of the two semaphores for the other; and a firing that was put back in front is taken for another.
+SIDES = """{"netrev":1,"gor":4,"sock":2,"desc":2,"buf":16}
+["spawn"]
+["sockopen",16,16]
+["sockopen",16,16]
+["pollopen",0,0]
+["pollopen",0,1]
+["rwlock",0,0,"w"]
+["rwlock",1,0,"w"]
+["acquire",1]
+["rwunlock",0,0,"w"]
+["release",0]
+["acquire",1]
+["setdeadline",0,0,"r",5]
+["setdeadline",0,1,"w",6]
+["tick",10]
+["pop"]
+["pop"]
+["fire",1]
+["fire",0]
+"""
+
+
+def test_sides(folder: Path) -> None:
+    path = folder / "sides.jsonl"
+    path.write_text(SIDES, "ascii")
+    recording = read_text(path.read_bytes())
+    status, output = agree(["run", path], every_cell(recording.limits, len(recording.steps), True))
+    assert status == 0 and b"wsem 0 = 1" in output and b"rsem 0 = 1" not in output
+    again = b"stepi 18\nprint clock\nreverse-stepi 2\nprint clock\nstepi\nprint rd 0\n"  # (a walk begins where somebody looks)
+    assert agree(["run", path], again) == (0, b"at 18\nclock = 10\nat 16\nclock = 10\nat 17\nrd 0 = 5\n")
 
 
 def case(seed: str) -> tuple[str, Made]:
