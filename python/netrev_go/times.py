@@ -19,7 +19,7 @@ def times_of(points: Iterable[Point], ended: list[int], begin: int) -> list[int]
         return None
     latest = accumulate((time - begin for time in read), max, initial=0)
     next(latest)
-    return list(chain.from_iterable(map(repeat, latest, deltas(ended))))
+    return list(chain.from_iterable(repeat(time, steps) for time, steps in zip(latest, deltas(ended))))
 
 
 def deltas(numbers: list[int]) -> list[int]:
