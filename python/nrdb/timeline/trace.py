@@ -32,6 +32,7 @@ POLLER, TIMERS, CLOCK = range(3)  # threads of the second, before the sockets
 SOCKETS = 10  # the number of the first socket's thread
 QUIET = ("idle", "gone")
 AT_ONCE = 1_024  # events that are written together
+END = (str(2**64), "", "")  # what comes behind the last change
 
 of_json = json.JSONEncoder(separators=(",", ":")).encode
 
@@ -40,7 +41,7 @@ def write_trace(session: Session, path: str) -> str:
     """Writes the trace; what to say of it."""
     recording, scout = session.text(), session.looks()
     tracing = Tracing(recording, session.changes())
-    compared = _compared(scout, session.changes())
+    compared = _compared(scout, recording, session.changes())
     with packed(path, session.path) as file:
         events = tracing.events(Path(session.path).name, session.interrupts.check)
         write_events(file, chain(events, map(of_json, beside(recording, session.changes(), scout))))
@@ -69,15 +70,22 @@ def write_events(file: IO[str], events: Iterator[str]) -> None:
     file.write("\n]}\n")
 
 
-def _compared(scout: Scout, changes: RecordedChanges) -> int:
+def _compared(scout: Scout, recording: Recording, changes: RecordedChanges) -> int:
     """At how many positions netrev shows the statuses that it said; Misused where it doesn't."""
     every = max(changes.length // COMPARED, 1)
     compared = sorted({*range(every, changes.length + 1, every), changes.length} - {0})
-    goroutines = [cell for cell in changes.cells() if cell.startswith("gor ")]
+    spawned = sum(1 for _ in recording.steps_of(("spawn",), changes.length))
+    goroutines = [f"gor {g}" for g in range(spawned + 1)]
+    statuses = {cell: value_at_start(cell) for cell in goroutines}
+    changed = (change for change in changes.texts() if change[1][:4] == "gor ")
+    step, cell, value = next(changed, END)
     for position in compared:
-        for cell, shown in zip(goroutines, scout.values(position, goroutines)):
-            if shown != (said := changes.value(cell, position)):
-                raise Misused(f"netrev answers {cell} = {shown} at {position}, and said {said}")
+        while int(step) <= position:
+            statuses[cell] = value
+            step, cell, value = next(changed, END)
+        for cell_there, shown in zip(goroutines, scout.values(position, goroutines)):
+            if shown != (said := statuses[cell_there]):
+                raise Misused(f"netrev answers {cell_there} = {shown} at {position}, and said {said}")
     return len(compared)
 
 

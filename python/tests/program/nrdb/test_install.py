@@ -6,12 +6,12 @@ import re
 import shutil
 import subprocess
 import sys
-import tempfile
 import unittest
 from pathlib import Path
 from typing import Optional
 
 from .support import EXAMPLES, NETREV, PATIENCE, ROOT, nrdb
+from tests.folders import folder_of
 
 ENVIRONMENT = {name: value for name, value in os.environ.items() if name not in ("NETREV", "MAKEFLAGS", "PYTHONPATH")}
 ASKED = ("--batch", "-ex", "continue", "-ex", "info goroutines", EXAMPLES / "first.jsonl")
@@ -55,9 +55,7 @@ def contents(folder: Path) -> dict[str, bytes]:
 
 class Install(unittest.TestCase):
     def setUp(self) -> None:
-        folder = tempfile.TemporaryDirectory()
-        self.addCleanup(folder.cleanup)
-        self.folder = Path(folder.name)
+        self.folder = folder_of(self)
 
     def test_what_is_installed_needs_nothing_that_is_not(self) -> None:
         self.assertEqual(len(INCLUDED), 1)
