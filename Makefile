@@ -25,6 +25,7 @@ NETREV = $(BUILT)
 ready: netrev
 endif
 export NETREV := $(abspath $(NETREV))
+export CPU
 
 # Tells what there is to make.
 help:
@@ -108,7 +109,8 @@ agree: ready
 	@cd crates/netrev_plain && rt run
 	@sh scripts/pytest.sh --beside python/tests/program/agree.py --random $(COUNT) --seed $(or $(SEED),1)
 
-# Leaves the proved program at crates/netrev/out/netrev. With no change since, nothing is proved again.
+# Leaves the proved program at crates/netrev/out/netrev. With no change since, nothing is proved again. `make netrev CPU=x86-64-v3` builds
+# it for processors that have AVX2, with the same proofs; `make bench CPU=x86-64-v3` measures that, and builds the baseline so too.
 netrev:
 	@sh scripts/prove.sh
 

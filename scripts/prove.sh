@@ -3,6 +3,7 @@
 #
 # Where nothing was proved here yet, crates are proved side by side, as many as there are processors and 5 GB of memory for,
 # in a copy that has no others; what that made is moved here. Later only what changed is proved, from the lowest crate up.
+# CPU says for which processors the program is built, as x86-64-v3; without it, for all of x86-64. The proofs are the same.
 set -eu
 cd "$(dirname "$0")/.."
 top=${1:-netrev}
@@ -41,4 +42,4 @@ if [ ! -e "crates/$top/out" ]; then
 fi
 [ "$top" = netrev ] || exit 0
 cd crates/netrev
-rt run -- check ../../examples/first.jsonl
+rt run ${CPU:+--cpu="$CPU"} -- check ../../examples/first.jsonl

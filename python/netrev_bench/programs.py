@@ -1,7 +1,7 @@
 """What the benchmarks run: netrev, the same machine in plain Rust without proofs (`baseline`), and recordings of many shapes.
 
-NETREV names the program, NETREV_BASELINE that of `bench/baseline`, which is built where it isn't given. NETREV_BEFORE names an
-older netrev, which is measured only where it is given.
+NETREV names the program, NETREV_BASELINE that of `bench/baseline`, which is built where it isn't given, for the processors that CPU
+names, if it names some. NETREV_BEFORE names an older netrev, which is measured only where it is given.
 """
 
 import os
@@ -14,16 +14,18 @@ ROOT = Path(__file__).resolve().parents[2]
 NETREV = os.environ.get("NETREV", str(ROOT / "crates/netrev/out/netrev"))
 NETREV_BEFORE = os.environ.get("NETREV_BEFORE")
 BASELINE = os.environ.get("NETREV_BASELINE")
+CPU = os.environ.get("CPU", "")  # as `make netrev` takes it
 
 
 def built_baseline() -> Optional[str]:
     """The baseline's program; None where it can't be built."""
     if BASELINE:
         return BASELINE
-    target = ROOT / "out/baseline"
+    target = ROOT / "out" / f"baseline{CPU and '-'}{CPU}"
     words = ["cargo", "build", "--quiet", "--release", "--offline", "--target-dir", str(target)]
+    flags = {"RUSTFLAGS": f"-C target-cpu={CPU}"} if CPU else {}
     try:
-        subprocess.run(words, cwd=ROOT / "bench/baseline", check=True)
+        subprocess.run(words, cwd=ROOT / "bench/baseline", env={**os.environ, **flags}, check=True)
     except (OSError, subprocess.CalledProcessError) as error:
         print(f"{Path(sys.argv[0]).name}: no baseline: {error}", file=sys.stderr)
         return None
